@@ -1,5 +1,5 @@
 -- How a line is compared part by part.
-use Rattle.std.proofs.Common.{◌≡◌, ℕ, ◌<◌, ◌≤◌, Bool, true, false, not, ◌&&◌, List, [], ◌∷◌, ◌++◌, length, take, drop}
+use Rattle.std.proofs.Common.{◌≡◌, ℕ, ◌≤◌, Bool, true, false, not, ◌&&◌, List, [], ◌∷◌, ◌++◌, length, take, drop}
 use Rattle.std.proofs.Common.{bytes_eq, nat_eq, codes, decimal, Option, None, option_map, Bor, refl, sym, ap, ◌∙◌}
 use Rattle.std.proofs.Common.{arith}
 use Rattle.std.proofs.Common.{append_assoc}
@@ -9,10 +9,8 @@ use Rattle.std.proofs.lemmas.List.{take-append-drop}
 use Rattle.std.proofs.lemmas.Slice.Eq.{bytes_eq-Decides}
 use Rattle.json.specs.Written.{PlainBetween}
 use Rattle.bhs_model.specs.declared.commands.Command.TheVariants.{Write}
-use Rattle.bhs_model.specs.declared.replies.Reply.TheVariants.{Here, Changed, No}
-use Rattle.bhs_model.specs.declared.replies.Why.{Why}
+use Rattle.bhs_model.specs.declared.replies.Reply.TheVariants.{Here}
 use Rattle.bhs_wire.specs.Reply.{quoted_text, label, line}
-use Rattle.bhs_wire.specs.Why.{word}
 use Rattle.bhs_replay.specs.Comparing.{is_left}
 use Rattle.bhs_replay.specs.EventLine.{said}
 

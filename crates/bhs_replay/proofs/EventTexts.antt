@@ -4,6 +4,7 @@ use Rattle.std.proofs.Common.{append_assoc}
 use Rattle.json.specs.Token.{Token}
 use Rattle.json.specs.Tree.{json_tokens}
 use Rattle.json.specs.Print.{print}
+use Rattle.serde_json.specs.Data.{Members}
 use Rattle.serde_json.specs.Written.{outline, compact_text, members_text}
 use Rattle.serde_json.proofs.OnLiterals.{serde_json_on_literals}
 use Rattle.serde_json.proofs.Texts.{print-outline}
@@ -30,29 +31,24 @@ part_text reply = ap (λ text. codes ",\"reply\":" ++ (text ++ codes "}")) (answ
 regroup : (a b c d : List ℕ) → a ++ (b ++ (c ++ d)) ≡ (a ++ (b ++ c)) ++ d
 regroup a b c d = sym (append_assoc a (b ++ c) d ∙ ap (λ t. a ++ t) (append_assoc b c d))
 
-said_text : (command : Command) (reply : Option Reply)
-    → members_text true (said_members command (reply_member reply)) ≡ codes ",\"do\":"
-    ++ (said command ++ reply_part reply)
+said_text : (command : Command) (rest : Members) → members_text true (said_members command rest) ≡ codes ",\"do\":"
+    ++ (said command ++ members_text true rest)
 unfolding serde_json_on_literals
-said_text Enter reply = ap (λ text. codes ",\"do\":\"enter\"" ++ text) (part_text reply)
-said_text Look reply = ap (λ text. codes ",\"do\":\"look\"" ++ text) (part_text reply)
-said_text (Write expect put) reply =
-    ap (λ text. codes ",\"do\":\"write\",\"expect\":"
-    ++ (quoted_text expect ++ (codes ",\"put\":" ++ (quoted_text put ++ text)))) (part_text reply)
-    ∙ ap (λ text. codes ",\"do\":\"write\",\"expect\":" ++ text)
-    (regroup (quoted_text expect) (codes ",\"put\":") (quoted_text put) (reply_part reply))
-said_text (Depart port) reply = ap (λ text. codes ",\"do\":\"depart\",\"port\":" ++ (decimal port ++ text))
-    (part_text reply)
-said_text (Accuse port) reply = ap (λ text. codes ",\"do\":\"accuse\",\"port\":" ++ (decimal port ++ text))
-    (part_text reply)
-said_text Leave reply = ap (λ text. codes ",\"do\":\"leave\"" ++ text) (part_text reply)
-said_text Bad reply = ap (λ text. codes ",\"do\":\"bad\"" ++ text) (part_text reply)
+said_text Enter rest = refl
+said_text Look rest = refl
+said_text (Write expect put) rest = ap (λ text. codes ",\"do\":\"write\",\"expect\":" ++ text)
+    (regroup (quoted_text expect) (codes ",\"put\":") (quoted_text put) (members_text true rest))
+said_text (Depart port) rest = refl
+said_text (Accuse port) rest = refl
+said_text Leave rest = refl
+said_text Bad rest = refl
 
 pub compact_text-event_data : (event : Event) (reply : Option Reply)
     → compact_text (event_data event reply) ≡ event_line event reply
 unfolding serde_json_on_literals
 compact_text-event_data (Tell agent command) reply =
-    ap (λ text. codes "{\"agent\":" ++ (decimal agent ++ text)) (said_text command reply)
+    ap (λ text. codes "{\"agent\":" ++ (decimal agent ++ text)) (said_text command (reply_member reply)
+    ∙ ap (λ text. codes ",\"do\":" ++ (said command ++ text)) (part_text reply))
 compact_text-event_data (Deliver agent) reply =
     ap (λ text. codes "{\"agent\":" ++ (decimal agent ++ (codes ",\"do\":\"deliver\"" ++ text))) (part_text reply)
 compact_text-event_data Close reply = ap (λ text. codes "{\"do\":\"close\"" ++ text) (part_text reply)

@@ -23,11 +23,11 @@ use Rattle.bhs_replay.specs.Played.{IsTyped, HasEnded}
 use Rattle.bhs_replay.specs.Replay.{replay}
 use Rattle.bhs_replay.specs.Spelling.{may_stand}
 use Rattle.bhs_replay.specs.Stages.{Ends, Comes}
+use Rattle.bhs_replay.proofs.EventReads.{event_utf8}
 use Rattle.bhs_replay.proofs.FitLemmas.{ports_small, label_small}
 use Rattle.bhs_replay.proofs.FittingPasts.{WorldFits, StateFits, initial_fits, next_fits}
 use Rattle.bhs_replay.proofs.FittingReplies.{reply_fits}
 use Rattle.bhs_replay.proofs.HeadReads.{AllOf}
-use Rattle.bhs_replay.proofs.LineUtf8.{line_utf8}
 use Rattle.bhs_replay.proofs.ListLemmas.{by_places}
 use Rattle.bhs_replay.proofs.ListedLinks.{links_make}
 use Rattle.bhs_replay.proofs.Spelled.{AreSpelled}
@@ -61,7 +61,7 @@ spelled_from world numbers state gone (event ∷ events) fits typed is =
     let answer = reply_fits world numbers state event fits typed.0.1 in (
       spelled-event_line event (reply world state event) typed.0.0 answer.numbers
           (stands world state gone event all.first)
-          (line_utf8 event (reply world state event) typed.0.0 typed.0.1 answer.numbers answer.text),
+          (event_utf8 event (reply world state event) typed.0.0 answer.numbers typed.0.1 answer.text),
       spelled_from world numbers (next world state event) (lost_after world state gone event) events
           (next_fits world numbers state event fits typed.0.1) typed.1 all.others,
     )

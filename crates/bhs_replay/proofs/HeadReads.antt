@@ -1,13 +1,11 @@
--- A head line is read as what it says.
-use Rattle.std.proofs.Common.{◌≡◌, ℕ, suc, ◌<◌, ◌≤◌, ◌^◌, nat_lt, true, List, [], ◌∷◌, length, Option, Some, option_map}
-use Rattle.std.proofs.Common.{refl, sym, subst, ap, ap₂, ◌∙◌, arith}
+-- A head line is read as what it says; it is flat, and UTF-8.
+use Rattle.std.proofs.Common.{◌≡◌, ℕ, suc, ◌<◌, ◌≤◌, ◌^◌, nat_lt, true, IsUtf8, List, [], ◌∷◌, codes, length}
+use Rattle.std.proofs.Common.{Option, Some, refl, sym, subst, ap₂, ◌∙◌, arith}
 use Rattle.std.specs.Prelude.{map, ⊤}
 use Rattle.std.proofs.lemmas.Bool.{lt-ltb}
-use Rattle.json.specs.Tree.{depth, HasNumbers, ItemsHaveNumbers}
-use Rattle.serde_json.specs.Data.{Data}
+use Rattle.serde_json.specs.Data.{Data, Members, no_members, member}
 use Rattle.serde_json.specs.View.{items_of}
-use Rattle.serde_json.specs.Read.{of_json, of_items, read, max_depth}
-use Rattle.serde_json.specs.Written.{outline, items_outline}
+use Rattle.serde_json.specs.Read.{read}
 use Rattle.bhs_net.specs.declared.links.Link.{Link}
 use Rattle.bhs_net.specs.Network.{Network, nodes_of}
 use Rattle.bhs_model.specs.declared.setups.Setup.{Setup}
@@ -16,7 +14,8 @@ use Rattle.bhs_replay.specs.declared.heads.Version.TheVariants.{One, Two, Three}
 use Rattle.bhs_replay.specs.Head.{links_of, whole, listed, link_data, end_data, hole_data, listing_data, head_data}
 use Rattle.bhs_replay.specs.Head.{head_line, CanSay}
 use Rattle.bhs_replay.specs.HeadReading.{Says, each, number_in, pair_in, link_in, says_in}
-use Rattle.bhs_replay.proofs.EventReads.{is_number, reads, read-compact_text}
+use Rattle.bhs_replay.proofs.Flat.{IsFlat}
+use Rattle.bhs_replay.proofs.LineData.{IsOfLine, AreOfLine, HaveOfLine, wide, read-line, line_flat, line_utf8}
 
 module _ {A : Type 0} (P : A → Type 0) where
   abbrev pub AllOf : List A → Type 0
@@ -43,164 +42,68 @@ pub record HeadFits (net : Network) (setup : Setup) : Type 0 where
   pub dark : AllOf IsSmallEnd setup.dark
   pub links : AllOf IsSmallLink (links_of net)
 
--- ---- the text is read as the data
+-- ---- a head is data of a line
 
--- data that are read from their text, and nest so deep
-abbrev Reads : ℕ → Data → Type 0
-Reads deep value = HasNumbers (outline value)
-    × ((of_json (outline value) ≡ Some value) × (depth (outline value) ≤ deep))
+-- the members from the links on
+abbrev last_members : ℕ → Network → Setup → Members
+last_members n net setup =
+    member (codes "links") (listed (map link_data (links_of net)))
+    (member (codes "nodes") (whole (nodes_of net))
+    (member (codes "quota") (whole setup.quota) (member (codes "replay") (whole n) no_members)))
 
-whole_reads : (n : ℕ) → IsSmall n → Reads 0 (whole n)
-whole_reads n small = (is_number n small, (ap (option_map _) (reads n small), omega arith))
+module _ (valid : Type 0) where
+  module _ {A : Type 0} (made : A → Data) (Fits : A → Type 0) (deep : ℕ)
+      (one : (x : A) → Fits x → IsOfLine valid (made x) deep) where
+    each_of_line : (xs : List A) → AllOf Fits xs → AreOfLine valid (items_of (map made xs)) deep
+    each_of_line [] all = tt
+    each_of_line (x ∷ xs) all = (one x all.0, each_of_line xs all.1)
 
-items_numbers : (deep : ℕ) (values : List Data) → AllOf (Reads deep) values
-    → ItemsHaveNumbers (items_outline (items_of values))
-items_numbers deep [] all = tt
-items_numbers deep (value ∷ values) all = (all.0.0, items_numbers deep values all.1)
+  end_of_line : (end : ℕ × ℕ) → IsSmallEnd end → IsOfLine valid (end_data end) 1
+  end_of_line end small = (wide end.0 small.0, (wide end.1 small.1, tt))
 
-items_same : (deep : ℕ) (values : List Data) → AllOf (Reads deep) values
-    → of_items (items_outline (items_of values)) ≡ Some (items_of values)
-items_same deep [] all = refl
-items_same deep (value ∷ values) all = rw (all.0.1.0, items_same deep values all.1) refl
+  link_of_line : (link : Link) → IsSmallLink link → IsOfLine valid (link_data link) 1
+  link_of_line link small = (
+    wide link.v small.0,
+    (wide link.p small.1.0, (wide link.w small.1.1.0, (wide link.q small.1.1.1, tt))),
+  )
 
-items_deep : (deep : ℕ) (values : List Data) → AllOf (Reads deep) values → depth (outline (listed values)) ≤ suc deep
-items_deep deep [] all = omega arith
-items_deep deep (value ∷ values) all = let here = all.0.1.1 in let others = items_deep deep values all.1 in
-    omega (arith, here, others)
+  hole_of_line : (holes : List ℕ) → AllOf IsSmall holes → IsOfLine valid (hole_data holes) 2
+  hole_of_line [] all = tt
+  hole_of_line (hole ∷ holes) all = wide hole all.0
 
-listed_reads : (deep : ℕ) (values : List Data) → AllOf (Reads deep) values → Reads (suc deep) (listed values)
-listed_reads deep values all = (
-  items_numbers deep values all,
-  (rw (items_same deep values all) refl, items_deep deep values all),
-)
-
-module _ {A : Type 0} (made : A → Data) (Fits : A → Type 0) (deep : ℕ)
-    (one : (x : A) → Fits x → Reads deep (made x)) where
-  each_reads : (xs : List A) → AllOf Fits xs → AllOf (Reads deep) (map made xs)
-  each_reads [] all = tt
-  each_reads (x ∷ xs) all = (one x all.0, each_reads xs all.1)
-
-end_reads : (end : ℕ × ℕ) → IsSmallEnd end → Reads 1 (end_data end)
-end_reads end small = listed_reads 0 (whole end.0 ∷ whole end.1 ∷ [])
-    (whole_reads end.0 small.0, (whole_reads end.1 small.1, tt))
-
-link_reads : (link : Link) → IsSmallLink link → Reads 1 (link_data link)
-link_reads link small =
-    listed_reads 0 (whole link.v ∷ whole link.p ∷ whole link.w ∷ whole link.q ∷ []) (
-      whole_reads link.v small.0,
-      (
-        whole_reads link.p small.1.0,
-        (whole_reads link.w small.1.1.0, (whole_reads link.q small.1.1.1, tt)),
-      ),
+  module _ (net : Network) (setup : Setup) (fits : HeadFits net setup) where
+    last_of_line : (n : ℕ) → IsSmall n → HaveOfLine valid (last_members n net setup) 2
+    last_of_line n few = (
+      each_of_line link_data IsSmallLink 1 link_of_line (links_of net) fits.links,
+      (wide (nodes_of net) fits.nodes, (wide setup.quota fits.quota, (wide n few, tt))),
     )
 
-hole_reads : (holes : List ℕ) → AllOf IsSmall holes → Reads 0 (hole_data holes)
-hole_reads [] all = (tt, (refl, omega arith))
-hole_reads (hole ∷ holes) all = whole_reads hole all.0
+    listing_of_line : (n : ℕ) → IsSmall n → IsOfLine valid (listing_data n net setup) 3
+    listing_of_line n few =
+        let dark = each_of_line end_data IsSmallEnd 1 end_of_line setup.dark fits.dark in
+        let holes = each_of_line whole IsSmall 1 wide setup.holes fits.holes in
+        let home = wide setup.home fits.home in
+        let last = last_of_line n few in
+        (refl, refl, (wide setup.agents fits.agents, (wide setup.board fits.board, (dark, (holes, (home, last))))))
 
-module _ (net : Network) (setup : Setup) (fits : HeadFits net setup) where
-  holes_read : Reads 1 (listed (map whole setup.holes))
-  holes_read = listed_reads 0 (map whole setup.holes) (each_reads whole IsSmall 0 whole_reads setup.holes fits.holes)
+    head_of_line : (version : Version) → IsOfLine valid (head_data version net setup) 3
+    head_of_line One =
+        let hole = hole_of_line setup.holes fits.holes in
+        let home = wide setup.home fits.home in
+        let last = last_of_line 1 (omega arith) in
+        (refl, refl, (wide setup.agents fits.agents, (wide setup.board fits.board, (hole, (home, last)))))
+    head_of_line Two = listing_of_line 2 (omega arith)
+    head_of_line Three = listing_of_line 3 (omega arith)
 
-  dark_read : Reads 2 (listed (map end_data setup.dark))
-  dark_read = listed_reads 1 (map end_data setup.dark) (each_reads end_data IsSmallEnd 1 end_reads setup.dark fits.dark)
+module _ (net : Network) (setup : Setup) (fits : HeadFits net setup) (version : Version) where
+  pub read-head_line : read (head_line version net setup) ≡ Some (head_data version net setup)
+  read-head_line = read-line (head_data version net setup) 3 (omega arith) (head_of_line ⊥ net setup fits version)
 
-  links_read : Reads 2 (listed (map link_data (links_of net)))
-  links_read = listed_reads 1 (map link_data (links_of net))
-      (each_reads link_data IsSmallLink 1 link_reads (links_of net) fits.links)
+  pub head_flat : IsFlat (head_line version net setup)
+  head_flat = line_flat ⊥ (head_data version net setup) 3 (head_of_line ⊥ net setup fits version)
 
-  listing_numbers : (n : ℕ) → IsSmall n → HasNumbers (outline (listing_data n net setup))
-  listing_numbers n few = (
-    is_number setup.agents fits.agents,
-    (
-      is_number setup.board fits.board,
-      (
-        dark_read.0,
-        (
-          holes_read.0,
-          (
-            is_number setup.home fits.home,
-            (
-              links_read.0,
-              (
-                is_number (nodes_of net) fits.nodes,
-                (is_number setup.quota fits.quota, (is_number n few, tt)),
-              ),
-            ),
-          ),
-        ),
-      ),
-    ),
-  )
-
-  head_numbers : (version : Version) → HasNumbers (outline (head_data version net setup))
-  head_numbers One = (
-    is_number setup.agents fits.agents,
-    (
-      is_number setup.board fits.board,
-      (
-        (hole_reads setup.holes fits.holes).0,
-        (
-          is_number setup.home fits.home,
-          (
-            links_read.0,
-            (
-              is_number (nodes_of net) fits.nodes,
-              (is_number setup.quota fits.quota, (is_number 1 (omega arith), tt)),
-            ),
-          ),
-        ),
-      ),
-    ),
-  )
-  head_numbers Two = listing_numbers 2 (omega arith)
-  head_numbers Three = listing_numbers 3 (omega arith)
-
-  listing_depth : (n : ℕ) → depth (outline (listing_data n net setup)) ≤ max_depth
-  listing_depth n =
-      let dark = dark_read.1.1 in
-      let holes = holes_read.1.1 in
-      let links = links_read.1.1 in
-      omega (arith, dark, holes, links)
-
-  head_depth : (version : Version) → depth (outline (head_data version net setup)) ≤ max_depth
-  head_depth One = let hole = (hole_reads setup.holes fits.holes).1.1 in let links = links_read.1.1 in
-      omega (arith, hole, links)
-  head_depth Two = listing_depth 2
-  head_depth Three = listing_depth 3
-
-  listing_same : (n : ℕ) → IsSmall n → of_json (outline (listing_data n net setup)) ≡ Some (listing_data n net setup)
-  listing_same n few =
-      rw (
-        reads setup.agents fits.agents,
-        reads setup.board fits.board,
-        dark_read.1.0,
-        holes_read.1.0,
-        reads setup.home fits.home,
-        links_read.1.0,
-        reads (nodes_of net) fits.nodes,
-        reads setup.quota fits.quota,
-        reads n few,
-      ) refl
-
-  head_same : (version : Version) → of_json (outline (head_data version net setup)) ≡ Some (head_data version net setup)
-  head_same One =
-      rw (
-        reads setup.agents fits.agents,
-        reads setup.board fits.board,
-        (hole_reads setup.holes fits.holes).1.0,
-        reads setup.home fits.home,
-        links_read.1.0,
-        reads (nodes_of net) fits.nodes,
-        reads setup.quota fits.quota,
-        reads 1 (omega arith),
-      ) refl
-  head_same Two = listing_same 2 (omega arith)
-  head_same Three = listing_same 3 (omega arith)
-
-  pub read-head_line : (version : Version) → read (head_line version net setup) ≡ Some (head_data version net setup)
-  read-head_line version = read-compact_text (head_data version net setup) (head_numbers version) (head_depth version)
-      (head_same version)
+  pub head_utf8 : IsUtf8 (head_line version net setup)
+  head_utf8 = line_utf8 (head_data version net setup) 3 (head_of_line ⊤ net setup fits version)
 
 -- ---- and the data say what they were made of
 

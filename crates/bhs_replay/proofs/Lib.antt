@@ -1,5 +1,7 @@
 pub mod ComparingLemmas
 pub mod Each
+pub mod Flat
+pub mod LineData
 pub mod EventData
 pub mod EventTexts
 pub mod EventReads
@@ -11,7 +13,6 @@ pub mod FitLemmas
 pub mod HeadLists
 pub mod HeadReads
 pub mod HeadTexts
-pub mod HeadUtf8
 pub mod LinkLists
 pub mod ListLemmas
 pub mod ListedLinks
@@ -24,10 +25,8 @@ pub mod StageLemmas
 pub mod ReadLemmas
 pub mod PlayLemmas
 pub mod SoundTexts
-pub mod Flat
 pub mod Spelled
 pub mod WholeTexts
-pub mod LineUtf8
 pub mod FittingPasts
 pub mod FittingReplies
 pub mod EveryReplay

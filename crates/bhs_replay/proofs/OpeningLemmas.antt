@@ -26,9 +26,8 @@ use Rattle.bhs_replay.specs.declared.heads.Version.{Version}
 use Rattle.bhs_replay.specs.Head.{links_of, head_data, head_line, CanSay}
 use Rattle.bhs_replay.specs.HeadReading.{Says, says_in, head_says}
 use Rattle.bhs_replay.specs.Opening.{IsHead, OpensAs, Starts}
-use Rattle.bhs_replay.proofs.HeadReads.{HeadFits, read-head_line, said, says_in-head}
+use Rattle.bhs_replay.proofs.HeadReads.{HeadFits, read-head_line, head_utf8, said, says_in-head}
 use Rattle.bhs_replay.proofs.FitLemmas.{head_fits}
-use Rattle.bhs_replay.proofs.HeadUtf8.{head_utf8}
 
 -- ---- what a line says
 

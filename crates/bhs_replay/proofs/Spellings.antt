@@ -1,12 +1,13 @@
 -- A line spells an event and a reply exactly if it is their line.
-use Rattle.std.proofs.Common.{◌≡◌, ℕ, ◌<◌, ◌^◌, Bool, true, false, cond, if◌then◌else◌, ◌&&◌, List, bytes_eq, Option}
-use Rattle.std.proofs.Common.{Some, None, option_and_then, unwrap_or, nat_lt, refl, sym, subst, ap, ◌∙◌}
+use Rattle.std.proofs.Common.{◌≡◌, ℕ, ◌<◌, ◌^◌, Bool, true, false, cond, if◌then◌else◌, ◌&&◌, List, bytes_eq, codes}
+use Rattle.std.proofs.Common.{Option, Some, None, option_and_then, unwrap_or, nat_lt, refl, sym, subst, ap, ◌∙◌}
 use Rattle.std.proofs.lemmas.Bool.{lt-ltb, and_parts}
 use Rattle.std.specs.Bool.{OnTrue}
 use Rattle.std.proofs.lemmas.Slice.Eq.{bytes_eq-Decides}
 use Rattle.std.specs.Str.{IsUtf8, is_utf8}
 use Rattle.std.proofs.lemmas.Str.{is_utf8-from_IsUtf8, IsUtf8-from_is_utf8}
 use Rattle.serde_json.specs.Data.{Data}
+use Rattle.serde_json.specs.Find.{get}
 use Rattle.serde_json.specs.Read.{read}
 use Rattle.bhs_model.specs.declared.commands.Command.TheVariants.{Enter, Look, Write, Depart, Accuse, Leave, Bad}
 use Rattle.bhs_model.specs.declared.events.Event.{Event}
@@ -53,28 +54,19 @@ answer_in-null_or : (reply : Option Reply) → ReplyFits reply
 answer_in-null_or None fits = refl
 answer_in-null_or (Some reply) fits = reply_in-data reply fits
 
-answer_in-data : (event : Event) (reply : Option Reply) → ReplyFits reply → answer_in (event_data event reply) ≡ reply
-answer_in-data (Tell agent Enter) reply fits = answer_in-null_or reply fits
-answer_in-data (Tell agent Look) reply fits = answer_in-null_or reply fits
-answer_in-data (Tell agent (Write expect put)) reply fits = answer_in-null_or reply fits
-answer_in-data (Tell agent (Depart port)) reply fits = answer_in-null_or reply fits
-answer_in-data (Tell agent (Accuse port)) reply fits = answer_in-null_or reply fits
-answer_in-data (Tell agent Leave) reply fits = answer_in-null_or reply fits
-answer_in-data (Tell agent Bad) reply fits = answer_in-null_or reply fits
-answer_in-data (Deliver agent) reply fits = answer_in-null_or reply fits
-answer_in-data Close reply fits = answer_in-null_or reply fits
-
-event_in-data : (event : Event) (reply : Option Reply) → EventFits event
-    → event_in (event_data event reply) ≡ Some event
-event_in-data (Tell agent Enter) reply fits = rw (small agent fits.0)
-event_in-data (Tell agent Look) reply fits = rw (small agent fits.0)
-event_in-data (Tell agent (Write expect put)) reply fits = rw (small agent fits.0)
-event_in-data (Tell agent (Depart port)) reply fits = rw (small agent fits.0, small port fits.1)
-event_in-data (Tell agent (Accuse port)) reply fits = rw (small agent fits.0, small port fits.1)
-event_in-data (Tell agent Leave) reply fits = rw (small agent fits.0)
-event_in-data (Tell agent Bad) reply fits = rw (small agent fits.0)
-event_in-data (Deliver agent) reply fits = rw (small agent fits)
-event_in-data Close reply fits = refl
+-- the data of a line say its event, and its reply stands among them
+says-event_data : (event : Event) (reply : Option Reply) → EventFits event
+    → (event_in (event_data event reply) ≡ Some event)
+    × (get (codes "reply") (event_data event reply) ≡ Some (answer_data reply))
+says-event_data (Tell agent Enter) reply fits = (rw (small agent fits.0) refl, refl)
+says-event_data (Tell agent Look) reply fits = (rw (small agent fits.0) refl, refl)
+says-event_data (Tell agent (Write expect put)) reply fits = (rw (small agent fits.0) refl, refl)
+says-event_data (Tell agent (Depart port)) reply fits = (rw (small agent fits.0, small port fits.1) refl, refl)
+says-event_data (Tell agent (Accuse port)) reply fits = (rw (small agent fits.0, small port fits.1) refl, refl)
+says-event_data (Tell agent Leave) reply fits = (rw (small agent fits.0) refl, refl)
+says-event_data (Tell agent Bad) reply fits = (rw (small agent fits.0) refl, refl)
+says-event_data (Deliver agent) reply fits = (rw (small agent fits) refl, refl)
+says-event_data Close reply fits = (refl, refl)
 
 -- ---- both ways
 
@@ -86,11 +78,13 @@ pub spelled-event_line : (event : Event) (reply : Option Reply) → EventFits ev
     → may_stand event reply ≡ true → IsUtf8 (event_line event reply)
     → spelled (event_line event reply) ≡ Some (event, reply)
 spelled-event_line event reply fits answer stands text =
+    let says = says-event_data event reply fits in
     rw (
       is_utf8-from_IsUtf8 _ text,
       read-event_line event reply fits answer,
-      event_in-data event reply fits,
-      answer_in-data event reply answer,
+      says.0,
+      says.1,
+      answer_in-null_or reply answer,
       stands,
       same_bytes (event_line event reply),
     )

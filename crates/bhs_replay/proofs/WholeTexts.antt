@@ -1,20 +1,15 @@
 -- The replay of a match comes to the end of that match.
-use Rattle.std.proofs.Common.{◌≡◌, ℕ, ◌<◌, ◌≤◌, ◌^◌, List, [], ◌∷◌, ◌++◌, Bool, true, false, not, bytes_eq, length}
+use Rattle.std.proofs.Common.{◌≡◌, ℕ, ◌<◌, ◌^◌, List, [], ◌∷◌, ◌++◌, Bool, true, false, not, bytes_eq, length}
 use Rattle.std.proofs.Common.{get_or, codes, decimal, nat_lt, Option, Some, None, inl, inr, refl, sym, subst, ap, ap₂}
 use Rattle.std.proofs.Common.{◌∙◌, arith, append_assoc, append-nil}
-use Rattle.std.specs.Prelude.{map, ⊤}
+use Rattle.std.specs.Prelude.{⊤}
 use Rattle.std.proofs.lemmas.Bool.{and_parts, or_cases}
 use Rattle.std.proofs.lemmas.Slice.Eq.{bytes_eq-Decides}
-use Rattle.serde_json.specs.Data.{Data}
-use Rattle.serde_json.specs.View.{items_of}
-use Rattle.bhs_net.specs.declared.links.Link.{Link}
-use Rattle.bhs_net.specs.Network.{Network, nodes_of}
+use Rattle.bhs_net.specs.Network.{Network}
 use Rattle.bhs_model.specs.declared.setups.Setup.{Setup}
-use Rattle.bhs_model.specs.declared.commands.Command.TheVariants.{Enter, Look, Write, Depart, Accuse, Leave, Bad}
 use Rattle.bhs_model.specs.declared.events.Event.{Event}
 use Rattle.bhs_model.specs.declared.events.Event.TheVariants.{Tell, Deliver, Close}
 use Rattle.bhs_model.specs.declared.replies.Reply.{Reply}
-use Rattle.bhs_model.specs.declared.replies.Reply.TheVariants.{Here, Written, Changed, Gone, Noted, Bye, Over, No}
 use Rattle.bhs_model.specs.Setups.{world_of}
 use Rattle.bhs_model.specs.Worlds.{World}
 use Rattle.bhs_model.specs.Runs.{State, initial, next, run, reply, arrives}
@@ -25,137 +20,38 @@ use Rattle.bhs_model.proofs.AddLemmas.{events_add_lemma}
 use Rattle.bhs_wire.specs.Lines.{rest_after, rest}
 use Rattle.bhs_wire.proofs.StreamLaws.{rest_after-append}
 use Rattle.bhs_replay.specs.declared.heads.Version.{Version}
-use Rattle.bhs_replay.specs.declared.heads.Version.TheVariants.{One, Two, Three}
-use Rattle.bhs_replay.specs.Head.{head_line, listing_data, head_data, hole_data, whole, end_data, link_data, links_of}
+use Rattle.bhs_replay.specs.Head.{head_line}
 use Rattle.bhs_replay.specs.EventLine.{event_line}
-use Rattle.bhs_replay.specs.Spelling.{spelled, EventFits, ReplyFits}
+use Rattle.bhs_replay.specs.Spelling.{spelled}
 use Rattle.bhs_replay.specs.Replay.{end_line, event_lines, body_lines, with_feeds, replay}
 use Rattle.bhs_replay.specs.Opening.{IsHead}
 use Rattle.bhs_replay.proofs.Spelled.{AreSpelled}
 use Rattle.bhs_replay.specs.Stages.{ended_after, ended, Opens, Goes, Ends, after_line, opens, goes, Leads, begins}
 use Rattle.bhs_replay.specs.Stages.{follows, with_rest, Comes}
-use Rattle.bhs_replay.proofs.EventData.{answer_data, event_data}
-use Rattle.bhs_replay.proofs.EventTexts.{compact_text-event_data}
 use Rattle.bhs_replay.proofs.Spellings.{event_line-spelled}
 use Rattle.bhs_replay.proofs.Fitting.{spelled-fits}
-use Rattle.bhs_replay.proofs.HeadReads.{AllOf, IsSmall, IsSmallEnd, IsSmallLink, HeadFits}
+use Rattle.bhs_replay.proofs.EventReads.{event_flat}
+use Rattle.bhs_replay.proofs.HeadReads.{head_flat}
 use Rattle.bhs_replay.proofs.FitLemmas.{head_fits}
 use Rattle.bhs_replay.proofs.OpeningLemmas.{fit_within}
 use Rattle.bhs_replay.proofs.TextLines.{ended-append, rest-line, ended-line}
-use Rattle.bhs_replay.proofs.Flat.{IsFlat, flat_append, decimal_flat, IsPlain, ArePlain, text_flat}
+use Rattle.bhs_replay.proofs.Flat.{IsFlat, flat_append, decimal_flat}
 
 -- ---- no line has a line feed inside
 
-wide : (n : ℕ) → n < 2 ^ 16 → n < 2 ^ 64
-wide n small = omega arith
-
-answer_plain : (answer : Option Reply) → ReplyFits answer → IsPlain (answer_data answer)
-answer_plain None fits = tt
-answer_plain (Some (Here ports None board)) fits = (tt, (tt, (tt, (wide ports fits.0, tt))))
-answer_plain (Some (Here ports (Some port) board)) fits = (tt, (wide port fits.1, (tt, (wide ports fits.0, tt))))
-answer_plain (Some Written) fits = (tt, tt)
-answer_plain (Some (Changed board)) fits = (tt, (tt, tt))
-answer_plain (Some Gone) fits = (tt, tt)
-answer_plain (Some Noted) fits = (tt, tt)
-answer_plain (Some Bye) fits = (tt, tt)
-answer_plain (Some Over) fits = (tt, tt)
-answer_plain (Some (No why)) fits = (tt, tt)
-
-event_plain : (event : Event) (answer : Option Reply) → EventFits event → ReplyFits answer
-    → IsPlain (event_data event answer)
-event_plain (Tell agent Enter) answer fits told = (wide agent fits.0, (tt, (answer_plain answer told, tt)))
-event_plain (Tell agent Look) answer fits told = (wide agent fits.0, (tt, (answer_plain answer told, tt)))
-event_plain (Tell agent (Write expect put)) answer fits told =
-    (wide agent fits.0, (tt, (tt, (tt, (answer_plain answer told, tt)))))
-event_plain (Tell agent (Depart port)) answer fits told =
-    (wide agent fits.0, (tt, (wide port fits.1, (answer_plain answer told, tt))))
-event_plain (Tell agent (Accuse port)) answer fits told =
-    (wide agent fits.0, (tt, (wide port fits.1, (answer_plain answer told, tt))))
-event_plain (Tell agent Leave) answer fits told = (wide agent fits.0, (tt, (answer_plain answer told, tt)))
-event_plain (Tell agent Bad) answer fits told = (wide agent fits.0, (tt, (answer_plain answer told, tt)))
-event_plain (Deliver agent) answer fits told = (wide agent fits, (tt, (answer_plain answer told, tt)))
-event_plain Close answer fits told = (tt, (answer_plain answer told, tt))
-
-event_flat : (event : Event) (answer : Option Reply) → spelled (event_line event answer) ≡ Some (event, answer)
+spelled_flat : (event : Event) (answer : Option Reply) → spelled (event_line event answer) ≡ Some (event, answer)
     → IsFlat (event_line event answer)
-event_flat event answer is =
-    let fits = spelled-fits (event_line event answer) event answer is in
-    subst IsFlat (compact_text-event_data event answer)
-    (text_flat (event_data event answer) (event_plain event answer fits.0 fits.1))
+spelled_flat event answer is =
+    let fits = spelled-fits (event_line event answer) event answer is in event_flat event answer fits.0 fits.1
 
 end_flat : (count : ℕ) → count < 2 ^ 64 → IsFlat (end_line count)
 end_flat count small = flat_append (codes "{\"end\":") (decimal count ++ codes "}") refl
     (flat_append (decimal count) (codes "}") (decimal_flat count small) refl)
 
-module _ {A : Type 0} (made : A → Data) (Fits : A → Type 0) (one : (x : A) → Fits x → IsPlain (made x)) where
-  each_plain : (xs : List A) → AllOf Fits xs → ArePlain (items_of (map made xs))
-  each_plain [] all = tt
-  each_plain (x ∷ xs) all = (one x all.0, each_plain xs all.1)
-
-hole_plain : (holes : List ℕ) → AllOf IsSmall holes → IsPlain (hole_data holes)
-hole_plain [] all = tt
-hole_plain (hole ∷ holes) all = wide hole all.0
-
-end_plain : (end : ℕ × ℕ) → IsSmallEnd end → IsPlain (end_data end)
-end_plain end small = (wide end.0 small.0, (wide end.1 small.1, tt))
-
-link_plain : (link : Link) → IsSmallLink link → IsPlain (link_data link)
-link_plain link small = (
-  wide link.v small.0,
-  (wide link.p small.1.0, (wide link.w small.1.1.0, (wide link.q small.1.1.1, tt))),
-)
-
-number_below : (n : ℕ) → n ≤ 3 → n < 2 ^ 64
-number_below n few = omega arith
-
-listing_plain : (n : ℕ) (net : Network) (setup : Setup) → n ≤ 3 → HeadFits net setup
-    → IsPlain (listing_data n net setup)
-listing_plain n net setup few fits = (
-  wide setup.agents fits.agents,
-  (
-    wide setup.board fits.board,
-    (
-      each_plain end_data IsSmallEnd end_plain setup.dark fits.dark,
-      (
-        each_plain whole IsSmall wide setup.holes fits.holes,
-        (
-          wide setup.home fits.home,
-          (
-            each_plain link_data IsSmallLink link_plain (links_of net) fits.links,
-            (wide (nodes_of net) fits.nodes, (wide setup.quota fits.quota, (number_below n few, tt))),
-          ),
-        ),
-      ),
-    ),
-  ),
-)
-
-head_plain : (version : Version) (net : Network) (setup : Setup) → HeadFits net setup
-    → IsPlain (head_data version net setup)
-head_plain One net setup fits = (
-  wide setup.agents fits.agents,
-  (
-    wide setup.board fits.board,
-    (
-      hole_plain setup.holes fits.holes,
-      (
-        wide setup.home fits.home,
-        (
-          each_plain link_data IsSmallLink link_plain (links_of net) fits.links,
-          (wide (nodes_of net) fits.nodes, (wide setup.quota fits.quota, (number_below 1 (omega arith), tt))),
-        ),
-      ),
-    ),
-  ),
-)
-head_plain Two net setup fits = listing_plain 2 net setup (omega arith) fits
-head_plain Three net setup fits = listing_plain 3 net setup (omega arith) fits
-
-head_flat : (line : List ℕ) (net : Network) (setup : Setup) → IsHead line net setup → IsFlat line
-head_flat line net setup head =
+is_head_flat : (line : List ℕ) (net : Network) (setup : Setup) → IsHead line net setup → IsFlat line
+is_head_flat line net setup head =
     let fits = head_fits net head.made.network setup (fit_within net setup head.made.network.labelled head.fits) in
-    subst IsFlat (sym head.spelled) (text_flat (head_data head.version net setup)
-    (head_plain head.version net setup fits))
+    subst IsFlat (sym head.spelled) (head_flat net setup fits head.version)
 
 -- ---- lines that stand one behind the other
 
@@ -181,7 +77,7 @@ events_flat : (events : List Event) (answers : List (Option Reply)) (count : ℕ
 events_flat [] answers count small all = (end_flat count small, tt)
 events_flat (event ∷ events) [] count small all = (end_flat count small, tt)
 events_flat (event ∷ events) (answer ∷ others) count small all =
-    (event_flat event answer all.0, events_flat events others count small all.1)
+    (spelled_flat event answer all.0, events_flat events others count small all.1)
 
 -- ---- kept events
 
@@ -295,7 +191,7 @@ complete version net setup events head kept_all closed reads small =
     let line = head_line version net setup in
     let lines = line ∷ body_lines net setup events in
     let flat : AreFlat lines = (
-      head_flat line net setup head,
+      is_head_flat line net setup head,
       events_flat events (replies (world_of net setup) events)
           (length events) small reads,
     ) in

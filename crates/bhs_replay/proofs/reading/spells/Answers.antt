@@ -1,6 +1,6 @@
 use Rattle.std.proofs.Common.{option_map}
 use Rattle.bhs_wire.specs.LentReply.{reply_of}
-use Rattle.bhs_replay.proofs.LineUtf8.{line_utf8}
+use Rattle.bhs_replay.proofs.EventReads.{event_utf8}
 use Rattle.bhs_replay.proofs.Spellings.{spelled-same}
 use Rattle.bhs_replay.proofs.reading.spells.Goals as goal
 
@@ -11,4 +11,4 @@ returns c =
     let typed = c.each_event_is_typed.ensures in
     let answer = c.each_reply_is_typed.ensures in
     spelled-same c.args.line.now event reply typed.0 answer.numbers
-    (line_utf8 event reply typed.0 typed.1 answer.numbers answer.texts) c.is_spelled.result c.is_spelled.ensures
+    (event_utf8 event reply typed.0 answer.numbers typed.1 answer.texts) c.is_spelled.result c.is_spelled.ensures
