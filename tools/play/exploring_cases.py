@@ -6,8 +6,8 @@ import subprocess
 import threading
 from typing import Any, Callable, Dict, List, NamedTuple, Sequence, Tuple, Union
 
-from tools.play.program_cases import SEED, TRIANGLE, case, writes
-from tools.play.program_rows import DONE, PATIENCE, REFUSED_TEXT, Stage, Wrong
+from tools.play.program_cases import MAX_TEXT, SEED, TRIANGLE, case, writes
+from tools.play.program_rows import DONE, PATIENCE, REFUSED_TEXT, Stage, Wrong, expect
 
 FAILING = 1
 WAKES = "wakes"
@@ -63,11 +63,16 @@ class Host:
         return f"{number} {step}\n".encode() if isinstance(step, str) else f"{number} says\n".encode() + step + b"\n"
 
 
-def explored(stage: Stage, agents: Sequence[Agent], *words: object, quota: int = 200, keeps: int = 1_000) -> Answer:
-    """Explores the triangle, whose black hole is node 2, from node 0."""
-    keys = ", ".join(f'"k{agent}"' for agent in range(len(agents)))
+def writes_team(stage: Stage, agents: int, quota: int = 200) -> None:
+    """Writes a tournament of one match on the triangle, whose black hole is node 2, from node 0."""
+    keys = ", ".join(f'"k{agent}"' for agent in range(agents))
     writes(stage, tri=TRIANGLE, team=SEED.replace("version = 2", "version = 3") + f'[[match]]\nteam = "red"\n'
            f'network = "tri.toml"\nhome = 0\nholes = [2]\ndark = []\nquota = {quota}\nboard = 6000\nkeys = [{keys}]\n')
+
+
+def explored(stage: Stage, agents: Sequence[Agent], *words: object, quota: int = 200, keeps: int = 1_000) -> Answer:
+    """Explores the match of `writes_team`, which these agents play."""
+    writes_team(stage, len(agents), quota)
     child = subprocess.Popen([stage.program, "explore", "team.toml", "0", *map(str, words)], cwd=stage.folder,
                              stdin=subprocess.PIPE, stdout=subprocess.PIPE, stderr=subprocess.PIPE)
     assert child.stdin and child.stdout and child.stderr
@@ -323,6 +328,14 @@ def long_lines(stage: Stage) -> None:
     want(told.found.get("found") == "fails" and told.counts["boards"] == 1, told)
     told = explored(stage, [sends(say("write", expect="", put="x" * 5_500)), stops])
     want(told.found.get("found") == "fails" and told.counts["boards"] == 2, told)
+
+
+@case("a line of a host has at most 1,048,576 bytes, in whatever pieces it is read")
+def longest_answer(stage: Stage) -> None:
+    writes_team(stage, 2)
+    for more, number, asked in ((0, 2, b'{"begin":0}\n{"begin":1}\n'), (1, 1, b'{"begin":0}\n')):
+        answer = b" stops".rjust(MAX_TEXT + more, b"0") + b"\n"
+        expect(stage.run(["explore", "team.toml", "0"], answer), asked, b"host: line %d\n" % number, REFUSED_TEXT)
 
 
 # Rounds, quotas and naps. These agents hold the newest thing alone that has happened to them.

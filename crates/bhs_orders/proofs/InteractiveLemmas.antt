@@ -1,11 +1,8 @@
 -- A script that is played as it comes: one line further, and a fault at one of its lines.
-use Rattle.std.proofs.Common.{◌≡◌, ◌≢◌, ◌∙◌, ◌||◌, refl, sym, ap, subst, inl, ℕ, ◌+◌, ◌<◌, ◌≤◌, List, [], ◌∷◌}
-use Rattle.std.proofs.Common.{◌++◌, length, Bool, true, false, append-nil, append_assoc, arith, nat_lt, if◌then◌else◌}
-use Rattle.std.proofs.Common.{IfErr, OnOk, Result, Ok, Err, length-append, length-take-le, take}
-use Rattle.std.specs.List.{list_any}
+use Rattle.std.proofs.Common.{◌≡◌, ◌≢◌, ◌⊎◌, ◌∙◌, refl, sym, ap, subst, inl, inr, ℕ, ◌+◌, ◌<◌, ◌≤◌, List, [], ◌∷◌}
+use Rattle.std.proofs.Common.{◌++◌, length, Bool, true, false, append-nil, arith, nat_lt, if◌then◌else◌}
+use Rattle.std.proofs.Common.{IfErr, OnOk, Result, Ok, Err, length-take-le, take}
 use Rattle.std.proofs.lemmas.Bool.{le-ltb, lt-ltb}
-use Rattle.std.proofs.lemmas.List.Folds.{list_any-append}
-use Rattle.bhs_wire.specs.Lines.{is_line_feed}
 use Rattle.bhs_stream.specs.Reading.{IsPiece}
 use Rattle.bhs_stream.specs.declared.reading.TheConstants.{BUFFER}
 use Rattle.bhs_stream.specs.Streams.{Bytes, Chunk, End, Taken}
@@ -20,7 +17,7 @@ use Rattle.bhs_orders.specs.Interactive.{unmeant, overlong, Progress, Interacts,
 use Rattle.bhs_orders.specs.Interactive.{onward}
 use Rattle.bhs_orders.specs.Interactive.{Breaks, InteractsToEnd, InteractionStops, reads_end, reads_more, at_start}
 use Rattle.bhs_orders.specs.Interactive.{with_end}
-use Rattle.bhs_rehearsal.specs.Rehearsing.{Rehearsing}
+use Rattle.bhs_orders.specs.LineStates.{IsOverlong}
 use Rattle.bhs_orders.specs.declared.faults.Fault.{Fault}
 use Rattle.bhs_orders.specs.declared.faults.Fault.TheVariants.{Read, Text, Line, File, Replay, Twin, Write, Memory}
 use Rattle.bhs_orders.specs.declared.faults.Fault.TheVariants.{Turns, Listen, Busy, Threads, Unsettled, NoMatch}
@@ -45,17 +42,6 @@ judged-short games line short =
 pub judged-long : (games : ℕ) (line : List ℕ) → MAX_TEXT < length line → judged games line ≡ Refused
 judged-long games line long =
     chosen (nat_lt MAX_TEXT (length line)) Refused (meaning games line) (lt-ltb MAX_TEXT (length line) long)
-
-either_not : (a b : Bool) → a ≡ false → b ≡ false → (a || b) ≡ false
-either_not false b e f = f
-either_not true b e f = cc
-
--- parts of a line make a part of a line
-pub unended-append : (front bytes : List ℕ) → list_any is_line_feed front ≡ false
-    → list_any is_line_feed bytes ≡ false → list_any is_line_feed (front ++ bytes) ≡ false
-unended-append front bytes e f =
-    list_any-append is_line_feed front bytes ∙ either_not (list_any is_line_feed front) (list_any is_line_feed bytes) e
-    f
 
 -- two places of a script are the same
 pub same_progress : {stage stage' : Stage} {answered answered' : ℕ} {held held' : List ℕ} → stage ≡ stage'
@@ -126,22 +112,13 @@ module _ (player : Player) (rest : List ℕ) (part : IsPart player.line.items) w
   pub next_line : IsNext (progress_of player (10 ∷ rest)) player.line.items rest
   next_line = record { held = refl; first = part.unended }
 
--- more of a line that makes it too long
-module _ (games : ℕ) (player : Player) (bytes : List ℕ) (part : IsPart player.line.items)
-    (unended : list_any is_line_feed bytes ≡ false) (long : MAX_TEXT < length player.line.items + length bytes) where
-  joined_long : MAX_TEXT < length (player.line.items ++ bytes)
-  joined_long = let all = length-append player.line.items bytes in omega (arith, all, long)
-
-  pub too_long : IsRefused games (progress_of player bytes)
-  too_long = overlong (unended-append player.line.items bytes part.unended unended) joined_long
-
-  pub too_full : (rest : List ℕ) → IsRefused games (progress_of player (bytes ++ 10 ∷ rest))
-  too_full rest = unmeant (player.line.items ++ bytes) rest
-      (record {
-        held = sym (append_assoc player.line.items bytes (10 ∷ rest));
-        first = unended-append player.line.items bytes part.unended unended;
-      })
-      (judged-long games (player.line.items ++ bytes) joined_long)
+-- a line that is too long
+pub overlong_refused : (games : ℕ) (progress : Progress) → IsOverlong progress.held → IsRefused games progress
+overlong_refused games progress over = begun over.begins where
+  begun : (progress.held ≡ over.line) ⊎ (progress.held ≡ over.line ++ 10 ∷ over.rest) → IsRefused games progress
+  begun (inl same) = overlong (rw same over.unended) (rw same over.long)
+  begun (inr same) =
+      unmeant over.line over.rest (record { held = same; first = over.unended }) (judged-long games over.line over.long)
 
 -- a line was answered
 module _ {O : Type 0} (takes : O → List ℕ → Taken → O → Type 0) (old new : Player) (output output' : O)
@@ -194,47 +171,6 @@ no_end (byte ∷ bytes) e = absurd (omega (arith, e))
 pub ended_nothing : (player : Player) → length player.line.items ≡ 0 → ended (progress_of player []) ≡ progress_of
     player []
 ended_nothing player e = same_progress refl refl (no_end player.line.items e)
-
--- more of a line moves from what is read to the line
-pub moved : (old new : Player) (bytes rest : List ℕ) → new.line.items ≡ old.line.items ++ bytes
-    → new.answered ≡ old.answered → new.rehearsal ≡ old.rehearsal → progress_of old (bytes ++ rest) ≡ progress_of new
-    rest
-moved old new bytes rest line count stage =
-    same_progress (sym (ap (λ (r : Rehearsing). r.stage) stage)) (sym count)
-    (sym (append_assoc old.line.items bytes rest) ∙ ap (λ (held : List ℕ). held ++ rest) (sym line))
-
-module _ {O : Type 0} (takes : O → List ℕ → Taken → O → Type 0) (flushes : O → Bool → O → Type 0) (games : ℕ)
-    (start : Progress) (output : O) (old new : Player) (bytes : List ℕ) (there output' : O)
-    (so_far : Answers takes games start output (progress_of old bytes) there) where
-  -- the rest of what was read is a part of a line
-  pub rest_heard : {T E : Type 0} (r : Result T E) → OnOk r (new.line.items ≡ old.line.items ++ bytes)
-      → OnOk r (new.answered ≡ old.answered) → OnOk r (new.rehearsal ≡ old.rehearsal) → OnOk r (output' ≡ there)
-      → OnOk r (Answers takes games start output (progress_of new []) output')
-  rest_heard (Ok x) line count stage same =
-      subst (λ (out : O). Answers takes games start output (progress_of new []) out) (sym same)
-      (subst (λ (progress : Progress). Answers takes games start output progress there)
-      (ap (progress_of old) (sym (append-nil bytes)) ∙ moved old new bytes [] line count stage) so_far)
-  rest_heard (Err e) line count stage same = tt
-
-  pub rest_stopped : {T : Type 0} (r : Result T Fault)
-      → IfErr r (BreaksAt takes games flushes (progress_of old bytes) there output')
-      → IfErr r (BreaksWithin takes games flushes start output output')
-  rest_stopped (Ok x) stopped = tt
-  rest_stopped (Err fault) stopped =
-      breaks_within takes flushes games start (progress_of old bytes) output there output' fault so_far stopped
-
-module _ {O : Type 0} (takes : O → List ℕ → Taken → O → Type 0) (games : ℕ) (start : Progress) (output : O)
-    (old new : Player) (bytes rest : List ℕ) (there output' : O)
-    (so_far : Answers takes games start output (progress_of old (bytes ++ rest)) there) where
-  -- the line has ended
-  pub line_heard : new.line.items ≡ old.line.items ++ bytes → new.answered ≡ old.answered
-      → new.rehearsal ≡ old.rehearsal → output' ≡ there
-      → Answers takes games start output (progress_of new rest) output'
-  line_heard line count stage same =
-      subst (λ (out : O). Answers takes games start output (progress_of new rest) out) (sym same)
-      (subst (λ (progress : Progress). Answers takes games start output progress there)
-      (moved old new bytes rest line count stage)
-      so_far)
 
 pub nothing_left : (bytes : List ℕ) → length bytes ≡ 0 → bytes ++ [] ≡ []
 nothing_left [] e = refl

@@ -12,3 +12,4 @@ pub mod AnsweredLemmas
 pub mod TurnsLemmas
 pub mod HeldLemmas
 pub mod FoundLemmas
+pub mod LineLemmas

@@ -19,3 +19,4 @@ pub mod HeldLinks
 pub mod Appeals
 pub mod ContestTables
 pub mod Recovery
+pub mod LineStates

@@ -3,11 +3,12 @@
 
 use crate::faults::Fault;
 use crate::interactive::MAX_READS;
+use crate::lines::{LineState, take_line};
 use bhs_explore::{Latest, Mind, Step, Team, TeamFault, Visited};
-use bhs_model::{Command, MAX_TEXT};
+use bhs_model::Command;
 use bhs_net::Memory;
 use bhs_stream::{BUFFER, Input, Output, finish, send};
-use bhs_wire::{First, LentReply, LineKind, LineReader, kind_of, push_line, split_line};
+use bhs_wire::{First, LentReply, LineKind, LineReader, kind_of, push_line};
 use std::alloc::Global;
 
 /// Who says what agents hold, and what they do next.
@@ -127,26 +128,31 @@ impl<'h, R: Input, W: Output> Host<'h, R, W> {
     // The next line, without its line feed.
     fn line(&mut self) -> Result<Vec<u8>, Fault> {
         self.taken = self.taken.saturating_add(1);
+        let mut line = Vec::new(self.alloc);
         for _ in 0..MAX_READS {
-            if let Some(line) = self.held_line()? {
+            if self.take_held(&mut line)? {
                 return Ok(line);
             }
-            if self.held.len() > MAX_TEXT || !self.read_more()? {
+            if !self.read_more()? {
                 return Err(self.refused());
             }
         }
         Err(Fault::Turns)
     }
 
-    // Takes the first line of what was read, if it has ended.
-    fn held_line(&mut self) -> Result<Option<Vec<u8>>, Memory> {
-        let Some((line, more)) = split_line(&self.held) else {
-            return Ok(None);
+    // Takes what was read of a line. Says whether the line has ended.
+    fn take_held(&mut self, line: &mut Vec<u8>) -> Result<bool, Fault> {
+        let rest = match take_line(line, &self.held)? {
+            LineState::Ended(rest) => rest,
+            LineState::Unfinished => {
+                self.held.clear();
+                return Ok(false);
+            }
+            LineState::Overlong => return Err(self.refused()),
         };
-        let line = Vec::from_slice(self.alloc, line)?;
-        let more = Vec::from_slice(self.alloc, more)?;
-        self.held = more;
-        Ok(Some(line))
+        let rest = Vec::from_slice(self.alloc, rest)?;
+        self.held = rest;
+        Ok(true)
     }
 
     // Reads once. Says whether anything came.

@@ -1,9 +1,7 @@
 //! Rehearsals whose scripts are played as they come: each line is answered before more is read.
 
-ghost use Rattle.std.specs.Prelude.{◌≡◌, ◌+◌, ◌<◌, ◌≤◌, ◌^◌, ◌*◌, ◌++◌, ◌∷◌, [], List, ℕ, false, length, map};
+ghost use Rattle.std.specs.Prelude.{◌≡◌, ◌+◌, ◌<◌, ◌≤◌, ◌^◌, ◌*◌, ◌∷◌, [], List, ℕ, length, map};
 ghost use Rattle.std.specs.Prelude.{IfOk, IfErr, OnOk};
-ghost use Rattle.std.specs.List.{list_any};
-ghost use Rattle.bhs_wire.specs.Lines.{is_line_feed};
 ghost use Rattle.bhs_rehearsal.specs.Rehearsing.{game_of};
 ghost use Rattle.bhs_script.specs.Instructions.{IsEnded};
 ghost use Rattle.bhs_script.specs.Script.{meaning};
@@ -14,6 +12,7 @@ ghost use Rattle.bhs_orders.specs.Interactive.{InteractionStops};
 ghost use Rattle.bhs_orders.specs.Interactive.{ended};
 
 use crate::faults::Fault;
+use crate::lines::{LineState, take_line};
 use crate::playing::obey_lent;
 use bhs_lineup::{Lineup, Ready};
 use bhs_model::MAX_TEXT;
@@ -21,7 +20,6 @@ use bhs_net::Memory;
 use bhs_rehearsal::Rehearsal;
 use bhs_script::{CONNECTIONS, Meaning, meaning_of};
 use bhs_stream::{BUFFER, Input, Output, finish, send};
-use bhs_wire::split_line;
 use std::alloc::Global;
 
 /// The most reads of a script that is played as it comes. No program lives to make them.
@@ -124,12 +122,16 @@ fn answer_piece<W: Output>(
         writer.old writer.new) }
 {
     let mut after = piece;
-    while let Some((end, more)) = split_line(after) {
-        extend(player, end, writer)?;
-        answer(alloc, player, writer)?;
-        after = more;
+    loop {
+        match take_line(&mut player.line, after)? {
+            LineState::Ended(rest) => {
+                answer(alloc, player, writer)?;
+                after = rest;
+            }
+            LineState::Unfinished => return Ok(()),
+            LineState::Overlong => return Err(refusal(player.answered + 1, writer)),
+        }
     }
-    extend(player, after, writer)
 }
 
 // The input has ended. A line that ends there is answered.
@@ -145,29 +147,6 @@ fn conclude<W: Output>(alloc: Global, player: &mut Player<'_>, writer: &mut W) -
     }
     answer(alloc, player, writer)?;
     Ok(finish(writer)?)
-}
-
-// More of a line was read.
-fn extend<W: Output>(player: &mut Player<'_>, bytes: &[u8], writer: &mut W) -> Result<(), Fault>
-    requires part { IsPart player.old.line.items }
-    requires unended { list_any is_line_feed bytes.now ≡ false }
-    requires bound { player.old.answered < 2 ^ 63 }
-    ensures line { OnOk result (player.new.line.items ≡ player.old.line.items ++ bytes.now) }
-    ensures part { OnOk result (IsPart player.new.line.items) }
-    ensures games { OnOk result (player.new.games ≡ player.old.games) }
-    ensures answered { OnOk result (player.new.answered ≡ player.old.answered) }
-    ensures stage { OnOk result (player.new.rehearsal ≡ player.old.rehearsal) }
-    ensures unwritten { OnOk result (writer.new ≡ writer.old) }
-    ensures overlong { IfErr result (BreaksAt W.takes player.old.games W.flushes (progress_of player.old bytes.now)
-        writer.old writer.new) }
-    ensures overfull { (rest : List ℕ) → IfErr result (BreaksAt W.takes player.old.games W.flushes
-        (progress_of player.old (bytes.now ++ 10 ∷ rest)) writer.old writer.new) }
-{
-    if bytes.len() > MAX_TEXT - player.line.len() {
-        return Err(refusal(player.answered + 1, writer));
-    }
-    player.line.extend_from_slice(bytes)?;
-    Ok(())
 }
 
 // A line of this number is refused. What was written is passed on.

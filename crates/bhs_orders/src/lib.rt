@@ -18,6 +18,7 @@ mod interactive;
 mod judging;
 mod laws;
 mod line_by_line;
+mod lines;
 mod links;
 mod names;
 mod network_places;

@@ -4,8 +4,8 @@ use Rattle.bhs_orders.specs.Players.{progress_of}
 use Rattle.bhs_orders.specs.Interactive.{Answers, IsPart}
 use Rattle.bhs_orders.proofs.interactive.answer_piece.Given as goal
 
-abbrev pub invariant-loop-end : goal.invariant-loop-end
-invariant-loop-end g l =
+abbrev pub invariant-loop-rest : goal.invariant-loop-rest
+invariant-loop-rest g l =
     Answers g.W.Output.takes l.fn.player.games (progress_of l.fn.player l.piece) l.fn.writer
     (progress_of l.player l.after)
     l.writer
@@ -14,5 +14,5 @@ invariant-loop-end g l =
     × (l.player.answered + (length l.player.line.items + length l.after)
     ≤ l.fn.player.answered + (length l.fn.player.line.items + length l.piece))
 
-abbrev pub decreases-loop-end : goal.decreases-loop-end
-decreases-loop-end g l = length l.after
+abbrev pub decreases-loop-rest : goal.decreases-loop-rest
+decreases-loop-rest g l = length l.player.line.items + length l.after

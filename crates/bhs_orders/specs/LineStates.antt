@@ -1,0 +1,21 @@
+-- Lines that are read piece by piece. Only contracts of private functions cite it.
+use Rattle.std.specs.Prelude.{◌≡◌, ◌⊎◌, ◌<◌, ℕ, false, List, ◌∷◌, ◌++◌, length}
+use Rattle.std.specs.List.{list_any}
+use Rattle.bhs_model.specs.declared.limits.TheConstants.{MAX_TEXT}
+use Rattle.bhs_wire.specs.Lines.{is_line_feed}
+use Rattle.bhs_orders.specs.declared.lines.LineState.{LineState}
+use Rattle.bhs_orders.specs.declared.lines.LineState.TheVariants.{Ended, Unfinished, Overlong}
+
+-- what was read is a line that has not ended and is too long already, or begins with one that has ended and is too long
+pub record IsOverlong (text : List ℕ) : Type 0 where
+  pub line : List ℕ
+  pub rest : List ℕ
+  pub begins : (text ≡ line) ⊎ (text ≡ line ++ 10 ∷ rest)
+  pub unended : list_any is_line_feed line ≡ false
+  pub long : MAX_TEXT < length line
+
+-- a piece was taken: a line that had these bytes has those, and the state says what of the piece stands behind them
+abbrev pub IsTaken : (line piece line' : List ℕ) → LineState → Type 0
+IsTaken line piece line' (Ended rest) = line ++ piece ≡ line' ++ 10 ∷ rest.now
+IsTaken line piece line' Unfinished = line ++ piece ≡ line'
+IsTaken line piece line' Overlong = IsOverlong (line ++ piece) × (line' ≡ line)
