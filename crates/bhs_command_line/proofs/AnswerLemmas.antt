@@ -9,8 +9,8 @@ use Rattle.clap.specs.Walk.{is_empty}
 use Rattle.clap.specs.Kinds.{IsAmong, Kinds}
 use Rattle.clap.specs.declared.error.kind.ErrorKind.{ErrorKind}
 use Rattle.clap.specs.declared.error.kind.ErrorKind.TheVariants.{DisplayHelp, DisplayVersion, OutOfMemory}
-use Rattle.bhs_command_line.specs.CommandLine.{Parses, AsksHelp, AsksVersion, AreRefused, Says, Explains, is_refused}
-use Rattle.bhs_command_line.specs.CommandLine.{arena, command_in, faults, is_asked, is_shown, order_by, order_in}
+use Rattle.bhs_command_line.specs.CommandLine.{AreRefused, AsksHelp, AsksVersion, Explains, Parses, Says, arena}
+use Rattle.bhs_command_line.specs.CommandLine.{command_in, faults, is_asked, is_refused, is_shown, order_by, order_in}
 use Rattle.bhs_command_line.specs.declared.Parsed.{Parsed}
 use Rattle.bhs_command_line.specs.declared.Parsed.TheVariants.{Ordered, Refused, Shown}
 use Rattle.bhs_command_line.specs.declared.orders.Order.{Order}

@@ -7,7 +7,8 @@ use Rattle.std.proofs.lemmas.List.{drop_more}
 use Rattle.clap.specs.Words.{Text, first_value, matched_of, raw_values, rows_of}
 use Rattle.clap.specs.declared.parser.matches.Found.{Found}
 use Rattle.clap.proofs.WalkLemmas.{first_value-rows, raw_values-rows}
-use Rattle.bhs_command_line.specs.CommandLine.{entries_in, entry_in, text_in, texts_in}
+use Rattle.bhs_command_line.specs.Arguments.{text_in, texts_in}
+use Rattle.bhs_command_line.specs.CommandLine.{entries_in, entry_in}
 use Rattle.bhs_command_line.specs.declared.orders.Entry.{Entry}
 
 -- the text of what is borrowed, or none

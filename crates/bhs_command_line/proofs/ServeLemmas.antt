@@ -9,7 +9,8 @@ use Rattle.clap.proofs.OnLiterals.{clap_on_literals}
 use Rattle.bhs_command_line.proofs.NumberLemmas.{ArePlain}
 use Rattle.bhs_command_line.proofs.ReadLemmas.{Enters, Reads, between, end_fault, leaf_of, line, line_fault, order_read}
 use Rattle.bhs_command_line.proofs.ReadLemmas.{passed, passed_whole, read_plain, reads_more, reads_none}
-use Rattle.bhs_command_line.specs.CommandLine.{command_in, faults, is_dashed, order_by, plain_hosting_in, serve}
+use Rattle.bhs_command_line.specs.Serving.{hosting_in, plain_words, serve}
+use Rattle.bhs_command_line.specs.CommandLine.{command_in, faults, is_dashed, order_by}
 use Rattle.bhs_command_line.specs.declared.orders.Order.TheVariants.{Serve}
 
 abbrev leaf : Shape
@@ -65,13 +66,13 @@ module _ (name port sessions turns pause prefix : Text) where
   end_faultless = refl
 
   end_ordered : order_by (codes "serve", finished leaf.rules end.held) ≡ option_map (Serve name)
-      (plain_hosting_in port sessions turns pause prefix)
+      (hosting_in (plain_words port sessions turns pause prefix))
   unfolding clap_on_literals
   end_ordered = refl
 
   pub serve_found : is_dashed name ≡ false → is_dashed prefix ≡ false → ArePlain port sessions turns pause
       → (faults (codes "serve" ∷ own_words) ≡ [])
       × (option_and_then order_by (command_in (codes "serve" ∷ own_words)) ≡ option_map (Serve name)
-      (plain_hosting_in port sessions turns pause prefix))
+      (hosting_in (plain_words port sessions turns pause prefix)))
   serve_found plain also numbers =
       order_read serve_enters own_words end _ (words_read plain also numbers) end_faultless end_ordered

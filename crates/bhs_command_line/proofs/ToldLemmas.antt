@@ -1,26 +1,25 @@
--- What is told of a command, argument by argument.
-use Rattle.std.proofs.Common.{◌≡◌, ◌∙◌, ◌++◌, ◌∷◌, ◌||◌, [], ap, ap₂, Bool, List, Result, IfOk, false}
-use Rattle.std.proofs.lemmas.Result.{IfOk-weaker}
-use Rattle.clap.specs.Words.{AddsArg, App, Rule, Shape, Text, rule_of}
-use Rattle.clap.specs.declared.builder.arg.Arg.{Arg}
+-- What is told of commands, one more of their words and options at a time.
+use Rattle.std.proofs.Common.{◌≡◌, ◌++◌, ◌∷◌, [], List, Result, IfOk, ℕ, ◌<◌, ◌+◌}
+use Rattle.std.proofs.Common.{fold, get_or, length, map, take}
+use Rattle.std.proofs.lemmas.List.{map-append, take_more}
+use Rattle.std.proofs.lemmas.List.Sums.{fold-append}
+use Rattle.clap.specs.Words.{App, Text, app_of, with_subcommand}
 use Rattle.clap.specs.declared.builder.command.Command.{Command}
-use Rattle.bhs_command_line.specs.CommandLine.{IsTold, command}
+use Rattle.bhs_command_line.specs.Arguments.{IsTold, command}
+use Rattle.bhs_command_line.specs.Told.{rule_by, shape_by}
+use Rattle.bhs_command_line.specs.declared.commands.Argument.{Argument}
+use Rattle.bhs_command_line.specs.declared.commands.Subcommand.{Subcommand}
 
--- one argument more
-pub told_more : {old : Command} {name : Text} {rules : List Rule} {rule : Rule} (told : IsTold old (command name rules))
-    (new : Command) (arg : Arg)
-    → rule_of arg ≡ rule → arg.global ≡ false → AddsArg old arg new
-    → IsTold new (command name (rules ++ rule ∷ []))
-told_more {rules = rules} told new arg is local adds = record {
-  shape = ap (λ (a : App). a.top) (adds.shape local)
-      ∙ ap₂ (λ (s : Shape) (r : Rule). record s { rules = s.rules ++ r ∷ [] }) told.shape is;
-  local = adds.globals ∙ ap₂ (λ (a b : Bool). a || b) told.local local;
-}
+-- the rows so far, and one more
+pub more_told : {E : Type 0} (new : Result Command E) (name : Text) (rows : List Argument) (i : ℕ) (d : Argument)
+    → i < length rows
+    → IfOk new (λ it. IsTold it (command name (map rule_by (take i rows) ++ rule_by (get_or rows i d) ∷ [])))
+    → IfOk new (λ it. IsTold it (command name (map rule_by (take (i + 1) rows))))
+more_told new name rows i d within told = rw (take_more rows i d within, map-append) told
 
--- the same, where memory may run out
-pub all_told : {old : Command} {name : Text} {rules : List Rule} {rule : Rule} {E : Type 0}
-    (told : IsTold old (command name rules)) (arg : Arg)
-    → rule_of arg ≡ rule → arg.global ≡ false → (new : Result Command E) → IfOk new (AddsArg old arg)
-    → IfOk new (λ it. IsTold it (command name (rules ++ rule ∷ [])))
-all_told told arg is local new adds =
-    IfOk-weaker new (AddsArg _ arg) _ (λ it one. told_more told it arg is local one) adds
+pub more_commands : {E : Type 0} (new : Result Command E) (app : App) (rows : List Subcommand) (i : ℕ) (d : Subcommand)
+    → i < length rows
+    → IfOk new (λ it. app_of it ≡ with_subcommand (fold with_subcommand app (map shape_by (take i rows)))
+    (shape_by (get_or rows i d)))
+    → IfOk new (λ it. app_of it ≡ fold with_subcommand app (map shape_by (take (i + 1) rows)))
+more_commands new app rows i d within told = rw (take_more rows i d within, map-append, fold-append) told

@@ -11,9 +11,11 @@ use Rattle.clap.specs.declared.error.kind.ErrorKind.{ErrorKind}
 use Rattle.clap.specs.declared.error.kind.ErrorKind.TheVariants.{DisplayHelp, DisplayHelpOnMissingArgumentOrSubcommand}
 use Rattle.clap.specs.declared.error.kind.ErrorKind.TheVariants.{DisplayVersion}
 use Rattle.clap.proofs.OnLiterals.{clap_on_literals}
-use Rattle.bhs_command_line.specs.CommandLine.{AsksHelp, AsksVersion, AskAfter, Says, arena, command_in, faults}
-use Rattle.bhs_command_line.specs.CommandLine.{is_dashed}
-use Rattle.bhs_command_line.specs.CommandLine.{number_in, entries_in, order_by}
+use Rattle.bhs_command_line.specs.Arguments.{number_in}
+use Rattle.bhs_command_line.specs.Exploring.{drawing_in, explore, plain_exploration_in}
+use Rattle.bhs_command_line.specs.CommandLine.{AskAfter, AsksHelp, AsksVersion, Says, appeal_of, arena, check}
+use Rattle.bhs_command_line.specs.CommandLine.{command_in, entries_in, explain, faults, is_dashed, judge, judging_of}
+use Rattle.bhs_command_line.specs.CommandLine.{order_by, recover, rehearse, table, twin}
 use Rattle.bhs_command_line.specs.declared.orders.Order.{Order}
 use Rattle.bhs_command_line.specs.declared.orders.Order.TheVariants.{Check, Explain, Explore, Judge, Recover, Rehearse}
 use Rattle.bhs_command_line.specs.declared.orders.Order.TheVariants.{RehearseInteractively, Serve, Table, Twin}
@@ -26,8 +28,6 @@ use Rattle.bhs_command_line.proofs.NumberLemmas.{hosting_plain}
 use Rattle.bhs_command_line.proofs.ReadLemmas.{Enters, leaf_of, line, line_fault, order_read, passed, passed_whole}
 use Rattle.bhs_command_line.proofs.ReadLemmas.{read_plain, reads_more, reads_none}
 use Rattle.bhs_command_line.proofs.ServeLemmas.{serve_found}
-use Rattle.bhs_command_line.specs.CommandLine.{check, explain, explore, judge, recover, rehearse, table, twin}
-use Rattle.bhs_command_line.specs.CommandLine.{appeal_of, drawing_in, judging_of, plain_exploration_in}
 
 -- ---- lists of kinds
 

@@ -1,17 +1,18 @@
 //! The order in what clap made of the words.
 
 ghost use Rattle.std.specs.Prelude.{◌≡◌, ◌<◌, ◌^◌, IfOk, Some, option_and_then, option_map, codes};
-ghost use Rattle.bhs_command_line.specs.CommandLine.{order_by, exploration_by, hosting_by, number_by, entries_in};
-ghost use Rattle.bhs_command_line.specs.CommandLine.{is_given, rehearsal_of, text_in, texts_in};
-ghost use Rattle.bhs_command_line.specs.CommandLine.{drawing_by, drawing_in, drawing_of, hunt_in, hunted_in, pace_in};
-ghost use Rattle.bhs_command_line.specs.CommandLine.{number_within, paced_in, seed_in};
-ghost use Rattle.bhs_command_line.specs.CommandLine.{appeal_of, judging_by, judging_of, number_in};
-ghost use Rattle.bhs_command_line.specs.CommandLine.{contest_table_by, is_one_word, recovery_by, tabling_by};
+ghost use Rattle.bhs_command_line.specs.Arguments.{is_given, number_in, number_within, text_in, texts_in};
+ghost use Rattle.bhs_command_line.specs.Serving.{hosting_by};
+ghost use Rattle.bhs_command_line.specs.Exploring.{drawing_by, drawing_in, drawing_of, exploration_by, hunt_in};
+ghost use Rattle.bhs_command_line.specs.Exploring.{hunted_in, pace_in, paced_in, seed_in};
+ghost use Rattle.bhs_command_line.specs.CommandLine.{appeal_of, contest_table_by, entries_in, is_one_word, judging_by};
+ghost use Rattle.bhs_command_line.specs.CommandLine.{judging_of, order_by, recovery_by, rehearsal_of, tabling_by};
+ghost use Rattle.bhs_command_line.specs.Told.{most_of, number_by, row_number};
 ghost use Rattle.clap.specs.Words.{first_of, found_of, rows_of, subcommand_rows_of};
 
-use crate::numbers::{
-    AGENT, APPEALED, DRAWS, GAME, GATHER, GRACE, NAPS, NODE, Number, PAUSE, PORT, SEED, SESSIONS,
-    STATES, TURNS,
+use crate::commands::{
+    Argument, REPLAY, TOURNAMENT, Takes, explain, explore, judge, recover, rehearse, serve, table,
+    twin,
 };
 use crate::orders::{Appeal, Drawing, Entries, Exploration, Hosting, Hunt, Order, Pace};
 use crate::words::{entries_in, number_within, text};
@@ -41,47 +42,27 @@ fn order_named(
     ensures { IfOk result (λ order. order_by (name.now, rows_of (found_of words.now)) ≡ order) }
 {
     match name {
-        "rehearse" => {
-            let tournament = text_if_any(alloc, words, "tournament")?;
-            let prefix = text_if_any(alloc, words, "prefix")?;
-            Ok(Some(rehearsal(is_given(words, "interactive"), tournament, prefix)))
-        }
-        "check" => Ok(Some(Order::Check {
-            tournament: text_given(alloc, words, "tournament")?,
-        })),
+        "rehearse" => rehearsal_given(alloc, words),
+        "check" => check_given(alloc, words),
         "judge" => judging_given(alloc, words),
         "table" => tabling_given(alloc, words),
-        "explain" => match short_given(words, &AGENT) {
-            Some(agent) => Ok(Some(Order::Explain {
-                replay: text_given(alloc, words, "replay")?,
-                agent,
-            })),
-            None => Ok(None),
-        },
-        "twin" => match short_given(words, &NODE) {
-            Some(node) => Ok(Some(Order::Twin {
-                replay: text_given(alloc, words, "replay")?,
-                node,
-            })),
-            None => Ok(None),
-        },
+        "explain" => explaining_given(alloc, words),
+        "twin" => twin_given(alloc, words),
         "recover" => recovery_given(alloc, words),
-        "explore" => match exploration_given(alloc, words)? {
-            Some(exploration) => Ok(Some(Order::Explore {
-                tournament: text_given(alloc, words, "tournament")?,
-                exploration,
-            })),
-            None => Ok(None),
-        },
-        "serve" => match hosting_given(alloc, words)? {
-            Some(hosting) => Ok(Some(Order::Serve {
-                tournament: text_given(alloc, words, "tournament")?,
-                hosting,
-            })),
-            None => Ok(None),
-        },
+        "explore" => exploring_given(alloc, words),
+        "serve" => serving_given(alloc, words),
         _ => Ok(None),
     }
+}
+
+// The order that the words of `rehearse` give.
+fn rehearsal_given(alloc: Global, words: &ArgMatches<'_>) -> Result<Option<Order>, AllocError>
+    ensures { IfOk result (λ order. order ≡ order_by (codes "rehearse", rows_of (found_of words.now))) }
+{
+    let tournament = text_if_any(alloc, words, &rehearse::TOURNAMENT)?;
+    let prefix = text_if_any(alloc, words, &rehearse::PREFIX)?;
+    let is_interactive = is_given(words, &rehearse::INTERACTIVE);
+    Ok(Some(rehearsal(is_interactive, tournament, prefix)))
 }
 
 // The rehearsal of a tournament, by whether its script is played as it comes.
@@ -95,14 +76,23 @@ fn rehearsal(is_interactive: bool, tournament: Option<Text>, prefix: Option<Text
     }
 }
 
+// The order that the words of `check` give.
+fn check_given(alloc: Global, words: &ArgMatches<'_>) -> Result<Option<Order>, AllocError>
+    ensures { IfOk result (λ order. order ≡ order_by (codes "check", rows_of (found_of words.now))) }
+{
+    Ok(Some(Order::Check {
+        tournament: text_given(alloc, words, &TOURNAMENT)?,
+    }))
+}
+
 // The order that the words of `judge` give.
 fn judging_given(alloc: Global, words: &ArgMatches<'_>) -> Result<Option<Order>, AllocError>
     ensures { IfOk result (λ order. order ≡ judging_by (rows_of (found_of words.now))) }
 {
-    let replay = text_given(alloc, words, "replay")?;
-    let turns = text_if_any(alloc, words, "turns")?;
-    let tournament = text_if_any(alloc, words, "tournament")?;
-    let game = text_if_any(alloc, words, "match")?;
+    let replay = text_given(alloc, words, &REPLAY)?;
+    let turns = text_if_any(alloc, words, &judge::TURNS)?;
+    let tournament = text_if_any(alloc, words, &judge::TOURNAMENT)?;
+    let game = text_if_any(alloc, words, &judge::GAME)?;
     Ok(judging(replay, turns, tournament, game))
 }
 
@@ -129,7 +119,7 @@ fn judging(
 fn appealing(replay: Text, turns: Text, tournament: Text, word: &str) -> Option<Order>
     ensures { result ≡ option_map (Order.Appeal replay) (appeal_of turns tournament (number_in word.now)) }
 {
-    let game = number_within(APPEALED.least, APPEALED.most, word)? as u16;
+    let game = number_by(judge::GAME.takes, word)? as u16;
     let appeal = Appeal {
         turns,
         tournament,
@@ -142,7 +132,7 @@ fn appealing(replay: Text, turns: Text, tournament: Text, word: &str) -> Option<
 fn tabling_given(alloc: Global, words: &ArgMatches<'_>) -> Result<Option<Order>, AllocError>
     ensures { IfOk result (λ order. order ≡ tabling_by (rows_of (found_of words.now))) }
 {
-    if let Some(prefix) = text_if_any(alloc, words, "prefix")? {
+    if let Some(prefix) = text_if_any(alloc, words, &table::PREFIX)? {
         return contest_table_given(alloc, words, prefix);
     }
     match entries_given(alloc, words)? {
@@ -163,7 +153,7 @@ fn contest_table_given(
         return Ok(None);
     }
     Ok(Some(Order::ContestTable {
-        tournament: text_given(alloc, words, "entry")?,
+        tournament: text_given(alloc, words, &table::ENTRIES)?,
         prefix,
     }))
 }
@@ -172,7 +162,7 @@ fn contest_table_given(
 fn is_one_word(words: &ArgMatches<'_>) -> bool
     ensures { result ≡ is_one_word (rows_of (found_of words.now)) }
 {
-    match words.get_strs("entry") {
+    match words.get_strs(table::ENTRIES.id) {
         Some(texts) => texts.len() == 1,
         None => false,
     }
@@ -182,8 +172,8 @@ fn is_one_word(words: &ArgMatches<'_>) -> bool
 fn recovery_given(alloc: Global, words: &ArgMatches<'_>) -> Result<Option<Order>, AllocError>
     ensures { IfOk result (λ order. order ≡ Some (recovery_by (rows_of (found_of words.now)))) }
 {
-    let file = text_given(alloc, words, "file")?;
-    match text_if_any(alloc, words, "prefix")? {
+    let file = text_given(alloc, words, &recover::FILE)?;
+    match text_if_any(alloc, words, &recover::PREFIX)? {
         Some(prefix) => Ok(Some(Order::RecoverContest {
             tournament: file,
             prefix,
@@ -192,11 +182,63 @@ fn recovery_given(alloc: Global, words: &ArgMatches<'_>) -> Result<Option<Order>
     }
 }
 
-// Whether an option that takes no word is given.
-fn is_given(words: &ArgMatches<'_>, id: &str) -> bool
-    ensures { result ≡ is_given id.now (rows_of (found_of words.now)) }
+// The order that the words of `explain` give.
+fn explaining_given(alloc: Global, words: &ArgMatches<'_>) -> Result<Option<Order>, AllocError>
+    ensures { IfOk result (λ order. order ≡ order_by (codes "explain", rows_of (found_of words.now))) }
 {
-    words.get_str(id).unwrap_or("") == "true"
+    match short_given(words, &explain::AGENT) {
+        Some(agent) => Ok(Some(Order::Explain {
+            replay: text_given(alloc, words, &REPLAY)?,
+            agent,
+        })),
+        None => Ok(None),
+    }
+}
+
+// The order that the words of `twin` give.
+fn twin_given(alloc: Global, words: &ArgMatches<'_>) -> Result<Option<Order>, AllocError>
+    ensures { IfOk result (λ order. order ≡ order_by (codes "twin", rows_of (found_of words.now))) }
+{
+    match short_given(words, &twin::NODE) {
+        Some(node) => Ok(Some(Order::Twin {
+            replay: text_given(alloc, words, &REPLAY)?,
+            node,
+        })),
+        None => Ok(None),
+    }
+}
+
+// The order that the words of `explore` give.
+fn exploring_given(alloc: Global, words: &ArgMatches<'_>) -> Result<Option<Order>, AllocError>
+    ensures { IfOk result (λ order. order ≡ order_by (codes "explore", rows_of (found_of words.now))) }
+{
+    match exploration_given(alloc, words)? {
+        Some(exploration) => Ok(Some(Order::Explore {
+            tournament: text_given(alloc, words, &TOURNAMENT)?,
+            exploration,
+        })),
+        None => Ok(None),
+    }
+}
+
+// The order that the words of `serve` give.
+fn serving_given(alloc: Global, words: &ArgMatches<'_>) -> Result<Option<Order>, AllocError>
+    ensures { IfOk result (λ order. order ≡ order_by (codes "serve", rows_of (found_of words.now))) }
+{
+    match hosting_given(alloc, words)? {
+        Some(hosting) => Ok(Some(Order::Serve {
+            tournament: text_given(alloc, words, &TOURNAMENT)?,
+            hosting,
+        })),
+        None => Ok(None),
+    }
+}
+
+// Whether an option that takes no word is given.
+fn is_given(words: &ArgMatches<'_>, argument: &Argument) -> bool
+    ensures { result ≡ is_given argument.now.id.now (rows_of (found_of words.now)) }
+{
+    words.get_str(argument.id).unwrap_or("") == "true"
 }
 
 // The exploration that the words of `explore` say.
@@ -206,13 +248,13 @@ fn exploration_given(
 ) -> Result<Option<Exploration>, AllocError>
     ensures { IfOk result (λ exploration. exploration ≡ exploration_by (rows_of (found_of words.now))) }
 {
-    let Some(game) = short_given(words, &GAME) else {
+    let Some(game) = short_given(words, &explore::GAME) else {
         return Ok(None);
     };
-    let Some(states) = number_given(words, &STATES) else {
+    let Some(states) = number_given(words, &explore::STATES) else {
         return Ok(None);
     };
-    let Some(naps) = short_given(words, &NAPS) else {
+    let Some(naps) = short_given(words, &explore::NAPS) else {
         return Ok(None);
     };
     let Some(drawing) = drawing_given(alloc, words)? else {
@@ -233,15 +275,15 @@ fn drawing_given(
 ) -> Result<Option<Option<Drawing>>, AllocError>
     ensures { IfOk result (λ drawing. drawing ≡ drawing_by (rows_of (found_of words.now))) }
 {
-    let draws = text_if_any(alloc, words, "draws")?;
-    let seed = text_if_any(alloc, words, "seed")?;
-    let pace = text_if_any(alloc, words, "by")?;
-    let hunt = text_if_any(alloc, words, "hunt")?;
+    let draws = text_if_any(alloc, words, &explore::DRAWS)?;
+    let seed = text_if_any(alloc, words, &explore::SEED)?;
+    let pace = text_if_any(alloc, words, &explore::PACE)?;
+    let hunt = text_if_any(alloc, words, &explore::HUNT)?;
     Ok(drawing(draws, seed, pace, hunt))
 }
 
 // The schedules that these words have drawn: none if there is no word.
-#[tactic(auto, unfolding(crate::specs::CommandLine::drawing_in))]
+#[tactic(auto, unfolding(crate::specs::Exploring::drawing_in))]
 fn drawing(
     draws: Option<Text>,
     seed: Option<Text>,
@@ -270,7 +312,7 @@ fn drawn_by(
     ensures { result ≡ drawing_of (number_within 1 4294967295 draws)
         (seed_in seed) (paced_in pace) (hunted_in hunt) }
 {
-    let schedules = number_within(DRAWS.least, DRAWS.most, draws.as_str())?;
+    let schedules = number_by(explore::DRAWS.takes, draws.as_str())?;
     let seed = seed_in(&seed)?;
     let pace = paced_in(&pace)?;
     let hunt = hunted_in(&hunt)?;
@@ -282,12 +324,12 @@ fn drawn_by(
     })
 }
 
-/// The seed of this word; 0 if there is none.
-pub(crate) fn seed_in(word: &Option<Text>) -> Option<u32>
+// The seed of this word; 0 if there is none.
+fn seed_in(word: &Option<Text>) -> Option<u32>
     ensures { result ≡ seed_in word.now }
 {
     match word {
-        Some(word) => number_within(SEED.least, SEED.most, word.as_str()),
+        Some(word) => number_by(explore::SEED.takes, word.as_str()),
         None => Some(0),
     }
 }
@@ -344,22 +386,22 @@ pub(crate) fn hunt_in(word: &str) -> Option<Hunt>
 fn hosting_given(alloc: Global, words: &ArgMatches<'_>) -> Result<Option<Hosting>, AllocError>
     ensures { IfOk result (λ hosting. hosting ≡ hosting_by (rows_of (found_of words.now))) }
 {
-    let Some(port) = short_given(words, &PORT) else {
+    let Some(port) = short_given(words, &serve::PORT) else {
         return Ok(None);
     };
-    let Some(sessions) = number_given(words, &SESSIONS) else {
+    let Some(sessions) = number_given(words, &serve::SESSIONS) else {
         return Ok(None);
     };
-    let Some(turns) = number_given(words, &TURNS) else {
+    let Some(turns) = number_given(words, &serve::TURNS) else {
         return Ok(None);
     };
-    let Some(pause) = number_given(words, &PAUSE) else {
+    let Some(pause) = number_given(words, &serve::PAUSE) else {
         return Ok(None);
     };
-    let Some(grace) = number_given(words, &GRACE) else {
+    let Some(grace) = number_given(words, &serve::GRACE) else {
         return Ok(None);
     };
-    let Some(gather) = number_given(words, &GATHER) else {
+    let Some(gather) = number_given(words, &serve::GATHER) else {
         return Ok(None);
     };
     Ok(Some(Hosting {
@@ -369,49 +411,63 @@ fn hosting_given(alloc: Global, words: &ArgMatches<'_>) -> Result<Option<Hosting
         pause,
         grace,
         gather,
-        early: is_given(words, "early"),
-        log: is_given(words, "log"),
-        address: text_given(alloc, words, "address")?,
-        prefix: text_given(alloc, words, "prefix")?,
+        early: is_given(words, &serve::EARLY),
+        log: is_given(words, &serve::LOG),
+        address: text_given(alloc, words, &serve::ADDRESS)?,
+        prefix: text_given(alloc, words, &serve::PREFIX)?,
     }))
 }
 
 // The text that a command may have.
-fn text_if_any(alloc: Global, words: &ArgMatches<'_>, id: &str) -> Result<Option<Text>, AllocError>
-    ensures { IfOk result (λ found. found ≡ first_of id.now (rows_of (found_of words.now))) }
+fn text_if_any(
+    alloc: Global,
+    words: &ArgMatches<'_>,
+    argument: &Argument,
+) -> Result<Option<Text>, AllocError>
+    ensures { IfOk result (λ found. found ≡ first_of argument.now.id.now (rows_of (found_of words.now))) }
 {
-    match words.get_str(id) {
+    match words.get_str(argument.id) {
         Some(found) => Ok(Some(text(alloc, found)?)),
         None => Ok(None),
     }
 }
 
 // The text that a command must have. Clap refuses words without it.
-fn text_given(alloc: Global, words: &ArgMatches<'_>, id: &str) -> Result<Text, AllocError>
-    ensures { IfOk result (λ found. found ≡ text_in id.now (rows_of (found_of words.now))) }
+fn text_given(
+    alloc: Global,
+    words: &ArgMatches<'_>,
+    argument: &Argument,
+) -> Result<Text, AllocError>
+    ensures { IfOk result (λ found. found ≡ text_in argument.now.id.now (rows_of (found_of words.now))) }
 {
-    text(alloc, words.get_str(id).unwrap_or(""))
+    text(alloc, words.get_str(argument.id).unwrap_or(""))
 }
 
-/// The number that a command must have.
-pub(crate) fn number_given(words: &ArgMatches<'_>, number: &Number) -> Option<u32>
-    ensures { result ≡ number_by number.now.least number.now.most number.now.id.now (rows_of (found_of words.now)) }
+// The number that a command must have.
+fn number_given(words: &ArgMatches<'_>, argument: &Argument) -> Option<u32>
+    ensures { result ≡ row_number argument.now (rows_of (found_of words.now)) }
 {
-    number_within(
-        number.least,
-        number.most,
-        words.get_str(number.id).unwrap_or(""),
-    )
+    number_by(argument.takes, words.get_str(argument.id).unwrap_or(""))
 }
 
 // The same of a number of 16 bits.
-fn short_given(words: &ArgMatches<'_>, number: &Number) -> Option<u16>
-    requires { number.now.most < 2 ^ 16 }
-    ensures { result ≡ number_by number.now.least number.now.most number.now.id.now (rows_of (found_of words.now)) }
+fn short_given(words: &ArgMatches<'_>, argument: &Argument) -> Option<u16>
+    requires { most_of argument.now.takes < 2 ^ 16 }
+    ensures { result ≡ row_number argument.now (rows_of (found_of words.now)) }
 {
-    match number_given(words, number) {
+    match number_given(words, argument) {
         Some(value) => Some(value as u16),
         None => None,
+    }
+}
+
+/// The number that a word spells, if it should be one.
+pub(crate) fn number_by(takes: Takes, word: &str) -> Option<u32>
+    ensures { result ≡ number_by takes word.now }
+{
+    match takes {
+        Takes::Number { least, most } => number_within(least, most, word),
+        _ => None,
     }
 }
 
@@ -419,7 +475,7 @@ fn short_given(words: &ArgMatches<'_>, number: &Number) -> Option<u16>
 fn entries_given(alloc: Global, words: &ArgMatches<'_>) -> Result<Option<Entries>, AllocError>
     ensures { IfOk result (λ entries. entries ≡ entries_in (texts_in (codes "entry") (rows_of (found_of words.now)))) }
 {
-    match words.get_strs("entry") {
+    match words.get_strs(table::ENTRIES.id) {
         Some(texts) => entries_in(alloc, texts),
         None => entries_in(alloc, &[]),
     }

@@ -2,17 +2,17 @@
 #![tactic(auto)]
 
 ghost use Rattle.std.specs.Prelude.{◌≡◌, [], IfOk, IsErr, IsTrue, map};
-ghost use Rattle.bhs_command_line.specs.CommandLine.{Parses, AsksHelp, AsksVersion, Says, Explains};
-ghost use Rattle.bhs_command_line.specs.CommandLine.{is_refused, is_shown};
+ghost use Rattle.bhs_command_line.specs.CommandLine.{AsksHelp, AsksVersion, Explains, Parses, Says, is_refused};
+ghost use Rattle.bhs_command_line.specs.CommandLine.{is_shown};
 ghost use Rattle.bhs_command_line.specs.declared.Parsed.TheVariants.{Ordered};
 ghost use Rattle.bhs_command_line.specs.declared.orders.Order.{Order as OrderData};
 ghost use Rattle.clap.specs.Words.{kind_of};
 ghost use Rattle.clap.specs.declared.error.kind.ErrorKind.TheVariants.{OutOfMemory};
 
+mod commands;
 mod declared;
 mod given;
 mod help;
-mod numbers;
 mod orders;
 mod unfit;
 mod words;

@@ -1,142 +1,131 @@
-//! What is told of a word that is no number, or no entry of a table.
+//! What is told of a word that its command does not take.
 
-use crate::given::{hunt_in, number_given, pace_in};
-use crate::numbers::{
-    AGENT, APPEALED, DRAWS, GAME, GATHER, GRACE, NAPS, NODE, Number, PAUSE, PORT, SEED, SESSIONS,
-    STATES, TURNS,
-};
+use crate::commands::{Argument, COMMANDS, Need, Takes, explore, judge, table};
+use crate::given::{hunt_in, number_by, pace_in};
 use crate::words::entry_in;
 use clap::ArgMatches;
 use std::alloc::{AllocError, Global};
 
 /// Tells the first word that its command does not take, in the form of clap's own texts.
 pub(crate) fn unfit_text(alloc: Global, matches: &ArgMatches<'_>) -> Result<String, AllocError> {
-    match matches.subcommand() {
-        Some(("table", words)) => unfit_table(alloc, words),
-        Some(("judge", words)) => unfit_appeal(alloc, words),
-        Some(("explain", words)) => unfit_number(alloc, words, &[AGENT]),
-        Some(("twin", words)) => unfit_number(alloc, words, &[NODE]),
-        Some(("explore", words)) => unfit_exploration(alloc, words),
-        Some(("serve", words)) => {
-            unfit_number(alloc, words, &[PORT, SESSIONS, TURNS, PAUSE, GRACE, GATHER])
-        }
-        _ => Ok(String::new(alloc)),
-    }
-}
-
-// Tells which words of an appeal are missing, or that its number is none.
-fn unfit_appeal(alloc: Global, words: &ArgMatches<'_>) -> Result<String, AllocError> {
-    let is_whole = ["turns", "tournament", "match"]
-        .iter()
-        .all(|id| words.get_str(id).is_some());
-    if is_whole {
-        return unfit_number(alloc, words, &[APPEALED]);
-    }
-    String::from_str(
-        alloc,
-        "error: --turns <TURNS>, --tournament <TOURNAMENT> and --match <MATCH> go together\n\n\
-        For more information, try '--help'.\n",
-    )
-}
-
-// Tells the first wrong word of an exploration, or that its options need --draws.
-fn unfit_exploration(alloc: Global, words: &ArgMatches<'_>) -> Result<String, AllocError> {
-    let told = unfit_number(alloc, words, &[GAME, STATES, NAPS])?;
-    if !told.is_empty() {
-        return Ok(told);
-    }
-    if words.get_str("draws").is_none() {
-        return String::from_str(
-            alloc,
-            "error: --seed <S>, --by <NAME> and --hunt <WHAT> need --draws <N>\n\n\
-            For more information, try '--help'.\n",
-        );
-    }
-    if number_given(words, &DRAWS).is_none() {
-        return unfit_number(alloc, words, &[DRAWS]);
-    }
-    if words.get_str("seed").is_some() && number_given(words, &SEED).is_none() {
-        return unfit_number(alloc, words, &[SEED]);
-    }
-    match words.get_str("by") {
-        Some(word) if pace_in(word).is_none() => unfit_name(
-            alloc,
-            word,
-            "--by <NAME>",
-            "fair, last-departed, starved, slow-agents, slow-links",
-        ),
-        _ => unfit_hunt(alloc, words),
-    }
-}
-
-// Tells the word of --hunt, if it is wrong.
-fn unfit_hunt(alloc: Global, words: &ArgMatches<'_>) -> Result<String, AllocError> {
-    match words.get_str("hunt") {
-        Some(word) if hunt_in(word).is_none() => {
-            unfit_name(alloc, word, "--hunt <WHAT>", "moves, lost")
-        }
-        _ => Ok(String::new(alloc)),
-    }
-}
-
-// Tells a word that should be one of these names.
-fn unfit_name(alloc: Global, word: &str, name: &str, names: &str) -> Result<String, AllocError> {
-    format!(in alloc;
-        "error: invalid value '{word}' for '{name}': it is none of {names}\n\n\
-        For more information, try '--help'.\n"
-    )
-}
-
-// Tells the first of these numbers that the words do not give.
-fn unfit_number(
-    alloc: Global,
-    words: &ArgMatches<'_>,
-    numbers: &[Number],
-) -> Result<String, AllocError> {
-    let is_unfit = |number: &&Number| number_given(words, number).is_none();
-    let Some(number) = numbers.iter().find(is_unfit) else {
+    let Some((name, words)) = matches.subcommand() else {
         return Ok(String::new(alloc));
     };
-    let Number {
-        id,
-        name,
-        least,
-        most,
-    } = number;
-    let word = words.get_str(id).unwrap_or("");
-    format!(in alloc;
-        "error: invalid value '{word}' for '{name}': it is no number from {least} to {most}\n\n\
-        For more information, try '--help'.\n"
-    )
+    let reason = reason(alloc, name, words)?;
+    format!(in alloc; "error: {reason}\n\nFor more information, try '--help'.\n")
 }
 
-// Tells that --replay goes with one tournament, or the first word that is no entry.
-fn unfit_table(alloc: Global, words: &ArgMatches<'_>) -> Result<String, AllocError> {
-    if words.get_str("prefix").is_none() {
-        return unfit_entry(alloc, words);
+// Words that are always there come first, then those that do not go together, then the others.
+fn reason(alloc: Global, name: &str, words: &ArgMatches<'_>) -> Result<String, AllocError> {
+    let arguments = arguments_of(name);
+    if let Some(told) = first_unfit(alloc, words, arguments, true)? {
+        return Ok(told);
     }
-    String::from_str(
-        alloc,
-        "error: --replay <PREFIX> goes with one word, which is the file of the tournament\n\n\
-        For more information, try '--help'.\n",
-    )
+    if let Some(told) = apart(name, words) {
+        return String::from_str(alloc, told);
+    }
+    match first_unfit(alloc, words, arguments, false)? {
+        Some(told) => Ok(told),
+        None => Ok(String::new(alloc)),
+    }
 }
 
-fn unfit_entry(alloc: Global, words: &ArgMatches<'_>) -> Result<String, AllocError> {
-    let word = first_unfit(alloc, words.get_strs("entry").unwrap_or(&[]))?;
-    format!(in alloc;
-        "error: invalid value '{word}' for '<TEAM=REPLAY>...': \
-        a team is 1 to 16 of a to z, 0 to 9 and -, and = follows it\n\n\
-        For more information, try '--help'.\n"
-    )
-}
-
-// The first word that is no entry.
-fn first_unfit<'a>(alloc: Global, words: &[&'a str]) -> Result<&'a str, AllocError> {
-    for word in words {
-        if entry_in(alloc, word)?.is_none() {
-            return Ok(word);
+fn arguments_of(name: &str) -> &'static [Argument] {
+    for command in &COMMANDS {
+        if command.name == name {
+            return command.arguments;
         }
     }
-    Ok("")
+    &[]
+}
+
+// What is told of words that do not go together.
+fn apart(name: &str, words: &ArgMatches<'_>) -> Option<&'static str> {
+    match name {
+        "judge" if !is_whole_appeal(words) => Some(judge::TOGETHER),
+        "table" if is_there(words, &table::PREFIX) => Some(table::ONE_WORD),
+        "explore" if !is_there(words, &explore::DRAWS) => Some(explore::NEED_DRAWS),
+        _ => None,
+    }
+}
+
+fn is_whole_appeal(words: &ArgMatches<'_>) -> bool {
+    is_there(words, &judge::TURNS)
+        && is_there(words, &judge::TOURNAMENT)
+        && is_there(words, &judge::GAME)
+}
+
+fn is_there(words: &ArgMatches<'_>, argument: &Argument) -> bool {
+    words.get_str(argument.id).is_some()
+}
+
+// Tells the first unfit word of these, among those that are always there or among the others.
+fn first_unfit(
+    alloc: Global,
+    words: &ArgMatches<'_>,
+    arguments: &[Argument],
+    always: bool,
+) -> Result<Option<String>, AllocError> {
+    for argument in arguments {
+        if is_always_there(argument.need) == always {
+            for word in words.get_strs(argument.id).unwrap_or(&[]) {
+                if !is_fit(alloc, argument.takes, word)? {
+                    return Ok(Some(unfit_word(alloc, argument, word)?));
+                }
+            }
+        }
+    }
+    Ok(None)
+}
+
+fn is_always_there(need: Need) -> bool {
+    matches!(need, Need::Required | Need::Default(_))
+}
+
+fn is_fit(alloc: Global, takes: Takes, word: &str) -> Result<bool, AllocError> {
+    match takes {
+        Takes::Text => Ok(true),
+        Takes::Number { .. } => Ok(number_by(takes, word).is_some()),
+        Takes::Pace => Ok(pace_in(word).is_some()),
+        Takes::Hunt => Ok(hunt_in(word).is_some()),
+        Takes::Entry => Ok(entry_in(alloc, word)?.is_some()),
+    }
+}
+
+fn unfit_word(alloc: Global, argument: &Argument, word: &str) -> Result<String, AllocError> {
+    let called = called(alloc, argument)?;
+    let wanted = wanted(alloc, argument.takes)?;
+    format!(in alloc; "invalid value '{word}' for '{called}': {wanted}")
+}
+
+// How clap calls a word to a user.
+fn called(alloc: Global, argument: &Argument) -> Result<String, AllocError> {
+    let name = argument.name;
+    match (argument.option, argument.need) {
+        (Some(option), _) => format!(in alloc; "--{option} <{name}>"),
+        (None, Need::OneOrMore) => format!(in alloc; "<{name}>..."),
+        (None, _) => format!(in alloc; "<{name}>"),
+    }
+}
+
+// What a word should be.
+fn wanted(alloc: Global, takes: Takes) -> Result<String, AllocError> {
+    match takes {
+        Takes::Text => Ok(String::new(alloc)),
+        Takes::Number { least, most } => {
+            format!(in alloc; "it is no number from {least} to {most}")
+        }
+        Takes::Pace => {
+            let names = explore::PACES;
+            format!(in alloc; "it is none of {names}")
+        }
+        Takes::Hunt => {
+            let names = explore::HUNTS;
+            format!(in alloc; "it is none of {names}")
+        }
+        Takes::Entry => String::from_str(
+            alloc,
+            "a team is 1 to 16 of a to z, 0 to 9 and -, and = follows it",
+        ),
+    }
 }

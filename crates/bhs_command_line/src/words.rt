@@ -3,7 +3,8 @@
 ghost use Rattle.std.specs.Prelude.{◌≡◌, IfOk, map};
 ghost use Rattle.std.specs.Char.{is_ascii_digit};
 ghost use Rattle.std.specs.List.{list_all};
-ghost use Rattle.bhs_command_line.specs.CommandLine.{number_within, entry_in, entries_in};
+ghost use Rattle.bhs_command_line.specs.Arguments.{number_within};
+ghost use Rattle.bhs_command_line.specs.CommandLine.{entries_in, entry_in};
 
 use crate::orders::{Entries, Entry};
 use bhs_text::{Text, is_team};

@@ -8,5 +8,5 @@ pub returns : goal.returns
 returns c =
     c.eq.ensures
     ∙ ap (λ (text : List ℕ). bytes_eq text (codes "true"))
-    (text_found (found_of c.args.words.now) c.args.id.now c.get_str.result c.unwrap_or.result _
+    (text_found (found_of c.args.words.now) c.args.argument.now.id.now c.get_str.result c.unwrap_or.result _
     c.get_str.ensures refl c.unwrap_or.ensures)

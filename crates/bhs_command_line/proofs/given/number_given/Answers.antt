@@ -1,12 +1,12 @@
 use Rattle.std.proofs.Common.{◌∙◌, ap, refl}
 use Rattle.clap.specs.Words.{found_of}
-use Rattle.bhs_command_line.specs.CommandLine.{number_within}
+use Rattle.bhs_command_line.specs.Told.{number_by}
 use Rattle.bhs_command_line.proofs.FoundLemmas.{text_found}
 use Rattle.bhs_command_line.proofs.given.number_given.Goals as goal
 
 pub returns : goal.returns
 returns c =
-    c.number_within.ensures
-    ∙ ap (number_within c.args.number.now.least c.args.number.now.most)
-    (text_found (found_of c.args.words.now) c.args.number.now.id.now c.get_str.result c.unwrap_or.result _
+    c.number_by.ensures
+    ∙ ap (number_by c.args.argument.now.takes)
+    (text_found (found_of c.args.words.now) c.args.argument.now.id.now c.get_str.result c.unwrap_or.result _
     c.get_str.ensures refl c.unwrap_or.ensures)

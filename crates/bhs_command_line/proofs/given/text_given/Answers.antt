@@ -7,5 +7,5 @@ use Rattle.bhs_command_line.proofs.given.text_given.Goals as goal
 pub returns : goal.returns
 returns c =
     IfOk-weaker c.text.result _ _
-    (λ copy is. is ∙ text_found (found_of c.args.words.now) c.args.id.now c.get_str.result c.unwrap_or.result _
-    c.get_str.ensures refl c.unwrap_or.ensures) c.text.ensures
+    (λ copy is. is ∙ text_found (found_of c.args.words.now) c.args.argument.now.id.now c.get_str.result
+    c.unwrap_or.result _ c.get_str.ensures refl c.unwrap_or.ensures) c.text.ensures

@@ -8,9 +8,9 @@ pub returns-in_ok-text-in-Some : goal.returns-in_ok-text-in-Some
 returns-in_ok-text-in-Some c =
     ap (λ (name : List ℕ). Some name) c.in_ok-text-in-Some.ensures
     ∙ sym (ap (option_map (λ (s : Bor (List ℕ)). s.now)) c.in-Some.is)
-    ∙ (c.get_str.ensures ∙ first_value-rows (found_of c.args.words.now) c.args.id.now)
+    ∙ (c.get_str.ensures ∙ first_value-rows (found_of c.args.words.now) c.args.argument.now.id.now)
 
 pub returns-in-None : goal.returns-in-None
 returns-in-None c =
     sym (ap (option_map (λ (s : Bor (List ℕ)). s.now)) c.in-None.is)
-    ∙ (c.get_str.ensures ∙ first_value-rows (found_of c.args.words.now) c.args.id.now)
+    ∙ (c.get_str.ensures ∙ first_value-rows (found_of c.args.words.now) c.args.argument.now.id.now)

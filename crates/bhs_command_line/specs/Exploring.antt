@@ -1,0 +1,93 @@
+-- What the words of `explore` say: its options with their ranges and defaults, and the exploration that they give.
+use Rattle.std.specs.Prelude.{ℕ, List, [], ◌∷◌, Option, Some, None, codes, if◌then◌else◌, option_map}
+use Rattle.std.specs.Str.{bytes_eq}
+use Rattle.clap.specs.Words.{Row, Shape, Text, first_of}
+use Rattle.bhs_command_line.specs.Arguments.{NumberOption, behind, command, may_have, must_have, number_in, number_of}
+use Rattle.bhs_command_line.specs.Arguments.{number_within, numbered, text_in}
+use Rattle.bhs_command_line.specs.declared.orders.Drawing.{Drawing}
+use Rattle.bhs_command_line.specs.declared.orders.Exploration.{Exploration}
+use Rattle.bhs_command_line.specs.declared.orders.Hunt.{Hunt}
+use Rattle.bhs_command_line.specs.declared.orders.Hunt.TheVariants as hunts
+use Rattle.bhs_command_line.specs.declared.orders.Pace.{Pace}
+use Rattle.bhs_command_line.specs.declared.orders.Pace.TheVariants as paces
+
+-- at most how many states are visited
+abbrev pub states_option : NumberOption
+states_option = record { name = codes "states"; least = 1; most = 4294967295; default = codes "10000000" }
+
+-- how often agents may nap
+abbrev pub naps_option : NumberOption
+naps_option = record { name = codes "naps"; least = 0; most = 65535; default = codes "2" }
+
+abbrev pub explore : Shape
+explore = command (codes "explore") (must_have (codes "tournament") ∷ must_have (codes "match")
+    ∷ numbered states_option ∷ numbered naps_option
+    ∷ behind (codes "draws") (may_have (codes "draws")) ∷ behind (codes "seed") (may_have (codes "seed"))
+    ∷ behind (codes "by") (may_have (codes "by")) ∷ behind (codes "hunt") (may_have (codes "hunt")) ∷ [])
+
+-- whose turn it is in a drawn schedule, by its name
+abbrev pub pace_in : Text → Option Pace
+pace_in word =
+    if bytes_eq word (codes "fair") then Some paces.Fair
+    else (if bytes_eq word (codes "last-departed") then Some paces.LastDeparted
+    else (if bytes_eq word (codes "starved") then Some paces.Starved
+    else (if bytes_eq word (codes "slow-agents") then Some paces.SlowAgents
+    else (if bytes_eq word (codes "slow-links") then Some paces.SlowLinks else None))))
+
+-- what is hunted for among drawn schedules, by its name
+abbrev pub hunt_in : Text → Option Hunt
+hunt_in word =
+    if bytes_eq word (codes "moves") then Some hunts.Moves
+    else (if bytes_eq word (codes "lost") then Some hunts.Lost else None)
+
+-- the same of a word that need not be given: the seed is 0, all agents are as likely, and nothing is hunted for
+abbrev pub seed_in : Option Text → Option ℕ
+seed_in (Some word) = number_within 0 4294967295 word
+seed_in None = Some 0
+
+abbrev pub paced_in : Option Text → Option Pace
+paced_in (Some word) = pace_in word
+paced_in None = Some paces.Fair
+
+abbrev pub hunted_in : Option Text → Option (Option Hunt)
+hunted_in (Some word) = option_map Some (hunt_in word)
+hunted_in None = Some None
+
+-- what is drawn by these, if all are there
+abbrev pub drawing_of : (schedules seed : Option ℕ) → Option Pace → (hunt : Option (Option Hunt)) → Option Drawing
+drawing_of (Some schedules) (Some seed) (Some pace) (Some hunt) =
+    Some (record { schedules = schedules; seed = seed; pace = pace; hunt = hunt })
+drawing_of _ _ _ _ = None
+
+-- what is drawn by these words: nothing if there is none, and the others need one of how many schedules
+unfoldable pub drawing_in : (draws seed pace hunt : Option Text) → Option (Option Drawing)
+drawing_in None None None None = Some None
+drawing_in (Some draws) seed pace hunt =
+    option_map Some (drawing_of (number_within 1 4294967295 draws) (seed_in seed) (paced_in pace) (hunted_in hunt))
+drawing_in None seed pace hunt = None
+
+-- an exploration by these, if all are there
+abbrev pub exploration_of : (game states naps : Option ℕ) → (drawing : Option (Option Drawing)) → Option Exploration
+exploration_of (Some game) (Some states) (Some naps) (Some drawing) =
+    Some (record { game = game; states = states; naps = naps; drawing = drawing })
+exploration_of _ _ _ _ = None
+
+-- the exploration that the words of `explore` say
+abbrev pub exploration_in : (game states naps : Text) → (drawing : Option (Option Drawing)) → Option Exploration
+exploration_in game states naps drawing =
+    exploration_of (number_in game) (number_of states_option states) (number_of naps_option naps) drawing
+
+-- the same where the optional words are not given
+abbrev pub plain_exploration_in : (game : Text) → Option Exploration
+plain_exploration_in game = exploration_in game states_option.default naps_option.default (Some None)
+
+-- the schedules that the words of `explore` have drawn
+abbrev pub drawing_by : List Row → Option (Option Drawing)
+drawing_by rows = drawing_in (first_of (codes "draws") rows) (first_of (codes "seed") rows)
+    (first_of (codes "by") rows) (first_of (codes "hunt") rows)
+
+-- the exploration that the words of `explore` say
+abbrev pub exploration_by : List Row → Option Exploration
+exploration_by rows =
+    exploration_in (text_in (codes "match") rows) (text_in states_option.name rows) (text_in naps_option.name rows)
+    (drawing_by rows)

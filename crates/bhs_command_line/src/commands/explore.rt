@@ -1,0 +1,98 @@
+//! The words and options of `explore`.
+
+use crate::commands::{Argument, Need, Subcommand, TOURNAMENT, Takes};
+use crate::help::explore::HELP;
+
+pub(crate) const COMMAND: Subcommand = Subcommand {
+    name: "explore",
+    help: HELP,
+    arguments: &[TOURNAMENT, GAME, STATES, NAPS, DRAWS, SEED, PACE, HUNT],
+};
+
+pub(crate) const GAME: Argument = Argument {
+    id: "match",
+    option: None,
+    name: "MATCH",
+    need: Need::Required,
+    takes: Takes::Number {
+        least: 0,
+        most: 65_535,
+    },
+    help: "The match's number, from 0",
+};
+
+pub(crate) const STATES: Argument = Argument {
+    id: "states",
+    option: Some("states"),
+    name: "N",
+    need: Need::Default("10000000"),
+    takes: Takes::Number {
+        least: 1,
+        most: 4_294_967_295,
+    },
+    help: "Visits at most this many states; a million take about 50 megabytes. With --draws the most \
+        turns of a schedule",
+};
+
+pub(crate) const NAPS: Argument = Argument {
+    id: "naps",
+    option: Some("naps"),
+    name: "N",
+    need: Need::Default("2"),
+    takes: Takes::Number {
+        least: 0,
+        most: 65_535,
+    },
+    help: "How often a sleeping agent may wake again though nothing has changed in front of it",
+};
+
+pub(crate) const DRAWS: Argument = Argument {
+    id: "draws",
+    option: Some("draws"),
+    name: "N",
+    need: Need::Optional,
+    takes: Takes::Number {
+        least: 1,
+        most: 4_294_967_295,
+    },
+    help: "Draws this many schedules instead of trying all; for networks with too many states",
+};
+
+pub(crate) const SEED: Argument = Argument {
+    id: "seed",
+    option: Some("seed"),
+    name: "S",
+    need: Need::Optional,
+    takes: Takes::Number {
+        least: 0,
+        most: 4_294_967_295,
+    },
+    help: "Draws from this seed; without it from 0",
+};
+
+pub(crate) const PACE: Argument = Argument {
+    id: "by",
+    option: Some("by"),
+    name: "NAME",
+    need: Need::Optional,
+    takes: Takes::Pace,
+    help: "Whose turn it is among the agents that can move; without it fair",
+};
+
+pub(crate) const HUNT: Argument = Argument {
+    id: "hunt",
+    option: Some("hunt"),
+    name: "WHAT",
+    need: Need::Optional,
+    takes: Takes::Hunt,
+    help: "Begins every second schedule as the worst so far began: moves or lost",
+};
+
+/// What is told where schedules are not drawn.
+pub(crate) const NEED_DRAWS: &str = "--seed <S>, --by <NAME> and --hunt <WHAT> need --draws <N>";
+
+/// The names of paces.
+pub(crate) const PACES: &str = "fair, last-departed, starved, slow-agents, slow-links";
+
+/// The names of what is hunted for.
+pub(crate) const HUNTS: &str = "moves, lost";

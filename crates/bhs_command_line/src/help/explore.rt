@@ -1,0 +1,112 @@
+//! The help of `explore`.
+
+use crate::help::Help;
+
+pub(crate) const HELP: Help = Help {
+    about: "Tries every schedule of a match whose agents a host plays",
+    at_length: AT_LENGTH,
+    example: EXAMPLE,
+};
+
+const AT_LENGTH: &str = "\
+Tries every schedule of match MATCH of the tournament, and says whether each one
+solves it. The agents are played by a host at the other end of standard input and
+output, as `python3 -m lab explore` is one. An agent must be deterministic: what
+it does next is a function of what its program holds. The host gives each thing
+that a program may hold a number, its memory, counted from 0 in the order in
+which they are met. The program asks, a line for each question, and waits for the
+answer before it goes on:
+
+  {\"begin\":A}             What does agent A hold at the start?
+  {\"ask\":M,\"hears\":REPLY} What does an agent hold that held M, and then heard
+                          this reply? REPLY is what a server sends
+  {\"ask\":M,\"wakes\":true}  The same of one that slept and wakes
+
+Each question is asked once. The answer is a line, N being the memory:
+
+  N says                  and on the next line what the client sends then, as
+                          {\"do\":\"look\"}; the key of an enter is not looked at
+  N sleeps                The agent waits until the whiteboard in front of it
+                          changes; it may also wake --naps times more
+  N stops                 It sends nothing more, but it may still arrive
+  N fails                 Its program raised an exception, or broke a rule
+
+Programs of agents that hold the same may share a memory. Each memory must always
+have the same step. A long search also tells how far it is, by lines that have no
+answer: {\"visited\":STATES,\"depth\":TURNS}.
+
+A network with too many states ends this at --states. Then draw schedules: with
+--draws N the program draws N of them from the seed of --seed, and plays them by
+the same answers: a hundred thousand take seconds once the host has answered. It
+keeps the first that fails, or else the one with the most moves. --by NAME says
+whose turn it is among the agents that can move:
+
+  fair           each is as likely
+  last-departed  agents go as far as they can, and of those on links the one
+                 arrives that departed last
+  starved        one agent moves only if no other can; schedule number I starves
+                 agent I, counted round the team
+  slow-agents    some agents are slow to be answered, and some to arrive;
+                 sleepers wake seldom
+  slow-links     some links are slow, each in its two directions
+
+--hunt moves looks for more moves: every second schedule begins as the worst so
+far began, and goes on by chance. --hunt lost looks for more agents lost, and
+keeps that schedule. No drawn schedule has more than --states turns.";
+
+const EXAMPLE: &str = "\
+At the end comes a line of what was found, and one of how much was visited:
+
+  {\"found\":\"solves\",\"moves\":M,\"lost\":L,\"turns\":T,\"naps\":N,
+   \"commands\":[C,..]}
+      in one line: every schedule comes to rest after at most T turns that change
+      anything, and the match is then solved, in at most M moves, with at most L
+      agents lost; agent A uses at most the A-th of these commands. All this holds
+      if agents nap at most N times in a row: nothing is said of longer waits
+  {\"found\":\"fails\",\"outcome\":O,\"moves\":M,\"lost\":L,\"schedule\":[A,..]}
+      If the agents have their turns in this order, nothing more can happen, and
+      the match is not solved
+  {\"found\":\"breaks\",\"agent\":A,\"failure\":F,\"schedule\":[A,..]}
+      Under this schedule agent A fails: its program does (program), or it would
+      once it is told that the match is over (close), or it sleeps where nothing
+      more can happen (asleep)
+  {\"found\":\"endless\",\"schedule\":[A,..],\"round\":[A,..],\"fair\":B}
+      After the schedule this round may go on for ever. It is fair (true) if each
+      agent that can move throughout it has a turn in it. In an unfair round
+      (false) agents may wait for one that never has a turn
+  {\"found\":\"exceeds\",\"agent\":A,\"commands\":C}
+      An agent may use more commands than its quota, as one may that asks again
+      and again, so nothing is said
+  {\"states\":S,\"memories\":M,\"stances\":T,\"boards\":B}
+
+With --draws these are `fails`, `breaks` or `exceeds`, or
+
+  {\"found\":\"comes\",\"moves\":M,\"lost\":L,\"schedule\":[A,..]}
+      Under this schedule the match is solved; no drawn one fails
+  {\"solved\":S,\"failed\":F,\"turns\":T,\"moves\":[[M,C],..],
+   \"lost\":[[L,C],..],\"memories\":M,\"stances\":T}
+      in one line: how many of the schedules are solved and fail, their turns,
+      and how many come to M moves, or lose L agents
+
+What is found is proved of all agents that do as was answered; the last line is
+not. The program cannot know whether the agents of the host do.
+
+Example: on the triangle of `arena check --help` an agent that stops at once:
+
+  printf '%s\\n' '0 stops' '0 stops' | arena explore cup.toml 0
+
+prints
+
+  {\"begin\":0}
+  {\"begin\":1}
+  {\"found\":\"fails\",\"outcome\":\"silent\",\"moves\":0,\"lost\":0,\"schedule\":[]}
+  {\"states\":1,\"memories\":1,\"stances\":1,\"boards\":1}
+
+Exit status:
+
+  0  Every schedule solves the match, or each that was drawn
+  1  A schedule fails, or may go on for ever
+  2  The command line was refused
+  3  A file or an answer was refused, or nothing can be said
+  5  Memory ran out
+  6  Reading or writing failed";
