@@ -1,13 +1,24 @@
-"""The tools that take memory, files and streams away try each order of the program."""
+"""What the command line declares is in its help, in the documents, and in the tools that take memory, files and streams
+away: each command, and each option with its default."""
 import re
 import unittest
-from typing import List
+from typing import Iterator, List, NamedTuple, Optional
 
 from tests import TOP
 from tools.hostile.commands import COMMANDS, SERVED
 
 DECLARED = TOP / "crates" / "bhs_command_line" / "src"
 COMMAND = re.compile(r"^    (\w+)::COMMAND,$", re.MULTILINE)
+ROW = re.compile(r"^pub\(crate\) const \w+: Argument = Argument \{\n(.*?)^\};", re.MULTILINE | re.DOTALL)
+OPTION = re.compile(r'option: Some\("([\w-]+)"\)')
+DEFAULT = re.compile(r'need: Need::Default\("([^"]*)"\)')
+
+
+class Option(NamedTuple):
+    """An option of a command, and its word where none is given."""
+    command: str
+    name: str
+    default: Optional[str]
 
 
 def commands() -> List[str]:
@@ -15,9 +26,38 @@ def commands() -> List[str]:
     return COMMAND.findall((DECLARED / "commands.rt").read_text(encoding="utf-8"))
 
 
+def options() -> Iterator[Option]:
+    """The options that its commands declare."""
+    for command in commands():
+        for row in ROW.findall((DECLARED / "commands" / f"{command}.rt").read_text(encoding="utf-8")):
+            for name in OPTION.findall(row):
+                default = DEFAULT.search(row)
+                yield Option(command, name, default.group(1) if default else None)
+
+
 def rows() -> str:
     """The rows of the command line, which the gate plays on the program."""
     return (TOP / "tests" / "program" / "command_lines.rows").read_text(encoding="utf-8")
+
+
+def help_of(command: str) -> str:
+    """The short help of a command."""
+    return rows().partition(f"\n$ {command} -h\n")[2].partition("\n\n")[0]
+
+
+def pages_of(command: str) -> str:
+    """What docs/FORMATS.md says of a command: the paragraphs from one that begins with it to one of another."""
+    page = (TOP / "docs" / "FORMATS.md").read_text(encoding="utf-8").partition("\n## The program\n")[2]
+    parts = re.split(r"^`arena (\w+)", page, flags=re.MULTILINE)
+    return "".join(text for name, text in zip(parts[1::2], parts[2::2]) if name == command)
+
+
+def tried(option: Option) -> bool:
+    """Whether a hostile tool gives the option to its command."""
+    if option.command == SERVED:
+        tools = sorted((TOP / "tools" / "hostile").glob("*.py"))
+        return any(f'"--{option.name}"' in tool.read_text(encoding="utf-8") for tool in tools)
+    return any(command.words[0] == option.command and f"--{option.name}" in command.words for command in COMMANDS)
 
 
 class Orders(unittest.TestCase):
@@ -29,6 +69,30 @@ class Orders(unittest.TestCase):
     def test_the_help_lists_the_orders(self) -> None:
         listed = rows().partition("\n< Commands:\n")[2].partition("\n<\n")[0]
         self.assertEqual(re.findall(r"^<   (\w+) ", listed, re.MULTILINE), [*commands(), "help"])
+
+
+class Options(unittest.TestCase):
+    def setUp(self) -> None:
+        self.declared = list(options())
+        self.assertGreater(len(self.declared), 20)
+
+    def test_the_help_of_its_command_has_each_option_with_its_default(self) -> None:
+        for option in self.declared:
+            with self.subTest(option):
+                line = re.search(rf"^<       --{option.name}( .*)?$", help_of(option.command), re.MULTILINE)
+                self.assertIsNotNone(line)
+                if option.default is not None and line:
+                    self.assertIn(f"[default: {option.default}]", line.group())
+
+    def test_the_page_of_formats_has_each_option_with_its_default(self) -> None:
+        for option in self.declared:
+            with self.subTest(option):
+                text = pages_of(option.command).replace(",", "")
+                near = "" if option.default is None else rf".{{1,300}}?(?<![\d.]){re.escape(option.default)}(?![\d.])"
+                self.assertRegex(text, re.compile(rf"--{option.name}\b{near}", re.DOTALL))
+
+    def test_a_hostile_tool_tries_each_option(self) -> None:
+        self.assertEqual([option for option in self.declared if not tried(option)], [])
 
 
 if __name__ == "__main__":
