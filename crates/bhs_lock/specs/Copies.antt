@@ -1,5 +1,5 @@
--- What is copied out of a log.
-use Rattle.std.specs.Prelude.{ℕ, ◌≡◌, List, map, take, drop}
+-- What is copied out of a log, and the turns of its events.
+use Rattle.std.specs.Prelude.{ℕ, ◌≡◌, List, length, map, take, drop}
 use Rattle.bhs_model.specs.declared.marks.Kept.{Kept}
 use Rattle.bhs_model.specs.Marks.{read_if}
 use Rattle.bhs_match.specs.Matches.{Play}
@@ -21,3 +21,12 @@ pub record AreCopies (from most : ℕ) (found : List Copied) : Type 0 where
   pub tallies : List Tally
   pub legal : IsLegalHistory play tallies
   pub are : found ≡ copies play.log from most
+
+-- they are the turns of as many events of some legal history, from this place of its log on
+pub record AreTurns (from most : ℕ) (found : List ℕ) : Type 0 where
+  pub play : Play
+  pub tallies : List Tally
+  pub turns : List ℕ
+  pub legal : IsLegalHistory play tallies
+  pub each : length turns ≡ length play.log
+  pub are : found ≡ take most (drop from turns)

@@ -9,11 +9,11 @@ ghost use Rattle.bhs_lock.specs.Tallies.{nothing};
 ghost use Rattle.bhs_lock.specs.Timing.{at_first};
 ghost use Rattle.bhs_lock.specs.Unclaimed.{IsFresh};
 ghost use Rattle.bhs_lock.specs.Cells.{IsNews};
-ghost use Rattle.bhs_lock.specs.Copies.{AreCopies};
+ghost use Rattle.bhs_lock.specs.Copies.{AreCopies, AreTurns};
 ghost use Rattle.bhs_lock.specs.Deciding.{WasSeen};
 ghost use Rattle.bhs_lock.specs.Settling.{IsOfWorld};
 
-use crate::copies::{Copied, copies};
+use crate::copies::{Copied, copies, turns_from};
 use crate::gates::Gate;
 use crate::hall::{Hall, no_turns, unheard};
 use crate::model::{Answer, Tally};
@@ -240,6 +240,22 @@ impl Cell {
     {
         let hall = self.hall.lock(rt);
         copies(alloc, hall.state(), from, most)
+    }
+
+    /// Copies of the turns of the same events. The turn of an event is there once the event is.
+    pub fn turns<R: Wait>(
+        &self,
+        rt: &R,
+        alloc: Global,
+        from: usize,
+        most: usize,
+    ) -> Result<Vec<u32>, Memory>
+        ensures { IfOk result (λ found. AreTurns from most found.items) }
+    {
+        let hall = self.hall.lock(rt);
+        // The proof needs what the match says of itself.
+        let _legal = hall.state();
+        turns_from(alloc, hall.turns(), from, most)
     }
 
     /// Ends the match, and wakes all who wait for news. Takes no memory.

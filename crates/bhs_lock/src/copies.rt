@@ -1,4 +1,4 @@
-//! Copying events out of a log.
+//! Copying events out of a log, and their turns.
 
 ghost use Rattle.std.specs.Prelude.{◌≡◌, IfOk, take, drop, map};
 ghost use Rattle.bhs_lock.specs.Copies.{copy_of, copies};
@@ -27,14 +27,26 @@ pub(crate) fn copies(
     copies_of(alloc, play, few(play.log(), from, most))
 }
 
-// The events from this place on, `most` of them at the most.
-fn few(log: &[Kept], from: usize, most: usize) -> &[Kept]
-    ensures { result.now ≡ take most (drop from log.now) }
+/// Copies of turns from this place on, `most` of them at the most.
+pub(crate) fn turns_from(
+    alloc: Global,
+    turns: &[u32],
+    from: usize,
+    most: usize,
+) -> Result<Vec<u32>, Memory>
+    ensures { IfOk result (λ found. found.items ≡ take most (drop from turns.now)) }
 {
-    if from >= log.len() {
+    Ok(Vec::from_slice(alloc, few(turns, from, most))?)
+}
+
+// What stands from this place on, `most` of it at the most.
+fn few<T>(all: &[T], from: usize, most: usize) -> &[T]
+    ensures { result.now ≡ take most (drop from all.now) }
+{
+    if from >= all.len() {
         return &[];
     }
-    let later = &log[from..];
+    let later = &all[from..];
     &later[..most.min(later.len())]
 }
 
