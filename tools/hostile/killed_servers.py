@@ -3,15 +3,16 @@
     python3 -m tools.hostile.killed_servers PROGRAM [--kills N] [--seed S]
 
 PROGRAM is the built program. Each time `serve` is started on two matches in a temporary folder; an agent of each looks
-again and again, and the server is killed by SIGKILL. Every other contest is so short that the kill may come while the
-replays are written. Then of each match:
+or goes on to the next node again and again, and the server is killed by SIGKILL. Every other contest is so short that
+the kill may come while the replays are written. Then of each match:
 
 - If a file has the name of the replay, it is one whole replay.
 - Otherwise `arena recover` makes a replay of the part.
 - It has each event that an agent was answered more than two seconds before the kill.
 
 And `arena recover T --replay P` prints the table of both: it writes the replays that are missing, each the text that
-`arena recover` printed, and leaves those that were there.
+`arena recover` printed, and leaves those that were there. Each match has turns then, with which its replay stands an
+appeal, and no part is left.
 
 By default there are 100 kills, several at the same time, which take a minute or two. For each kill that leaves less a
 line is printed; the last line reads `N passed, M failed`.
@@ -19,6 +20,7 @@ line is printed; the last line reads `N passed, M failed`.
 import argparse
 import concurrent.futures
 import contextlib
+import itertools
 import json
 import pathlib
 import random
@@ -31,9 +33,15 @@ import time
 from typing import Dict, List, NamedTuple, Optional
 
 from examples.contest import free_port
-from tools.play.program_cases import SEED, TRIANGLE
+from tools.play.program_cases import TRIANGLE
 
 TOP = pathlib.Path(__file__).resolve().parents[2]
+SEED = f"""version = 3
+seed = "{"0" * 64}"
+schedule = "oblivious"
+delay_scales = 3
+delay_odds = 8
+"""
 MATCH = """
 [[match]]
 team = "{team}"
@@ -62,8 +70,12 @@ class Kill(NamedTuple):
     turns: int
 
 
+LOOK, GO = b'{"do":"look"}\n', b'{"do":"depart","port":0}\n'
+
+
 class Client(threading.Thread):
-    """An agent that enters and looks, and when it was answered."""
+    """An agent that enters, looks, and goes to and fro between its home base and the next node; and when it was
+    answered."""
 
     def __init__(self, port: int, team: str) -> None:
         super().__init__(daemon=True)
@@ -74,13 +86,15 @@ class Client(threading.Thread):
     def run(self) -> None:
         with contextlib.suppress(OSError), socket.create_connection(("127.0.0.1", self.port)) as client:
             answers = client.makefile("rb")
-            line = b'{"do":"enter","key":"%b-0"}\n' % self.team.encode()
-            while True:
+            lines = itertools.chain([b'{"do":"enter","key":"%b-0"}\n' % self.team.encode()],
+                                    itertools.cycle([LOOK, LOOK, GO]))
+            for line in lines:
                 client.sendall(line)
+                if line == GO and answers.readline() != b'{"ok":"gone"}\n':
+                    return
                 if not answers.readline().startswith(b'{"board"'):
                     return
                 self.answered.append(time.monotonic())
-                line = b'{"do":"look"}\n'
                 time.sleep(0.004)
 
 
@@ -109,7 +123,21 @@ def finish(program: str, folder: pathlib.Path) -> List[bytes]:
     if recovered.stdout != subprocess.run([program, *words], cwd=folder, capture_output=True, check=True,
                                           timeout=PATIENCE).stdout:
         raise Wrong(f"recover has printed {recovered.stdout!r}")
+    stand_appeals(program, folder)
     return replays
+
+
+def stand_appeals(program: str, folder: pathlib.Path) -> None:
+    """Each match of what was finished has turns with which it stands its appeal, and there is no part."""
+    for number in range(len(TEAMS)):
+        words = ["judge", f"match{number}.jsonl", "--turns", f"match{number}.turns", "--tournament", "cup.toml",
+                 "--match", str(number)]
+        judged = subprocess.run([program, *words], cwd=folder, capture_output=True, timeout=PATIENCE)
+        if judged.returncode or not judged.stdout:
+            raise Wrong(f"the appeal of match {number}: {judged.stderr!r}")
+    parts = sorted(path.name for path in folder.glob("match*.part"))
+    if parts:
+        raise Wrong(f"recover has left {parts}")
 
 
 def told_events(replay: bytes) -> int:

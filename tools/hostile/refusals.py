@@ -295,27 +295,31 @@ def refuse_command(trials: Trials, command: Command) -> None:
                      places(number, trials.most), f"{command.name}, {mode} of {number}", f"{command.name}, {mode}")
 
 
-# what finishes a contest of one match, and the replay that it is to make of the match's part
-RECOVERY, RECOVERED = ["recover", "examples/appeal.toml", "--replay", "kept"], "appeal0.jsonl"
+# what finishes a contest of one match, and the replay and the turns that it is to make of the match's parts
+RECOVERY, RECOVERED = ["recover", "examples/appeal.toml", "--replay", "kept"], ("appeal0.jsonl", "appeal0.turns")
 
 
 def recover_twice(trials: Trials, numbers: Dict[str, int], mode: str = "", place: int = 0) -> str:
-    """Finishes a contest with this call refused, or none: the replay is whole, or the part is there. Then finishes it
-    with nothing refused."""
+    """Finishes a contest with this call refused, or none: the replay and the turns are whole, or their parts are there.
+    Then finishes it with nothing refused."""
     lab = trials.lab
-    whole = (lab.folder / "examples" / RECOVERED).read_bytes()
+    whole, timed = ((lab.folder / "examples" / name).read_bytes() for name in RECOVERED)
     with room_of(lab) as room:
         replay, part = room / "kept0.jsonl", room / "kept0.jsonl.part"
+        turns, part_of_turns = room / "kept0.turns", room / "kept0.turns.part"
         part.write_bytes(b"".join(whole.splitlines(keepends=True)[:-2]))
+        part_of_turns.write_bytes(timed)
         with trials.shim.counting(numbers, mode, place) as variables:
             first = plain_run(lab, RECOVERY, room, variables=variables)
         if not (replay.read_bytes() == whole if replay.exists() else part.exists()):
             raise Otherwise(f"status {first.status}, and the match is lost: {os.listdir(room)}")
-        is_finished = first.printed == CONTEST_TABLE and replay.exists()
+        if not (turns.read_bytes() == timed if turns.exists() else part_of_turns.exists()):
+            raise Otherwise(f"status {first.status}, and the turns are lost: {os.listdir(room)}")
+        is_finished = first.printed == CONTEST_TABLE and replay.exists() and turns.exists()
         if not (is_finished if first.status == DONE else first.told):
             raise Otherwise(f"status {first.status}, printed `{first.printed[-200:]!r}`")
         again = plain_run(lab, RECOVERY, room)
-        if again != Run(DONE, CONTEST_TABLE, "") or replay.read_bytes() != whole:
+        if again != Run(DONE, CONTEST_TABLE, "") or replay.read_bytes() != whole or turns.read_bytes() != timed:
             raise Otherwise(f"once more: status {again.status}, `{again.told.strip()[:200]}`")
     return "finished at once" if first.status == DONE else "finished once more"
 

@@ -265,11 +265,12 @@ def private_files(stage: Stage) -> None:
         (stage.folder / name).write_text(name)
         (stage.folder / name).chmod(0o666)
     with served(stage, cup=IN_TURNS, grace=0) as server:
-        parts = [(stage.folder / f"match{match}.jsonl.part").stat().st_mode & 0o777 for match in (0, 1)]
+        parts = [(stage.folder / f"match{match}.{kind}.part").stat().st_mode & 0o777
+                 for match in (0, 1) for kind in ("jsonl", "turns")]
         server.ended()
     modes = {name: (stage.folder / name).stat().st_mode & 0o777 for name in names(stage)}
     wanted = ("match0.jsonl", "match0.turns", "match1.jsonl", "match1.turns")
-    if parts != [0o600, 0o600] or modes != dict.fromkeys(wanted, 0o600):
+    if parts != [0o600] * 4 or modes != dict.fromkeys(wanted, 0o600):
         raise Wrong(f"the modes of the parts are {parts}, those of the files {modes}")
 
 
@@ -328,23 +329,47 @@ def killed(stage: Stage) -> None:
 @case("a contest that is still served is not recovered, and one that was killed is finished")
 def finished(stage: Stage) -> None:
     words = ["recover", "cup.toml", "--replay", "match"]
-    with served(stage, turns=LONG) as server:
+    whole = ["match0.jsonl", "match0.turns", "match1.jsonl", "match1.turns"]
+    with served(stage, cup=IN_TURNS, turns=LONG) as server:
         server.hears(enter("ba") + b'{"do":"accuse","port":1}\n')
         part = stage.folder / "match1.jsonl.part"
         if not wait_for(lambda: part.read_bytes().count(b"\n") == 3):
             raise Wrong(f"the part is {part.read_bytes()!r}")
         expect(stage.run(words), b"", b"match0.jsonl.part: busy\n", FAILED_STREAM)
-        if names(stage) != ["match0.jsonl.part", "match1.jsonl.part"]:
+        if names(stage) != [f"{name}.part" for name in whole]:
             raise Wrong(f"there are {names(stage)}")
         server.child.kill()
     replay = stage.run(["recover", part.name]).printed
     ranked = table("  1 blue             guess 1         0    0", "  2 red              silent          0    0")
     expect(stage.run(words), ranked)
-    if names(stage) != ["match0.jsonl", "match1.jsonl"] or (stage.folder / "match1.jsonl").read_bytes() != replay:
+    if names(stage) != whole or (stage.folder / "match1.jsonl").read_bytes() != replay:
         raise Wrong(f"there are {names(stage)}")
-    if (stage.folder / "match1.jsonl").stat().st_mode & 0o777 != 0o600:
-        raise Wrong("others may read a replay that was recovered")
+    if any((stage.folder / name).stat().st_mode & 0o777 != 0o600 for name in whole):
+        raise Wrong("others may read what was recovered")
     expect(stage.run(["table", *words[1:]]), ranked)
+    expect(appeal(stage, 1), b"guess 1 moves 0 lost 0\n")
+
+
+def appeal(stage: Stage, match: int) -> Run:
+    """The appeal to a match with the turns beside its replay."""
+    return stage.run(["judge", f"match{match}.jsonl", "--turns", f"match{match}.turns", "--tournament", "cup.toml",
+                      "--match", str(match)])
+
+
+@case("a match that is closed has its replay and turns while others go on, and they are there after a kill")
+def closed_before(stage: Stage) -> None:
+    with served(stage, "--early", cup=IN_TURNS, turns=LONG) as server:
+        for key in ("ba", "bb"):
+            server.hears(enter(key) + b'{"do":"accuse","port":1}\n')
+        wanted = ["match0.jsonl.part", "match0.turns.part", "match1.jsonl", "match1.turns"]
+        if not wait_for(lambda: names(stage) == wanted):
+            raise Wrong(f"there are {names(stage)}")
+        server.child.kill()
+    if stage.run(["recover", "cup.toml", "--replay", "match"]).status != DONE:
+        raise Wrong("the contest is not finished")
+    for match in (0, 1):
+        if appeal(stage, match).status != DONE:
+            raise Wrong(f"match {match} does not stand its appeal")
 
 
 @case("a text that is no part is not recovered")
@@ -418,6 +443,19 @@ def no_room(stage: Stage) -> None:
     recovered = stage.run(["recover", part.name]).printed
     if not recovered.endswith(CLOSE + b'{"end":%d}\n' % (events + 1)):
         raise Wrong(f"recovered is {recovered!r}")
+
+
+@case("a part for which there was no room is recovered with the turns of its events")
+def no_room_for_events(stage: Stage) -> None:
+    with served(stage, cup=IN_TURNS, grace=0, limit=full_disk) as server:
+        server.hears(enter("ba") + b'{"do":"look"}\n' * 9 + LEAVE)
+        server.ended()
+    if names(stage) != ["match0.jsonl", "match0.turns", "match1.jsonl.part", "match1.turns"]:
+        raise Wrong(f"there are {names(stage)}")
+    for match in (0, 1):
+        if match == 1 and stage.run(["recover", "cup.toml", "--replay", "match"]).status != DONE:
+            raise Wrong("the contest is not finished")
+        expect(appeal(stage, match), b"silent moves 0 lost 0\n")
 
 
 @case("servers that are killed leave what happened")

@@ -105,7 +105,20 @@ def turns_in_place(stage: Stage) -> None:
     steps = steps_of(traced(stage, schedule + SEED.replace("version = 2\n", "") + RED, 60, enter("ra") + LEAVE))
     wanted = [("write", "match0.turns.new"), ("sync", "match0.turns.new"),
               ("rename", "match0.turns.new", "match0.turns"), ("rename", "match0.jsonl.new", "match0.jsonl")]
-    if [step for step in steps if step in wanted or "match0.turns" in step] != wanted:
+    parts = [("rename", "match0.turns.part", "match0.turns"), ("rename", "match0.jsonl.part", "match0.jsonl")]
+    if [step for step in steps if step in (*wanted, *parts) or "match0.turns" in step] != [*parts, *wanted]:
+        raise Wrong(f"the calls were {steps}")
+
+
+@case("the turns of events are on the disk before these are written to the part")
+def turns_come_first(stage: Stage) -> None:
+    schedule = 'version = 3\nschedule = "oblivious"\ndelay_scales = 0\ndelay_odds = 1\n'
+    steps = steps_of(traced(stage, schedule + SEED.replace("version = 2\n", "") + RED, 60, enter("ra") + LEAVE))
+    turns, part = "match0.turns.part", "match0.jsonl.part"
+    kept = [step for step in steps if step[0] in ("write", "sync") and step[1] in (turns, part)]
+    # the head is written first, and the end line last
+    _, *events, _ = [place for place, step in enumerate(kept) if step == ("write", part)]
+    if not events or any(kept[place - 2:place] != [("write", turns), ("sync", turns)] for place in events):
         raise Wrong(f"the calls were {steps}")
 
 

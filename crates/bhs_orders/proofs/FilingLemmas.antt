@@ -5,6 +5,7 @@ use Rattle.std.proofs.Common.{Result, Ok, Err}
 use Rattle.std.proofs.lemmas.List.{drop_more}
 use Rattle.std.proofs.Math.ListN.{drop_of_length-le}
 use Rattle.std.specs.List.{AllByRecursion}
+use Rattle.bhs_net.proofs.Places.{below_or_at}
 use Rattle.bhs_match.specs.Matches.{Play}
 use Rattle.bhs_orders.specs.Filing.{first_status}
 use Rattle.bhs_orders.specs.declared.statuses.TheConstants.{DONE}
@@ -26,6 +27,15 @@ module _ {A : Type 0} (Holds : A → Type 0) (all : List A) (number : ℕ) where
 
   pub no_more : length all ≤ number → AllByRecursion Holds (drop number all)
   no_more le = subst (AllByRecursion Holds) (sym (drop_of_length-le all le)) tt
+
+-- what holds below a number and of it holds below the next
+module _ (Holds : ℕ → Type 0) (number : ℕ) where
+  pub below_next : ((other : ℕ) → other < number → Holds other) → Holds number
+      → (other : ℕ) → other < number + 1 → Holds other
+  below_next below here other lt = elim (below_or_at other number lt) [
+    | inl less ↦ below other less
+    | inr is ↦ subst Holds (sym is) here
+  ]
 
 -- two things that were both tried: where their status is `DONE`, so are both of theirs, and it is one of theirs
 module _ (first second : ℕ) where

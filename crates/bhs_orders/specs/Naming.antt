@@ -13,6 +13,10 @@ turns_name prefix number = prefix ++ (decimal number ++ codes ".turns")
 abbrev pub part_name : (prefix : List ℕ) → (number : ℕ) → List ℕ
 part_name prefix number = prefix ++ (decimal number ++ codes ".jsonl.part")
 
+-- the file of the part of those turns, while the match goes on
+abbrev pub turns_part_name : (prefix : List ℕ) → (number : ℕ) → List ℕ
+turns_part_name prefix number = prefix ++ (decimal number ++ codes ".turns.part")
+
 -- the file into which a file is written before it gets its name
 abbrev pub new_name : (name : List ℕ) → List ℕ
 new_name name = name ++ codes ".new"

@@ -67,8 +67,8 @@ fn blamed<'a>(replay: &'a str, appeal: &'a Appeal, fault: Fault) -> &'a str {
     }
 }
 
-// Compares a replay and its turns with the match of this number of a tournament.
-fn compared(
+/// Compares a replay and its turns with the match of this number of a tournament.
+pub(crate) fn compared(
     alloc: Global,
     lineup: &Lineup,
     game: u16,

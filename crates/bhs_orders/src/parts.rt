@@ -1,9 +1,10 @@
-//! Parts: what stands in files of the replays of matches that go on, so that a server that is killed loses no results.
+//! Parts: what stands in files of the replays and turns of matches that go on, so that a server that is killed loses no
+//! results.
 
 ghost use Rattle.std.specs.Prelude.{◌≡◌, IfOk, string_bytes};
 ghost use Rattle.bhs_replay.specs.Parts.{IsOfPart};
 ghost use Rattle.bhs_orders.specs.Parts.{IsRecovered};
-ghost use Rattle.bhs_orders.specs.Naming.{old_name, part_name};
+ghost use Rattle.bhs_orders.specs.Naming.{old_name, part_name, turns_part_name};
 ghost use Rattle.bhs_orders.specs.Showing.{PrintsByLine, Reports};
 
 use crate::faults::{Fault, report};
@@ -27,7 +28,14 @@ pub fn part_name(alloc: Global, prefix: &str, number: usize) -> Result<String, M
     format!(in alloc; "{prefix}{number}.jsonl.part")
 }
 
-/// Renames the files of an earlier contest under the names of a match's replay, turns and part. They get `.old` behind
+/// The name of the file that has the part of the turns of a match's events: that of the turns' file with `.part`.
+pub fn turns_part_name(alloc: Global, prefix: &str, number: usize) -> Result<String, Memory>
+    ensures { IfOk result (λ name. string_bytes name ≡ turns_part_name prefix.now number) }
+{
+    format!(in alloc; "{prefix}{number}.turns.part")
+}
+
+/// Renames the files of an earlier contest under the names of a match's replay, turns and parts. They get `.old` behind
 /// their names, or `.old2`, or the next number that is free: so none is taken for a new one, and none is ever replaced.
 pub fn put_earlier_aside<F: Files>(
     alloc: Global,
@@ -37,7 +45,12 @@ pub fn put_earlier_aside<F: Files>(
 ) -> Result<(), Fault> {
     put_aside(alloc, files, file_name(alloc, prefix, number)?.as_str())?;
     put_aside(alloc, files, turns_name(alloc, prefix, number)?.as_str())?;
-    put_aside(alloc, files, part_name(alloc, prefix, number)?.as_str())
+    put_aside(alloc, files, part_name(alloc, prefix, number)?.as_str())?;
+    put_aside(
+        alloc,
+        files,
+        turns_part_name(alloc, prefix, number)?.as_str(),
+    )
 }
 
 // How many earlier contests with one prefix are kept at most.
@@ -83,6 +96,13 @@ pub(crate) fn is_free<F: Files>(files: &F, name: &str) -> Result<bool, Fault> {
 /// Removes the part of a match's replay, if it is there.
 pub(crate) fn remove_part<F: Files>(alloc: Global, files: &F, prefix: &str, number: usize) {
     if let Ok(name) = part_name(alloc, prefix, number) {
+        let _ = fs::remove_file(files, name.as_str());
+    }
+}
+
+/// Removes the part of the turns of a match's events, if it is there.
+pub(crate) fn remove_turns_part<F: Files>(alloc: Global, files: &F, prefix: &str, number: usize) {
+    if let Ok(name) = turns_part_name(alloc, prefix, number) {
         let _ = fs::remove_file(files, name.as_str());
     }
 }

@@ -9,6 +9,7 @@ ghost use Rattle.bhs_orders.specs.Turns.{turns_text};
 ghost use Rattle.bhs_orders.specs.declared.statuses.TheConstants.{DONE};
 
 use crate::faults::{Fault, report};
+use crate::parts::remove_turns_part;
 use crate::private_files::made;
 use crate::replays::{new_name, put_or_removed};
 use crate::statuses::DONE;
@@ -25,8 +26,27 @@ use std::rt::Files;
 const LONGEST: usize = 11;
 
 /// Writes the turns of the events of the match of this number to a file, whose name is the prefix with the number and
-/// `.turns`. Any fault is reported. The answer is the exit status.
+/// `.turns`, and then removes their part. Any fault is reported, and leaves the part. The answer is the exit status.
 pub fn write_turns<F: Files, E: Write>(
+    alloc: Global,
+    files: &F,
+    prefix: &str,
+    number: usize,
+    turns: &[u32],
+    errors: &mut E,
+) -> u8
+    ensures filed { result ≡ DONE → Took (known_takes F.File.contents) (turns_text turns.now) }
+    ensures status { result ≡ DONE ⊎ IsOfFault result }
+{
+    let status = write_numbered(alloc, files, prefix, number, turns, errors);
+    if status == DONE {
+        remove_turns_part(alloc, files, prefix, number);
+    }
+    status
+}
+
+// Writes the turns of the events of the match of this number.
+fn write_numbered<F: Files, E: Write>(
     alloc: Global,
     files: &F,
     prefix: &str,
@@ -94,8 +114,38 @@ fn read_turns<F: Files>(
     name: &str,
     events: usize,
 ) -> Result<Vec<u32>, Fault> {
+    let text = read_lines(alloc, files, name, events)?;
+    turns_in(alloc, &text)
+}
+
+/// The turns of the whole lines of a file of at most as many events. What stands behind its last line feed counts for
+/// nothing.
+pub(crate) fn read_part_of_turns<F: Files>(
+    alloc: Global,
+    files: &F,
+    name: &str,
+    events: usize,
+) -> Result<Vec<u32>, Fault> {
+    let text = read_lines(alloc, files, name, events)?;
+    turns_in(alloc, whole_lines(&text))
+}
+
+// The text of a file that has the turns of at most as many events.
+fn read_lines<F: Files>(
+    alloc: Global,
+    files: &F,
+    name: &str,
+    events: usize,
+) -> Result<Vec<u8>, Fault> {
     let mut file = fs::open(files, name)?;
     let longest = events.saturating_mul(LONGEST).saturating_add(MAX_TEXT);
-    let text = read_text(alloc, &mut file, longest, MAX_TURNS)?;
-    turns_in(alloc, &text)
+    Ok(read_text(alloc, &mut file, longest, MAX_TURNS)?)
+}
+
+// The front of a text that ends in its last line feed.
+fn whole_lines(text: &[u8]) -> &[u8] {
+    match text.iter().rposition(|byte| *byte == b'\n') {
+        Some(end) => &text[..end + 1],
+        None => &[],
+    }
 }

@@ -4,6 +4,7 @@ use Rattle.bhs_standings.specs.declared.rows.Row.{Row}
 use Rattle.std.specs.Prelude.{◌==◌, if◌then◌else◌}
 use Rattle.bhs_lock.specs.declared.settling.Settlement.{Settlement}
 use Rattle.bhs_server.specs.declared.settling.Refused.{Refused}
+use Rattle.bhs_lineup.specs.declared.lineups.Lineup.{Lineup}
 use Rattle.bhs_lineup.specs.declared.lineups.Ready.{Ready}
 use Rattle.bhs_time.specs.declared.kinds.ScheduleKind.{ScheduleKind}
 use Rattle.bhs_stream.specs.Streams.{Chunk, Taken}
@@ -112,15 +113,15 @@ module _ {P O : Type 0} (files : P → List ℕ → Taken → P → Type 0) (tak
   of_files schedule settled code (all_filed is filed) = inl is
   of_files schedule settled code (unfiled_one fault is) = inr (inr (fault, is))
 
-  of_saved : (matches : List Ready) (code : ℕ) → AreSaved files matches code → IsStatus code
-  of_saved matches code (all_saved is saved) = inl is
-  of_saved matches code (unsaved_one fault is) = inr (inr (fault, is))
+  of_saved : (lineup : Lineup) (code : ℕ) → AreSaved files lineup code → IsStatus code
+  of_saved lineup code (all_saved is saved) = inl is
+  of_saved lineup code (unsaved_one fault is) = inr (inr (fault, is))
 
   of_recovery : (output output' : O) (code : ℕ) → RecoversContest files takes flushes output output' code
       → IsStatus code
   of_recovery output output' code (recovers_contest lineup assembled recovered) =
       rw recovered.coded (of_either (recovered.saved == DONE) recovered.saved recovered.printed
-      (of_saved lineup.ready.items recovered.saved recovered.saves)
+      (of_saved lineup recovered.saved recovered.saves)
       (of_matches takes flushes output output' lineup.ready.items recovered.printed recovered.tables))
   of_recovery output output' code (recovers_nothing fault is kept) = inr (inr (fault, is))
 

@@ -8,6 +8,7 @@ mod finishing;
 mod hosting;
 mod judged;
 mod keeping;
+mod line_files;
 mod log;
 mod machines;
 mod manners;

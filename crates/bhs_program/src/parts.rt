@@ -1,4 +1,5 @@
-//! The parts of replays, which are written on while their matches go on. Once a match is closed its part is the replay.
+//! The parts of replays and of the turns of their events, which are written on while their matches go on. Once a match
+//! is closed its part is the replay, and that of its turns is the file of turns.
 
 ghost use Rattle.std.specs.Prelude.{◌≡◌, IfOk, IfErr, string_bytes};
 ghost use Rattle.bhs_replay.specs.Replay.{end_line};
@@ -7,17 +8,20 @@ ghost use Rattle.bhs_program.specs.Recording.{full_end_line, full_line, lines_of
 
 use crate::judged::{FEW, TIMES};
 use crate::keeping::Keep;
+use crate::line_files::LineFile;
 use crate::log::Log;
 use crate::telling::{part_goes_on_line, part_waits_line};
-use bhs_lineup::Ready;
+use bhs_lineup::{Lineup, Ready};
 use bhs_lock::{Cell, Copied};
 use bhs_model::Event;
 use bhs_net::Memory;
-use bhs_orders::{Fault, file_name, part_name, put_earlier_aside, report, turns_name};
+use bhs_orders::{
+    Fault, file_name, part_name, put_earlier_aside, report, turns_name, turns_part_name, turns_text,
+};
 use bhs_replay::{head_of, line_of};
 use bhs_server::Settled;
+use bhs_time::ScheduleKind;
 use std::alloc::Global;
-use std::fs::File;
 use std::io::Write;
 use std::rt::Files;
 use std::sync::{Mutex, Wait};
@@ -31,19 +35,15 @@ pub struct Parts {
     all: Mutex<Vec<Part>>,
 }
 
-/// How far the part of a match is. Its file stays open, so that it is written on while descriptors are used up.
+/// How far the part of a match is.
 #[derive(Drop)]
 struct Part {
     /// The number of its match.
     game: usize,
     names: Names,
-    file: File,
-    /// How many bytes of the file are whole lines. What stands behind them is cut away before more is written.
-    bytes: u64,
-    /// How many events it has.
-    events: usize,
-    /// How many of these are on the disk.
-    synced: usize,
+    events: LineFile,
+    /// The turns of the events, under the oblivious schedule. Those of an event are on the disk before it is written.
+    turns: Option<LineFile>,
     /// Whether it could not be written on when that was tried last.
     has_failed: bool,
     state: State,
@@ -54,6 +54,7 @@ struct Part {
 struct Names {
     part: String,
     replay: String,
+    turns_part: String,
     turns: String,
 }
 
@@ -64,34 +65,36 @@ enum State {
     GoesOn,
     /// It has the close, and lacks the end line.
     IsClosed,
-    /// It is the whole replay, and has the name of a part.
+    /// It is the whole replay, and it and its turns have the names of parts.
     IsWhole,
+    /// Its turns have their name, if it has turns.
+    IsTimed,
     /// It has the name of the replay.
     IsNamed,
 }
 
-/// Begins the part of each match's replay with the head of the replay, and locks it. Files of an earlier contest get
-/// other names before. If another server writes one of the parts, all files are left alone. The first fault goes to
-/// `errors` and ends it: the answer is then its exit status.
+/// Begins the part of each match's replay with the head of the replay, and under the oblivious schedule that of its
+/// turns, and locks them. Files of an earlier contest get other names before. If another server writes one of the
+/// parts, all files are left alone. The first fault goes to `errors` and ends it: the answer is then its exit status.
 pub(crate) fn begin_parts<R: Files + Keep, E: Write>(
     alloc: Global,
     rt: &R,
     prefix: &str,
-    ready: &[Ready],
+    lineup: &Lineup,
     errors: &mut E,
 ) -> Result<Parts, u8>
     ensures { IfErr result IsOfFault }
 {
-    for number in 0..ready.len() {
+    for number in 0..lineup.ready.len() {
         if let Err(fault) = seen_free(alloc, rt, prefix, number) {
             return Err(report_part(alloc, prefix, number, fault, errors));
         }
     }
-    let Ok(mut all) = Vec::with_capacity(alloc, ready.len()) else {
+    let Ok(mut all) = Vec::with_capacity(alloc, lineup.ready.len()) else {
         return Err(report(prefix, Fault::Memory, errors));
     };
-    for (number, one) in ready.iter().enumerate() {
-        let added = match begun(alloc, rt, prefix, number, one) {
+    for (number, one) in lineup.ready.iter().enumerate() {
+        let added = match begun(alloc, rt, prefix, number, one, lineup.schedule) {
             Ok(part) => all.push(part).is_ok(),
             Err(fault) => return Err(report_part(alloc, prefix, number, fault, errors)),
         };
@@ -124,6 +127,7 @@ fn names_of(alloc: Global, prefix: &str, number: usize) -> Result<Names, Memory>
     Ok(Names {
         part: part_name(alloc, prefix, number)?,
         replay: file_name(alloc, prefix, number)?,
+        turns_part: turns_part_name(alloc, prefix, number)?,
         turns: turns_name(alloc, prefix, number)?,
     })
 }
@@ -143,6 +147,7 @@ fn begun<R: Files + Keep>(
     prefix: &str,
     number: usize,
     ready: &Ready,
+    schedule: ScheduleKind,
 ) -> Result<Part, Fault> {
     let names = names_of(alloc, prefix, number)?;
     let mut head = head_of(alloc, ready.game.net(), ready.game.setup())?;
@@ -150,25 +155,24 @@ fn begun<R: Files + Keep>(
     let _replay = rt.lock(names.replay.as_str())?;
     let _part = rt.lock(names.part.as_str())?;
     put_earlier_aside(alloc, rt, prefix, number)?;
-    let mut file = rt.begin(names.part.as_str())?;
-    if file.write_all(head.as_bytes()).is_err() || file.sync_all().is_err() {
-        return Err(Fault::Write);
-    }
+    let turns = match schedule {
+        ScheduleKind::Adaptive => None,
+        ScheduleKind::Oblivious(_) => Some(LineFile::begun(rt, names.turns_part.as_str(), b"")?),
+    };
+    let events = LineFile::begun(rt, names.part.as_str(), head.as_bytes())?;
     Ok(Part {
         game: number,
         names,
-        file,
-        bytes: head.len() as u64,
-        events: 0,
-        synced: 0,
+        events,
+        turns,
         has_failed: false,
         state: State::GoesOn,
     })
 }
 
 impl Parts {
-    /// Writes what the matches have newly kept to their parts. They take turns, so that none waits for one that has
-    /// much. The part of a match that is closed becomes the replay.
+    /// Writes what the matches have newly kept to their parts, first its turns. The matches take turns, so that none
+    /// waits for one that has much. The part of a match that is closed becomes the replay.
     pub(crate) fn write_on<R: Keep + Wait + Clock>(
         &self,
         rt: &R,
@@ -178,6 +182,9 @@ impl Parts {
     ) {
         let mut guard = self.all.lock(rt);
         let parts = &mut *guard;
+        for (part, cell) in parts.iter_mut().zip(cells) {
+            part.write_turns_on(rt, alloc, cell, log);
+        }
         for _ in 0..TIMES {
             let mut is_done = true;
             for (part, cell) in parts.iter_mut().zip(cells) {
@@ -207,7 +214,7 @@ impl Parts {
     /// How many events the part of the match of this number has.
     pub(crate) fn events<R: Wait>(&self, rt: &R, game: usize) -> usize {
         match self.all.lock(rt).get(game) {
-            Some(part) => part.events,
+            Some(part) => part.events.events(),
             None => 0,
         }
     }
@@ -230,47 +237,44 @@ impl Part {
         }
     }
 
-    // Sees that what was written is on the disk.
-    fn sync<R: Wait + Clock>(&mut self, rt: &R, alloc: Global, log: &Log) {
-        if self.synced == self.events {
-            return;
+    // Writes the turns of what its match has newly kept, and sees that they are on the disk. So whenever the server
+    // ends, each event of the part has its turn.
+    fn write_turns_on<R: Wait + Clock>(&mut self, rt: &R, alloc: Global, cell: &Cell, log: &Log) {
+        if let Some(turns) = &mut self.turns {
+            if add_turns(rt, alloc, cell, turns).is_err() {
+                self.fails(rt, alloc, log);
+            }
         }
-        if self.file.sync_data().is_ok() {
-            self.synced = self.events;
-        } else {
+    }
+
+    // Sees that the events that were written are on the disk.
+    fn sync<R: Wait + Clock>(&mut self, rt: &R, alloc: Global, log: &Log) {
+        if self.events.sync().is_err() {
             self.fails(rt, alloc, log);
         }
     }
 
-    // Appends a few events that its match has newly kept, and answers how many.
+    // Appends a few events that its match has newly kept, and answers how many. Each of them has its turn.
     fn appended<R: Wait>(&mut self, rt: &R, alloc: Global, cell: &Cell) -> Result<usize, Fault> {
-        let found = cell.copies(rt, alloc, self.events, FEW)?;
+        let events = self.events.events();
+        let most = match &self.turns {
+            Some(turns) => FEW.min(turns.synced().saturating_sub(events)),
+            None => FEW,
+        };
+        let found = cell.copies(rt, alloc, events, most)?;
         if found.is_empty() {
             return Ok(0);
         }
         let lines = lines_of(alloc, &found)?;
-        self.append(lines.as_bytes())?;
+        self.events.append(lines.as_bytes(), found.len())?;
         if found.iter().any(|one| is_close(&one.event)) {
             self.state = State::IsClosed;
         }
-        self.events = self.events.saturating_add(found.len());
         Ok(found.len())
     }
 
-    // Appends bytes to its file, behind the lines that are whole.
-    fn append(&mut self, bytes: &[u8]) -> Result<(), Fault> {
-        if self.has_failed && self.file.set_len(self.bytes).is_err() {
-            return Err(Fault::Write);
-        }
-        if self.file.write_all(bytes).is_err() {
-            return Err(Fault::Write);
-        }
-        self.bytes = self.bytes.saturating_add(bytes.len() as u64);
-        Ok(())
-    }
-
-    // The part of a match that is closed gets its end line and the name of the replay. If that fails it is told, once,
-    // and tried again at the next look.
+    // The part of a match that is closed gets its end line and the name of the replay, once its turns have theirs. If
+    // that fails it is told, once, and tried again at the next look.
     fn end<R: Keep + Wait + Clock>(&mut self, rt: &R, alloc: Global, log: &Log) {
         if self.state == State::GoesOn || self.state == State::IsNamed {
             return;
@@ -283,9 +287,19 @@ impl Part {
 
     fn named<R: Keep>(&mut self, rt: &R, alloc: Global) -> Result<(), Fault> {
         if self.state == State::IsClosed {
-            let line = full_end_line(alloc, self.events)?;
-            self.append(line.as_bytes())?;
+            let line = full_end_line(alloc, self.events.events())?;
+            self.events.append(line.as_bytes(), 0)?;
             self.state = State::IsWhole;
+        }
+        if self.state == State::IsWhole {
+            if self.turns.is_some() {
+                rt.rename(
+                    alloc,
+                    self.names.turns_part.as_str(),
+                    self.names.turns.as_str(),
+                )?;
+            }
+            self.state = State::IsTimed;
         }
         rt.rename(alloc, self.names.part.as_str(), self.names.replay.as_str())?;
         self.state = State::IsNamed;
@@ -296,17 +310,23 @@ impl Part {
     // either, so its faults are told by who writes these files.
     fn make_way<R: Keep>(&mut self, rt: &R, alloc: Global, has_settled: bool) {
         let replay = self.names.replay.as_str();
+        let turns = self.names.turns.as_str();
+        let is_timed = self.state == State::IsTimed || self.state == State::IsNamed;
         if self.state == State::IsNamed && !has_settled {
             let _ = rt.rename(alloc, replay, self.names.part.as_str());
         }
-        let _ = rt.put_others_aside(alloc, replay, &self.file);
-        let _ = rt.put_others_aside(alloc, self.names.turns.as_str(), &self.file);
+        if is_timed && self.turns.is_some() && !has_settled {
+            let _ = rt.rename(alloc, turns, self.names.turns_part.as_str());
+        }
+        let _ = rt.put_others_aside(alloc, replay, self.events.file());
+        let own = self.turns.as_ref().unwrap_or(&self.events);
+        let _ = rt.put_others_aside(alloc, turns, own.file());
     }
 
     // It could not be written on, which is told once.
     fn fails<R: Wait + Clock>(&mut self, rt: &R, alloc: Global, log: &Log) {
         if !self.has_failed {
-            log.tell(rt, part_waits_line(alloc, self.game, self.events));
+            log.tell(rt, part_waits_line(alloc, self.game, self.events.events()));
         }
         self.has_failed = true;
     }
@@ -314,10 +334,31 @@ impl Part {
     // It was written on.
     fn goes_on<R: Wait + Clock>(&mut self, rt: &R, alloc: Global, log: &Log) {
         if self.has_failed {
-            log.tell(rt, part_goes_on_line(alloc, self.game, self.events));
+            log.tell(
+                rt,
+                part_goes_on_line(alloc, self.game, self.events.events()),
+            );
         }
         self.has_failed = false;
     }
+}
+
+// Appends the turns of what a match has newly kept to their file, and sees that they are on the disk.
+fn add_turns<R: Wait>(
+    rt: &R,
+    alloc: Global,
+    cell: &Cell,
+    file: &mut LineFile,
+) -> Result<(), Fault> {
+    for _ in 0..TIMES {
+        let found = cell.turns(rt, alloc, file.events(), FEW)?;
+        if found.is_empty() {
+            break;
+        }
+        let text = turns_text(alloc, &found)?;
+        file.append(text.as_bytes(), found.len())?;
+    }
+    file.sync()
 }
 
 // The lines of events, as they stand in a replay.

@@ -7,7 +7,7 @@ ghost use Rattle.bhs_orders.specs.Recovery.{RecoversContest};
 
 use crate::keeping::Keep;
 use crate::parts::report_part;
-use bhs_orders::{Fault, lineup_of, part_name, recover_matches, report};
+use bhs_orders::{Fault, lineup_of, part_name, recover_matches, report, turns_part_name};
 use bhs_stream::Output;
 use std::alloc::Global;
 use std::fs::File;
@@ -15,8 +15,8 @@ use std::io::Write;
 use std::rt::Files;
 
 /// Reads a tournament and its networks, and locks the parts of its matches, whose names begin with the prefix. Then the
-/// replays that are missing are written by the parts, and the table is printed. The answer is the exit status. If a
-/// server writes one of the parts, all files are left alone.
+/// replays and turns that are missing are written by the parts, and the table is printed. The answer is the exit
+/// status. If a server writes one of the parts, all files are left alone.
 pub(crate) fn recover_named<R: Files + Keep, W: Output, E: Write>(
     alloc: Global,
     rt: &R,
@@ -35,7 +35,7 @@ pub(crate) fn recover_named<R: Files + Keep, W: Output, E: Write>(
         Ok(locks) => locks,
         Err(status) => return status,
     };
-    recover_matches(alloc, rt, prefix, &lineup.ready, writer, errors)
+    recover_matches(alloc, rt, prefix, &lineup, writer, errors)
 }
 
 // The parts that are there of this number of matches, locked; or the exit status of a fault that was reported.
@@ -45,14 +45,13 @@ fn locked_parts<K: Keep, E: Write>(
     prefix: &str,
     matches: usize,
     errors: &mut E,
-) -> Result<Vec<File>, u8>
+) -> Result<Vec<Locked>, u8>
     ensures { IfErr result IsOfFault }
 {
     let mut locks = Vec::new(alloc);
     for number in 0..matches {
         let added = match locked_part(alloc, rt, prefix, number) {
-            Ok(None) => true,
-            Ok(Some(lock)) => locks.push(lock).is_ok(),
+            Ok(lock) => locks.push(lock).is_ok(),
             Err(fault) => return Err(report_part(alloc, prefix, number, fault, errors)),
         };
         if !added {
@@ -62,15 +61,30 @@ fn locked_parts<K: Keep, E: Write>(
     Ok(locks)
 }
 
-// The part of the match of this number, locked, if it is there.
+// The part of a match and that of its turns, locked, if they are there.
+#[derive(Drop)]
+struct Locked {
+    _part: Option<File>,
+    _turns: Option<File>,
+}
+
 fn locked_part<K: Keep>(
     alloc: Global,
     rt: &K,
     prefix: &str,
     number: usize,
-) -> Result<Option<File>, Fault> {
-    let name = part_name(alloc, prefix, number)?;
-    match rt.lock(name.as_str()) {
+) -> Result<Locked, Fault> {
+    let part = part_name(alloc, prefix, number)?;
+    let turns = turns_part_name(alloc, prefix, number)?;
+    Ok(Locked {
+        _part: lock(rt, part.as_str())?,
+        _turns: lock(rt, turns.as_str())?,
+    })
+}
+
+// The file of this name, locked, if it is there.
+fn lock<K: Keep>(rt: &K, name: &str) -> Result<Option<File>, Fault> {
+    match rt.lock(name) {
         Ok(lock) => Ok(lock),
         Err(Fault::Busy) => Err(Fault::Busy),
         Err(_) => Err(Fault::Read),

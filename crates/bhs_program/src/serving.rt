@@ -10,7 +10,7 @@ use crate::machines::Machine;
 use crate::manners::manner_of;
 use crate::parts::{Parts, begin_parts};
 use bhs_command_line::Hosting;
-use bhs_lineup::Ready;
+use bhs_lineup::{Lineup, Ready};
 use bhs_net::Memory;
 use bhs_orders::{DONE, Fault, lineup_of, report, show_made};
 use bhs_server::can_start;
@@ -48,7 +48,7 @@ pub(crate) fn serve_named<
         Ok(listener) => listener,
         Err(status) => return status,
     };
-    let parts = match begun(alloc, rt, manner.prefix, &lineup.ready, errors) {
+    let parts = match begun(alloc, rt, manner.prefix, &lineup, errors) {
         Ok(parts) => parts,
         Err(status) => return status,
     };
@@ -80,15 +80,15 @@ fn begun<R: Machine, E: Write>(
     alloc: Global,
     rt: &R,
     prefix: &str,
-    ready: &[Ready],
+    lineup: &Lineup,
     errors: &mut E,
 ) -> Result<Parts, u8>
     ensures { IfErr result IsOfFault }
 {
-    if !can_start(rt, ready.len().saturating_add(OTHERS)) {
+    if !can_start(rt, lineup.ready.len().saturating_add(OTHERS)) {
         return Err(report("serve", Fault::Threads, errors));
     }
-    begin_parts(alloc, rt, prefix, ready, errors)
+    begin_parts(alloc, rt, prefix, lineup, errors)
 }
 
 // Listens on a port of an address of this machine: the listener, or the exit status of a fault that was reported.

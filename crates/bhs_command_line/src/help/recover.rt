@@ -12,7 +12,8 @@ const AT_LENGTH: &str = "\
 While `arena serve` runs, it writes what happens in match M to the file
 PREFIXM.jsonl.part: all but about the last second. At the end the whole replay
 stands in PREFIXM.jsonl, and the part is removed. So a part that is left means
-that its server was killed, or that the disk was full.
+that its server was killed, or that the disk was full. Under the oblivious
+schedule the turns of the events are in PREFIXM.turns.part.
 
 This command reads a part, and prints the replay of its match as if the match
 had been closed where the part ends. A last line that is torn counts for
@@ -21,9 +22,11 @@ judge`.
 
 With --replay the file is that of a tournament, and its contest is finished. For
 each match M without a replay PREFIXM.jsonl, but with a part, the replay is
-written, and the part is removed. A replay that is there is never replaced. Then
-the table is printed as `arena table TOURNAMENT --replay PREFIX` prints it. If a
-server still writes the parts, that is told as `busy`, and nothing is written.";
+written, with its turns PREFIXM.turns if there is a part of them, and the parts
+are removed. Turns with which the match does not stand its appeal are told, and
+stay where they are. A replay that is there is never replaced. Then the table is
+printed as `arena table TOURNAMENT --replay PREFIX` prints it. If a server still
+writes the parts, that is told as `busy`, and nothing is written.";
 
 const EXAMPLE: &str = "\
 Examples:
@@ -45,6 +48,6 @@ Exit status:
   3  The file is not a part of a replay: head, line or end; or the tournament
      was refused
   4  The part could not have happened: event or differs; or a part or a replay
-     is not that of its match
+     is not that of its match, or does not stand its appeal
   5  Memory ran out
   6  Reading or writing failed";

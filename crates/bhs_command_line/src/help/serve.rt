@@ -64,16 +64,17 @@ matches stand. A match that is closed so is judged like any other. The end of
 standard input changes nothing.
 
 While a contest goes on, what happens in match M is written to the file
-PREFIXM.jsonl.part, about once a second. At the end the replay is written to
-PREFIXM.jsonl, and the part is removed. If the server is killed, `arena recover
-TOURNAMENT --replay PREFIX` writes the replays that are missing by the parts,
-and prints the table. Earlier files of these names are never replaced: before
-the contest begins they get .old behind their names, or .old2 and so on if that
-is there. Then each match is judged, and the table is printed as `arena table`
-prints it. Files that appear meanwhile are not replaced either. The server locks
-each part, so that no other one writes files of these names. Only the owner may
-read parts and replays, since they name the black holes: chmod a+r shows them to
-others.
+PREFIXM.jsonl.part, about once a second, and under the oblivious schedule the
+turns to PREFIXM.turns.part. At the end the replay is written to PREFIXM.jsonl,
+its turns to PREFIXM.turns, and the parts are removed. If the server is killed,
+`arena recover TOURNAMENT --replay PREFIX` writes the replays and turns that are
+missing by the parts, and prints the table. Earlier files of these names are
+never replaced: before the contest begins they get .old behind their names, or
+.old2 and so on if that is there. Then each match is judged, and the table is
+printed as `arena table` prints it. Files that appear meanwhile are not replaced
+either. The server locks each part, so that no other one writes files of these
+names. Only the owner may read parts and replays, since they name the black
+holes: chmod a+r shows them to others.
 
 Memory: until the end the server keeps each command as it came, twice, and each
 answer with the whiteboard that it shows. A line has up to 64 KiB. So a match of

@@ -1,5 +1,4 @@
-use Rattle.std.proofs.Common.{◌≡◌, ◌⊎◌, drop}
-use Rattle.std.specs.List.{AllByRecursion}
+use Rattle.std.proofs.Common.{◌≡◌, ◌⊎◌, ◌<◌, ℕ}
 use Rattle.bhs_stream.specs.Streams.{known_takes}
 use Rattle.bhs_orders.specs.Fault.{IsOfFault}
 use Rattle.bhs_orders.specs.Recovery.{IsSaved}
@@ -9,7 +8,6 @@ use Rattle.bhs_orders.proofs.recovering.save_matches.Given as goal
 abbrev pub invariant-loop-number : goal.invariant-loop-number
 invariant-loop-number g l = record {
   status : (l.status ≡ DONE) ⊎ IsOfFault l.status;
-  saved : l.status ≡ DONE
-      → AllByRecursion (IsSaved (known_takes g.F.File.Write.contents)) (drop l.number l.ready)
-      → AllByRecursion (IsSaved (known_takes g.F.File.Write.contents)) l.ready;
+  saved : l.status ≡ DONE → (other : ℕ) → other < l.number
+      → IsSaved (known_takes g.F.File.Write.contents) l.lineup other;
 }

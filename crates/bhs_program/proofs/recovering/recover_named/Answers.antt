@@ -9,5 +9,4 @@ pub returns-in-Err-locked_parts : goal.returns-in-Err-locked_parts
 returns-in-Err-locked_parts g c = let (fault, is) = c.in-Err-locked_parts.ensures in recovers_nothing fault is refl
 
 pub returns : goal.returns
-returns g c =
-    recovers_contest c.in-Ok.lineup c.in-Ok.ensures.made (rw c.deref.ensures.value at c.recover_matches.ensures)
+returns g c = recovers_contest c.in-Ok.lineup c.in-Ok.ensures.made c.recover_matches.ensures
