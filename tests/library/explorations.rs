@@ -19,6 +19,10 @@ pub enum Scout {
     EntersAgain,
     /// It looks again and again.
     LooksAgain,
+    /// It goes to the black hole.
+    IsLost,
+    /// It goes to node 1 and back, again and again.
+    Shuttles,
 }
 
 /// A team of a scout and of an agent that stops at once.
@@ -35,6 +39,9 @@ fn step_of(scout: Scout, memory: u32) -> Step {
         (Scout::Solves, 4) => Step::Says(Command::Accuse { port: 1 }),
         (Scout::EntersAgain, 2) => Step::Says(Command::Enter),
         (Scout::LooksAgain, 2) => Step::Says(Command::Look),
+        (Scout::IsLost, 2) => Step::Says(Command::Depart { port: 1 }),
+        (Scout::Shuttles, 2) => Step::Says(Command::Depart { port: 0 }),
+        (Scout::Shuttles, 4) => Step::Says(Command::Depart { port: 0 }),
         _ => Step::Stops,
     }
 }
@@ -58,7 +65,8 @@ impl Team for Pair {
             (0, _) => 2,
             (2, Latest::Heard(Mark::Gone)) => 3,
             (2, _) => 2,
-            (3, Latest::Heard(Mark::Here { .. })) => 4,
+            (3, Latest::Heard(Mark::Here { .. } | Mark::Over)) => 4,
+            (4, Latest::Heard(Mark::Gone)) => 3,
             (4, _) => 5,
             _ => return Err(TeamFault),
         };
@@ -100,7 +108,7 @@ fn every_schedule_solves(rt: HostRuntime) -> Result<(), Fail> {
     let explored = explored(rt.alloc(), Scout::Solves)?;
     assert_eq!(rt;
         (explored.states, explored.memories, explored.longest),
-        (5, 6, 5)
+        (4, 6, 5)
     );
     match explored.found {
         Found::Solves(bounds) => {
@@ -123,7 +131,7 @@ fn visits_lead_to_the_same(rt: HostRuntime) -> Result<(), Fail> {
     let mut explorer = explorer(rt.alloc(), &mut team)?;
     assert_eq!(rt; explorer.visit(&mut team, 100, 3)?, false);
     let visited = explorer.visited();
-    assert_eq!(rt; (visited.states, visited.depth), (4, 4));
+    assert_eq!(rt; (visited.states, visited.depth), (4, 5));
     assert!(rt; explorer.visit(&mut team, 100, 100)?);
     assert_eq!(rt; explorer.visited().depth, 0);
     match explorer.explore(&mut team, 100)?.found {
@@ -193,4 +201,29 @@ fn drawn_schedules_are_counted(rt: HostRuntime) -> Result<(), Fail> {
         }
     }
     Ok(())
+}
+
+#[test]
+fn a_departure_is_a_turn_of_the_schedule_that_fails(rt: HostRuntime) -> Result<(), Fail> {
+    let explored = explored(rt.alloc(), Scout::IsLost)?;
+    assert_eq!(rt; (explored.states, explored.longest), (2, 3));
+    match explored.found {
+        Found::Fails { verdict, schedule } => {
+            assert_eq!(rt; (verdict.moves, verdict.lost), (1, 1));
+            assert_eq!(rt; schedule.as_slice(), [0, 0].as_slice());
+            Ok(())
+        }
+        _ => Err(Fail::from("no schedule fails")),
+    }
+}
+
+#[test]
+fn a_round_of_moves_spends_the_quota(rt: HostRuntime) -> Result<(), Fail> {
+    match explored(rt.alloc(), Scout::Shuttles)?.found {
+        Found::Exceeds { agent, commands } => {
+            assert_eq!(rt; (agent, commands), (0, 11));
+            Ok(())
+        }
+        _ => Err(Fail::from("the quota suffices")),
+    }
 }

@@ -197,7 +197,7 @@ class Exploring(InExplore):
         self.assertEqual(status, 1, self.said)
         table = self.said.partition("network matches states moves lost seconds\n")[2].split("\n")
         self.assertEqual([row.split()[:5] for row in table[:2]],
-                         [["ring:3", "2", "184", "4", "1"], ["ring:4", "3", "1183", "9", "1"]])
+                         [["ring:3", "2", "116", "4", "1"], ["ring:4", "3", "693", "9", "1"]])
         self.assertNotIn("torus", "".join(table))
 
     def test_other_sample_agents(self) -> None:
