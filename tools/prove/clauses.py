@@ -80,7 +80,7 @@ def functions_in(crate: str, path: pathlib.Path) -> Iterator[Function]:
 
 def all_functions(crates: List[str]) -> List[Function]:
     """The functions of these crates."""
-    return [one for crate in crates for path in sorted((CRATES / crate / "src").glob("*.rt"))
+    return [one for crate in crates for path in sorted((CRATES / crate / "src").rglob("*.rt"))
             for one in functions_in(crate, path)]
 
 

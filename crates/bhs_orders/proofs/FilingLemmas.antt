@@ -8,7 +8,7 @@ use Rattle.std.specs.List.{AllByRecursion}
 use Rattle.bhs_net.proofs.Places.{below_or_at}
 use Rattle.bhs_match.specs.Matches.{Play}
 use Rattle.bhs_orders.specs.Filing.{first_status}
-use Rattle.bhs_orders.specs.declared.statuses.TheConstants.{DONE}
+use Rattle.bhs_orders.specs.declared.reporting.statuses.TheConstants.{DONE}
 
 -- a match that is for reading alone is the match as it was
 pub sealed_is : (is_closed : Bool) (play sealed : Play)

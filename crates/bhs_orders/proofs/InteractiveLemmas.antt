@@ -18,11 +18,13 @@ use Rattle.bhs_orders.specs.Interactive.{onward}
 use Rattle.bhs_orders.specs.Interactive.{Breaks, InteractsToEnd, InteractionStops, reads_end, reads_more, at_start}
 use Rattle.bhs_orders.specs.Interactive.{with_end}
 use Rattle.bhs_orders.specs.LineStates.{IsOverlong}
-use Rattle.bhs_orders.specs.declared.faults.Fault.{Fault}
-use Rattle.bhs_orders.specs.declared.faults.Fault.TheVariants.{Read, Text, Line, File, Replay, Twin, Write, Memory}
-use Rattle.bhs_orders.specs.declared.faults.Fault.TheVariants.{Turns, Listen, Busy, Threads, Unsettled, NoMatch}
-use Rattle.bhs_orders.specs.declared.faults.Fault.TheVariants.{Exploring, Appeal}
-use Rattle.bhs_orders.specs.declared.interactive.Player.{Player}
+use Rattle.bhs_orders.specs.declared.reporting.faults.Fault.{Fault}
+use Rattle.bhs_orders.specs.declared.reporting.faults.Fault.TheVariants.{Read, Text, Line, File, Replay, Twin, Write}
+use Rattle.bhs_orders.specs.declared.reporting.faults.Fault.TheVariants.{Memory}
+use Rattle.bhs_orders.specs.declared.reporting.faults.Fault.TheVariants.{Turns, Listen, Busy, Threads, Unsettled}
+use Rattle.bhs_orders.specs.declared.reporting.faults.Fault.TheVariants.{NoMatch}
+use Rattle.bhs_orders.specs.declared.reporting.faults.Fault.TheVariants.{Exploring, Appeal}
+use Rattle.bhs_orders.specs.declared.rehearsals.interactive.Player.{Player}
 
 -- ---- one line
 

@@ -17,10 +17,12 @@ use Rattle.bhs_script.specs.Transcript.{all_printed, transcript}
 use Rattle.bhs_script.specs.declared.instructions.Instruction.{Instruction as InstructionOfCode}
 use Rattle.bhs_orders.specs.Playing.{IsPushed, StopsPlaying}
 use Rattle.bhs_orders.specs.Rehearsal.{Means, Plays, Stops}
-use Rattle.bhs_orders.specs.declared.faults.Fault.{Fault}
-use Rattle.bhs_orders.specs.declared.faults.Fault.TheVariants.{Read, Text, Line, File, Replay, Twin, Write, Memory}
-use Rattle.bhs_orders.specs.declared.faults.Fault.TheVariants.{Turns, Listen, Busy, Threads, Unsettled, NoMatch}
-use Rattle.bhs_orders.specs.declared.faults.Fault.TheVariants.{Exploring, Appeal}
+use Rattle.bhs_orders.specs.declared.reporting.faults.Fault.{Fault}
+use Rattle.bhs_orders.specs.declared.reporting.faults.Fault.TheVariants.{Read, Text, Line, File, Replay, Twin, Write}
+use Rattle.bhs_orders.specs.declared.reporting.faults.Fault.TheVariants.{Memory}
+use Rattle.bhs_orders.specs.declared.reporting.faults.Fault.TheVariants.{Turns, Listen, Busy, Threads, Unsettled}
+use Rattle.bhs_orders.specs.declared.reporting.faults.Fault.TheVariants.{NoMatch}
+use Rattle.bhs_orders.specs.declared.reporting.faults.Fault.TheVariants.{Exploring, Appeal}
 
 -- a fault at the next bytes of a text
 pub stopped_at : {O : Type 0} (takes : O → List ℕ → Taken → O → Type 0) (a b c : O)

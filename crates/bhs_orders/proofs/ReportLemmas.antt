@@ -12,12 +12,14 @@ use Rattle.bhs_replay.specs.declared.faults.ReplayFault.TheVariants as replays
 use Rattle.bhs_view.specs.Twins.{twin_fault}
 use Rattle.bhs_view.specs.declared.twins.TwinFault.{TwinFault}
 use Rattle.bhs_view.specs.declared.twins.TwinFault.TheVariants as twins
-use Rattle.bhs_orders.specs.declared.faults.Fault.{Fault}
-use Rattle.bhs_orders.specs.declared.faults.Fault.TheVariants.{Read, Text, Turns, Line, File, Replay, Twin, Write}
-use Rattle.bhs_orders.specs.declared.faults.Fault.TheVariants.{Memory, Listen, Busy, Threads, Unsettled, NoMatch}
-use Rattle.bhs_orders.specs.declared.faults.Fault.TheVariants.{Exploring, Appeal}
-use Rattle.bhs_orders.specs.declared.appeal_faults.AppealFault.TheVariants as appeals
-use Rattle.bhs_orders.specs.declared.statuses.TheConstants.{DONE, NO_MEMORY}
+use Rattle.bhs_orders.specs.declared.reporting.faults.Fault.{Fault}
+use Rattle.bhs_orders.specs.declared.reporting.faults.Fault.TheVariants.{Read, Text, Turns, Line, File, Replay, Twin}
+use Rattle.bhs_orders.specs.declared.reporting.faults.Fault.TheVariants.{Write}
+use Rattle.bhs_orders.specs.declared.reporting.faults.Fault.TheVariants.{Memory, Listen, Busy, Threads, Unsettled}
+use Rattle.bhs_orders.specs.declared.reporting.faults.Fault.TheVariants.{NoMatch}
+use Rattle.bhs_orders.specs.declared.reporting.faults.Fault.TheVariants.{Exploring, Appeal}
+use Rattle.bhs_orders.specs.declared.reporting.appeal_faults.AppealFault.TheVariants as appeals
+use Rattle.bhs_orders.specs.declared.reporting.statuses.TheConstants.{DONE, NO_MEMORY}
 use Rattle.bhs_orders.specs.Fault.{of_twin, status}
 use Rattle.bhs_standings.specs.declared.rows.Row.{Row}
 use Rattle.bhs_command_line.specs.declared.orders.Entry.{Entry}

@@ -14,7 +14,7 @@ use Rattle.bhs_files.specs.NetworkFiles.{Listing, listing_in, listing_of, IsNetw
 use Rattle.bhs_files.specs.Tournaments as tournaments
 use Rattle.bhs_files.specs.Tournaments.{tournament_in, plan_in, matches_in, match_in}
 use Rattle.bhs_orders.specs.BuiltIn.{triangle, plan}
-use Rattle.bhs_orders.specs.declared.built_in_tournament.TheConstants.{NETWORK, TOURNAMENT}
+use Rattle.bhs_orders.specs.declared.tournaments.built_in_tournament.TheConstants.{NETWORK, TOURNAMENT}
 use Rattle.bhs_orders.proofs.TriangleLemmas.{links, no_fault, is_triangle}
 
 pub network_listed : listing_in NETWORK.now ≡ Ok (3, links)

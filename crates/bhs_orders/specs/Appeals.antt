@@ -22,12 +22,13 @@ use Rattle.bhs_orders.specs.HeldLinks.{first_held}
 use Rattle.bhs_orders.specs.Reports.{IsReplayed, verdict_line}
 use Rattle.bhs_orders.specs.Showing.{Prints, Reports}
 use Rattle.bhs_orders.specs.Summary.{IsAssembled}
-use Rattle.bhs_orders.specs.declared.appeal_faults.AppealFault.{AppealFault}
-use Rattle.bhs_orders.specs.declared.appeal_faults.AppealFault.TheVariants.{Adaptive, Other, Count, Early, LeftOut}
-use Rattle.bhs_orders.specs.declared.appeal_faults.AppealFault.TheVariants.{Held}
-use Rattle.bhs_orders.specs.declared.appeal_faults.AppealFault.TheVariants.{Late}
-use Rattle.bhs_orders.specs.declared.faults.Fault.{Fault}
-use Rattle.bhs_orders.specs.declared.faults.Fault.TheVariants.{NoMatch, Appeal, Memory}
+use Rattle.bhs_orders.specs.declared.reporting.appeal_faults.AppealFault.{AppealFault}
+use Rattle.bhs_orders.specs.declared.reporting.appeal_faults.AppealFault.TheVariants.{Adaptive, Other, Count, Early}
+use Rattle.bhs_orders.specs.declared.reporting.appeal_faults.AppealFault.TheVariants.{LeftOut}
+use Rattle.bhs_orders.specs.declared.reporting.appeal_faults.AppealFault.TheVariants.{Held}
+use Rattle.bhs_orders.specs.declared.reporting.appeal_faults.AppealFault.TheVariants.{Late}
+use Rattle.bhs_orders.specs.declared.reporting.faults.Fault.{Fault}
+use Rattle.bhs_orders.specs.declared.reporting.faults.Fault.TheVariants.{NoMatch, Appeal, Memory}
 
 -- the head of a match's replay: its network and its setup
 abbrev pub own_head : Network → Setup → List ℕ

@@ -14,8 +14,8 @@ use Rattle.bhs_orders.specs.Filing.{first_status}
 use Rattle.bhs_orders.specs.Reports.{IsReplayed}
 use Rattle.bhs_orders.specs.Showing.{Prints, Reports}
 use Rattle.bhs_orders.specs.Summary.{IsAssembled}
-use Rattle.bhs_orders.specs.declared.faults.Fault.{Fault}
-use Rattle.bhs_orders.specs.declared.statuses.TheConstants.{DONE}
+use Rattle.bhs_orders.specs.declared.reporting.faults.Fault.{Fault}
+use Rattle.bhs_orders.specs.declared.reporting.statuses.TheConstants.{DONE}
 
 -- a match that has ended has the network and the setup of a match of a tournament
 abbrev pub IsOf : Ready → Play → Type 0

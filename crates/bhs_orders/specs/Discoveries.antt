@@ -24,10 +24,10 @@ use Rattle.bhs_orders.specs.Fault.{status}
 use Rattle.bhs_orders.specs.RehearsedTournaments.{Rests}
 use Rattle.bhs_orders.specs.Showing.{Shows}
 use Rattle.bhs_orders.specs.Summary.{IsAssembled}
-use Rattle.bhs_orders.specs.declared.discoveries.Discovery.{Discovery}
-use Rattle.bhs_orders.specs.declared.discoveries.Discovery.TheVariants as discoveries
-use Rattle.bhs_orders.specs.declared.faults.Fault.{Fault}
-use Rattle.bhs_orders.specs.declared.statuses.TheConstants.{DONE, FAILING, REFUSED_TEXT}
+use Rattle.bhs_orders.specs.declared.exploration.discoveries.Discovery.{Discovery}
+use Rattle.bhs_orders.specs.declared.exploration.discoveries.Discovery.TheVariants as discoveries
+use Rattle.bhs_orders.specs.declared.reporting.faults.Fault.{Fault}
+use Rattle.bhs_orders.specs.declared.reporting.statuses.TheConstants.{DONE, FAILING, REFUSED_TEXT}
 
 -- ---- the text
 

@@ -16,13 +16,15 @@ use Rattle.bhs_view.specs.declared.twins.TwinFault.{TwinFault}
 use Rattle.bhs_view.specs.declared.twins.TwinFault.TheVariants as twins
 use Rattle.bhs_explore.specs.declared.faults.ExploreFault.{ExploreFault}
 use Rattle.bhs_explore.specs.declared.faults.ExploreFault.TheVariants as exploring
-use Rattle.bhs_orders.specs.declared.appeal_faults.AppealFault.{AppealFault}
-use Rattle.bhs_orders.specs.declared.appeal_faults.AppealFault.TheVariants.{Adaptive}
-use Rattle.bhs_orders.specs.declared.faults.Fault.{Fault}
-use Rattle.bhs_orders.specs.declared.faults.Fault.TheVariants.{Read, Text, Turns, Line, File, Replay, Twin, Write}
-use Rattle.bhs_orders.specs.declared.faults.Fault.TheVariants.{Memory, NoMatch, Exploring, Listen, Busy, Threads}
-use Rattle.bhs_orders.specs.declared.faults.Fault.TheVariants.{Unsettled, Appeal}
-use Rattle.bhs_orders.specs.declared.statuses.TheConstants as statuses
+use Rattle.bhs_orders.specs.declared.reporting.appeal_faults.AppealFault.{AppealFault}
+use Rattle.bhs_orders.specs.declared.reporting.appeal_faults.AppealFault.TheVariants.{Adaptive}
+use Rattle.bhs_orders.specs.declared.reporting.faults.Fault.{Fault}
+use Rattle.bhs_orders.specs.declared.reporting.faults.Fault.TheVariants.{Read, Text, Turns, Line, File, Replay, Twin}
+use Rattle.bhs_orders.specs.declared.reporting.faults.Fault.TheVariants.{Write}
+use Rattle.bhs_orders.specs.declared.reporting.faults.Fault.TheVariants.{Memory, NoMatch, Exploring, Listen, Busy}
+use Rattle.bhs_orders.specs.declared.reporting.faults.Fault.TheVariants.{Threads}
+use Rattle.bhs_orders.specs.declared.reporting.faults.Fault.TheVariants.{Unsettled, Appeal}
+use Rattle.bhs_orders.specs.declared.reporting.statuses.TheConstants as statuses
 
 -- an error of opening or reading
 abbrev pub of_kind : ErrorKind → Fault

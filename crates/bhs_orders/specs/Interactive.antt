@@ -11,9 +11,9 @@ use Rattle.bhs_rehearsal.specs.Games.{Game}
 use Rattle.bhs_rehearsal.specs.Stages.{Stage, step}
 use Rattle.bhs_script.specs.Script.{Meaning, Skipped, Gives, Refused, meaning}
 use Rattle.bhs_script.specs.Transcript.{all_printed}
-use Rattle.bhs_orders.specs.declared.faults.Fault.{Fault}
-use Rattle.bhs_orders.specs.declared.faults.Fault.TheVariants.{Read, Line, Write, Memory}
-use Rattle.bhs_orders.specs.declared.faults.Fault.TheVariants.{Turns}
+use Rattle.bhs_orders.specs.declared.reporting.faults.Fault.{Fault}
+use Rattle.bhs_orders.specs.declared.reporting.faults.Fault.TheVariants.{Read, Line, Write, Memory}
+use Rattle.bhs_orders.specs.declared.reporting.faults.Fault.TheVariants.{Turns}
 
 -- ---- one line
 

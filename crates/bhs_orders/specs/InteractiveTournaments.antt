@@ -10,9 +10,9 @@ use Rattle.bhs_orders.specs.Rehearsal.{AreFiled, opening, opening_of}
 use Rattle.bhs_orders.specs.RehearsedTournaments.{Rests}
 use Rattle.bhs_orders.specs.Summary.{IsAssembled}
 use Rattle.bhs_orders.specs.Interactive.{InteractsToEnd, InteractionStops}
-use Rattle.bhs_orders.specs.declared.faults.Fault.{Fault}
-use Rattle.bhs_orders.specs.declared.statuses.TheConstants.{DONE}
-use Rattle.bhs_orders.specs.declared.interactive.TheConstants.{MAX_READS}
+use Rattle.bhs_orders.specs.declared.reporting.faults.Fault.{Fault}
+use Rattle.bhs_orders.specs.declared.reporting.statuses.TheConstants.{DONE}
+use Rattle.bhs_orders.specs.declared.rehearsals.interactive.TheConstants.{MAX_READS}
 
 -- the calls of the files that are written, of the input and of the output
 module _ {P I O : Type 0} (files : P → List ℕ → Taken → P → Type 0) (gives : I → Chunk → I → Type 0)

@@ -3,8 +3,8 @@ use Rattle.std.specs.Prelude.{◌≡◌, ◌⊎◌, ◌<◌, ℕ, false, List, �
 use Rattle.std.specs.List.{list_any}
 use Rattle.bhs_model.specs.declared.limits.TheConstants.{MAX_TEXT}
 use Rattle.bhs_wire.specs.Lines.{is_line_feed}
-use Rattle.bhs_orders.specs.declared.lines.LineState.{LineState}
-use Rattle.bhs_orders.specs.declared.lines.LineState.TheVariants.{Ended, Unfinished, Overlong}
+use Rattle.bhs_orders.specs.declared.streams.lines.LineState.{LineState}
+use Rattle.bhs_orders.specs.declared.streams.lines.LineState.TheVariants.{Ended, Unfinished, Overlong}
 
 -- what was read is a line that has not ended and is too long already, or begins with one that has ended and is too long
 pub record IsOverlong (text : List ℕ) : Type 0 where

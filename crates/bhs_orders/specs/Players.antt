@@ -4,9 +4,9 @@ use Rattle.bhs_stream.specs.Streams.{Taken}
 use Rattle.bhs_rehearsal.specs.Stages.{Stage}
 use Rattle.bhs_script.specs.Script.{Meaning, Refused}
 use Rattle.bhs_orders.specs.Interactive.{Answers, Progress, answer, ended, onward}
-use Rattle.bhs_orders.specs.declared.faults.Fault.{Fault}
-use Rattle.bhs_orders.specs.declared.faults.Fault.TheVariants.{Line, Write}
-use Rattle.bhs_orders.specs.declared.interactive.Player.{Player}
+use Rattle.bhs_orders.specs.declared.reporting.faults.Fault.{Fault}
+use Rattle.bhs_orders.specs.declared.reporting.faults.Fault.TheVariants.{Line, Write}
+use Rattle.bhs_orders.specs.declared.rehearsals.interactive.Player.{Player}
 
 -- where the player is that has this still to go over
 abbrev pub progress_of : Player → (after : List ℕ) → Progress

@@ -6,8 +6,8 @@ use Rattle.bhs_stream.specs.Sending.{Puts, PutsPart}
 use Rattle.bhs_rehearsal.specs.declared.faults.RehearsalFault.{RehearsalFault}
 use Rattle.bhs_rehearsal.specs.declared.faults.RehearsalFault.TheVariants as rehearsals
 use Rattle.bhs_script.specs.Transcript.{all_printed}
-use Rattle.bhs_orders.specs.declared.faults.Fault.{Fault}
-use Rattle.bhs_orders.specs.declared.faults.Fault.TheVariants.{Write, Memory}
+use Rattle.bhs_orders.specs.declared.reporting.faults.Fault.{Fault}
+use Rattle.bhs_orders.specs.declared.reporting.faults.Fault.TheVariants.{Write, Memory}
 
 -- A part of the text was written. At a fault of writing the last write failed or took nothing. Memory may also run out
 -- behind the end of the text, at an instruction that sends nothing. No other fault ends the playing.

@@ -18,8 +18,8 @@ use Rattle.bhs_orders.specs.Reports.{IsReplayed}
 use Rattle.bhs_orders.specs.Showing.{Took}
 use Rattle.bhs_orders.specs.Summary.{IsAssembled}
 use Rattle.bhs_orders.specs.Turns.{turns_text}
-use Rattle.bhs_orders.specs.declared.faults.Fault.{Fault}
-use Rattle.bhs_orders.specs.declared.statuses.TheConstants.{DONE}
+use Rattle.bhs_orders.specs.declared.reporting.faults.Fault.{Fault}
+use Rattle.bhs_orders.specs.declared.reporting.statuses.TheConstants.{DONE}
 
 -- a match that is that of the whole lines of some text, closed where they stop, and of the kind of a tournament's match
 pub record IsLeft (ready : Ready) (play : Play) : Type 0 where

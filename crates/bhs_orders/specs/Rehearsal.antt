@@ -19,11 +19,13 @@ use Rattle.bhs_replay.specs.Head.{version_of}
 use Rattle.bhs_script.specs.declared.instructions.TheConstants.{CONNECTIONS}
 use Rattle.bhs_script.specs.Script.{instructions_of}
 use Rattle.bhs_script.specs.Transcript.{transcript}
-use Rattle.bhs_orders.specs.declared.faults.Fault.{Fault}
-use Rattle.bhs_orders.specs.declared.faults.Fault.TheVariants.{Read, Text, Line, File, Replay, Twin, Write, Memory}
-use Rattle.bhs_orders.specs.declared.faults.Fault.TheVariants.{Turns, Listen, Busy, Threads, Unsettled, NoMatch}
-use Rattle.bhs_orders.specs.declared.faults.Fault.TheVariants.{Exploring, Appeal}
-use Rattle.bhs_orders.specs.declared.statuses.TheConstants.{DONE}
+use Rattle.bhs_orders.specs.declared.reporting.faults.Fault.{Fault}
+use Rattle.bhs_orders.specs.declared.reporting.faults.Fault.TheVariants.{Read, Text, Line, File, Replay, Twin, Write}
+use Rattle.bhs_orders.specs.declared.reporting.faults.Fault.TheVariants.{Memory}
+use Rattle.bhs_orders.specs.declared.reporting.faults.Fault.TheVariants.{Turns, Listen, Busy, Threads, Unsettled}
+use Rattle.bhs_orders.specs.declared.reporting.faults.Fault.TheVariants.{NoMatch}
+use Rattle.bhs_orders.specs.declared.reporting.faults.Fault.TheVariants.{Exploring, Appeal}
+use Rattle.bhs_orders.specs.declared.reporting.statuses.TheConstants.{DONE}
 use Rattle.bhs_orders.specs.Fault.{status}
 use Rattle.bhs_orders.specs.Playing.{StopsPlaying}
 use Rattle.bhs_orders.specs.Showing.{Took}

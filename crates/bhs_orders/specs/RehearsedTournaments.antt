@@ -7,7 +7,7 @@ use Rattle.bhs_orders.specs.BuiltIn.{built_in}
 use Rattle.bhs_orders.specs.Fault.{status}
 use Rattle.bhs_orders.specs.Rehearsal.{Rehearses, opening, opening_of}
 use Rattle.bhs_orders.specs.Summary.{IsAssembled}
-use Rattle.bhs_orders.specs.declared.faults.Fault.{Fault}
+use Rattle.bhs_orders.specs.declared.reporting.faults.Fault.{Fault}
 
 -- nothing was read, and nothing was written
 pub record Rests {I O : Type 0} (input input' : I) (output output' : O) : Type 0 where

@@ -18,7 +18,7 @@ use Rattle.bhs_view.specs.Twins.{IsTwin, twin_fault}
 use Rattle.bhs_view.specs.declared.twins.TwinFault.{TwinFault}
 use Rattle.bhs_command_line.specs.declared.orders.Entry.{Entry}
 use Rattle.bhs_orders.specs.Fault.{status}
-use Rattle.bhs_orders.specs.declared.faults.Fault.TheVariants.{Twin}
+use Rattle.bhs_orders.specs.declared.reporting.faults.Fault.TheVariants.{Twin}
 
 -- some text is the replay of this match
 abbrev pub IsReplayed : Play → Type 0

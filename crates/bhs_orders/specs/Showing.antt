@@ -2,9 +2,9 @@
 use Rattle.std.specs.Prelude.{◌≡◌, ℕ, Bool, true, false, List}
 use Rattle.bhs_stream.specs.Streams.{Taken}
 use Rattle.bhs_stream.specs.Sending.{PutsAll, PutsPart}
-use Rattle.bhs_orders.specs.declared.faults.Fault.{Fault}
-use Rattle.bhs_orders.specs.declared.faults.Fault.TheVariants.{Write}
-use Rattle.bhs_orders.specs.declared.statuses.TheConstants.{DONE}
+use Rattle.bhs_orders.specs.declared.reporting.faults.Fault.{Fault}
+use Rattle.bhs_orders.specs.declared.reporting.faults.Fault.TheVariants.{Write}
+use Rattle.bhs_orders.specs.declared.reporting.statuses.TheConstants.{DONE}
 use Rattle.bhs_orders.specs.Fault.{status}
 use Rattle.bhs_orders.specs.Playing.{StopsPlaying}
 

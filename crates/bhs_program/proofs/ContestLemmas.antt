@@ -13,8 +13,8 @@ use Rattle.bhs_host.specs.Hosting.{givens_of}
 use Rattle.bhs_stream.specs.Streams.{Taken}
 use Rattle.bhs_orders.specs.Showing.{Prints, all, part, held_back, Shows}
 use Rattle.bhs_orders.specs.Summary.{IsAssembled}
-use Rattle.bhs_orders.specs.declared.faults.Fault.TheVariants.{Write, Memory}
-use Rattle.bhs_orders.specs.declared.statuses.TheConstants.{DONE, NO_MEMORY}
+use Rattle.bhs_orders.specs.declared.reporting.faults.Fault.TheVariants.{Write, Memory}
+use Rattle.bhs_orders.specs.declared.reporting.statuses.TheConstants.{DONE, NO_MEMORY}
 use Rattle.bhs_orders.proofs.ReportLemmas.{not_done}
 use Rattle.bhs_program.specs.Contests.{Serves, goes_unheard, refuses_contest, listening}
 

@@ -14,7 +14,7 @@ use Rattle.bhs_command_line.specs.declared.orders.Order.TheVariants as order
 use Rattle.bhs_command_line.specs.declared.orders.Exploration.{Exploration}
 use Rattle.bhs_explore.specs.declared.found.Found.{Found}
 use Rattle.bhs_explore.specs.declared.found.Found.TheVariants as found
-use Rattle.bhs_orders.specs.declared.faults.Fault.TheVariants.{Write, Memory, Twin, Text}
+use Rattle.bhs_orders.specs.declared.reporting.faults.Fault.TheVariants.{Write, Memory, Twin, Text}
 use Rattle.bhs_orders.specs.Appeals.{Appeals, upholds, rejects, hears_nothing}
 use Rattle.bhs_orders.specs.ContestTables.{IsTableOf, TablesContest, TablesMatches, tables_contest, tables_found}
 use Rattle.bhs_orders.specs.ContestTables.{tables_none, tables_nothing}
@@ -30,7 +30,7 @@ use Rattle.bhs_orders.specs.InteractiveTournaments.{interaction_done, interactio
 use Rattle.bhs_orders.specs.InteractiveTournaments.{interaction_unfiled}
 use Rattle.bhs_orders.specs.Showing.{Prints, all, part, held_back, PrintsByLine, whole, cut_off, kept_back, Reports}
 use Rattle.bhs_orders.specs.Showing.{prints, stops}
-use Rattle.bhs_orders.specs.declared.statuses.TheConstants.{DONE}
+use Rattle.bhs_orders.specs.declared.reporting.statuses.TheConstants.{DONE}
 use Rattle.bhs_program.specs.Contests.{Files, all_filed, unfiled_one, Tables, tabled, untabled, Hosts, fares, fails}
 use Rattle.bhs_program.specs.Contests.{Serves, serves_on, goes_unheard, refuses_contest}
 use Rattle.bhs_program.specs.Program.{Does, IsStatus, Obeys, does, lacks_memory}

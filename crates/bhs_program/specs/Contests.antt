@@ -16,9 +16,9 @@ use Rattle.bhs_orders.specs.Filing.{first_status}
 use Rattle.bhs_orders.specs.Showing.{Prints, Reports, Shows, Took}
 use Rattle.bhs_orders.specs.Summary.{IsAssembled}
 use Rattle.bhs_orders.specs.Turns.{turns_text}
-use Rattle.bhs_orders.specs.declared.faults.Fault.{Fault}
-use Rattle.bhs_orders.specs.declared.faults.Fault.TheVariants as faults
-use Rattle.bhs_orders.specs.declared.statuses.TheConstants.{DONE}
+use Rattle.bhs_orders.specs.declared.reporting.faults.Fault.{Fault}
+use Rattle.bhs_orders.specs.declared.reporting.faults.Fault.TheVariants as faults
+use Rattle.bhs_orders.specs.declared.reporting.statuses.TheConstants.{DONE}
 
 -- the line that says on which port agents can connect
 abbrev pub listening : (port : ℕ) → List ℕ

@@ -16,7 +16,7 @@ use Rattle.bhs_orders.specs.Recovery.{RecoversContest}
 use Rattle.bhs_orders.specs.Reports.{IsJudgement, IsTable, IsPast, IsTwinReplay, HasNoTwin}
 use Rattle.bhs_orders.specs.Showing.{Prints, PrintsByLine, Reports}
 use Rattle.bhs_orders.specs.Summary.{IsSummary}
-use Rattle.bhs_orders.specs.declared.statuses.TheConstants.{DONE, FAILING, NO_MEMORY, REFUSED_WORDS}
+use Rattle.bhs_orders.specs.declared.reporting.statuses.TheConstants.{DONE, FAILING, NO_MEMORY, REFUSED_WORDS}
 use Rattle.bhs_program.specs.Contests.{Serves}
 
 -- an exit status of the program: all was done, the words are refused, a schedule fails, or a fault came

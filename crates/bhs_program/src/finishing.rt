@@ -4,7 +4,7 @@ ghost use Rattle.std.specs.Prelude.{◌≡◌, ◌⊎◌, IfOk, IfErr, Ok, lengt
 ghost use Rattle.bhs_host.specs.Hosting.{IsStandings};
 ghost use Rattle.bhs_stream.specs.Streams.{known_takes};
 ghost use Rattle.bhs_orders.specs.Fault.{IsOfFault};
-ghost use Rattle.bhs_orders.specs.declared.statuses.TheConstants.{DONE};
+ghost use Rattle.bhs_orders.specs.declared.reporting.statuses.TheConstants.{DONE};
 ghost use Rattle.bhs_program.specs.Contests.{Ends, Files, HasReplay, HasTurns, IsUntabled, Tables};
 
 use bhs_host::standings;

@@ -2,7 +2,7 @@
 
 ghost use Rattle.std.specs.Prelude.{◌≡◌, ◌⊎◌, map};
 ghost use Rattle.bhs_stream.specs.Streams.{known_takes};
-ghost use Rattle.bhs_orders.specs.declared.statuses.TheConstants.{NO_MEMORY, REFUSED_WORDS};
+ghost use Rattle.bhs_orders.specs.declared.reporting.statuses.TheConstants.{NO_MEMORY, REFUSED_WORDS};
 ghost use Rattle.bhs_program.specs.Program.{IsStatus, Obeys, Runs};
 
 use crate::machines::Machine;

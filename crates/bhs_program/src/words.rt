@@ -1,7 +1,7 @@
 //! The words of the command line.
 
 ghost use Rattle.std.specs.Prelude.{◌≡◌, ◌⊎◌, IfErr};
-ghost use Rattle.bhs_orders.specs.declared.statuses.TheConstants.{NO_MEMORY, REFUSED_WORDS};
+ghost use Rattle.bhs_orders.specs.declared.reporting.statuses.TheConstants.{NO_MEMORY, REFUSED_WORDS};
 ghost use Rattle.bhs_program.specs.Program.{IsStatus};
 
 use bhs_net::Memory;

@@ -1,7 +1,7 @@
 use Rattle.std.proofs.Common.{◌≡◌, ◌⊎◌, inl, inr, sym, subst, ◌∙◌, ℕ}
 use Rattle.bhs_stream.specs.Streams.{known_takes}
 use Rattle.bhs_orders.specs.Fault.{IsOfFault}
-use Rattle.bhs_orders.specs.declared.statuses.TheConstants.{DONE}
+use Rattle.bhs_orders.specs.declared.reporting.statuses.TheConstants.{DONE}
 use Rattle.bhs_program.specs.Contests.{HasReplay, all_filed, unfiled_one}
 use Rattle.bhs_orders.proofs.FilingLemmas.{one_more, no_more, both_done, is_either}
 use Rattle.bhs_program.proofs.finishing.write_settled.Goals as goal

@@ -2,7 +2,7 @@ use Rattle.std.proofs.Common.{◌≡◌, ◌⊎◌, drop}
 use Rattle.std.specs.List.{AllByRecursion}
 use Rattle.bhs_stream.specs.Streams.{known_takes}
 use Rattle.bhs_orders.specs.Fault.{IsOfFault}
-use Rattle.bhs_orders.specs.declared.statuses.TheConstants.{DONE}
+use Rattle.bhs_orders.specs.declared.reporting.statuses.TheConstants.{DONE}
 use Rattle.bhs_program.specs.Contests.{HasReplay}
 use Rattle.bhs_program.proofs.finishing.write_settled.Given as goal
 

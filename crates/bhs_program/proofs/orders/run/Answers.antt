@@ -1,5 +1,5 @@
 use Rattle.std.proofs.Common.{inl, inr, refl}
-use Rattle.bhs_orders.specs.declared.faults.Fault.TheVariants.{Memory}
+use Rattle.bhs_orders.specs.declared.reporting.faults.Fault.TheVariants.{Memory}
 use Rattle.bhs_program.specs.Program.{obeys, helps}
 use Rattle.bhs_program.proofs.ExitLemmas.{status_of_run}
 use Rattle.bhs_program.proofs.orders.run.Goals as goal

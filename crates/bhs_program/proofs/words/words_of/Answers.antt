@@ -1,5 +1,5 @@
 use Rattle.std.proofs.Common.{inr}
-use Rattle.bhs_orders.specs.declared.faults.Fault.TheVariants.{Memory}
+use Rattle.bhs_orders.specs.declared.reporting.faults.Fault.TheVariants.{Memory}
 use Rattle.bhs_program.proofs.words.words_of.Goals as goal
 
 pub returns-in-Err-clause-status : goal.returns-in-Err-clause-status

@@ -1,0 +1,6 @@
+//! Searches of all schedules of a match, and of schedules that are drawn, in which a host plays the agents.
+
+pub(crate) mod discoveries;
+pub(crate) mod exploring;
+pub(crate) mod hosts;
+pub(crate) mod links;

@@ -1,0 +1,81 @@
+//! The causal past of an agent, line by line.
+
+ghost use Rattle.std.specs.Prelude.{◌≡◌, IfOk, IfErr, OnOk, string_bytes};
+ghost use Rattle.bhs_stream.specs.Sending.{PutsAll};
+ghost use Rattle.bhs_orders.specs.Playing.{StopsPlaying};
+ghost use Rattle.bhs_orders.specs.Reports.{IsPast, line_at, lines_at, past_of};
+ghost use Rattle.bhs_orders.specs.Showing.{PrintsByLine, Reports};
+
+use crate::match_files::replays::match_of;
+use crate::reporting::faults::Fault;
+use crate::streams::line_by_line::passed_on;
+use bhs_match::Sealed;
+use bhs_net::Memory;
+use bhs_replay::event_line;
+use bhs_stream::{Output, send};
+use bhs_terminal::visible;
+use bhs_view::cut_of;
+use std::alloc::Global;
+use std::io::Write;
+use std::rt::Files;
+
+/// Reads a replay, and prints the causal past of an agent of its match: a line for each place, with its number and its
+/// line of the replay, in which characters that control a terminal are spelled as `visible` says. A number without an
+/// agent has an empty past. A fault goes to `errors` and ends it. The answer is the exit status.
+pub fn print_past<F: Files, W: Output, E: Write>(
+    alloc: Global,
+    files: &F,
+    name: &str,
+    agent: u16,
+    writer: &mut W,
+    errors: &mut E,
+) -> u8
+    ensures { Reports (PrintsByLine W.takes W.flushes) (IsPast agent) writer.old writer.new result }
+{
+    match match_of(alloc, files, name, errors) {
+        Ok(sealed) => passed_on(write_past(alloc, &sealed, agent, writer), writer, errors),
+        Err(status) => status,
+    }
+}
+
+fn write_past<W: Output>(
+    alloc: Global,
+    sealed: &Sealed,
+    agent: u16,
+    writer: &mut W,
+) -> Result<(), Fault>
+    ensures ok { OnOk result (PutsAll W.takes writer.old (past_of sealed.now agent) writer.new) }
+    ensures err { IfErr result (StopsPlaying W.takes (past_of sealed.now agent) writer.old writer.new) }
+{
+    let places = cut_of(alloc, sealed, agent)?;
+    write_lines(alloc, sealed, &places, writer)
+}
+
+fn write_lines<W: Output>(
+    alloc: Global,
+    sealed: &Sealed,
+    places: &[u32],
+    writer: &mut W,
+) -> Result<(), Fault>
+    ensures ok { OnOk result (PutsAll W.takes writer.old (lines_at sealed.now places.now) writer.new) }
+    ensures err { IfErr result (StopsPlaying W.takes (lines_at sealed.now places.now) writer.old writer.new) }
+{
+    for place in places {
+        let line = line_at(alloc, sealed, *place)?;
+        send(writer, line.as_bytes())?;
+    }
+    Ok(())
+}
+
+// The line of a place; nothing past the end of the log.
+fn line_at(alloc: Global, sealed: &Sealed, place: u32) -> Result<String, Memory>
+    ensures { IfOk result (λ text. string_bytes text ≡ line_at sealed.now place) }
+{
+    if place as usize >= sealed.log().len() {
+        return Ok(String::new(alloc));
+    }
+    let line = event_line(alloc, sealed, place)?;
+    let line = visible(alloc, line.as_str())?;
+    let line = line.as_str();
+    format!(in alloc; "{place} {line}\n")
+}

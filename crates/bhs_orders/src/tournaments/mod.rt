@@ -1,0 +1,7 @@
+//! Tournaments and their networks, before anything is played.
+
+pub(crate) mod built_in_tournament;
+pub(crate) mod checking;
+pub(crate) mod helping;
+pub(crate) mod network_places;
+pub(crate) mod summaries;
