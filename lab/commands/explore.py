@@ -79,7 +79,7 @@ from lab.sweep.tables import alone_in
 
 FOLDER = finds.FOLDER
 # whose turn it is in drawn schedules, and what is hunted for
-PACES, HUNTS = ("fair", "last-departed", "starved", "slow-agents", "slow-links"), ("moves", "lost")
+SCHEDULERS, HUNTS = ("fair", "last-departed", "starved", "slow-agents", "slow-links"), ("moves", "lost")
 
 
 def add_words(parser: argparse.ArgumentParser) -> None:
@@ -92,7 +92,7 @@ def add_words(parser: argparse.ArgumentParser) -> None:
                         "instead of trying all; for networks with too many states. --states then bounds the turns of "
                         "each")
     parser.add_argument("--seed", metavar="S", type=not_negative, help="draw them from this seed (0)")
-    parser.add_argument("--by", choices=PACES, help="whose turn it is in them (fair)")
+    parser.add_argument("--by", choices=SCHEDULERS, help="whose turn it is in them (fair)")
     parser.add_argument("--hunt", choices=HUNTS, help="begin every second one as the worst so far began, to find more "
                         "moves or more agents lost")
     parser.add_argument("--keep", metavar="FOLDER", type=pathlib.Path, default=FOLDER, help="write the schedule that "
@@ -164,7 +164,7 @@ def written(words: argparse.Namespace, wanted: List[trying.Wanted]) -> int:
 def draws_of(words: argparse.Namespace) -> Optional[Draws]:
     """The schedules that are to be drawn, if any."""
     if words.draws is not None:
-        return Draws(words.draws, words.seed or 0, words.by or PACES[0], words.hunt)
+        return Draws(words.draws, words.seed or 0, words.by or SCHEDULERS[0], words.hunt)
     for option in ("seed", "by", "hunt"):
         if getattr(words, option) is not None:
             raise Fault(f"--{option} needs --draws")

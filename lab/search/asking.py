@@ -30,12 +30,12 @@ class Draws(NamedTuple):
 
     schedules: int
     seed: int
-    pace: str
+    scheduler: str
     hunt: Optional[str]
 
     def words(self) -> List[str]:
         """The words by which the program draws them."""
-        words = ["--draws", str(self.schedules), "--seed", str(self.seed), "--by", self.pace]
+        words = ["--draws", str(self.schedules), "--seed", str(self.seed), "--by", self.scheduler]
         return [*words, "--hunt", self.hunt] if self.hunt else words
 
 

@@ -2,8 +2,8 @@
 
 use super::triangle::{network, setup};
 use bhs_explore::{
-    Drawn, Draws, ExploreFault, Explored, Explorer, Found, Hunt, Latest, Mind, Pace, Step, Team,
-    TeamFault,
+    Drawn, Draws, ExploreFault, Explored, Explorer, Found, Hunt, Latest, Mind, Scheduler, Step,
+    Team, TeamFault,
 };
 use bhs_model::{Command, Mark};
 use bhs_world::World;
@@ -91,7 +91,7 @@ pub fn draws(hunt: Option<Hunt>) -> Draws {
     Draws {
         schedules: 4,
         seed: 5,
-        pace: Pace::Fair,
+        scheduler: Scheduler::Fair,
         hunt,
         turns: 100,
     }

@@ -8,8 +8,8 @@ use Rattle.bhs_command_line.specs.declared.orders.Drawing.{Drawing}
 use Rattle.bhs_command_line.specs.declared.orders.Exploration.{Exploration}
 use Rattle.bhs_command_line.specs.declared.orders.Hunt.{Hunt}
 use Rattle.bhs_command_line.specs.declared.orders.Hunt.TheVariants as hunts
-use Rattle.bhs_command_line.specs.declared.orders.Pace.{Pace}
-use Rattle.bhs_command_line.specs.declared.orders.Pace.TheVariants as paces
+use Rattle.bhs_command_line.specs.declared.orders.Scheduler.{Scheduler}
+use Rattle.bhs_command_line.specs.declared.orders.Scheduler.TheVariants as schedulers
 
 -- at most how many states are visited
 abbrev pub states_option : NumberOption
@@ -26,13 +26,13 @@ explore = command (codes "explore") (must_have (codes "tournament") ∷ must_hav
     ∷ behind (codes "by") (may_have (codes "by")) ∷ behind (codes "hunt") (may_have (codes "hunt")) ∷ [])
 
 -- whose turn it is in a drawn schedule, by its name
-abbrev pub pace_in : Text → Option Pace
-pace_in word =
-    if bytes_eq word (codes "fair") then Some paces.Fair
-    else (if bytes_eq word (codes "last-departed") then Some paces.LastDeparted
-    else (if bytes_eq word (codes "starved") then Some paces.Starved
-    else (if bytes_eq word (codes "slow-agents") then Some paces.SlowAgents
-    else (if bytes_eq word (codes "slow-links") then Some paces.SlowLinks else None))))
+abbrev pub scheduler_in : Text → Option Scheduler
+scheduler_in word =
+    if bytes_eq word (codes "fair") then Some schedulers.Fair
+    else (if bytes_eq word (codes "last-departed") then Some schedulers.LastDeparted
+    else (if bytes_eq word (codes "starved") then Some schedulers.Starved
+    else (if bytes_eq word (codes "slow-agents") then Some schedulers.SlowAgents
+    else (if bytes_eq word (codes "slow-links") then Some schedulers.SlowLinks else None))))
 
 -- what is hunted for among drawn schedules, by its name
 abbrev pub hunt_in : Text → Option Hunt
@@ -45,26 +45,27 @@ abbrev pub seed_in : Option Text → Option ℕ
 seed_in (Some word) = number_within 0 4294967295 word
 seed_in None = Some 0
 
-abbrev pub paced_in : Option Text → Option Pace
-paced_in (Some word) = pace_in word
-paced_in None = Some paces.Fair
+abbrev pub scheduler_by : Option Text → Option Scheduler
+scheduler_by (Some word) = scheduler_in word
+scheduler_by None = Some schedulers.Fair
 
 abbrev pub hunted_in : Option Text → Option (Option Hunt)
 hunted_in (Some word) = option_map Some (hunt_in word)
 hunted_in None = Some None
 
 -- what is drawn by these, if all are there
-abbrev pub drawing_of : (schedules seed : Option ℕ) → Option Pace → (hunt : Option (Option Hunt)) → Option Drawing
-drawing_of (Some schedules) (Some seed) (Some pace) (Some hunt) =
-    Some (record { schedules = schedules; seed = seed; pace = pace; hunt = hunt })
+abbrev pub drawing_of : (schedules seed : Option ℕ) → Option Scheduler → (hunt : Option (Option Hunt)) → Option Drawing
+drawing_of (Some schedules) (Some seed) (Some scheduler) (Some hunt) =
+    Some (record { schedules = schedules; seed = seed; scheduler = scheduler; hunt = hunt })
 drawing_of _ _ _ _ = None
 
 -- what is drawn by these words: nothing if there is none, and the others need one of how many schedules
-unfoldable pub drawing_in : (draws seed pace hunt : Option Text) → Option (Option Drawing)
+unfoldable pub drawing_in : (draws seed scheduler hunt : Option Text) → Option (Option Drawing)
 drawing_in None None None None = Some None
-drawing_in (Some draws) seed pace hunt =
-    option_map Some (drawing_of (number_within 1 4294967295 draws) (seed_in seed) (paced_in pace) (hunted_in hunt))
-drawing_in None seed pace hunt = None
+drawing_in (Some draws) seed scheduler hunt =
+    option_map Some
+    (drawing_of (number_within 1 4294967295 draws) (seed_in seed) (scheduler_by scheduler) (hunted_in hunt))
+drawing_in None seed scheduler hunt = None
 
 -- an exploration by these, if all are there
 abbrev pub exploration_of : (game states naps : Option ℕ) → (drawing : Option (Option Drawing)) → Option Exploration

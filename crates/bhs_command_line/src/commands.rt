@@ -55,8 +55,8 @@ pub(crate) enum Takes {
     Text,
     /// A number from `least` to `most`.
     Number { least: u32, most: u32 },
-    /// The name of a pace.
-    Pace,
+    /// The name of a scheduler.
+    Scheduler,
     /// The name of what is hunted for.
     Hunt,
     /// A team and its replay.

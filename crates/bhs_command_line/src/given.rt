@@ -4,7 +4,7 @@ ghost use Rattle.std.specs.Prelude.{◌≡◌, ◌<◌, ◌^◌, IfOk, Some, opt
 ghost use Rattle.bhs_command_line.specs.Arguments.{is_given, number_in, number_within, text_in, texts_in};
 ghost use Rattle.bhs_command_line.specs.Serving.{hosting_by};
 ghost use Rattle.bhs_command_line.specs.Exploring.{drawing_by, drawing_in, drawing_of, exploration_by, hunt_in};
-ghost use Rattle.bhs_command_line.specs.Exploring.{hunted_in, pace_in, paced_in, seed_in};
+ghost use Rattle.bhs_command_line.specs.Exploring.{hunted_in, scheduler_in, scheduler_by, seed_in};
 ghost use Rattle.bhs_command_line.specs.CommandLine.{appeal_of, contest_table_by, entries_in, is_one_word, judging_by};
 ghost use Rattle.bhs_command_line.specs.CommandLine.{judging_of, order_by, recovery_by, rehearsal_of, tabling_by};
 ghost use Rattle.bhs_command_line.specs.Told.{most_of, number_by, row_number};
@@ -14,7 +14,7 @@ use crate::commands::{
     Argument, REPLAY, TOURNAMENT, Takes, explain, explore, judge, recover, rehearse, serve, table,
     twin,
 };
-use crate::orders::{Appeal, Drawing, Entries, Exploration, Hosting, Hunt, Order, Pace};
+use crate::orders::{Appeal, Drawing, Entries, Exploration, Hosting, Hunt, Order, Scheduler};
 use crate::words::{entries_in, number_within, text};
 use bhs_text::Text;
 use clap::ArgMatches;
@@ -277,9 +277,9 @@ fn drawing_given(
 {
     let draws = text_if_any(alloc, words, &explore::DRAWS)?;
     let seed = text_if_any(alloc, words, &explore::SEED)?;
-    let pace = text_if_any(alloc, words, &explore::PACE)?;
+    let scheduler = text_if_any(alloc, words, &explore::SCHEDULER)?;
     let hunt = text_if_any(alloc, words, &explore::HUNT)?;
-    Ok(drawing(draws, seed, pace, hunt))
+    Ok(drawing(draws, seed, scheduler, hunt))
 }
 
 // The schedules that these words have drawn: none if there is no word.
@@ -287,14 +287,14 @@ fn drawing_given(
 fn drawing(
     draws: Option<Text>,
     seed: Option<Text>,
-    pace: Option<Text>,
+    scheduler: Option<Text>,
     hunt: Option<Text>,
 ) -> Option<Option<Drawing>>
-    ensures { result ≡ drawing_in draws seed pace hunt }
+    ensures { result ≡ drawing_in draws seed scheduler hunt }
 {
-    match (draws, seed, pace, hunt) {
+    match (draws, seed, scheduler, hunt) {
         (None, None, None, None) => Some(None),
-        (Some(draws), seed, pace, hunt) => match drawn_by(draws, seed, pace, hunt) {
+        (Some(draws), seed, scheduler, hunt) => match drawn_by(draws, seed, scheduler, hunt) {
             Some(drawing) => Some(Some(drawing)),
             None => None,
         },
@@ -306,20 +306,20 @@ fn drawing(
 fn drawn_by(
     draws: Text,
     seed: Option<Text>,
-    pace: Option<Text>,
+    scheduler: Option<Text>,
     hunt: Option<Text>,
 ) -> Option<Drawing>
     ensures { result ≡ drawing_of (number_within 1 4294967295 draws)
-        (seed_in seed) (paced_in pace) (hunted_in hunt) }
+        (seed_in seed) (scheduler_by scheduler) (hunted_in hunt) }
 {
     let schedules = number_by(explore::DRAWS.takes, draws.as_str())?;
     let seed = seed_in(&seed)?;
-    let pace = paced_in(&pace)?;
+    let scheduler = scheduler_by(&scheduler)?;
     let hunt = hunted_in(&hunt)?;
     Some(Drawing {
         schedules,
         seed,
-        pace,
+        scheduler,
         hunt,
     })
 }
@@ -335,25 +335,25 @@ fn seed_in(word: &Option<Text>) -> Option<u32>
 }
 
 // Whose turn it is, by this word; each agent is as likely if there is none.
-fn paced_in(word: &Option<Text>) -> Option<Pace>
-    ensures { result ≡ paced_in word.now }
+fn scheduler_by(word: &Option<Text>) -> Option<Scheduler>
+    ensures { result ≡ scheduler_by word.now }
 {
     match word {
-        Some(word) => pace_in(word.as_str()),
-        None => Some(Pace::Fair),
+        Some(word) => scheduler_in(word.as_str()),
+        None => Some(Scheduler::Fair),
     }
 }
 
 /// Whose turn it is, by its name.
-pub(crate) fn pace_in(word: &str) -> Option<Pace>
-    ensures { result ≡ pace_in word.now }
+pub(crate) fn scheduler_in(word: &str) -> Option<Scheduler>
+    ensures { result ≡ scheduler_in word.now }
 {
     match word {
-        "fair" => Some(Pace::Fair),
-        "last-departed" => Some(Pace::LastDeparted),
-        "starved" => Some(Pace::Starved),
-        "slow-agents" => Some(Pace::SlowAgents),
-        "slow-links" => Some(Pace::SlowLinks),
+        "fair" => Some(Scheduler::Fair),
+        "last-departed" => Some(Scheduler::LastDeparted),
+        "starved" => Some(Scheduler::Starved),
+        "slow-agents" => Some(Scheduler::SlowAgents),
+        "slow-links" => Some(Scheduler::SlowLinks),
         _ => None,
     }
 }

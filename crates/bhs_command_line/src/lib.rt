@@ -21,7 +21,7 @@ use clap::Error;
 use clap::error::ErrorKind;
 use given::order_given;
 pub use orders::{
-    Appeal, Drawing, Entries, Entry, Exploration, Hosting, Hunt, MAX_SESSIONS, Order, Pace,
+    Appeal, Drawing, Entries, Entry, Exploration, Hosting, Hunt, MAX_SESSIONS, Order, Scheduler,
 };
 use std::alloc::{AllocError, Global};
 use std::convert::AsStr;

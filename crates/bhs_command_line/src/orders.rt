@@ -115,7 +115,7 @@ pub struct Appeal {
 
 /// Whose turn it is in a drawn schedule, among the agents that can move.
 #[derive(Clone, Copy, Debug, PartialEq, Eq)]
-pub enum Pace {
+pub enum Scheduler {
     /// Each agent is as likely.
     Fair,
     /// Agents go as far as they can, and of those on links the one arrives that departed last.
@@ -143,7 +143,7 @@ pub struct Drawing {
     /// The seed from which they are drawn.
     pub seed: u32,
     /// Whose turn it is.
-    pub pace: Pace,
+    pub scheduler: Scheduler,
     /// What is hunted for, if anything.
     pub hunt: Option<Hunt>,
 }

@@ -1,7 +1,7 @@
 //! What is told of a word that its command does not take.
 
 use crate::commands::{Argument, COMMANDS, Need, Takes, explore, judge, table};
-use crate::given::{hunt_in, number_by, pace_in};
+use crate::given::{hunt_in, number_by, scheduler_in};
 use crate::words::entry_in;
 use clap::ArgMatches;
 use std::alloc::{AllocError, Global};
@@ -86,7 +86,7 @@ fn is_fit(alloc: Global, takes: Takes, word: &str) -> Result<bool, AllocError> {
     match takes {
         Takes::Text => Ok(true),
         Takes::Number { .. } => Ok(number_by(takes, word).is_some()),
-        Takes::Pace => Ok(pace_in(word).is_some()),
+        Takes::Scheduler => Ok(scheduler_in(word).is_some()),
         Takes::Hunt => Ok(hunt_in(word).is_some()),
         Takes::Entry => Ok(entry_in(alloc, word)?.is_some()),
     }
@@ -115,8 +115,8 @@ fn wanted(alloc: Global, takes: Takes) -> Result<String, AllocError> {
         Takes::Number { least, most } => {
             format!(in alloc; "it is no number from {least} to {most}")
         }
-        Takes::Pace => {
-            let names = explore::PACES;
+        Takes::Scheduler => {
+            let names = explore::SCHEDULERS;
             format!(in alloc; "it is none of {names}")
         }
         Takes::Hunt => {

@@ -12,7 +12,7 @@ pub mod Endings
 pub mod Walks
 pub mod Rounds
 pub mod Knowing
-pub mod Telling
+pub mod Truths
 pub mod Counting
 pub mod Laws
 pub mod Examples

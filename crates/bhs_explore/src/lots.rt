@@ -11,14 +11,14 @@ use rand_core::utils::NextWord;
 use std::alloc::{AllocError, Global};
 
 // The weights of agents and of links, from slow to fast.
-const PACES: [u32; 5] = [2, 30, 100, 100, 500];
+const SPEEDS: [u32; 5] = [2, 30, 100, 100, 500];
 
 // The weights of sleepers.
 const WAKINGS: [u32; 2] = [1, 10];
 
 /// How the agent that moves next is drawn among those that can.
 #[derive(Clone, Copy, Debug, PartialEq, Eq)]
-pub enum Pace {
+pub enum Scheduler {
     /// Each is as likely.
     Fair,
     /// Agents go as far as they can, and of those on links the one arrives that departed last.
@@ -36,7 +36,7 @@ pub enum Pace {
 #[derive(Drop)]
 pub struct Lots {
     seed: u64,
-    pace: Pace,
+    scheduler: Scheduler,
     words: ChaCha8Rng,
     // The number of the agent that is starved.
     starved: usize,
@@ -59,7 +59,7 @@ impl Lots {
         alloc: Global,
         world: &World,
         seed: u64,
-        pace: Pace,
+        scheduler: Scheduler,
     ) -> Result<Lots, AllocError> {
         let agents = usize::from(world.setup().agents);
         let nodes = world.net().nodes();
@@ -71,7 +71,7 @@ impl Lots {
         }
         Ok(Lots {
             seed,
-            pace,
+            scheduler,
             words: ChaCha8Rng::seed_from_u64(seed),
             starved: 0,
             waking: 0,
@@ -89,20 +89,20 @@ impl Lots {
         self.words = ChaCha8Rng::seed_from_u64(self.seed);
         self.words.set_stream(u64::from(number));
         self.departed.fill(0);
-        match self.pace {
-            Pace::Fair | Pace::LastDeparted => {}
-            Pace::Starved => {
+        match self.scheduler {
+            Scheduler::Fair | Scheduler::LastDeparted => {}
+            Scheduler::Starved => {
                 let agents = self.weights.len();
                 if agents > 0 {
                     self.starved = number as usize % agents;
                 }
             }
-            Pace::SlowAgents => {
+            Scheduler::SlowAgents => {
                 self.waking = one_of(&mut self.words, &WAKINGS);
                 draw_all(&mut self.words, &mut self.answers);
                 draw_all(&mut self.words, &mut self.arrivals);
             }
-            Pace::SlowLinks => draw_all(&mut self.words, &mut self.links),
+            Scheduler::SlowLinks => draw_all(&mut self.words, &mut self.links),
         }
     }
 
@@ -146,12 +146,12 @@ impl Lots {
 
     // The weight of a turn of an agent that can move.
     fn weight(&self, chart: &Chart, stance: u32, agent: usize) -> u32 {
-        match self.pace {
-            Pace::Fair => 1,
-            Pace::Starved => u32::from(agent != self.starved),
-            Pace::LastDeparted => u32::from(port_of(chart, stance).is_none()),
-            Pace::SlowAgents => self.weight_of_agent(chart, stance, agent),
-            Pace::SlowLinks => match port_of(chart, stance) {
+        match self.scheduler {
+            Scheduler::Fair => 1,
+            Scheduler::Starved => u32::from(agent != self.starved),
+            Scheduler::LastDeparted => u32::from(port_of(chart, stance).is_none()),
+            Scheduler::SlowAgents => self.weight_of_agent(chart, stance, agent),
+            Scheduler::SlowLinks => match port_of(chart, stance) {
                 Some((node, port)) => {
                     let first = get(&self.ports, usize::from(node)) as usize;
                     get(&self.links, first.wrapping_add(usize::from(port)))
@@ -211,6 +211,6 @@ fn one_of(words: &mut ChaCha8Rng, weights: &[u32]) -> u32 {
 // Draws all these weights.
 fn draw_all(words: &mut ChaCha8Rng, weights: &mut [u32]) {
     for weight in weights {
-        *weight = one_of(words, &PACES);
+        *weight = one_of(words, &SPEEDS);
     }
 }

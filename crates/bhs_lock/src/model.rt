@@ -26,7 +26,7 @@ pub(crate) struct Tally {
 
 /// What came of a command: its place, the mark that stands for its reply, and the reply.
 #[derive(Drop)]
-pub(crate) struct Step {
+pub(crate) struct Effect {
     pub(crate) place: Option<u32>,
     pub(crate) mark: Mark,
     pub(crate) reply: Reply,

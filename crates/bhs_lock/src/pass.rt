@@ -13,7 +13,7 @@ ghost use Rattle.bhs_model.specs.Marks.{read};
 
 use crate::comparing::{is_entry, reads_as};
 use crate::kept_command::KeptCommand;
-use crate::model::{Receipt, Spare, Step, Tally};
+use crate::model::{Effect, Receipt, Spare, Tally};
 use bhs_match::{Answer, Match};
 use bhs_model::{Command, Event, Kept, Mark, Reply, Text};
 use bhs_net::Memory;
@@ -147,7 +147,7 @@ impl Pass {
 
     /// Tells a match a command of the pass's agent. Memory is taken before anything changes, and only if the reply
     /// will speak of a whiteboard.
-    pub(crate) fn submit_to(&mut self, play: &mut Match, command: Command) -> Result<Step, Memory>
+    pub(crate) fn submit_to(&mut self, play: &mut Match, command: Command) -> Result<Effect, Memory>
         requires { is_below self.old.receipts (length play.old.log) ≡ true }
         ensures done { IfOk result (λ step. IsTold play.old self.old command step.place step.mark step.reply
             play.new self.new) }
@@ -161,7 +161,7 @@ impl Pass {
         let Some(mark) = mark else { unreachable!() };
         let reply = spoken(mark, text);
         let Some(place) = place else {
-            return Ok(Step {
+            return Ok(Effect {
                 place: None,
                 mark,
                 reply,
@@ -173,7 +173,7 @@ impl Pass {
             place,
             reply: spoken(mark, again),
         });
-        Ok(Step {
+        Ok(Effect {
             place: Some(place),
             mark,
             reply,

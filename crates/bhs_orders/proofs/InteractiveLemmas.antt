@@ -10,7 +10,7 @@ use Rattle.bhs_stream.specs.Sending.{PutsAll, PutsPart}
 use Rattle.bhs_rehearsal.specs.Stages.{Stage}
 use Rattle.bhs_model.specs.declared.limits.TheConstants.{MAX_TEXT}
 use Rattle.bhs_script.specs.Script.{Meaning, Refused, meaning}
-use Rattle.bhs_orders.specs.Players.{IsConcluded, IsRefusal, IsReplied, progress_of}
+use Rattle.bhs_orders.specs.Shells.{IsConcluded, IsRefusal, IsReplied, progress_of}
 use Rattle.bhs_orders.specs.Interactive.{Answers, none, more, AnswersPart, BreaksAt, BreaksWithin, IsNext, IsPart}
 use Rattle.bhs_orders.specs.Interactive.{IsRefused}
 use Rattle.bhs_orders.specs.Interactive.{unmeant, overlong, Progress, Interacts, answer, answers, ended, judged}
@@ -24,7 +24,7 @@ use Rattle.bhs_orders.specs.declared.reporting.faults.Fault.TheVariants.{Memory}
 use Rattle.bhs_orders.specs.declared.reporting.faults.Fault.TheVariants.{Turns, Listen, Busy, Threads, Unsettled}
 use Rattle.bhs_orders.specs.declared.reporting.faults.Fault.TheVariants.{NoMatch}
 use Rattle.bhs_orders.specs.declared.reporting.faults.Fault.TheVariants.{Exploring, Appeal}
-use Rattle.bhs_orders.specs.declared.rehearsals.interactive.Player.{Player}
+use Rattle.bhs_orders.specs.declared.rehearsals.interactive.Shell.{Shell}
 
 -- ---- one line
 
@@ -109,9 +109,9 @@ module _ {O : Type 0} (takes : O → List ℕ → Taken → O → Type 0) (flush
     breaks = breaks;
   }
 
--- the line of a player, and what is read behind it
-module _ (player : Player) (rest : List ℕ) (part : IsPart player.line.items) where
-  pub next_line : IsNext (progress_of player (10 ∷ rest)) player.line.items rest
+-- the line of a shell, and what is read behind it
+module _ (shell : Shell) (rest : List ℕ) (part : IsPart shell.line.items) where
+  pub next_line : IsNext (progress_of shell (10 ∷ rest)) shell.line.items rest
   next_line = record { held = refl; first = part.unended }
 
 -- a line that is too long
@@ -123,7 +123,7 @@ overlong_refused games progress over = begun over.begins where
       unmeant over.line over.rest (record { held = same; first = over.unended }) (judged-long games over.line over.long)
 
 -- a line was answered
-module _ {O : Type 0} (takes : O → List ℕ → Taken → O → Type 0) (old new : Player) (output output' : O)
+module _ {O : Type 0} (takes : O → List ℕ → Taken → O → Type 0) (old new : Shell) (output output' : O)
     (part : IsPart old.line.items) (text : List ℕ)
     (replied : IsReplied (meaning old.games old.line.items) old.rehearsal.stage new.rehearsal.stage [] text true)
   where
@@ -155,33 +155,33 @@ module _ {O : Type 0} (takes : O → List ℕ → Taken → O → Type 0) (old n
       part = subst (λ (bytes : List ℕ). PutsPart takes output bytes output') answers_so part_of;
     }
 
--- ---- where the player is
+-- ---- where the shell is
 
 -- the end of the input ends a line that has any byte
 end_of_line : (bytes : List ℕ) → 0 < length bytes → with_end (bytes ++ []) ≡ bytes ++ 10 ∷ []
 end_of_line [] some = absurd (omega (arith, some))
 end_of_line (byte ∷ bytes) some = ap (λ (all : List ℕ). byte ∷ (all ++ 10 ∷ [])) (append-nil bytes)
 
-pub ended_line : (player : Player) → 0 < length player.line.items
-    → ended (progress_of player []) ≡ progress_of player (10 ∷ [])
-ended_line player some = same_progress refl refl (end_of_line player.line.items some)
+pub ended_line : (shell : Shell) → 0 < length shell.line.items
+    → ended (progress_of shell []) ≡ progress_of shell (10 ∷ [])
+ended_line shell some = same_progress refl refl (end_of_line shell.line.items some)
 
 no_end : (bytes : List ℕ) → length bytes ≡ 0 → with_end (bytes ++ []) ≡ bytes ++ []
 no_end [] e = refl
 no_end (byte ∷ bytes) e = absurd (omega (arith, e))
 
-pub ended_nothing : (player : Player) → length player.line.items ≡ 0 → ended (progress_of player []) ≡ progress_of
-    player []
-ended_nothing player e = same_progress refl refl (no_end player.line.items e)
+pub ended_nothing : (shell : Shell) → length shell.line.items ≡ 0 → ended (progress_of shell []) ≡ progress_of
+    shell []
+ended_nothing shell e = same_progress refl refl (no_end shell.line.items e)
 
 pub nothing_left : (bytes : List ℕ) → length bytes ≡ 0 → bytes ++ [] ≡ []
 nothing_left [] e = refl
 nothing_left (byte ∷ bytes) e = absurd (omega (arith, e))
 
--- a player that has read nothing
-pub silent : (player : Player) → player.line.items ≡ [] → player.answered ≡ 0
-    → at_start player.rehearsal.stage ≡ progress_of player []
-silent player line count = same_progress refl (sym count) (sym (append-nil player.line.items ∙ line))
+-- a shell that has read nothing
+pub silent : (shell : Shell) → shell.line.items ≡ [] → shell.answered ≡ 0
+    → at_start shell.rehearsal.stage ≡ progress_of shell []
+silent shell line count = same_progress refl (sym count) (sym (append-nil shell.line.items ∙ line))
 
 pub part_of : (bytes : List ℕ) → IsPart bytes → IsPart (bytes ++ [])
 part_of bytes part = subst IsPart (sym (append-nil bytes)) part
@@ -194,7 +194,7 @@ module _ {I O : Type 0} (gives : I → Chunk → I → Type 0) (takes : O → Li
   InteractsHere = Interacts gives takes flushes turns stage input output
 
   -- more is read, and its lines are answered
-  pub interacts_more : (reads : ℕ) (old new : Player) (piece : List ℕ) (here next : I) (there passed out : O)
+  pub interacts_more : (reads : ℕ) (old new : Shell) (piece : List ℕ) (here next : I) (there passed out : O)
       → InteractsHere reads false (progress_of old []) here there → IsPart old.line.items → flushes there true passed
       → reads < turns → IsPiece piece → gives here (Bytes piece) next
       → Answers takes (length stage.games) (progress_of old piece) passed (progress_of new []) out
@@ -209,7 +209,7 @@ module _ {I O : Type 0} (gives : I → Chunk → I → Type 0) (takes : O → Li
       (progress_of new []) out more_of
 
   -- more is read, and a fault comes at one of its lines
-  pub interacts_before : (reads : ℕ) (old : Player) (piece : List ℕ) (here next : I) (there passed : O)
+  pub interacts_before : (reads : ℕ) (old : Shell) (piece : List ℕ) (here next : I) (there passed : O)
       → InteractsHere reads false (progress_of old []) here there → IsPart old.line.items → flushes there true passed
       → reads < turns → IsPiece piece → gives here (Bytes piece) next
       → InteractsHere (reads + 1) false (progress_of old piece) next passed
@@ -261,7 +261,7 @@ module _ {I O : Type 0} (gives : I → Chunk → I → Type 0) (takes : O → Li
     stops_by (Err fault) within = stops_within fault within
 
   -- the end of the input
-  module _ (reads : ℕ) (old new : Player) (here input' : I) (before there output' : O)
+  module _ (reads : ℕ) (old new : Shell) (here input' : I) (before there output' : O)
       (interacts : InteractsHere reads false (progress_of old []) here before) (part : IsPart old.line.items)
       (flushed : flushes before true there) (left : reads < turns) (given : gives here End input')
       (games : old.games ≡ length stage.games) where

@@ -19,7 +19,7 @@ use Rattle.bhs_explore.specs.declared.explorers.Explored.{Explored}
 use Rattle.bhs_explore.specs.Answers.{Knowledge, is_held}
 use Rattle.bhs_explore.specs.Counting.{is_excess, is_failure}
 use Rattle.bhs_explore.specs.Questions.{IsAskedOnce, SomeMachinesAnswer}
-use Rattle.bhs_explore.specs.Telling.{IsTrueOf}
+use Rattle.bhs_explore.specs.Truths.{IsTrueOf}
 use Rattle.bhs_orders.specs.Fault.{status}
 use Rattle.bhs_orders.specs.RehearsedTournaments.{Rests}
 use Rattle.bhs_orders.specs.Showing.{Shows}

@@ -10,7 +10,7 @@ pub mod Reports
 pub mod Showing
 pub mod Filing
 pub mod Interactive
-pub mod Players
+pub mod Shells
 pub mod InteractiveTournaments
 pub mod Answered
 pub mod Naming

@@ -3,4 +3,4 @@ pub mod Contests
 pub mod Hearing
 pub mod Program
 pub mod Recording
-pub mod Telling
+pub mod LogLines

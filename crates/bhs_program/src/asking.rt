@@ -12,7 +12,7 @@ pub(crate) enum Asked {
     CloseAll,
     /// That the match of this number be closed.
     Close(u32),
-    /// To be told how the contest stands.
+    /// That it is reported how the contest stands.
     Status,
 }
 

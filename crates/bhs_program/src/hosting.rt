@@ -95,7 +95,7 @@ fn served<R: Machine>(
     }
 }
 
-// What came of the matches of the contest, which is told in a log, and which an operator may close.
+// What came of the matches of the contest, which is reported in a log, and which an operator may close.
 fn settled<R: Machine>(
     alloc: Global,
     rt: &R,
@@ -109,7 +109,7 @@ fn settled<R: Machine>(
     let log = started_log(alloc, rt)?;
     let operator = heard_operator(alloc, rt, manner.hears, &log, contest.cells.len())?;
     let scene = Scene {
-        is_telling: manner.log,
+        is_reporting: manner.log,
         turns: manner.turns,
         teams,
         log: &log,

@@ -10,6 +10,7 @@ mod judged;
 mod keeping;
 mod line_files;
 mod log;
+mod log_lines;
 mod machines;
 mod manners;
 mod operator;
@@ -19,7 +20,6 @@ mod recording;
 mod recovering;
 mod serving;
 mod standing;
-mod telling;
 mod words;
 
 pub use console::{Console, Heard};

@@ -1,6 +1,6 @@
 //! Lines for the operator. A thread of its own writes them to standard error, so that nothing waits for who reads them.
 
-use crate::telling::{timed_line, unread_line};
+use crate::log_lines::{timed_line, unread_line};
 use bhs_net::Memory;
 use std::alloc::Global;
 use std::collections::VecDeque;
@@ -65,7 +65,7 @@ impl Log {
     }
 
     /// Has a text written, with the time before it. If too many wait, or there was no memory to make it, it is dropped.
-    pub(crate) fn tell<R: Wait + Clock>(&self, rt: &R, made: Result<String, Memory>) {
+    pub(crate) fn report<R: Wait + Clock>(&self, rt: &R, made: Result<String, Memory>) {
         let made = self.timed(rt, made);
         let mut waiting = self.waiting.lock(rt);
         if !waiting.keeps(made) {

@@ -24,7 +24,7 @@ pub struct Manner<'a> {
 }
 
 /// How the tournament of a file is served. Without a prefix it is served as suits a course: the replays are named by
-/// the file, the matches wait for their agents, each is closed once its agents are done, and it is told what happens.
+/// the file, the matches wait for their agents, each is closed once its agents are done, and what happens is reported.
 pub fn manner_of<'a>(tournament: &'a str, hosting: &'a Hosting) -> Manner<'a>
     ensures gather { hosting.now.prefix ≢ [] → result.gather ≡ hosting.now.gather }
     ensures early { hosting.now.prefix ≢ [] → result.early ≡ hosting.now.early }

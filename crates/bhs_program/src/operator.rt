@@ -4,7 +4,7 @@
 use crate::asking::{Asked, asked_in};
 use crate::console::{Console, Heard};
 use crate::log::Log;
-use crate::telling::{all_closing_line, closing_line};
+use crate::log_lines::{all_closing_line, closing_line};
 use bhs_host::Progress;
 use bhs_net::Memory;
 use std::alloc::Global;
@@ -24,10 +24,10 @@ const REST: u64 = 10;
 // How many milliseconds one wait for standard input takes at most.
 const EVERY: u16 = 500;
 
-/// What the operator asked for that is still to be told.
+/// What the operator asked for that is still to be reported.
 #[derive(Clone, Copy)]
 pub(crate) struct Asks {
-    /// Whether to be told how the contest stands.
+    /// Whether it is to be reported how the contest stands.
     pub(crate) status: bool,
     /// How many lines asked for nothing.
     pub(crate) unknown: u32,
@@ -116,12 +116,12 @@ impl Operator {
         match asked_in(self.matches, line) {
             Some(Asked::CloseAll) => {
                 if self.progress.call_all_off(rt) {
-                    log.tell(rt, all_closing_line(alloc));
+                    log.report(rt, all_closing_line(alloc));
                 }
             }
             Some(Asked::Close(game)) => {
                 if self.progress.call_off(rt, game) {
-                    log.tell(rt, closing_line(alloc, game));
+                    log.report(rt, closing_line(alloc, game));
                 }
             }
             Some(Asked::Status) => self.asks.lock(rt).status = true,

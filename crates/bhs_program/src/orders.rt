@@ -42,13 +42,13 @@ pub fn run<
     match order_of(alloc, words) {
         Ok(Parsed::Ordered(order)) => obey(alloc, rt, order, reader, writer, errors),
         Ok(Parsed::Shown { text }) => show_text(text.as_str(), writer, errors),
-        Ok(Parsed::Refused { text }) => tell_refusal(alloc, text.as_str(), errors),
+        Ok(Parsed::Refused { text }) => report_refusal(alloc, text.as_str(), errors),
         Err(_) => report("arena", Fault::Memory, errors),
     }
 }
 
 // Tells why the words are refused. They may be names of files that a stranger chose.
-fn tell_refusal<E: Write>(alloc: Global, text: &str, errors: &mut E) -> u8
+fn report_refusal<E: Write>(alloc: Global, text: &str, errors: &mut E) -> u8
     ensures { result ≡ REFUSED_WORDS ⊎ result ≡ NO_MEMORY }
 {
     let Ok(text) = visible(alloc, text) else {

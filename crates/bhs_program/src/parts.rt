@@ -10,7 +10,7 @@ use crate::judged::{FEW, TIMES};
 use crate::keeping::Keep;
 use crate::line_files::LineFile;
 use crate::log::Log;
-use crate::telling::{part_goes_on_line, part_waits_line};
+use crate::log_lines::{part_goes_on_line, part_waits_line};
 use bhs_lineup::{Lineup, Ready};
 use bhs_lock::{Cell, Copied};
 use bhs_model::Event;
@@ -221,7 +221,7 @@ impl Parts {
 }
 
 impl Part {
-    // Writes a few events that its match has newly kept. If that fails it is told, once, and tried again at the next
+    // Writes a few events that its match has newly kept. A failure is reported, once, and it is tried again at the next
     // look. Answers whether the match may have more.
     fn write_on<R: Wait + Clock>(&mut self, rt: &R, alloc: Global, cell: &Cell, log: &Log) -> bool {
         match self.appended(rt, alloc, cell) {
@@ -274,7 +274,7 @@ impl Part {
     }
 
     // The part of a match that is closed gets its end line and the name of the replay, once its turns have theirs. If
-    // that fails it is told, once, and tried again at the next look.
+    // that fails it is reported, once, and tried again at the next look.
     fn end<R: Keep + Wait + Clock>(&mut self, rt: &R, alloc: Global, log: &Log) {
         if self.state == State::GoesOn || self.state == State::IsNamed {
             return;
@@ -307,7 +307,7 @@ impl Part {
     }
 
     // Makes way for the files of its match, which settled or did not. What cannot be put aside cannot be replaced
-    // either, so its faults are told by who writes these files.
+    // either, so its faults are reported by who writes these files.
     fn make_way<R: Keep>(&mut self, rt: &R, alloc: Global, has_settled: bool) {
         let replay = self.names.replay.as_str();
         let turns = self.names.turns.as_str();
@@ -323,10 +323,10 @@ impl Part {
         let _ = rt.put_others_aside(alloc, turns, own.file());
     }
 
-    // It could not be written on, which is told once.
+    // It could not be written on, which is reported once.
     fn fails<R: Wait + Clock>(&mut self, rt: &R, alloc: Global, log: &Log) {
         if !self.has_failed {
-            log.tell(rt, part_waits_line(alloc, self.game, self.events.events()));
+            log.report(rt, part_waits_line(alloc, self.game, self.events.events()));
         }
         self.has_failed = true;
     }
@@ -334,7 +334,7 @@ impl Part {
     // It was written on.
     fn goes_on<R: Wait + Clock>(&mut self, rt: &R, alloc: Global, log: &Log) {
         if self.has_failed {
-            log.tell(
+            log.report(
                 rt,
                 part_goes_on_line(alloc, self.game, self.events.events()),
             );

@@ -1,16 +1,16 @@
-//! What is kept and told of a contest while it goes on: the parts of its replays in files, and lines for the operator.
+//! What is kept and reported of a contest while it goes on: parts of its replays in files, and lines for the operator.
 
 use crate::judged::{judged, judged_now};
 use crate::keeping::Keep;
 use crate::log::Log;
-use crate::operator::Operator;
-use crate::parts::Parts;
-use crate::standing::{Standing, Standings};
-use crate::telling::{
+use crate::log_lines::{
     closed_line, judged_line, missing_line, open_line, outsiders_line, played_line, plays_line,
     sessions_line, standings_lines, stray_words, strays_line, unjudged_line, unknown_line,
     unplayed_line,
 };
+use crate::operator::Operator;
+use crate::parts::Parts;
+use crate::standing::{Standing, Standings};
 use bhs_host::table_by;
 use bhs_lock::Cell;
 use bhs_model::Text;
@@ -26,17 +26,17 @@ use std::time::Clock;
 // How many looks lie between two reports of how far the matches are. There are two looks a second.
 const LOOKS: u32 = 120;
 
-// The log tells at most this many clients that were not let in. Then it counts them until the next report.
+// The log reports at most this many clients that were not let in. Then it counts them until the next report.
 const OUTSIDERS: u32 = 64;
 
 // How many looks lie between two reports of the clients that were counted.
 const COUNTED: u32 = 20;
 
-/// What is known of a contest while it goes on, and to whom it is told.
+/// What is known of a contest while it goes on, and to whom it is reported.
 #[derive(Clone, Copy, Drop)]
 pub(crate) struct Scene<'a> {
-    /// Whether it is told what happens. What cannot be written, and what the operator asks for, is told anyway.
-    pub(crate) is_telling: bool,
+    /// Whether it is reported what happens. What cannot be written, and what the operator asks for, is reported anyway.
+    pub(crate) is_reporting: bool,
     /// How many turns a match takes at most.
     pub(crate) turns: u32,
     /// The teams, by the numbers of their matches.
@@ -45,7 +45,7 @@ pub(crate) struct Scene<'a> {
     pub(crate) operator: &'a Operator,
 }
 
-/// Keeps the parts of the replays, and tells the operator what happens.
+/// Keeps the parts of the replays, and reports to the operator what happens.
 #[derive(Drop)]
 pub(crate) struct Recorder<'a, R> {
     rt: &'a R,
@@ -61,9 +61,9 @@ pub(crate) struct Recorder<'a, R> {
 struct Going {
     /// How many sessions go on whose agents have entered.
     sessions: u32,
-    /// How many looks there were since it was told how far the matches are.
+    /// How many looks there were since it was reported how far the matches are.
     looks: u32,
-    /// How many clients came and how many were not let in, since it was told how many more there were.
+    /// How many clients came and how many were not let in, since it was reported how many more there were.
     came: u32,
     outside: u32,
 }
@@ -102,24 +102,24 @@ impl<'a, R> Recorder<'a, R> {
 }
 
 impl<R: Keep + Wait + Clock> Recorder<'_, R> {
-    // Tells a line, if the operator wants to be told.
-    fn tell(&self, made: Result<String, Memory>) {
-        if self.scene.is_telling {
-            self.scene.log.tell(self.rt, made);
+    // Reports a line, if the operator wants reports.
+    fn report(&self, made: Result<String, Memory>) {
+        if self.scene.is_reporting {
+            self.scene.log.report(self.rt, made);
         }
     }
 
     // The line about the lines of a session that were no commands.
-    fn strays_told(&self, session: u32, strays: &Strays) -> Result<String, Memory> {
+    fn strays_reported(&self, session: u32, strays: &Strays) -> Result<String, Memory> {
         let first = stray_words(self.alloc, &strays.first)?;
         strays_line(self.alloc, session, strays.lines, first.as_str())
     }
 
-    // Tells how far the matches are, and who has not entered.
-    fn tell_stand(&self, sessions: u32) {
+    // Reports how far the matches are, and who has not entered.
+    fn report_stand(&self, sessions: u32) {
         let log = self.scene.log;
         let Ok(standings) = self.standings.copied(self.rt) else {
-            log.tell(self.rt, Err(Memory));
+            log.report(self.rt, Err(Memory));
             return;
         };
         let mut missing: usize = 0;
@@ -130,17 +130,17 @@ impl<R: Keep + Wait + Clock> Recorder<'_, R> {
                 open = open.saturating_add(1);
             }
         }
-        log.tell(self.rt, sessions_line(self.alloc, sessions, missing, open));
+        log.report(self.rt, sessions_line(self.alloc, sessions, missing, open));
         for (game, standing) in standings.iter().enumerate() {
-            self.tell_match(game, self.parts.events(self.rt, game), standing);
+            self.report_match(game, self.parts.events(self.rt, game), standing);
         }
     }
 
     // Tells how far a match is whose part has this number of events, and who has not entered.
-    fn tell_match(&self, game: usize, events: usize, standing: &Standing) {
+    fn report_match(&self, game: usize, events: usize, standing: &Standing) {
         let log = self.scene.log;
         let team = self.team(game);
-        log.tell(
+        log.report(
             self.rt,
             match standing.closed {
                 Some(turns) => closed_line(self.alloc, game, team, turns, events),
@@ -151,7 +151,7 @@ impl<R: Keep + Wait + Clock> Recorder<'_, R> {
             },
         );
         if !standing.missing.is_empty() {
-            log.tell(
+            log.report(
                 self.rt,
                 missing_line(self.alloc, game, team, &standing.missing),
             );
@@ -163,11 +163,11 @@ impl<R: Keep + Wait + Clock> Recorder<'_, R> {
         let asks = self.scene.operator.take_asks(self.rt);
         if asks.unknown > 0 {
             let line = unknown_line(self.alloc, asks.unknown, cells.len());
-            self.scene.log.tell(self.rt, line);
+            self.scene.log.report(self.rt, line);
         }
         if asks.status {
-            self.tell_stand(sessions);
-            self.scene.log.tell(self.rt, self.standings_now(cells));
+            self.report_stand(sessions);
+            self.scene.log.report(self.rt, self.standings_now(cells));
         }
     }
 
@@ -185,7 +185,7 @@ impl<R: Keep + Wait + Clock> Recorder<'_, R> {
         standings_lines(self.alloc, table.as_str())
     }
 
-    // The verdict on a match if it were closed now. One that is closed was judged then, if that was told.
+    // The verdict on a match if it were closed now. One that is closed was judged then, if that was reported.
     fn verdict_now(&self, game: u32, cell: &Cell) -> Result<Verdict, Memory> {
         match self.standings.verdict(game) {
             Some(verdict) => Ok(verdict),
@@ -214,7 +214,7 @@ impl<R: Keep + Wait + Clock> Watch for Recorder<'_, R> {
         let mut going = self.going.lock(self.rt);
         going.came = going.came.saturating_add(1);
         if going.came <= OUTSIDERS {
-            self.tell(format!(in self.alloc; "serve: session {session} from {peer}\n"));
+            self.report(format!(in self.alloc; "serve: session {session} from {peer}\n"));
         }
     }
 
@@ -223,19 +223,19 @@ impl<R: Keep + Wait + Clock> Watch for Recorder<'_, R> {
         going.sessions = going.sessions.saturating_add(1);
         self.standings.entered(self.rt, game, agent);
         let team = self.team(game as usize);
-        self.tell(plays_line(self.alloc, session, game, team, agent));
+        self.report(plays_line(self.alloc, session, game, team, agent));
     }
 
     fn ended(&self, session: u32, ended: Ended, game: u32, agent: u16) {
         let mut going = self.going.lock(self.rt);
         going.sessions = going.sessions.saturating_sub(1);
         let team = self.team(game as usize);
-        self.tell(played_line(self.alloc, session, game, team, agent, ended));
+        self.report(played_line(self.alloc, session, game, team, agent, ended));
     }
 
     fn strayed(&self, session: u32, strays: &Strays) {
-        if self.scene.is_telling {
-            self.tell(self.strays_told(session, strays));
+        if self.scene.is_reporting {
+            self.report(self.strays_reported(session, strays));
         }
     }
 
@@ -243,7 +243,7 @@ impl<R: Keep + Wait + Clock> Watch for Recorder<'_, R> {
         let mut going = self.going.lock(self.rt);
         going.outside = going.outside.saturating_add(1);
         if going.outside <= OUTSIDERS {
-            self.tell(unplayed_line(self.alloc, session, why));
+            self.report(unplayed_line(self.alloc, session, why));
         }
     }
 
@@ -251,10 +251,10 @@ impl<R: Keep + Wait + Clock> Watch for Recorder<'_, R> {
         self.standings.closed(self.rt, game, turns);
         // The operator is not told to close what is closed.
         self.scene.operator.progress().call_off(self.rt, game);
-        if self.scene.is_telling {
+        if self.scene.is_reporting {
             let team = self.team(game as usize);
             let judged = judged(self.rt, self.alloc, cell);
-            self.tell(match judged {
+            self.report(match judged {
                 Ok(Some((events, verdict))) => {
                     self.standings.show(game, verdict);
                     judged_line(self.alloc, game, team, turns, events, verdict)
@@ -269,10 +269,10 @@ impl<R: Keep + Wait + Clock> Watch for Recorder<'_, R> {
             .write_on(self.rt, self.alloc, cells, self.scene.log);
         let counted = self.counted();
         if counted.looks % COUNTED == 0 && counted.outside > OUTSIDERS {
-            self.tell(outsiders_line(self.alloc, counted.outside.saturating_sub(OUTSIDERS)));
+            self.report(outsiders_line(self.alloc, counted.outside.saturating_sub(OUTSIDERS)));
         }
-        if counted.looks >= LOOKS && self.scene.is_telling {
-            self.tell_stand(counted.sessions);
+        if counted.looks >= LOOKS && self.scene.is_reporting {
+            self.report_stand(counted.sessions);
         }
         self.answer(cells, counted.sessions);
     }

@@ -23,7 +23,7 @@ const OUTSIDE: usize = 512;
 
 // A client whose agent has entered.
 #[derive(Drop)]
-struct Player {
+struct Entrant {
     session: u32,
     socket: Arc<TcpStream, Global>,
 }
@@ -36,7 +36,7 @@ pub(crate) struct Clients {
     /// The socket of each, at the same place.
     sockets: Vec<Arc<TcpStream, Global>>,
     /// Those whose agents have entered.
-    players: Vec<Player>,
+    entrants: Vec<Entrant>,
     /// The addresses from which agents have entered.
     origins: Vec<Origin>,
     /// How many agents may have entered at most.
@@ -50,7 +50,7 @@ impl Clients {
         Ok(Clients {
             known: Vec::with_capacity(alloc, OUTSIDE)?,
             sockets: Vec::with_capacity(alloc, OUTSIDE)?,
-            players: Vec::with_capacity(alloc, most)?,
+            entrants: Vec::with_capacity(alloc, most)?,
             origins: Vec::with_capacity(alloc, most)?,
             most,
         })
@@ -95,7 +95,7 @@ impl Clients {
 
     // Whether as many agents have entered, or are about to, as may.
     fn are_all_in(&self) -> bool {
-        let mut all = self.players.len();
+        let mut all = self.entrants.len();
         for client in self.known.iter() {
             if client.stand == Stand::Enters {
                 all = all.saturating_add(1);
@@ -171,13 +171,13 @@ impl Clients {
         if place >= self.known.len() || place >= self.sockets.len() {
             return;
         }
-        if self.players.reserve(1).is_err() {
+        if self.entrants.reserve(1).is_err() {
             // it stands as one that enters, and is not cut off before the end
             return;
         }
         let origin = self.known.remove(place).origin;
         let socket = self.sockets.remove(place);
-        let _ = self.players.push(Player { session, socket });
+        let _ = self.entrants.push(Entrant { session, socket });
         if !self.origins.iter().any(|one| *one == origin) {
             let _ = self.origins.push(origin);
         }
@@ -212,7 +212,7 @@ impl Clients {
                 let _gone = self.sockets.remove(place);
             }
         }
-        self.players.retain(|player| player.session != session);
+        self.entrants.retain(|entrant| entrant.session != session);
     }
 
     // The place of the client of a session whose agent has not entered.
@@ -242,8 +242,8 @@ impl Clients {
         for socket in self.sockets.iter() {
             let _ = socket.shutdown(Shutdown::Both);
         }
-        for player in self.players.iter() {
-            let _ = player.socket.shutdown(Shutdown::Both);
+        for entrant in self.entrants.iter() {
+            let _ = entrant.socket.shutdown(Shutdown::Both);
         }
     }
 }

@@ -9,7 +9,7 @@ use crate::serving::Limits;
 use crate::sessions::{Session, Sessions};
 use crate::unserved::{Unserved, turn_away};
 use crate::watching::{Outside, Watch};
-use crate::welcoming::Host;
+use crate::welcoming::Reception;
 use bhs_deal::Dealer;
 use bhs_lineup::Keys;
 use bhs_lock::{Cell, Gate};
@@ -108,7 +108,7 @@ pub(crate) fn all_sessions<
                 continue;
             };
             let started = scope.spawn(move || {
-                let host = Host {
+                let reception = Reception {
                     rt,
                     alloc,
                     cells,
@@ -118,7 +118,7 @@ pub(crate) fn all_sessions<
                     ending,
                     sessions,
                 };
-                host.serve(session, socket)
+                reception.serve(session, socket)
             });
             if started.is_err() {
                 ending.turn_away(rt, session);

@@ -17,7 +17,7 @@ use std::time::Clock;
 
 /// What each session of a contest needs.
 #[derive(Drop)]
-pub(crate) struct Host<'a, R, G, W> {
+pub(crate) struct Reception<'a, R, G, W> {
     pub(crate) rt: &'a R,
     pub(crate) alloc: Global,
     pub(crate) cells: &'a [Cell],
@@ -28,7 +28,7 @@ pub(crate) struct Host<'a, R, G, W> {
     pub(crate) sessions: &'a Sessions,
 }
 
-impl<R: Wait + Clock, G: Gate, W: Watch> Host<'_, R, G, W> {
+impl<R: Wait + Clock, G: Gate, W: Watch> Reception<'_, R, G, W> {
     /// Serves the client of a connection to its end. Its session is kept if its agent has entered.
     pub(crate) fn serve(&self, session: u32, socket: Arc<TcpStream, Global>) {
         let kept = Arc::try_clone(&socket);

@@ -7,7 +7,7 @@ from unittest import main as run_tests
 from lab import api as lab
 from lab.__main__ import main
 from lab.commands.drawing import moves_of
-from lab.commands.explore import PACES
+from lab.commands.explore import SCHEDULERS
 from lab.commands.mutants import FOLDER
 from lab.search.asking import Answered, Draws
 from lab.tests.search.exploring import InExplore
@@ -24,9 +24,9 @@ class Drawing(InExplore):
         for network, hole in (("ring:4", 2), ("ring:5", 1), ("ring:5", 3)):
             proved = self.on_ring(network, hole, None).found
             assert proved is not None
-            for pace in PACES:
-                with self.subTest(network=network, hole=hole, pace=pace):
-                    found, counts, *_ = self.on_ring(network, hole, Draws(200, 1, pace, None))
+            for scheduler in SCHEDULERS:
+                with self.subTest(network=network, hole=hole, scheduler=scheduler):
+                    found, counts, *_ = self.on_ring(network, hole, Draws(200, 1, scheduler, None))
                     assert found is not None
                     self.assertEqual((found["found"], counts["solved"], counts["failed"]), ("comes", 200, 0))
                     self.assertEqual([sum(times for _, times in counts[what]) for what in ("moves", "lost")],
@@ -38,18 +38,18 @@ class Drawing(InExplore):
                     self.assertLessEqual(counts["lost"][-1][0], proved["lost"])
 
     def test_a_hunt_comes_to_the_most_moves(self) -> None:
-        for network, hole, pace in (("ring:5", 1, "fair"), ("ring:5", 2, "fair"), ("ring:6", 4, "slow-agents")):
+        for network, hole, scheduler in (("ring:5", 1, "fair"), ("ring:5", 2, "fair"), ("ring:6", 4, "slow-agents")):
             with self.subTest(network=network, hole=hole):
                 proved, hunted = (self.on_ring(network, hole, draws).found
-                                  for draws in (None, Draws(2000, 2, pace, "moves")))
+                                  for draws in (None, Draws(2000, 2, scheduler, "moves")))
                 assert proved is not None and hunted is not None
                 self.assertEqual(hunted["moves"], proved["moves"])
 
     def test_schedules_are_drawn_as_the_schedulers_of_the_lab_draw(self) -> None:
-        for pace in PACES:
-            with self.subTest(pace=pace):
-                _, counts, *_ = self.on_ring("ring:8", 4, Draws(5000, 3, pace, None))
-                rows = lab.play("ring:8", RING.words, pace, count=2, holes=[4], seeds=300, engine="model")
+        for scheduler in SCHEDULERS:
+            with self.subTest(scheduler=scheduler):
+                _, counts, *_ = self.on_ring("ring:8", 4, Draws(5000, 3, scheduler, None))
+                rows = lab.play("ring:8", RING.words, scheduler, count=2, holes=[4], seeds=300, engine="model")
                 moves = [row["moves"] for row in rows]
                 error = statistics.stdev(moves) / len(moves) ** 0.5
                 self.assertAlmostEqual(moves_of(counts["moves"]).mean, statistics.fmean(moves), delta=5 * error + 0.01)

@@ -6,7 +6,7 @@ use crate::help::explore::HELP;
 pub(crate) const COMMAND: Subcommand = Subcommand {
     name: "explore",
     help: HELP,
-    arguments: &[TOURNAMENT, GAME, STATES, NAPS, DRAWS, SEED, PACE, HUNT],
+    arguments: &[TOURNAMENT, GAME, STATES, NAPS, DRAWS, SEED, SCHEDULER, HUNT],
 };
 
 pub(crate) const GAME: Argument = Argument {
@@ -70,12 +70,12 @@ pub(crate) const SEED: Argument = Argument {
     help: "Draws from this seed; without it from 0",
 };
 
-pub(crate) const PACE: Argument = Argument {
+pub(crate) const SCHEDULER: Argument = Argument {
     id: "by",
     option: Some("by"),
     name: "NAME",
     need: Need::Optional,
-    takes: Takes::Pace,
+    takes: Takes::Scheduler,
     help: "Whose turn it is among the agents that can move; without it fair",
 };
 
@@ -91,8 +91,8 @@ pub(crate) const HUNT: Argument = Argument {
 /// What is told where schedules are not drawn.
 pub(crate) const NEED_DRAWS: &str = "--seed <S>, --by <NAME> and --hunt <WHAT> need --draws <N>";
 
-/// The names of paces.
-pub(crate) const PACES: &str = "fair, last-departed, starved, slow-agents, slow-links";
+/// The names of schedulers.
+pub(crate) const SCHEDULERS: &str = "fair, last-departed, starved, slow-agents, slow-links";
 
 /// The names of what is hunted for.
 pub(crate) const HUNTS: &str = "moves, lost";

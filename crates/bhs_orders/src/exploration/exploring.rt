@@ -2,7 +2,7 @@
 
 ghost use Rattle.std.specs.Prelude.{◌≡◌, IfOk, is_some};
 ghost use Rattle.bhs_explore.specs.Questions.{IsAskedOnce, SomeMachinesAnswer};
-ghost use Rattle.bhs_explore.specs.Telling.{IsTrueOf};
+ghost use Rattle.bhs_explore.specs.Truths.{IsTrueOf};
 ghost use Rattle.bhs_orders.specs.Discoveries.{Explores, ExploresMatch, IsCounted, IsFound, PrintsDiscovery};
 ghost use Rattle.bhs_orders.specs.Discoveries.{found_in, is_drawn};
 
@@ -11,7 +11,7 @@ use crate::exploration::hosts::Host;
 use crate::exploration::links::held_links;
 use crate::reporting::faults::{Fault, report};
 use crate::tournaments::checking::lineup_of;
-use bhs_command_line::{Drawing, Exploration, Hunt, Pace};
+use bhs_command_line::{Drawing, Exploration, Hunt, Scheduler};
 use bhs_explore::{Draws, ExploreFault, Explored, Explorer};
 use bhs_lineup::Ready;
 use bhs_model::Text;
@@ -150,19 +150,19 @@ fn tried<R: Input, W: Output>(
         if explorer.visit(host, states, VISITS)? {
             break;
         }
-        host.tell(explorer.visited())?;
+        host.report(explorer.visited())?;
     }
     explorer.explore(host, states)
 }
 
 // The schedules to draw, each of at most this many turns.
 fn draws_of(drawing: Drawing, turns: u32) -> Draws {
-    let pace = match drawing.pace {
-        Pace::Fair => bhs_explore::Pace::Fair,
-        Pace::LastDeparted => bhs_explore::Pace::LastDeparted,
-        Pace::Starved => bhs_explore::Pace::Starved,
-        Pace::SlowAgents => bhs_explore::Pace::SlowAgents,
-        Pace::SlowLinks => bhs_explore::Pace::SlowLinks,
+    let scheduler = match drawing.scheduler {
+        Scheduler::Fair => bhs_explore::Scheduler::Fair,
+        Scheduler::LastDeparted => bhs_explore::Scheduler::LastDeparted,
+        Scheduler::Starved => bhs_explore::Scheduler::Starved,
+        Scheduler::SlowAgents => bhs_explore::Scheduler::SlowAgents,
+        Scheduler::SlowLinks => bhs_explore::Scheduler::SlowLinks,
     };
     let hunt = match drawing.hunt {
         Some(Hunt::Moves) => Some(bhs_explore::Hunt::Moves),
@@ -172,7 +172,7 @@ fn draws_of(drawing: Drawing, turns: u32) -> Draws {
     Draws {
         schedules: drawing.schedules,
         seed: u64::from(drawing.seed),
-        pace,
+        scheduler,
         hunt,
         turns,
     }

@@ -57,13 +57,13 @@ impl<'h, R: Input, W: Output> Host<'h, R, W> {
         }
     }
 
-    /// Tells how far a search is, by a line that has no answer.
-    pub(crate) fn tell(&mut self, visited: Visited) -> Result<(), TeamFault> {
-        let told = self.told(visited);
-        self.noted(told)
+    /// Reports how far a search is, by a line that has no answer.
+    pub(crate) fn report(&mut self, visited: Visited) -> Result<(), TeamFault> {
+        let reported = self.reported(visited);
+        self.noted(reported)
     }
 
-    fn told(&mut self, visited: Visited) -> Result<(), Fault> {
+    fn reported(&mut self, visited: Visited) -> Result<(), Fault> {
         let Visited { states, depth } = visited;
         let line = format!(in self.alloc; "{{\"visited\":{states},\"depth\":{depth}}}\n")?;
         send(self.writer, line.as_bytes())?;

@@ -5,7 +5,7 @@ ghost use Rattle.std.specs.Prelude.{IfOk, IfErr, OnOk};
 ghost use Rattle.bhs_rehearsal.specs.Rehearsing.{game_of};
 ghost use Rattle.bhs_script.specs.Instructions.{IsEnded};
 ghost use Rattle.bhs_script.specs.Script.{meaning};
-ghost use Rattle.bhs_orders.specs.Players.{IsConcluded, IsRefusal, IsReplied, progress_of};
+ghost use Rattle.bhs_orders.specs.Shells.{IsConcluded, IsRefusal, IsReplied, progress_of};
 ghost use Rattle.bhs_orders.specs.Rehearsal.{opening};
 ghost use Rattle.bhs_orders.specs.Interactive.{Answers, BreaksAt, BreaksWithin, IsPart, Interacts, InteractsToEnd};
 ghost use Rattle.bhs_orders.specs.Interactive.{InteractionStops};
@@ -27,7 +27,7 @@ pub const MAX_READS: u64 = 281_474_976_710_656;
 
 // Who plays a script, line by line.
 #[derive(Drop)]
-pub(crate) struct Player<'s> {
+pub(crate) struct Shell<'s> {
     games: usize,
     rehearsal: Rehearsal<'s>,
     // The line that has not ended.
@@ -60,32 +60,32 @@ pub fn rehearse_interactively<R: Input, W: Output>(
         reader.new writer.new) }
 {
     let games = lineup.ready.len();
-    let mut player = Player {
+    let mut shell = Shell {
         games,
         rehearsal: Rehearsal::new(alloc, lineup, CONNECTIONS)?,
         line: Vec::new(alloc),
         answered: 0,
         text: Vec::new(alloc),
     };
-    interact(alloc, &mut player, reader, writer, turns)?;
-    Ok(player.rehearsal.into_ready())
+    interact(alloc, &mut shell, reader, writer, turns)?;
+    Ok(shell.rehearsal.into_ready())
 }
 
 // Plays the script to its end.
 fn interact<R: Input, W: Output>(
     alloc: Global,
-    player: &mut Player<'_>,
+    shell: &mut Shell<'_>,
     reader: &mut R,
     writer: &mut W,
     turns: u64,
 ) -> Result<(), Fault>
     requires turns { turns ≤ 2 ^ 48 }
-    requires line { player.old.line.items ≡ [] }
-    requires answered { player.old.answered ≡ 0 }
-    requires games { player.old.games ≡ length player.old.rehearsal.stage.games }
-    ensures played { OnOk result (InteractsToEnd R.gives W.takes W.flushes turns player.old.rehearsal.stage reader.old
-        writer.old reader.new writer.new player.new.rehearsal.stage.games) }
-    ensures stopped { IfErr result (InteractionStops R.gives W.takes W.flushes turns player.old.rehearsal.stage
+    requires line { shell.old.line.items ≡ [] }
+    requires answered { shell.old.answered ≡ 0 }
+    requires games { shell.old.games ≡ length shell.old.rehearsal.stage.games }
+    ensures played { OnOk result (InteractsToEnd R.gives W.takes W.flushes turns shell.old.rehearsal.stage reader.old
+        writer.old reader.new writer.new shell.new.rehearsal.stage.games) }
+    ensures stopped { IfErr result (InteractionStops R.gives W.takes W.flushes turns shell.old.rehearsal.stage
         reader.old
         writer.old reader.new writer.new) }
 {
@@ -96,9 +96,9 @@ fn interact<R: Input, W: Output>(
             return Err(Fault::Read);
         };
         if count == 0 {
-            return conclude(alloc, player, writer);
+            return conclude(alloc, shell, writer);
         }
-        answer_piece(alloc, player, &buffer[..count], writer)?;
+        answer_piece(alloc, shell, &buffer[..count], writer)?;
     }
     Err(Fault::Turns)
 }
@@ -106,46 +106,46 @@ fn interact<R: Input, W: Output>(
 // More of the script was read. Each line that ends in it is answered.
 fn answer_piece<W: Output>(
     alloc: Global,
-    player: &mut Player<'_>,
+    shell: &mut Shell<'_>,
     piece: &[u8],
     writer: &mut W,
 ) -> Result<(), Fault>
-    requires part { IsPart player.old.line.items }
-    requires bound { player.old.answered + (length player.old.line.items + length piece.now) < 2 ^ 63 }
-    ensures answered { OnOk result (Answers W.takes player.old.games (progress_of player.old piece.now) writer.old
-        (progress_of player.new []) writer.new) }
-    ensures part { OnOk result (IsPart player.new.line.items) }
-    ensures games { OnOk result (player.new.games ≡ player.old.games) }
-    ensures bound { OnOk result (player.new.answered + length player.new.line.items
-        ≤ player.old.answered + (length player.old.line.items + length piece.now)) }
-    ensures stopped { IfErr result (BreaksWithin W.takes player.old.games W.flushes (progress_of player.old piece.now)
+    requires part { IsPart shell.old.line.items }
+    requires bound { shell.old.answered + (length shell.old.line.items + length piece.now) < 2 ^ 63 }
+    ensures answered { OnOk result (Answers W.takes shell.old.games (progress_of shell.old piece.now) writer.old
+        (progress_of shell.new []) writer.new) }
+    ensures part { OnOk result (IsPart shell.new.line.items) }
+    ensures games { OnOk result (shell.new.games ≡ shell.old.games) }
+    ensures bound { OnOk result (shell.new.answered + length shell.new.line.items
+        ≤ shell.old.answered + (length shell.old.line.items + length piece.now)) }
+    ensures stopped { IfErr result (BreaksWithin W.takes shell.old.games W.flushes (progress_of shell.old piece.now)
         writer.old writer.new) }
 {
     let mut after = piece;
     loop {
-        match take_line(&mut player.line, after)? {
+        match take_line(&mut shell.line, after)? {
             LineState::Ended(rest) => {
-                answer(alloc, player, writer)?;
+                answer(alloc, shell, writer)?;
                 after = rest;
             }
             LineState::Unfinished => return Ok(()),
-            LineState::Overlong => return Err(refusal(player.answered + 1, writer)),
+            LineState::Overlong => return Err(refusal(shell.answered + 1, writer)),
         }
     }
 }
 
 // The input has ended. A line that ends there is answered.
-fn conclude<W: Output>(alloc: Global, player: &mut Player<'_>, writer: &mut W) -> Result<(), Fault>
-    requires part { IsPart player.old.line.items }
-    requires bound { player.old.answered < 2 ^ 63 }
-    ensures concluded { OnOk result (IsConcluded W.takes W.flushes player.old player.new writer.old writer.new) }
-    ensures stopped { IfErr result (BreaksWithin W.takes player.old.games W.flushes (ended (progress_of player.old []))
+fn conclude<W: Output>(alloc: Global, shell: &mut Shell<'_>, writer: &mut W) -> Result<(), Fault>
+    requires part { IsPart shell.old.line.items }
+    requires bound { shell.old.answered < 2 ^ 63 }
+    ensures concluded { OnOk result (IsConcluded W.takes W.flushes shell.old shell.new writer.old writer.new) }
+    ensures stopped { IfErr result (BreaksWithin W.takes shell.old.games W.flushes (ended (progress_of shell.old []))
         writer.old writer.new) }
 {
-    if player.line.is_empty() {
+    if shell.line.is_empty() {
         return Ok(finish(writer)?);
     }
-    answer(alloc, player, writer)?;
+    answer(alloc, shell, writer)?;
     Ok(finish(writer)?)
 }
 
@@ -160,31 +160,31 @@ fn refusal<W: Output>(line: usize, writer: &mut W) -> Fault
 }
 
 // Answers the line, which has ended.
-fn answer<W: Output>(alloc: Global, player: &mut Player<'_>, writer: &mut W) -> Result<(), Fault>
-    requires part { IsPart player.old.line.items }
-    requires bound { player.old.answered < 2 ^ 63 }
-    ensures answered { (rest : List ℕ) → OnOk result (Answers W.takes player.old.games
-        (progress_of player.old (10 ∷ rest)) writer.old (progress_of player.new rest) writer.new) }
-    ensures line { OnOk result (player.new.line.items ≡ []) }
-    ensures games { OnOk result (player.new.games ≡ player.old.games) }
-    ensures count { OnOk result (player.new.answered ≡ player.old.answered + 1) }
-    ensures stopped { (rest : List ℕ) → IfErr result (BreaksAt W.takes player.old.games W.flushes
-        (progress_of player.old (10 ∷ rest)) writer.old writer.new) }
+fn answer<W: Output>(alloc: Global, shell: &mut Shell<'_>, writer: &mut W) -> Result<(), Fault>
+    requires part { IsPart shell.old.line.items }
+    requires bound { shell.old.answered < 2 ^ 63 }
+    ensures answered { (rest : List ℕ) → OnOk result (Answers W.takes shell.old.games
+        (progress_of shell.old (10 ∷ rest)) writer.old (progress_of shell.new rest) writer.new) }
+    ensures line { OnOk result (shell.new.line.items ≡ []) }
+    ensures games { OnOk result (shell.new.games ≡ shell.old.games) }
+    ensures count { OnOk result (shell.new.answered ≡ shell.old.answered + 1) }
+    ensures stopped { (rest : List ℕ) → IfErr result (BreaksAt W.takes shell.old.games W.flushes
+        (progress_of shell.old (10 ∷ rest)) writer.old writer.new) }
 {
-    player.text.clear();
+    shell.text.clear();
     let is_meant = replied(
         alloc,
-        player.games,
-        &mut player.rehearsal,
-        &mut player.line,
-        &mut player.text,
+        shell.games,
+        &mut shell.rehearsal,
+        &mut shell.line,
+        &mut shell.text,
     )?;
     if !is_meant {
-        return Err(refusal(player.answered + 1, writer));
+        return Err(refusal(shell.answered + 1, writer));
     }
-    send(writer, &player.text)?;
-    player.line.clear();
-    player.answered += 1;
+    send(writer, &shell.text)?;
+    shell.line.clear();
+    shell.answered += 1;
     Ok(())
 }
 

@@ -21,7 +21,7 @@ returns-in-Ok-Shown-clause-status g c = status_of_run _ _ _ _ _ _ _ _ _ _ (retur
 
 pub returns-in-Ok-Refused-clause-status : goal.returns-in-Ok-Refused-clause-status
 returns-in-Ok-Refused-clause-status g c =
-    elim c.tell_refusal.ensures [ inl is ↦ inr (inl (inl is)) | inr is ↦ inr (inr (Memory, is)) ]
+    elim c.report_refusal.ensures [ inl is ↦ inr (inl (inl is)) | inr is ↦ inr (inr (Memory, is)) ]
 
 pub returns-in-Err-clause-status : goal.returns-in-Err-clause-status
 returns-in-Err-clause-status g c = inr (inr (Memory, c.report.ensures))

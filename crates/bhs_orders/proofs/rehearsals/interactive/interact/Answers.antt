@@ -4,7 +4,7 @@ use Rattle.std.proofs.Common.{length-take-le}
 use Rattle.bhs_stream.specs.Streams.{Chunk}
 use Rattle.bhs_stream.specs.declared.reading.TheConstants.{BUFFER}
 use Rattle.bhs_stream.proofs.ChunkLemmas.{chunk_by-take}
-use Rattle.bhs_orders.specs.Players.{progress_of}
+use Rattle.bhs_orders.specs.Shells.{progress_of}
 use Rattle.bhs_orders.specs.Interactive.{Progress, Interacts, begins, ended}
 use Rattle.bhs_orders.proofs.PlayLemmas.{fault_is}
 use Rattle.bhs_orders.proofs.InteractiveLemmas.{piece_read, silent, stops_by, stops_within, interacts_before}
@@ -15,11 +15,11 @@ use Rattle.bhs_orders.proofs.rehearsals.interactive.interact.Goals as goal
 
 pub loop-init : goal.loop-init
 loop-init g c =
-    let player = c.args.player.now in (
+    let shell = c.args.shell.now in (
       subst (λ (progress : Progress). Interacts g.R.Input.gives g.W.Output.takes g.W.Output.flushes c.args.turns
-          player.rehearsal.stage c.args.reader.now c.args.writer.now 0 false progress c.args.reader.now
+          shell.rehearsal.stage c.args.reader.now c.args.writer.now 0 false progress c.args.reader.now
           c.args.writer.now)
-          (silent player c.requires.line c.requires.answered) begins,
+          (silent shell c.requires.line c.requires.answered) begins,
       rw c.requires.line (record { unended = refl; short = omega arith }),
       c.requires.games,
       rw (c.requires.line, c.requires.answered) (omega arith),
@@ -29,8 +29,8 @@ pub returns-then-count-eq0-clause-played : goal.returns-then-count-eq0-clause-pl
 returns-then-count-eq0-clause-played g c =
     let (interacts, part, games, bound) = c.loop.invariant in
     let end = rw c.if-count-eq0.true at c.in-Ok.ensures.gives in
-    interacts_out g.R.Input.gives g.W.Output.takes g.W.Output.flushes c.args.turns c.args.player.now.rehearsal.stage
-    c.args.reader.now c.args.writer.now c.loop.counter c.loop.player c.conclude.new.player c.loop.reader
+    interacts_out g.R.Input.gives g.W.Output.takes g.W.Output.flushes c.args.turns c.args.shell.now.rehearsal.stage
+    c.args.reader.now c.args.writer.now c.loop.counter c.loop.shell c.conclude.new.shell c.loop.reader
     c.read_some.new.self c.loop.writer c.finish.new.writer c.conclude.new.writer interacts part
     c.in_ok-finish.ensures.ok c.loop-test.true end games c.conclude.result c.conclude.ensures.concluded
 
@@ -38,11 +38,11 @@ pub returns-then-count-eq0-clause-stopped : goal.returns-then-count-eq0-clause-s
 returns-then-count-eq0-clause-stopped g c =
     let (interacts, part, games, bound) = c.loop.invariant in
     let end = rw c.if-count-eq0.true at c.in-Ok.ensures.gives in
-    stops_by g.R.Input.gives g.W.Output.takes g.W.Output.flushes c.args.turns c.args.player.now.rehearsal.stage
-    c.args.reader.now c.args.writer.now (c.loop.counter + 1) true (ended (progress_of c.loop.player []))
+    stops_by g.R.Input.gives g.W.Output.takes g.W.Output.flushes c.args.turns c.args.shell.now.rehearsal.stage
+    c.args.reader.now c.args.writer.now (c.loop.counter + 1) true (ended (progress_of c.loop.shell []))
     c.read_some.new.self c.finish.new.writer c.conclude.new.writer
-    (interacts_ended g.R.Input.gives g.W.Output.takes g.W.Output.flushes c.args.turns c.args.player.now.rehearsal.stage
-    c.args.reader.now c.args.writer.now c.loop.counter c.loop.player c.conclude.new.player c.loop.reader
+    (interacts_ended g.R.Input.gives g.W.Output.takes g.W.Output.flushes c.args.turns c.args.shell.now.rehearsal.stage
+    c.args.reader.now c.args.writer.now c.loop.counter c.loop.shell c.conclude.new.shell c.loop.reader
     c.read_some.new.self c.loop.writer c.finish.new.writer c.conclude.new.writer interacts part
     c.in_ok-finish.ensures.ok c.loop-test.true end games)
     c.conclude.result (rw games at c.conclude.ensures.stopped)
@@ -57,11 +57,11 @@ returns-in_err-answer_piece-clause-stopped g c =
     (chunk_by-take count buffer (omega arith) c.in-Ok.ensures.bound) c.in-Ok.ensures.gives in
     let fault = c.in_err-answer_piece.field-0.0 in
     fault_is c.from_residual-in_err-answer_piece.result fault _ c.from_residual-in_err-answer_piece.ensures.1
-    (stops_within g.R.Input.gives g.W.Output.takes g.W.Output.flushes c.args.turns c.args.player.now.rehearsal.stage
-    c.args.reader.now c.args.writer.now (c.loop.counter + 1) false (progress_of c.loop.player (take count buffer))
+    (stops_within g.R.Input.gives g.W.Output.takes g.W.Output.flushes c.args.turns c.args.shell.now.rehearsal.stage
+    c.args.reader.now c.args.writer.now (c.loop.counter + 1) false (progress_of c.loop.shell (take count buffer))
     c.read_some.new.self c.finish.new.writer c.answer_piece.new.writer
-    (interacts_before g.R.Input.gives g.W.Output.takes g.W.Output.flushes c.args.turns c.args.player.now.rehearsal.stage
-    c.args.reader.now c.args.writer.now c.loop.counter c.loop.player (take count buffer) c.loop.reader
+    (interacts_before g.R.Input.gives g.W.Output.takes g.W.Output.flushes c.args.turns c.args.shell.now.rehearsal.stage
+    c.args.reader.now c.args.writer.now c.loop.counter c.loop.shell (take count buffer) c.loop.reader
     c.read_some.new.self c.loop.writer c.finish.new.writer interacts part c.in_ok-finish.ensures.ok c.loop-test.true
     (piece_read count buffer (omega arith) c.in-Ok.ensures.bound full) given)
     fault (rw games at c.in_err-answer_piece.ensures.stopped))
@@ -77,8 +77,8 @@ loop-preserved g c =
     let long : length (take count buffer) ≡ count = length-take-le count buffer c.in-Ok.ensures.bound in
     let grown = c.in_ok-answer_piece.ensures.bound in
     let within = c.in-Ok.ensures.bound in (
-      interacts_more g.R.Input.gives g.W.Output.takes g.W.Output.flushes c.args.turns c.args.player.now.rehearsal.stage
-          c.args.reader.now c.args.writer.now c.loop.counter c.loop.player c.answer_piece.new.player (take count buffer)
+      interacts_more g.R.Input.gives g.W.Output.takes g.W.Output.flushes c.args.turns c.args.shell.now.rehearsal.stage
+          c.args.reader.now c.args.writer.now c.loop.counter c.loop.shell c.answer_piece.new.shell (take count buffer)
           c.loop.reader c.read_some.new.self c.loop.writer c.finish.new.writer c.answer_piece.new.writer interacts part
           c.in_ok-finish.ensures.ok c.loop-test.true
           (piece_read count buffer (omega arith) c.in-Ok.ensures.bound full) given
@@ -93,8 +93,8 @@ returns-clause-stopped g c =
     let (interacts, part, games, bound) = c.loop.invariant in
     let all : c.loop.counter ≡ c.args.turns = search rules in
     record {
-      progress = progress_of c.loop.player [];
+      progress = progress_of c.loop.shell [];
       interacts = rw all at interacts;
       is_part = part_of
-          c.loop.player.line.items part;
+          c.loop.shell.line.items part;
     }

@@ -1,14 +1,14 @@
 -- Each read so far brought more of the script, and the lines that ended in it were answered.
 use Rattle.std.proofs.Common.{◌≡◌, ◌≤◌, ◌+◌, ◌*◌, [], length, false}
 use Rattle.bhs_stream.specs.declared.reading.TheConstants.{BUFFER}
-use Rattle.bhs_orders.specs.Players.{progress_of}
+use Rattle.bhs_orders.specs.Shells.{progress_of}
 use Rattle.bhs_orders.specs.Interactive.{IsPart, Interacts}
 use Rattle.bhs_orders.proofs.rehearsals.interactive.interact.Given as goal
 
 abbrev pub invariant-loop : goal.invariant-loop
 invariant-loop g l =
-    Interacts g.R.Input.gives g.W.Output.takes g.W.Output.flushes l.turns l.fn.player.rehearsal.stage l.fn.reader
-    l.fn.writer l.counter false (progress_of l.player []) l.reader l.writer
-    × IsPart l.player.line.items
-    × (l.player.games ≡ length l.fn.player.rehearsal.stage.games)
-    × (l.player.answered + length l.player.line.items ≤ l.counter * BUFFER)
+    Interacts g.R.Input.gives g.W.Output.takes g.W.Output.flushes l.turns l.fn.shell.rehearsal.stage l.fn.reader
+    l.fn.writer l.counter false (progress_of l.shell []) l.reader l.writer
+    × IsPart l.shell.line.items
+    × (l.shell.games ≡ length l.fn.shell.rehearsal.stage.games)
+    × (l.shell.answered + length l.shell.line.items ≤ l.counter * BUFFER)

@@ -1,12 +1,12 @@
-//! The lines that tell the operator of a contest what happens.
+//! The lines that report to the operator of a contest what happens.
 
 ghost use Rattle.std.specs.Prelude.{◌≡◌, ◌/◌, ◌%◌, IfOk, string_bytes};
-ghost use Rattle.bhs_program.specs.Telling.{ended_words, plays_line, played_line, unplayed_line};
-ghost use Rattle.bhs_program.specs.Telling.{judged_line, unjudged_line, sessions_line, strays_line};
-ghost use Rattle.bhs_program.specs.Telling.{denied_words, outside_words, unserved_words, outsiders_line, unread_line};
-ghost use Rattle.bhs_program.specs.Telling.{part_waits_line, part_goes_on_line};
-ghost use Rattle.bhs_program.specs.Telling.{open_line, closed_line, missing_line, numbers, number_after_space};
-ghost use Rattle.bhs_program.specs.Telling.{standings_lines, all_closing_line, closing_line, unknown_line, timed_line};
+ghost use Rattle.bhs_program.specs.LogLines.{ended_words, plays_line, played_line, unplayed_line};
+ghost use Rattle.bhs_program.specs.LogLines.{judged_line, unjudged_line, sessions_line, strays_line};
+ghost use Rattle.bhs_program.specs.LogLines.{denied_words, outside_words, unserved_words, outsiders_line, unread_line};
+ghost use Rattle.bhs_program.specs.LogLines.{part_waits_line, part_goes_on_line};
+ghost use Rattle.bhs_program.specs.LogLines.{open_line, closed_line, missing_line, numbers, number_after_space};
+ghost use Rattle.bhs_program.specs.LogLines.{standings_lines, all_closing_line, closing_line, unknown_line, timed_line};
 
 use bhs_model::MAX_LINE;
 use bhs_net::Memory;
@@ -18,7 +18,7 @@ use bhs_terminal::visible;
 use bhs_wire::Denial;
 use std::alloc::Global;
 
-// How many characters of a line that was no command are told at most.
+// How many characters of a line that was no command are reported at most.
 const STRAY: usize = 80;
 
 /// A session was let in as an agent of a match.
@@ -125,7 +125,7 @@ fn unserved_words(why: Unserved) -> &'static str
     }
 }
 
-/// More clients came and went than lines are told of them.
+/// More clients came and went than lines report.
 pub(crate) fn outsiders_line(alloc: Global, clients: u32) -> Result<String, Memory>
     ensures { IfOk result (λ text. string_bytes text ≡ outsiders_line clients) }
 {
@@ -307,7 +307,7 @@ pub(crate) fn unknown_line(alloc: Global, lines: u32, matches: usize) -> Result<
     )
 }
 
-/// A line with the time at which it is told, this many seconds after the contest began.
+/// A line with the time at which it is reported, this many seconds after the contest began.
 pub(crate) fn timed_line(alloc: Global, seconds: u64, line: &str) -> Result<String, Memory>
     ensures { IfOk result (λ text. string_bytes text ≡ timed_line seconds line.now) }
 {

@@ -1,4 +1,4 @@
--- The lines that tell the operator of a contest what happens.
+-- The lines that report to the operator of a contest what happens.
 use Rattle.std.specs.Prelude.{ℕ, ◌/◌, ◌%◌, List, [], ◌∷◌, ◌++◌, codes, decimal, ◌==◌, if◌then◌else◌}
 use Rattle.bhs_session.specs.declared.endings.Ended.{Ended}
 use Rattle.bhs_session.specs.declared.endings.Ended.TheVariants as endings
@@ -65,7 +65,7 @@ abbrev pub unplayed_line : (session : ℕ) → Outside → List ℕ
 unplayed_line session why =
     codes "serve: session " ++ (decimal session ++ (codes " played nobody: " ++ (outside_words why ++ codes "\n")))
 
--- more clients came and went than lines are told of them
+-- more clients came and went than lines report
 abbrev pub outsiders_line : (clients : ℕ) → List ℕ
 outsiders_line clients = codes "serve: " ++ (decimal clients ++ codes " more clients played nobody\n")
 
@@ -152,7 +152,7 @@ unknown_line lines matches =
 abbrev pub two_digits : (number : ℕ) (behind : List ℕ) → List ℕ
 two_digits number behind = decimal (number / 10) ++ (decimal (number % 10) ++ behind)
 
--- a line with the time at which it is told, this many seconds after the contest began: hours, minutes and seconds
+-- a line with the time at which it is reported, this many seconds after the contest began: hours, minutes and seconds
 abbrev pub timed_line : (seconds : ℕ) (line : List ℕ) → List ℕ
 timed_line seconds line =
     decimal (seconds / 3600) ++ (codes ":" ++ two_digits (seconds / 60 % 60)

@@ -6,14 +6,14 @@ use Rattle.bhs_script.specs.Script.{Meaning, Refused}
 use Rattle.bhs_orders.specs.Interactive.{Answers, Progress, answer, ended, onward}
 use Rattle.bhs_orders.specs.declared.reporting.faults.Fault.{Fault}
 use Rattle.bhs_orders.specs.declared.reporting.faults.Fault.TheVariants.{Line, Write}
-use Rattle.bhs_orders.specs.declared.rehearsals.interactive.Player.{Player}
+use Rattle.bhs_orders.specs.declared.rehearsals.interactive.Shell.{Shell}
 
--- where the player is that has this still to go over
-abbrev pub progress_of : Player → (after : List ℕ) → Progress
-progress_of player after = record {
-  stage = player.rehearsal.stage;
-  answered = player.answered;
-  held = player.line.items ++ after;
+-- where the shell is that has this still to go over
+abbrev pub progress_of : Shell → (after : List ℕ) → Progress
+progress_of shell after = record {
+  stage = shell.rehearsal.stage;
+  answered = shell.answered;
+  held = shell.line.items ++ after;
 }
 
 -- a line that means this was carried out, and its answer added to a text; or it is refused
@@ -31,7 +31,7 @@ IsRefusal flushes line output output' fault = ⊥
 
 -- behind the end of the input the last line was answered, and all was passed on
 pub record IsConcluded {O : Type 0} (takes : O → List ℕ → Taken → O → Type 0) (flushes : O → Bool → O → Type 0)
-    (old new : Player) (output output' : O) : Type 0 where
+    (old new : Shell) (output output' : O) : Type 0 where
   pub progress : Progress
   pub there : O
   pub answers : Answers takes old.games (ended (progress_of old [])) output progress there

@@ -1,4 +1,4 @@
-use Rattle.bhs_program.proofs.telling.unplayed_line.Goals as goal
+use Rattle.bhs_program.proofs.log_lines.unplayed_line.Goals as goal
 
 pub returns : goal.returns
 returns c = rw (← c.outside_words-how.ensures) c.format.ensures.ok
