@@ -1,5 +1,5 @@
 -- What events add to a list of events.
-use Rattle.std.proofs.Common.{ℕ, ◌≡◌, Bool, true, false, Option, List, [], ◌∷◌, ◌++◌, refl, ap, ◌∙◌}
+use Rattle.std.proofs.Common.{ℕ, suc, ◌≡◌, Bool, true, false, Option, List, [], ◌∷◌, ◌++◌, length, refl, ap, ◌∙◌}
 use Rattle.bhs_model.specs.declared.events.Event.{Event}
 use Rattle.bhs_model.specs.declared.replies.Reply.{Reply}
 use Rattle.bhs_model.specs.Worlds.{World}
@@ -20,6 +20,12 @@ replies-append world state [] more = refl
 replies-append world state (event ∷ events) more =
     ap (λ (others : List (Option Reply)). reply world state event ∷ others)
     (replies-append world (next world state event) events more)
+
+-- each event has one reply
+pub replies_count : (world : World) (state : State) (events : List Event)
+    → length (replies_from world state events) ≡ length events
+replies_count world state [] = refl
+replies_count world state (event ∷ events) = ap suc (replies_count world (next world state event) events)
 
 pub lost-append : (world : World) (state : State) (lost : ℕ → Bool) (events more : List Event) →
     lost_from world state lost (events ++ more) ≡ lost_from world (run_from world state events)

@@ -11,6 +11,7 @@ pub mod ArenaLemmas
 pub mod ClosedLemmas
 pub mod SufficeLemmas
 pub mod AddLemmas
+pub mod EachLemmas
 pub mod PortMarkLemmas
 pub mod DoomLemmas
 pub mod NormalLemmas

@@ -11,7 +11,7 @@ use Rattle.bhs_model.specs.Setups.{world_of}
 use Rattle.bhs_model.specs.Worlds.{World}
 use Rattle.bhs_model.specs.Runs.{State, initial, next, run, reply}
 use Rattle.bhs_model.specs.InOrder.{replies, replies_from}
-use Rattle.bhs_model.proofs.AddLemmas.{events_add_lemma}
+use Rattle.bhs_model.proofs.AddLemmas.{events_add_lemma, replies_count}
 use Rattle.bhs_wire.specs.Lines.{is_line_feed, rest_after, rest}
 use Rattle.bhs_replay.specs.declared.faults.ReplayFault.{ReplayFault}
 use Rattle.bhs_replay.specs.declared.faults.ReplayFault.TheVariants as fault
@@ -26,11 +26,6 @@ use Rattle.bhs_replay.specs.Stages.{after_spelled, Follows, opens, no_head, goes
 use Rattle.bhs_replay.specs.Stages.{follows, with_rest, Comes}
 
 -- ---- the lines of events, one more at a time
-
-same_length : (world : World) (state : State) (events : List Event)
-    → length (replies_from world state events) ≡ length events
-same_length world state [] = refl
-same_length world state (event ∷ events) = ap suc (same_length world (next world state event) events)
 
 lines_more : (events : List Event) (answers : List (Option Reply)) (event : Event) (answer : Option Reply)
     → length answers ≡ length events
@@ -49,7 +44,7 @@ pub told_more : (world : World) (events : List Event) (event : Event)
 told_more world events event =
     ap (event_lines (events ++ event ∷ [])) (events_add_lemma world events event).answers
     ∙ lines_more events (replies world events) event (reply world (run world events) event)
-    (same_length world initial events)
+    (replies_count world initial events)
 
 -- ---- what the lines so far are
 

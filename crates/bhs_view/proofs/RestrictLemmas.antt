@@ -14,7 +14,7 @@ use Rattle.bhs_model.specs.Kept.{keeps, kept, kept_first, kept_from, lost, lost_
 use Rattle.bhs_model.specs.Marks.{events_of, read_if}
 use Rattle.bhs_model.specs.Cuts.{at_places, footprints, is_closed}
 use Rattle.bhs_model.proofs.StepLemmas.{by_cases}
-use Rattle.bhs_model.proofs.AddLemmas.{kept-append, replies-append}
+use Rattle.bhs_model.proofs.AddLemmas.{kept-append, replies-append, replies_count}
 use Rattle.bhs_model.proofs.CutLemmas.{closed_sets_stand_alone_lemma}
 use Rattle.bhs_net.specs.Network.{Network}
 use Rattle.bhs_model.specs.declared.setups.Setup.{Setup}
@@ -147,11 +147,6 @@ paired_more (event ∷ events) [] same = absurd (none_not same)
     none_not e = cc
 paired_more (event ∷ events) (one ∷ replied) same =
     ap (λ (others : List Entry). (event, one) ∷ others) (paired_more events replied cc)
-
-replies_count : (world : World) (state : State) (events : List Event)
-    → length (replies_from world state events) ≡ length events
-replies_count world state [] = refl
-replies_count world state (event ∷ events) = ap suc (replies_count world (next world state event) events)
 
 -- what a closed set of a log and then a Close leave in the log
 pub alone : (world : World) (chosen : List Event) → kept world chosen ≡ chosen →

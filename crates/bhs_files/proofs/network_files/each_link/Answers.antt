@@ -1,23 +1,27 @@
-use Rattle.std.proofs.Common.{◌∙◌}
+use Rattle.std.proofs.Common.{refl, ◌∙◌}
+use Rattle.toml.specs.View.{view, items_view}
+use Rattle.bhs_files.specs.Shapes.{each}
 use Rattle.bhs_files.specs.NetworkFiles.{link}
-use Rattle.bhs_files.proofs.Each.{at_first, with_one, without, at_last}
+use Rattle.bhs_model.proofs.EachLemmas.{at_first, read_in, with_one, without, at_last}
+use Rattle.bhs_files.proofs.Each.{of_value}
 use Rattle.bhs_files.proofs.network_files.each_link.Goals as goal
 
 pub loop-item-init : goal.loop-item-init
-loop-item-init c = at_first link c.in_ok-links.links.items c.args.items.now c.in_ok-links.ensures.items
+loop-item-init c = at_first (of_value link) c.in_ok-links.links.items c.args.items.now c.in_ok-links.ensures.items
+    ∙ read_in view items_view (each link) link refl (λ value others. refl) c.args.items.now
 
 pub loop-item-preserved : goal.loop-item-preserved
 loop-item-preserved c =
-    with_one link c.loop-item.links.items c.args.items.now c.loop-item.item-index c.item-item.result
+    with_one (of_value link) c.loop-item.links.items c.args.items.now c.loop-item.item-index c.item-item.result
     c.link.result c.in-Some.link c.push.new.self.items c.loop-item-test.true c.item-item.is
     c.link.ensures c.in-Some.is c.in_ok-push.ensures.items ∙ c.loop-item.invariant
 
 pub returns-in_default : goal.returns-in_default
 returns-in_default c =
-    without link c.loop-item.links.items c.args.items.now c.loop-item.item-index c.item-item.result
+    without (of_value link) c.loop-item.links.items c.args.items.now c.loop-item.item-index c.item-item.result
     c.link.result c.loop-item-test.true c.item-item.is c.link.ensures c.in_default.is ∙ c.loop-item.invariant
 
 pub returns : goal.returns
 returns c =
-    at_last link c.loop-item.links.items c.args.items.now c.loop-item.item-index c.loop-item-test.false
+    at_last (of_value link) c.loop-item.links.items c.args.items.now c.loop-item.item-index c.loop-item-test.false
     ∙ c.loop-item.invariant

@@ -1,9 +1,10 @@
 use Rattle.std.proofs.Common.{◌≡◌, drop}
 use Rattle.serde_json.specs.View.{items_view}
 use Rattle.bhs_replay.specs.HeadReading.{each, pair_in}
-use Rattle.bhs_replay.proofs.Each.{after}
+use Rattle.bhs_model.proofs.EachLemmas.{after}
+use Rattle.bhs_replay.proofs.Each.{of_value}
 use Rattle.bhs_replay.proofs.head_parts.pairs.Given as goal
 
 abbrev pub invariant-loop-item : goal.invariant-loop-item
-invariant-loop-item l = after pair_in l.pairs.items (items_view (drop l.item-index l.items)) ≡ each pair_in
+invariant-loop-item l = after (of_value pair_in) l.pairs.items (drop l.item-index l.items) ≡ each pair_in
     (items_view l.items)
