@@ -5,7 +5,7 @@ use bhs_explore::{
     Drawn, Draws, ExploreFault, Explored, Explorer, Found, Hunt, Latest, Mind, Scheduler, Step,
     Team, TeamFault,
 };
-use bhs_model::{Command, Mark};
+use bhs_model::{Command, Mark, Text};
 use bhs_world::World;
 use std::alloc::Global;
 use std::test::Fail;
@@ -101,6 +101,58 @@ pub fn drawn(alloc: Global, scout: Scout, hunt: Option<Hunt>) -> Result<Drawn, F
     let mut team = Pair { scout };
     let mut explorer = explorer(alloc, &mut team)?;
     Ok(explorer.draw(&mut team, draws(hunt))?)
+}
+
+/// A team of two agents that write at the home base. If agent 0 is the first, it goes on as `Scout::Solves` does; agent 1
+/// stops in any case, and so does who comes second.
+#[derive(Drop)]
+pub struct Rivals {
+    pub alloc: Global,
+}
+
+impl Rivals {
+    // Agent 1 holds what agent 0 would hold, and 10 more.
+    fn mind(&self, memory: u32) -> Result<Mind, TeamFault> {
+        let step = match memory {
+            1 | 11 => Step::Says(Command::Write {
+                expect: Text::empty(),
+                put: Text::new(self.alloc, "here").map_err(|_| TeamFault)?,
+            }),
+            0 | 10 => Step::Says(Command::Enter),
+            2 => Step::Says(Command::Depart { port: 0 }),
+            4 => Step::Says(Command::Accuse { port: 1 }),
+            _ => Step::Stops,
+        };
+        Ok(Mind { memory, step })
+    }
+}
+
+impl Team for Rivals {
+    ghost answers = { λ old exchange new. Unit {0} };
+
+    fn begin(&mut self, agent: u16) -> Result<Mind, TeamFault> {
+        self.mind(u32::from(agent) * 10)
+    }
+
+    fn next(&mut self, before: u32, latest: Latest, _shown: &str) -> Result<Mind, TeamFault> {
+        let after = match latest {
+            Latest::Heard(Mark::Changed { .. }) => 5,
+            _ => before % 10 + 1,
+        };
+        self.mind(before / 10 * 10 + after)
+    }
+}
+
+#[test]
+fn agents_that_write_at_one_node_are_tried_in_both_orders(rt: HostRuntime) -> Result<(), Fail> {
+    let alloc = rt.alloc();
+    let mut team = Rivals { alloc };
+    let world = World::new(alloc, network(alloc)?, setup(alloc)?)?;
+    let mut explorer = Explorer::new(alloc, world, Vec::new(alloc), 2, &mut team)?;
+    match explorer.explore(&mut team, 100)?.found {
+        Found::Fails { .. } => Ok(()),
+        _ => Err(Fail::from("the order in which agent 1 writes first was left out")),
+    }
 }
 
 #[test]

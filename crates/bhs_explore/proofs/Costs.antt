@@ -92,7 +92,7 @@ delivered_uses world state agent k (Bound node port) = elim (eqb_tells k agent) 
 ]
 delivered_uses world state agent k position = refl
 
-deliver_uses : (world : World) (state : State) (agent k : ℕ)
+pub deliver_uses : (world : World) (state : State) (agent k : ℕ)
     → used_of (next world state (Deliver agent)) k ≡ used_of state k
 deliver_uses world state agent k =
     by_cases (arrives world state agent) (used_of (next world state (Deliver agent)) k ≡ used_of state k)

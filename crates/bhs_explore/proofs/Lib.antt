@@ -12,6 +12,14 @@ pub mod Departures
 pub mod Leaving
 pub mod Departing
 pub mod Ahead
+pub mod Waiting
+pub mod Plays
+pub mod Still
+pub mod Apart
+pub mod Alone
+pub mod Uses
+pub mod RowSteps
+pub mod RowVerdicts
 pub mod Closing
 pub mod Verdicts
 pub mod Schedules
