@@ -1,4 +1,4 @@
-"""What holds of `examples/agents/shuttle.py` at each time, as `Inv` in crates/bhs_protocols/proofs/ShuttleState.antt.
+"""What holds of `examples/agents/shuttle.py` at each time, as `Inv` in crates/bhs_protocols/proofs/ExplorerState.antt.
 
     python3 -m lab invariant examples/invariants/shuttle.py --network ring:3..5 \
         --agent "examples/agents/shuttle.py {nodes} 0" --agent "examples/agents/shuttle.py {nodes} 1"

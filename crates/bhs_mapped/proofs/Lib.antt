@@ -1,14 +1,7 @@
 pub mod Members
 pub mod Ears
 pub mod GuideLemmas
-pub mod Costs
-pub mod State
-pub mod Turns
-pub mod Arrivals
-pub mod Rest
-pub mod Verdict
 pub mod MapLemmas
-pub mod Worst
 pub mod CutLemmas
 pub mod OnlyNetworks
 pub mod Following

@@ -1,338 +1,206 @@
--- Two agents that have a map solve every network of a file.
-use Rattle.std.proofs.Common.{ℕ, zero, suc, ◌+◌, ◌-◌, ◌*◌, ◌<◌, ◌≤◌, ◌≡◌, ◌⊎◌, true, false, ◌&&◌, ◌==◌, Option, refl}
-use Rattle.std.proofs.Common.{[], ◌∷◌, sym, ap, ◌∙◌, subst, inl, inr, arith}
+-- Two agents that have a map solve every network of a file: by a guide they explore as the shuttle does.
+use Rattle.std.proofs.Common.{ℕ, zero, suc, ◌+◌, ◌-◌, ◌*◌, ◌<◌, ◌≤◌, ◌≡◌, Bool, true, false, ◌==◌, Some, List, refl}
+use Rattle.std.proofs.Common.{[], ◌∷◌, sym, ap, ◌∙◌, subst, if◌then◌else◌, inl, inr, arith, add-one}
 use Rattle.std.specs.Prelude.{◌≢◌}
-use Rattle.std.proofs.lemmas.Bool.{cond-true, cond-false}
+use Rattle.std.proofs.lemmas.Bool.{cond-false}
 use Rattle.std.proofs.lemmas.Bool.Decides.{eqb_tells}
 use Rattle.bhs_net.specs.Network.{Network, nodes_of}
-use Rattle.bhs_model.specs.declared.commands.Command.{Command}
-use Rattle.bhs_model.specs.declared.replies.Reply.TheVariants.{Over}
+use Rattle.bhs_model.specs.declared.replies.Reply.{Reply}
+use Rattle.bhs_model.specs.declared.replies.Reply.TheVariants.{Here, Written, Changed, Gone, Noted}
 use Rattle.bhs_model.specs.declared.setups.Setup.{Setup}
 use Rattle.bhs_model.specs.Setups.{network_of, world_of}
-use Rattle.bhs_model.specs.Worlds.{Network as WorldNetwork}
-use Rattle.bhs_model.specs.Runs.{Position}
-use Rattle.bhs_model.proofs.StepLemmas.{by_cases}
-use Rattle.bhs_explore.specs.declared.minds.Step.TheVariants.{Says, Sleeps, Fails}
-use Rattle.bhs_explore.specs.Minds.{Heard, Minds}
+use Rattle.bhs_model.specs.Worlds.{Network as WorldNetwork, World}
+use Rattle.bhs_explore.specs.Minds.{Heard, History, Minds}
 use Rattle.bhs_model.specs.Examples.{none_held}
 use Rattle.bhs_explore.specs.Schedules.{Trial}
-use Rattle.bhs_protocols.specs.Pictures.{Picture, blank, can_move_in, turn_in}
-use Rattle.bhs_protocols.specs.Shuttle.{round_trips, moves_on}
-use Rattle.bhs_protocols.specs.Invariants.{Bounds, GoesOn, IsInvariant, IsSolved}
+use Rattle.bhs_protocols.specs.declared.shuttle.Memory.{Memory as Seen}
+use Rattle.bhs_protocols.specs.declared.shuttle.Phase.{Phase as SeenPhase}
+use Rattle.bhs_protocols.specs.declared.shuttle.Phase.TheVariants as seen
+use Rattle.bhs_protocols.specs.Shuttle.{other_in, round_trips, moves_on}
+use Rattle.bhs_protocols.specs.Invariants.{IsSolved}
 use Rattle.bhs_protocols.specs.Laws.{shuttle_bounds}
 use Rattle.bhs_protocols.specs.LastWord.{searched, SolvesEverywhere}
-use Rattle.bhs_protocols.specs.Programs.{minds_by}
+use Rattle.bhs_protocols.specs.Programs.{held_after, minds_by}
 use Rattle.bhs_protocols.specs.AllRings.{ring_bounds}
 use Rattle.bhs_protocols.proofs.LossLemmas.{each_black_hole_destroys}
-use Rattle.bhs_protocols.proofs.SearchLemmas.{Pair, swapped_pair}
-use Rattle.bhs_protocols.proofs.Principle.{invariants_solve}
 use Rattle.bhs_protocols.proofs.RingLemmas.{solved_wherever, within_more, quota_enough}
-use Rattle.bhs_mapped.specs.Guides.{Guide, HasGuide, IsGuide}
+use Rattle.bhs_protocols.proofs.ExplorerSteps.{Way, AreExplorers, does_by, out_by, back_by}
+use Rattle.bhs_protocols.proofs.ExplorerState.{Game}
+use Rattle.bhs_protocols.proofs.ExplorerLemmas.{explorers_solve}
+use Rattle.bhs_protocols.proofs.ExplorerWorst.{attains}
+use Rattle.bhs_mapped.specs.Guides.{Guide, HasGuide, IsGuide, IsRoute, Route}
 use Rattle.bhs_mapped.specs.Exploring.{Memory, Phase, Begins, GoesOut, Leaves, ComesBack, Returns, Writes, Ends}
-use Rattle.bhs_mapped.specs.Exploring.{way_of, is_one_left, does_in, after_in, round_trips_by, moves_by, commands_by}
+use Rattle.bhs_mapped.specs.Exploring.{way_of, does_in, came_back, after_in, round_trips_by, moves_by, commands_by}
 use Rattle.bhs_mapped.specs.Exploring.{explorers, guided_bounds}
-use Rattle.bhs_mapped.specs.MapLaws.{guided_trial, GuidedAgentsSolve, IsSetAt, IsSearchedFrom, TwoAgentsWithAMapSolve}
-use Rattle.bhs_mapped.specs.MapLaws.{OneLossIsNeededAndSuffices, GuidedMovesAreFew}
+use Rattle.bhs_mapped.specs.MapLaws.{IsGuided, guided_trial, GuidedAgentsSolve, GuidedAgentsAttain, IsSetAt}
+use Rattle.bhs_mapped.specs.MapLaws.{IsSearchedFrom, TwoAgentsWithAMapSolve, OneLossIsNeededAndSuffices}
+use Rattle.bhs_mapped.specs.MapLaws.{GuidedMovesAreFew}
 use Rattle.bhs_mapped.proofs.GuideLemmas.{networks_have_guides}
-use Rattle.bhs_mapped.proofs.Costs.{ended, paces, trip}
-use Rattle.bhs_mapped.proofs.State.{Game, Inv, IsPlaced, Onward, all, at_turn, below_last, below_next, both_safe, cost}
-use Rattle.bhs_mapped.proofs.State.{distance, mem, most_moves, placed_as, progress, spent, swapped, trial as trial_of}
-use Rattle.bhs_mapped.proofs.State.{trips, within_n}
-use Rattle.bhs_mapped.proofs.Turns.{has_steps, some_steps}
-use Rattle.bhs_mapped.proofs.Rest.{IsLost, any_turn}
-use Rattle.bhs_mapped.proofs.Verdict.{at_rest, not_both, zero_one}
 
-module _ (game : Game) where
-  open game use {n, right, left, guide, search}
+-- ---- what an agent holds, with the ports of its way
 
-  abbrev trial : Trial
-  trial = trial_of game
+abbrev way_to : Guide → (side k : ℕ) → Way
+way_to guide side k =
+    let route : Route = guide.route side k in
+    record { steps = route.steps; place = route.place; ahead = route.ahead; behind = route.behind }
 
-  -- ---- the bounds
+abbrev with_ports : Route → Phase → SeenPhase
+with_ports route Begins = seen.Begins
+with_ports route (GoesOut step) = seen.GoesOut step (route.ahead step)
+with_ports route (Leaves step) = seen.Leaves step
+with_ports route (ComesBack step) = seen.ComesBack step (route.behind step)
+with_ports route (Returns step) = seen.Returns step
+with_ports route Writes = seen.Writes
+with_ports route Ends = seen.Ends
 
-  -- an agent that is to come back has that way to go too
-  next_costs : (s : ℕ) (m : Memory) → m.mine + 1 < distance game s
-      → trips game s m.mine + 2 * all game s m ≤ trips game s (distance game s - 1)
-  next_costs s m = below_next game s m.mine
+abbrev without_ports : SeenPhase → Phase
+without_ports seen.Begins = Begins
+without_ports (seen.GoesOut step port) = GoesOut step
+without_ports (seen.Leaves step) = Leaves step
+without_ports (seen.ComesBack step port) = ComesBack step
+without_ports (seen.Returns step) = Returns step
+without_ports seen.Writes = Writes
+without_ports seen.Ends = Ends
 
-  -- by what an agent is about: its moves, and its departures and arrivals
-  spent_within : (s : ℕ) (m : Memory) (phase : Phase) (position : Position) (accused : Option (ℕ × ℕ)) → s < 2
-      → m.mine < distance game s → IsPlaced game s m phase position accused →
-      (trips game s m.mine + trip (all game s m) phase ≤ most_moves game s)
-      × (2 * trips game s m.mine + paces (all game s m) phase ≤ 2 * most_moves game s + 1)
-  spent_within s m phase position accused below safe placed =
-      by_phase phase placed (below_last game s m.mine safe) (some_steps game s m below safe)
-    where
-      by_phase : (phase : Phase) → IsPlaced game s m phase position accused
-          → trips game s m.mine + all game s m ≤ most_moves game s → 0 < all game s m →
-          (trips game s m.mine + trip (all game s m) phase ≤ most_moves game s)
-          × (2 * trips game s m.mine + paces (all game s m) phase ≤ 2 * most_moves game s + 1)
-      by_phase Begins placed most long = (omega (arith, most), omega (arith, most))
-      by_phase (GoesOut step) placed most long =
-          let before : step < all game s m = placed.0 in
-          (omega (arith, most, before), omega (arith, most, before))
-      by_phase (Leaves step) placed most long =
-          let before : step < all game s m = placed.0 in
-          (omega (arith, most, before), omega (arith, most, before))
-      by_phase (ComesBack step) placed most long =
-          let next = next_costs s m placed.2 in
-          (omega (arith, next), omega (arith, next))
-      by_phase (Returns step) placed most long =
-          let next = next_costs s m placed.2 in
-          let some : 0 < step = placed.0 in
-          (omega (arith, next, some), omega (arith, next, some, long))
-      by_phase Writes placed most long =
-          let next = next_costs s m placed.0 in
-          (omega (arith, next), omega (arith, next))
-      by_phase Ends placed most long = (omega (arith, most), omega (arith, most))
+same_phase : (route : Route) (phase : Phase) → without_ports (with_ports route phase) ≡ phase
+same_phase route Begins = refl
+same_phase route (GoesOut step) = refl
+same_phase route (Leaves step) = refl
+same_phase route (ComesBack step) = refl
+same_phase route (Returns step) = refl
+same_phase route Writes = refl
+same_phase route Ends = refl
 
-  -- only who is lost has made all the moves of its side
-  spent_less : (s o : ℕ) (picture : Picture) (pair : Pair s o) (inv : Inv game s o picture) (phase : Phase)
-      → (mem game picture s).phase ≡ phase →
-      (trips game s (mem game picture s).mine + trip (all game s (mem game picture s)) phase + 1 ≤ most_moves game s)
-      ⊎ IsLost (at_turn game s o picture pair inv)
-  spent_less s o picture pair inv phase is =
-      by_phase phase is (below_last game s (mem game picture s).mine inv.own.safe)
-      (some_steps game s (mem game picture s) pair.own inv.own.safe) last_long
-    where
-      last_long : 0 < (guide.route s (distance game s)).steps
-      last_long =
-          let safe : (mem game picture s).mine < distance game s = inv.own.safe in
-          has_steps game s (distance game s) pair.own (within_n game s pair.own) (omega (arith, safe))
+abbrev seen_as : Guide → Memory → Seen
+seen_as guide m =
+    record { side = m.side; mine = m.mine; theirs = m.theirs; phase = with_ports (way_of guide m) m.phase }
 
-      by_phase : (phase : Phase) → (mem game picture s).phase ≡ phase
-          → trips game s (mem game picture s).mine + all game s (mem game picture s) ≤ most_moves game s
-          → 0 < all game s (mem game picture s) → 0 < (guide.route s (distance game s)).steps →
-          (trips game s (mem game picture s).mine + trip (all game s (mem game picture s)) phase + 1
-          ≤ most_moves game s)
-          ⊎ IsLost (at_turn game s o picture pair inv)
-      by_phase Begins is most long longer = inl (omega (arith, most, long))
-      by_phase (GoesOut step) is most long longer =
-          let placed = placed_as game s picture (GoesOut step) is inv.own in
-          let before : step < all game s (mem game picture s) = placed.0 in
-          inl (omega (arith, most, before))
-      by_phase (Leaves step) is most long longer =
-          let placed = placed_as game s picture (Leaves step) is inv.own in
-          let before : step < all game s (mem game picture s) = placed.0 in
-          let safe : (mem game picture s).mine < distance game s = inv.own.safe in
-          elim (eqb_tells (step + 1) (all game s (mem game picture s))) [
-            | inl last ↦ elim (eqb_tells ((mem game picture s).mine + 1) (distance game s)) [
-              | inl edge ↦ inr (record { step = step; phase = is; last = last.1; edge = edge.1 })
-              | inr short ↦
-                  let next = next_costs s (mem game picture s) (omega (arith, safe, short.1)) in
-                  inl (omega (arith, before, next))
-            ]
-            | inr old ↦ inl (omega (arith, before, most, old.1))
-          ]
-      by_phase (ComesBack step) is most long longer =
-          let placed = placed_as game s picture (ComesBack step) is inv.own in
-          let next = next_costs s (mem game picture s) placed.2 in
-          inl (omega (arith, next, longer))
-      by_phase (Returns step) is most long longer =
-          let placed = placed_as game s picture (Returns step) is inv.own in
-          let some : 0 < step = placed.0 in
-          let next = next_costs s (mem game picture s) placed.2 in
-          inl (omega (arith, next, some, longer))
-      by_phase Writes is most long longer =
-          let placed = placed_as game s picture Writes is inv.own in
-          let next = next_costs s (mem game picture s) placed.0 in
-          inl (omega (arith, next, longer))
-      by_phase Ends is most long longer = inl (omega (arith, most, long))
+does_as : (n : ℕ) (guide : Guide) (m : Memory) (phase : Phase) → does_in n guide m phase
+    ≡ does_by n (way_to guide m.side (m.mine + 1)) (seen_as guide m) (with_ports (way_of guide m) phase)
+does_as n guide m Begins = refl
+does_as n guide m (GoesOut step) = refl
+does_as n guide m (Leaves step) = refl
+does_as n guide m (ComesBack step) = refl
+does_as n guide m (Returns step) = refl
+does_as n guide m Writes = refl
+does_as n guide m Ends = refl
 
-  one_ended : (phase : Phase) → ended phase ≤ 1
-  one_ended Begins = omega arith
-  one_ended (GoesOut step) = omega arith
-  one_ended (Leaves step) = omega arith
-  one_ended (ComesBack step) = omega arith
-  one_ended (Returns step) = omega arith
-  one_ended Writes = omega arith
-  one_ended Ends = omega arith
+module _ (n : ℕ) (guide : Guide) where
+  abbrev held : (agent : ℕ) → History → Memory
+  held = held_after (explorers n guide)
 
-  pub spent_in : (s o : ℕ) (picture : Picture) → Pair s o → Inv game s o picture →
-      (spent game s (mem game picture s) ≤ most_moves game s)
-      × (progress game s (mem game picture s) ≤ commands_by guide n s (distance game s) + most_moves game s + 1)
-      × (picture.used s ≤ commands_by guide n s (distance game s))
-  spent_in s o picture pair inv =
-      let m : Memory = mem game picture s in
-      let it =
-      spent_within s m m.phase (picture.position s) (picture.accused s) pair.own inv.own.safe inv.own.placed in
-      let moves : trips game s m.mine + trip (all game s m) m.phase ≤ most_moves game s = it.0 in
-      let steps : 2 * trips game s m.mine + paces (all game s m) m.phase ≤ 2 * most_moves game s + 1 = it.1 in
-      let two : m.mine + m.theirs + 2 ≤ n = both_safe game s o picture pair inv in
-      let used : picture.used s ≤ cost game s m = inv.own.used in
-      let once : ended m.phase ≤ 1 = one_ended m.phase in
-      (moves, omega (arith, steps, two), omega (arith, used, moves, two, once))
+  abbrev holds : (agent : ℕ) → History → Seen
+  holds agent past = seen_as guide (held agent past)
 
-  -- ---- no agent fails, and none sleeps
+  heard : (s : ℕ) (past : History) (reply : Reply) (phase : SeenPhase) → (holds s past).phase ≡ phase
+      → holds s (Heard reply ∷ past)
+      ≡ seen_as guide (after_in guide (held s past) (without_ports phase) (Heard reply))
+  heard s past reply phase is =
+      ap (λ (ph : Phase). seen_as guide (after_in guide (held s past) ph (Heard reply)))
+      (sym (same_phase (way_of guide (held s past)) (held s past).phase) ∙ ap without_ports is)
 
-  never_fails : (m : Memory) (phase : Phase) → does_in n guide m phase ≢ Fails
-  never_fails m Begins = λ h. cc
-  never_fails m (GoesOut step) = by_cases (step + 1 == (way_of guide m).steps && is_one_left n m)
-      (does_in n guide m (GoesOut step) ≢ Fails)
-      (λ yes h. differs (sym (cond-true _ _ _ yes) ∙ h)) (λ none h. differs (sym (cond-false _ _ _ none) ∙ h))
-    where
-      differs : {command : Command} → Says command ≡ Fails → ⊥
-      differs h = cc
-  never_fails m (Leaves step) = λ h. cc
-  never_fails m (ComesBack step) = λ h. cc
-  never_fails m (Returns step) = λ h. cc
-  never_fails m Writes = λ h. cc
-  never_fails m Ends = λ h. cc
-
-  never_sleeps : (m : Memory) (phase : Phase) → does_in n guide m phase ≢ Sleeps
-  never_sleeps m Begins = λ h. cc
-  never_sleeps m (GoesOut step) = by_cases (step + 1 == (way_of guide m).steps && is_one_left n m)
-      (does_in n guide m (GoesOut step) ≢ Sleeps)
-      (λ yes h. differs (sym (cond-true _ _ _ yes) ∙ h)) (λ none h. differs (sym (cond-false _ _ _ none) ∙ h))
-    where
-      differs : {command : Command} → Says command ≡ Sleeps → ⊥
-      differs h = cc
-  never_sleeps m (Leaves step) = λ h. cc
-  never_sleeps m (ComesBack step) = λ h. cc
-  never_sleeps m (Returns step) = λ h. cc
-  never_sleeps m Writes = λ h. cc
-  never_sleeps m Ends = λ h. cc
-
-  -- ---- all together
-
-  abbrev pub bounds : Bounds
-  bounds = guided_bounds guide n right left
-
-  -- the invariant, with the turns that are left
-  pub record Holds (picture : Picture) (turns : ℕ) : Type 0 where
-    pub inv : Inv game 0 1 picture
-    pub total : progress game 0 (mem game picture 0) + progress game 1 (mem game picture 1) + turns ≡ bounds.turns
-
-  pub first_inv : Inv game 0 1 blank
-  first_inv = record {
-    own = record {
-      side = refl;
-      placed = (refl, refl);
-      safe = search.not_home;
-      used = omega arith;
-      reached = λ k some far. absurd (omega (arith, some, far));
-    };
-    other = record {
-      side = refl;
-      placed = (refl, refl);
-      safe = search.nor_around;
-      used = omega arith;
-      reached = λ k some far. absurd (omega (arith, some, far));
-    };
-    known = omega arith;
-    known_too = omega arith;
-    fresh = inl refl;
-    board = refl;
-    moves = refl;
-    none = λ k beyond. refl;
+  are_explorers : AreExplorers n (minds_by (explorers n guide)) holds (way_to guide)
+  are_explorers = record {
+    starts = λ s. refl;
+    does = λ s past. does_as n guide (held s past) (held s past).phase;
+    enters = λ s past ports came board it.
+        heard s past (Here ports came board) seen.Begins it.is
+        ∙ (λ i. record (holds s past) {
+          theirs = other_in (held s past).side board;
+          phase = seen.GoesOut 0 ((guide.route (it.side i) ((held s past).mine + 1)).ahead 0);
+        });
+    goes = λ s past step port it. heard s past Gone (seen.GoesOut step port) it.is;
+    ends = λ s past step port it. heard s past Noted (seen.GoesOut step port) it.is;
+    comes_out = λ s past step ports board it before.
+        heard s past
+        (Here ports (Some ((way_to guide s ((held s past).mine + 1)).behind (step + 1))) board) (seen.Leaves step) it.is
+        ∙ out_as (held s past) (step + 1) (step + 1 == (way_of guide (held s past)).steps)
+        ∙ ap (λ (side : ℕ). out_by (way_to guide side ((held s past).mine + 1)) (holds s past) (step + 1)) it.side;
+    turns = λ s past step port it. heard s past Gone (seen.ComesBack step port) it.is;
+    comes_back = λ s past step left_over ports board it last.
+        let less : step - 1 ≡ left_over = omega (arith, last) in
+        heard s past (Here ports (Some ((way_to guide s ((held s past).mine + 1)).ahead left_over)) board)
+        (seen.Returns step) it.is
+        ∙ ap (λ (k : ℕ). seen_as guide (came_back (held s past) k board)) less
+        ∙ back_as (held s past) board left_over
+        ∙ ap (λ (side : ℕ). back_by (way_to guide side ((held s past).mine + 1)) (holds s past) left_over board)
+        it.side;
+    wrote = λ s past it.
+        heard s past Written seen.Writes it.is
+        ∙ (λ i. record (holds s past) {
+          mine = (held s past).mine + 1;
+          phase = seen.GoesOut 0 ((guide.route (it.side i) ((held s past).mine + 1 + 1)).ahead 0);
+        });
+    reads = λ s past board it. heard s past (Changed board) seen.Writes it.is;
   }
+    where
+      out_as : (m : Memory) (step : ℕ) (last : Bool)
+          → seen_as guide (if last then record m { phase = ComesBack step } else record m { phase = GoesOut step })
+          ≡ (if last then record (seen_as guide m) { phase = seen.ComesBack step ((way_of guide m).behind step) }
+          else record (seen_as guide m) { phase = seen.GoesOut step ((way_of guide m).ahead step) })
+      out_as m step true = refl
+      out_as m step false = refl
 
-  totalled : (turns a b c d : ℕ) → a + b + turns ≡ bounds.turns → a + 1 ≤ c → d ≡ b
-      → c + d ≤ bounds.turns → (rest : ℕ) × (rest < turns) × (c + d + rest ≡ bounds.turns)
-  totalled turns a b c d total more same within =
-      (bounds.turns - (c + d), omega (arith, total, more, same, within), omega (arith, within))
+      back_as : (m : Memory) (board : List ℕ) (k : ℕ) → seen_as guide (came_back m k board)
+          ≡ back_by (way_to guide m.side (m.mine + 1)) (seen_as guide m) k board
+      back_as m board zero = refl
+      back_as m board (suc k) = refl
 
-  goes_on_by : (picture : Picture) (turns agent : ℕ) → agent < 2 → can_move_in trial picture agent ≡ true
-      → Holds picture turns → GoesOn Holds turns (turn_in trial picture agent)
-  goes_on_by picture turns zero below moves held =
-      let on : Onward game 0 1 picture (turn_in trial picture 0) =
-      any_turn (at_turn game 0 1 picture (zero_one game) held.inv) moves in
-      let new : Picture = turn_in trial picture 0 in
-      let one = spent_in 0 1 new (zero_one game) on.inv in
-      let two = spent_in 1 0 new (swapped_pair 0 1 (zero_one game)) (swapped game 0 1 new (zero_one game) on.inv) in
-      let within : progress game 0 (mem game new 0) + progress game 1 (mem game new 1) ≤ bounds.turns =
-      omega (arith, one.1, two.1) in
-      let it = totalled turns (progress game 0 (mem game picture 0)) (progress game 1 (mem game picture 1))
-      (progress game 0 (mem game new 0))
-      (progress game 1 (mem game new 1)) held.total on.more (ap (progress game 1) on.same) within in
-      record { rest = it.0; fewer = it.1; holds = record { inv = on.inv; total = it.2 } }
-  goes_on_by picture turns (suc zero) below moves held =
-      let one_zero : Pair 1 0 = swapped_pair 0 1 (zero_one game) in
-      let on : Onward game 1 0 picture (turn_in trial picture 1) =
-      any_turn (at_turn game 1 0 picture one_zero (swapped game 0 1 picture (zero_one game) held.inv)) moves in
-      let new : Picture = turn_in trial picture 1 in
-      let back : Inv game 0 1 new = swapped game 1 0 new one_zero on.inv in
-      let one = spent_in 0 1 new (zero_one game) back in
-      let two = spent_in 1 0 new one_zero on.inv in
-      let within : progress game 1 (mem game new 1) + progress game 0 (mem game new 0) ≤ bounds.turns =
-      omega (arith, one.1, two.1) in
-      let total : progress game 1 (mem game picture 1) + progress game 0 (mem game picture 0) + turns ≡ bounds.turns =
-      ap (λ (k : ℕ). k + turns) (turned (progress game 1 (mem game picture 1)) (progress game 0 (mem game picture 0)))
-      ∙ held.total in
-      let it = totalled turns (progress game 1 (mem game picture 1)) (progress game 0 (mem game picture 0))
-      (progress game 1 (mem game new 1))
-      (progress game 0 (mem game new 0)) total on.more (ap (progress game 0) on.same) within in
+-- ---- they solve the match, and make all the moves that their bound allows
+
+abbrev guided_game : (world : World) (n right left naps : ℕ) (guide : Guide) → IsGuided world n right left guide
+    → 4 ≤ world.board → commands_by guide n 0 right ≤ world.quota → commands_by guide n 1 left ≤ world.quota → Game
+guided_game world n right left naps guide search room enough enough_too = record {
+  world = world;
+  n = n;
+  right = right;
+  left = left;
+  naps = naps;
+  minds = minds_by (explorers n guide);
+  holds = holds n guide;
+  node = guide.node;
+  way_to = way_to guide;
+  round_trips = round_trips_by guide;
+  no_trips = λ side. refl;
+  more_trips = λ side k. rw add-one refl;
+  three = search.guides.three;
+  search = record {
+    size = search.guides.size;
+    home = search.guides.start;
+    around = search.guides.around;
+    apart = search.guides.apart;
+    all = search.guides.all;
+    sum = search.sum;
+    not_home = search.not_home;
+    nor_around = search.nor_around;
+    hole = search.hole;
+    none_dark = search.none_dark;
+    agents = search.agents;
+  };
+  ways = λ side k below within.
+      let is : IsRoute world.net (guide.node side) k (guide.route side k) = search.guides.routes side k below within in
       record {
-        rest = it.0;
-        fewer = it.1;
-        holds = record {
-          inv = back;
-          total = ap (λ (k : ℕ). k + it.0)
-              (turned (progress game 0 (mem game new 0)) (progress game 1 (mem game new 1))) ∙ it.2;
-        };
-      }
-    where
-      turned : (a b : ℕ) → a + b ≡ b + a
-      turned a b = omega arith
-  goes_on_by picture turns (suc (suc k)) below moves held = absurd (omega (arith, below))
-
-  used_within : (picture : Picture) (agent : ℕ) → Inv game 0 1 picture → picture.used agent ≤ bounds.commands agent
-  used_within picture zero inv = (spent_in 0 1 picture (zero_one game) inv).2
-  used_within picture (suc zero) inv =
-      (spent_in 1 0 picture (swapped_pair 0 1 (zero_one game)) (swapped game 0 1 picture (zero_one game) inv)).2
-  used_within picture (suc (suc k)) inv =
-      let none : picture.used (suc (suc k)) ≡ 0 = inv.none (suc (suc k)) (omega arith) in omega (arith, none)
-
-  moves_within : (picture : Picture) → Inv game 0 1 picture → picture.moves ≤ bounds.moves
-  moves_within picture inv =
-      let one_zero : Pair 1 0 = swapped_pair 0 1 (zero_one game) in
-      let inv_too : Inv game 1 0 picture = swapped game 0 1 picture (zero_one game) inv in
-      let one = spent_in 0 1 picture (zero_one game) inv in
-      let two = spent_in 1 0 picture one_zero inv_too in
-      let is : picture.moves ≡ spent game 0 (mem game picture 0) + spent game 1 (mem game picture 1) = inv.moves in
-      elim (spent_less 0 1 picture (zero_one game) inv (mem game picture 0).phase refl) [
-        | inl h ↦ omega (arith, h, two.0, is)
-        | inr h ↦ elim (spent_less 1 0 picture one_zero inv_too (mem game picture 1).phase refl) [
-          | inl it ↦ omega (arith, it, one.0, is)
-          | inr it ↦ absurd (not_both game 0 1 picture (zero_one game) inv h one_zero inv_too it)
-        ]
-      ]
-
-  invariant : IsInvariant trial bounds Holds
-  invariant = record {
-    begins = record { inv = first_inv; total = omega arith };
-    goes_on = λ picture turns agent within moves held.
-        goes_on_by picture turns agent (subst (λ (k : ℕ). agent < k) search.agents within) moves held;
-    moves = λ picture turns held. moves_within picture held.inv;
-    commands = λ picture turns agent held. used_within picture agent held.inv;
-    fine = λ picture turns agent within held. never_fails (mem game picture agent) (mem game picture agent).phase;
-    settles = λ picture turns still held.
-        let good = at_rest game picture held.inv still in
-        record {
-          outcome = good.0;
-          few = good.1;
-          over = λ agent node port within at.
-              never_fails (after_in guide (mem game picture agent) (mem game picture agent).phase (Heard Over))
-              (after_in guide (mem game picture agent) (mem game picture agent).phase (Heard Over)).phase;
-          awake = λ agent within at. never_sleeps (mem game picture agent) (mem game picture agent).phase;
-        };
-  }
+        first = is.first;
+        last = is.last;
+        early = is.early;
+        ahead = is.ahead;
+        behind = is.behind;
+        out = is.out;
+        back = is.back;
+      };
+  explorers = are_explorers n guide;
+  room = room;
+  enough = enough;
+  enough_too = enough_too;
+}
 
 pub guided_agents_solve : GuidedAgentsSolve
 guided_agents_solve world n right left naps guide search room enough enough_too =
-    let game : Game = record {
-      world = world;
-      n = n;
-      right = right;
-      left = left;
-      naps = naps;
-      guide = guide;
-      search = search;
-      room = room;
-      enough = enough;
-      enough_too = enough_too;
-    } in
-    invariants_solve (guided_trial world naps n guide) (guided_bounds guide n right left) (Holds game) (invariant game)
+    explorers_solve (guided_game world n right left naps guide search room enough enough_too)
+
+pub guided_agents_attain : GuidedAgentsAttain
+guided_agents_attain world n right left naps guide search room enough enough_too =
+    attains (guided_game world n right left naps guide search room enough enough_too)
 
 -- ---- all networks
 

@@ -3,12 +3,13 @@ pub mod Principle
 pub mod TurnLemmas
 pub mod MovingLemmas
 pub mod SearchLemmas
-pub mod ShuttleCosts
-pub mod ShuttleState
-pub mod ShuttleTurns
-pub mod ShuttleArrivals
-pub mod ShuttleRest
-pub mod ShuttleVerdict
+pub mod ExplorerSteps
+pub mod ExplorerState
+pub mod ExplorerTurns
+pub mod ExplorerArrivals
+pub mod ExplorerRest
+pub mod ExplorerVerdict
+pub mod ExplorerLemmas
 pub mod ShuttleLemmas
 pub mod StandardLemmas
 pub mod AloneLemmas
@@ -32,5 +33,6 @@ pub mod HalvesLemmas
 pub mod HalvesRings
 pub mod AttainedLemmas
 pub mod HalvesWorst
+pub mod ExplorerWorst
 pub mod ShuttleWorst
 pub mod AttainedOnRings

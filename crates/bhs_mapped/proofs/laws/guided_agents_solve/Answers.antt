@@ -1,5 +1,4 @@
-use Rattle.bhs_mapped.proofs.MapLemmas.{guided_agents_solve, guided_moves_are_few}
-use Rattle.bhs_mapped.proofs.Worst.{guided_agents_attain}
+use Rattle.bhs_mapped.proofs.MapLemmas.{guided_agents_attain, guided_agents_solve, guided_moves_are_few}
 use Rattle.bhs_mapped.proofs.laws.guided_agents_solve.Goals as goal
 
 pub returns : goal.returns

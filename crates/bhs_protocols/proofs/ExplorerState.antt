@@ -1,109 +1,114 @@
--- Two agents that explore by a guide: what holds of them at each time, and what a turn has to keep.
+-- Two agents that explore by ways: what holds of them at each time, and what a turn has to keep.
 use Rattle.std.proofs.Common.{ℕ, zero, suc}
 use Rattle.std.proofs.Common.{◌+◌, ◌-◌, ◌*◌, ◌<◌, ◌≤◌, ◌≡◌, ◌⊎◌, Bool, true, false, ◌==◌, Option, Some, None}
-use Rattle.std.proofs.Common.{List, refl, sym, ap, ◌∙◌, subst, inl, inr, arith, add-one}
+use Rattle.std.proofs.Common.{List, ◌∷◌, sym, ap, ◌∙◌, subst, inl, inr, arith}
 use Rattle.std.proofs.lemmas.Bool.Decides.{eqb_tells}
 use Rattle.bhs_model.specs.Worlds.{World, doomed}
 use Rattle.bhs_model.specs.Runs.{Position, Before, At, Bound, After}
-use Rattle.bhs_explore.specs.Minds.{Item, History}
+use Rattle.bhs_model.specs.Examples.{none_held}
+use Rattle.bhs_explore.specs.Minds.{Item, History, Minds}
 use Rattle.bhs_explore.specs.Schedules.{Trial}
 use Rattle.bhs_protocols.specs.Pictures.{Picture}
-use Rattle.bhs_protocols.specs.Programs.{held_after}
+use Rattle.bhs_protocols.specs.declared.shuttle.Memory.{Memory}
+use Rattle.bhs_protocols.specs.declared.shuttle.Phase.{Phase}
+use Rattle.bhs_protocols.specs.declared.shuttle.Phase.TheVariants.{Begins, GoesOut, Leaves, ComesBack, Returns, Writes}
+use Rattle.bhs_protocols.specs.declared.shuttle.Phase.TheVariants.{Ends}
 use Rattle.bhs_protocols.specs.Shuttle.{text_by}
 use Rattle.bhs_protocols.proofs.SearchLemmas as lemmas
 use Rattle.bhs_protocols.proofs.SearchLemmas.{both, Pair, apart_from, text_other, IsTwoSided}
 use Rattle.bhs_protocols.proofs.TurnLemmas.{Becomes}
-use Rattle.bhs_mapped.specs.Guides.{Route, Guide, IsRoute}
-use Rattle.bhs_mapped.specs.Exploring.{Memory, Phase, Begins, GoesOut, Leaves, ComesBack, Returns, Writes, Ends}
-use Rattle.bhs_mapped.specs.Exploring.{after_in, explorers, round_trips_by, moves_by, commands_by}
-use Rattle.bhs_mapped.specs.MapLaws.{IsGuided, guided_trial}
-use Rattle.bhs_mapped.proofs.Costs.{ended, paces, trip}
+use Rattle.bhs_protocols.proofs.ExplorerSteps.{Way, IsWay, AreExplorers, ended, paces, trip}
 
--- a match that the theorem speaks of
+-- a match that the theorems speak of
 pub record Game : Type 0 where
   pub world : World
   pub n : ℕ
   pub right : ℕ
   pub left : ℕ
   pub naps : ℕ
-  pub guide : Guide
-  pub search : IsGuided world n right left guide
+  pub minds : Minds
+  pub holds : (agent : ℕ) → History → Memory
+  pub node : (side place : ℕ) → ℕ
+  pub way_to : (side k : ℕ) → Way
+  -- how many moves it takes to go out to each of the first k nodes of a side, and come back each time
+  pub round_trips : (side k : ℕ) → ℕ
+  pub no_trips : (side : ℕ) → round_trips side 0 ≡ 0
+  pub more_trips : (side k : ℕ) → round_trips side (k + 1) ≡ round_trips side k + 2 * (way_to side (k + 1)).steps
+  pub three : 3 ≤ n
+  pub search : IsTwoSided world n right left node
+  pub ways : (side k : ℕ) → side < 2 → k < n → IsWay world.net (node side) k (way_to side k)
+  pub explorers : AreExplorers n minds holds way_to
   pub room : 4 ≤ world.board
-  pub enough : commands_by guide n 0 right ≤ world.quota
-  pub enough_too : commands_by guide n 1 left ≤ world.quota
+  pub enough : round_trips 0 (right - 1) + (way_to 0 right).steps + n ≤ world.quota
+  pub enough_too : round_trips 1 (left - 1) + (way_to 1 left).steps + n ≤ world.quota
 
 module _ (game : Game) where
-  open game use {world, n, right, left, naps, guide, search, enough, enough_too}
+  open game use {world, n, right, left, naps, minds, holds, node, way_to, round_trips, search, enough, enough_too}
 
   abbrev pub trial : Trial
-  trial = guided_trial world naps n guide
+  trial = record { world = world; held = none_held; naps = naps; minds = minds }
 
   abbrev pub mem : Picture → (s : ℕ) → Memory
-  mem picture s = held_after (explorers n guide) s (picture.history s)
+  mem picture s = holds s (picture.history s)
 
   -- ---- the two sides
 
-  pub sides : IsTwoSided world n right left guide.node
-  sides = record {
-    size = search.guides.size;
-    home = search.guides.start;
-    around = search.guides.around;
-    apart = search.guides.apart;
-    all = search.guides.all;
-    sum = search.sum;
-    not_home = search.not_home;
-    nor_around = search.nor_around;
-    hole = search.hole;
-    none_dark = search.none_dark;
-    agents = search.agents;
-  }
-
   -- the number of the black hole on a side
   abbrev pub distance : ℕ → ℕ
-  distance = lemmas.distance world n right left guide.node sides
+  distance = lemmas.distance world n right left node search
 
   pub sum_is : (s o : ℕ) → Pair s o → distance s + distance o ≡ n
-  sum_is = lemmas.sum_is world n right left guide.node sides
+  sum_is = lemmas.sum_is world n right left node search
 
   pub within_n : (s : ℕ) → s < 2 → distance s < n
-  within_n = lemmas.within_n world n right left guide.node sides
+  within_n = lemmas.within_n world n right left node search
 
-  pub doomed_is : (node port target label : ℕ) → world.net.far node port ≡ (target, label)
-      → doomed world node port ≡ (guide.node 0 right == target)
-  doomed_is = lemmas.doomed_is world n right left guide.node sides
+  pub doomed_is : (start port target label : ℕ) → world.net.far start port ≡ (target, label)
+      → doomed world start port ≡ (node 0 right == target)
+  doomed_is = lemmas.doomed_is world n right left node search
 
-  pub hole_at : (s : ℕ) → s < 2 → guide.node s (distance s) ≡ guide.node 0 right
-  hole_at = lemmas.hole_at world n right left guide.node sides
+  pub hole_at : (s : ℕ) → s < 2 → node s (distance s) ≡ node 0 right
+  hole_at = lemmas.hole_at world n right left node search
 
-  pub safe_before : (s place : ℕ) → s < 2 → place < distance s → (guide.node 0 right == guide.node s place) ≡ false
-  safe_before = lemmas.safe_before world n right left guide.node sides
+  pub safe_before : (s place : ℕ) → s < 2 → place < distance s → (node 0 right == node s place) ≡ false
+  safe_before = lemmas.safe_before world n right left node search
 
-  pub quota_of : (s : ℕ) → s < 2 → commands_by guide n s (distance s) ≤ world.quota
-  quota_of s below = both (λ (k : ℕ). commands_by guide n k (distance k) ≤ world.quota) enough enough_too s below
+  abbrev pub trips : (s k : ℕ) → ℕ
+  trips = round_trips
+
+  -- the most moves and commands of an agent
+  abbrev pub most_moves : (s : ℕ) → ℕ
+  most_moves s = trips s (distance s - 1) + (way_to s (distance s)).steps
+
+  abbrev pub most_commands : (s : ℕ) → ℕ
+  most_commands s = most_moves s + n
+
+  pub quota_of : (s : ℕ) → s < 2 → most_commands s ≤ world.quota
+  quota_of s below = both (λ (k : ℕ). most_commands k ≤ world.quota) enough enough_too s below
 
   -- ---- where agents are
 
   -- the way to the next node of a side
-  abbrev pub way : (s : ℕ) → Memory → Route
-  way s m = guide.route s (m.mine + 1)
+  abbrev pub way : (s : ℕ) → Memory → Way
+  way s m = way_to s (m.mine + 1)
 
   abbrev pub all : (s : ℕ) → Memory → ℕ
   all s m = (way s m).steps
 
   -- the node at this step of it
   abbrev pub along : (s : ℕ) → Memory → (step : ℕ) → ℕ
-  along s m step = guide.node s ((way s m).place step)
+  along s m step = node s ((way s m).place step)
 
   pub way_is : (s : ℕ) (m : Memory) → s < 2 → m.mine < distance s
-      → IsRoute world.net (guide.node s) (m.mine + 1) (way s m)
+      → IsWay world.net (node s) (m.mine + 1) (way s m)
   way_is s m below safe =
       let within : distance s < n = within_n s below in
-      search.guides.routes s (m.mine + 1) below (omega (arith, safe, within))
+      game.ways s (m.mine + 1) below (omega (arith, safe, within))
 
   -- at this node
-  pub record IsAtNode (node : ℕ) (position : Position) : Type 0 where
+  pub record IsAtNode (there : ℕ) (position : Position) : Type 0 where
     pub came : Option ℕ
-    pub at : position ≡ At node came
+    pub at : position ≡ At there came
 
   -- it has accused the link ahead of the last node of its way
   pub record HasAccused (s : ℕ) (m : Memory) (accused : Option (ℕ × ℕ)) : Type 0 where
@@ -114,14 +119,14 @@ module _ (game : Game) where
   -- where an agent is, and whom it has accused, by what it is about
   abbrev pub IsPlaced : (s : ℕ) → Memory → Phase → Position → Option (ℕ × ℕ) → Type 0
   IsPlaced s m Begins position accused = (position ≡ Before) × (accused ≡ None)
-  IsPlaced s m (GoesOut step) position accused =
-      (step < all s m) × IsAtNode (along s m step) position × (accused ≡ None)
+  IsPlaced s m (GoesOut step port) position accused =
+      (step < all s m) × (port ≡ (way s m).ahead step) × IsAtNode (along s m step) position × (accused ≡ None)
   IsPlaced s m (Leaves step) position accused =
       (step < all s m) × (step + 1 ≡ all s m → m.mine + m.theirs + 3 ≤ n)
       × (position ≡ Bound (along s m step) ((way s m).ahead step)) × (accused ≡ None)
-  IsPlaced s m (ComesBack step) position accused =
-      (0 < step) × (step ≤ all s m) × (m.mine + 1 < distance s) × IsAtNode (along s m step) position
-      × (accused ≡ None)
+  IsPlaced s m (ComesBack step port) position accused =
+      (0 < step) × (step ≤ all s m) × (m.mine + 1 < distance s) × (port ≡ (way s m).behind step)
+      × IsAtNode (along s m step) position × (accused ≡ None)
   IsPlaced s m (Returns step) position accused =
       (0 < step) × (step ≤ all s m) × (m.mine + 1 < distance s)
       × (position ≡ Bound (along s m step) ((way s m).behind step)) × (accused ≡ None)
@@ -132,18 +137,12 @@ module _ (game : Game) where
 
   -- how many nodes of its side an agent has come to
   abbrev pub come : (mine : ℕ) → Phase → ℕ
-  come mine (ComesBack step) = mine + 1
+  come mine (ComesBack step port) = mine + 1
   come mine (Returns step) = mine + 1
   come mine Writes = mine + 1
   come mine phase = mine
 
   -- ---- what it has spent
-
-  abbrev pub trips : (s k : ℕ) → ℕ
-  trips = round_trips_by guide
-
-  abbrev pub most_moves : (s : ℕ) → ℕ
-  most_moves s = moves_by guide s (distance s)
 
   abbrev pub spent : (s : ℕ) → Memory → ℕ
   spent s m = trips s m.mine + trip (all s m) m.phase
@@ -164,7 +163,7 @@ module _ (game : Game) where
     pub placed : IsPlaced s m m.phase position accused
     pub safe : m.mine < distance s
     pub used : spends ≤ cost s m
-    pub reached : (k : ℕ) → 0 < k → k ≤ come m.mine m.phase → seen (guide.node s k) ≡ true
+    pub reached : (k : ℕ) → 0 < k → k ≤ come m.mine m.phase → seen (node s k) ≡ true
 
   abbrev pub IsFitIn : Picture → (s : ℕ) → Type 0
   IsFitIn picture s =
@@ -207,7 +206,7 @@ module _ (game : Game) where
       → ((k : ℕ) → old.reached k ≡ true → new.reached k ≡ true) → IsFitIn old o → IsFitIn new o
   fit_other old new o history position accused used grows fit =
       let m : Memory = mem old o in
-      subst (λ (h : History). IsFit o (held_after (explorers n guide) o h) (new.position o) (new.accused o) (new.used o)
+      subst (λ (h : History). IsFit o (holds o h) (new.position o) (new.accused o) (new.used o)
       new.reached) (sym history)
       (subst (λ (p : Position). IsFit o m p (new.accused o) (new.used o) new.reached) (sym position)
       (subst (λ (a : Option (ℕ × ℕ)). IsFit o m (old.position o) a (new.used o) new.reached) (sym accused)
@@ -217,7 +216,7 @@ module _ (game : Game) where
         placed = fit.placed;
         safe = fit.safe;
         used = fit.used;
-        reached = λ k some far. grows (guide.node o k) (fit.reached k some far);
+        reached = λ k some far. grows (node o k) (fit.reached k some far);
       }))))
 
   -- all that a turn of an agent has to keep
@@ -235,12 +234,12 @@ module _ (game : Game) where
   pub assembled : (s o : ℕ) (old new : Picture) (after : Memory) (place : Position) (news : Item) (costs moved : ℕ)
       (accused : Option (ℕ × ℕ)) (shown : ℕ → List ℕ) (reached : ℕ → Bool) → Pair s o → Inv s o old
       → Becomes old new s place news costs moved accused shown reached
-      → after_in guide (mem old s) (mem old s).phase news ≡ after
+      → holds s (news ∷ old.history s) ≡ after
       → Keeps s o old after place costs moved accused shown reached → Onward s o old new
   assembled s o old new after place news costs moved accused shown reached pair inv becomes is keeps =
       let apart : (o == s) ≡ false = apart_from s o pair in
-      let own_mem : mem new s ≡ after = ap (held_after (explorers n guide) s) becomes.news ∙ is in
-      let other_mem : mem new o ≡ mem old o = ap (held_after (explorers n guide) o) (becomes.other_news o apart) in
+      let own_mem : mem new s ≡ after = ap (holds s) becomes.news ∙ is in
+      let other_mem : mem new o ≡ mem old o = ap (holds o) (becomes.other_news o apart) in
       let fit : IsFitIn new s =
       subst (λ (m : Memory). IsFit s m (new.position s) (new.accused s) (new.used s) new.reached) (sym own_mem)
       (subst (λ (p : Position). IsFit s after p (new.accused s) (new.used s) new.reached) (sym becomes.place)
@@ -309,23 +308,20 @@ module _ (game : Game) where
 
   -- ---- the costs of a side
 
-  pub trips_more : (s k : ℕ) → trips s (k + 1) ≡ trips s k + 2 * (guide.route s (k + 1)).steps
-  trips_more s k = rw add-one refl
-
   trips_mono : (s j k : ℕ) → trips s j ≤ trips s (j + k)
   trips_mono s j zero = let same : trips s (j + 0) ≡ trips s j = ap (trips s) (omega arith) in omega (arith, same)
   trips_mono s j (suc k) =
       let rest : trips s j ≤ trips s (j + k) = trips_mono s j k in
-      let more : trips s (j + k + 1) ≡ trips s (j + k) + 2 * (guide.route s (j + k + 1)).steps = trips_more s (j + k) in
+      let more : trips s (j + k + 1) ≡ trips s (j + k) + 2 * (way_to s (j + k + 1)).steps = game.more_trips s (j + k) in
       let index : j + suc k ≡ j + k + 1 = omega arith in
       let at : trips s (j + suc k) ≡ trips s (j + k + 1) = ap (trips s) index in
       omega (arith, rest, more, at)
 
   -- before the black hole is the next node
   pub below_next : (s mine : ℕ) → mine + 1 < distance s
-      → trips s mine + 2 * (guide.route s (mine + 1)).steps ≤ trips s (distance s - 1)
+      → trips s mine + 2 * (way_to s (mine + 1)).steps ≤ trips s (distance s - 1)
   below_next s mine safe =
-      let more : trips s (mine + 1) ≡ trips s mine + 2 * (guide.route s (mine + 1)).steps = trips_more s mine in
+      let more : trips s (mine + 1) ≡ trips s mine + 2 * (way_to s (mine + 1)).steps = game.more_trips s mine in
       let gap : ℕ = distance s - 1 - (mine + 1) in
       let index : mine + 1 + gap ≡ distance s - 1 = omega (arith, safe) in
       let at : trips s (mine + 1 + gap) ≡ trips s (distance s - 1) = ap (trips s) index in
@@ -334,15 +330,15 @@ module _ (game : Game) where
 
   -- once it is
   pub at_last : (s mine : ℕ) → mine + 1 ≡ distance s
-      → trips s mine + (guide.route s (mine + 1)).steps ≡ most_moves s
+      → trips s mine + (way_to s (mine + 1)).steps ≡ most_moves s
   at_last s mine edge =
       let index : mine ≡ distance s - 1 = omega (arith, edge) in
       let before : trips s mine ≡ trips s (distance s - 1) = ap (trips s) index in
-      let last : (guide.route s (mine + 1)).steps ≡ (guide.route s (distance s)).steps =
-      ap (λ (k : ℕ). (guide.route s k).steps) edge in
+      let last : (way_to s (mine + 1)).steps ≡ (way_to s (distance s)).steps =
+      ap (λ (k : ℕ). (way_to s k).steps) edge in
       omega (arith, before, last)
 
-  pub below_last : (s mine : ℕ) → mine < distance s → trips s mine + (guide.route s (mine + 1)).steps ≤ most_moves s
+  pub below_last : (s mine : ℕ) → mine < distance s → trips s mine + (way_to s (mine + 1)).steps ≤ most_moves s
   below_last s mine safe = elim (eqb_tells (mine + 1) (distance s)) [
     | inl h ↦ let same = at_last s mine h.1 in omega (arith, same)
     | inr h ↦ let next = below_next s mine (omega (arith, safe, h.1)) in omega (arith, next)
@@ -356,7 +352,7 @@ module _ (game : Game) where
   has_room s o picture pair inv few =
       let used : picture.used s ≤ cost s (mem picture s) = inv.own.used in
       let safe : (mem picture s).mine + (mem picture s).theirs + 2 ≤ n = both_safe s o picture pair inv in
-      let quota : commands_by guide n s (distance s) ≤ world.quota = quota_of s pair.own in
+      let quota : most_commands s ≤ world.quota = quota_of s pair.own in
       omega (arith, used, safe, quota, few)
 
   -- a turn of agent s

@@ -1,4 +1,4 @@
--- Two agents that explore by a guide: any turn of an agent, and where it stands if it cannot move.
+-- Two agents that explore by ways: any turn of an agent, and where it stands if it cannot move.
 use Rattle.std.proofs.Common.{ℕ, zero, suc, ◌+◌, ◌-◌, ◌<◌, ◌≡◌, ◌⊎◌, true, false, not, ◌&&◌, ◌==◌, refl, sym}
 use Rattle.std.proofs.Common.{ap, ◌∙◌, inl, inr, arith}
 use Rattle.std.proofs.lemmas.Bool.{true≢false, cond-true, cond-false}
@@ -12,18 +12,21 @@ use Rattle.bhs_model.proofs.StepLemmas.{by_cases}
 use Rattle.bhs_explore.specs.declared.minds.Step.TheVariants.{Says}
 use Rattle.bhs_explore.specs.Schedules.{Trial, Makes, deed_at}
 use Rattle.bhs_protocols.specs.Pictures.{can_move_in, turn_in}
-use Rattle.bhs_protocols.specs.Shuttle.{text_by}
+use Rattle.bhs_protocols.specs.declared.shuttle.Memory.{Memory}
+use Rattle.bhs_protocols.specs.declared.shuttle.Phase.{Phase}
+use Rattle.bhs_protocols.specs.declared.shuttle.Phase.TheVariants.{Begins, GoesOut, Leaves, ComesBack, Returns, Writes}
+use Rattle.bhs_protocols.specs.declared.shuttle.Phase.TheVariants.{Ends}
+use Rattle.bhs_protocols.specs.Shuttle.{text_by, is_one_left}
 use Rattle.bhs_protocols.proofs.MovingLemmas as moving
-use Rattle.bhs_mapped.specs.Guides.{Route}
-use Rattle.bhs_mapped.specs.Exploring.{Memory, Phase, Begins, GoesOut, Leaves, ComesBack, Returns, Writes, Ends}
-use Rattle.bhs_mapped.specs.Exploring.{is_one_left, does_in}
-use Rattle.bhs_mapped.proofs.State.{Game, Onward, Turn, agents_two, all as all_of, along as along_of, distance, mem}
-use Rattle.bhs_mapped.proofs.State.{placed_as, trial as trial_of, way as way_from}
-use Rattle.bhs_mapped.proofs.Turns.{back_turn, begin_turn, out_turn, says_back, says_out, write_turn}
-use Rattle.bhs_mapped.proofs.Arrivals.{ahead_safe, bound_moves, comes_to, home_turn, last_safe, leave_turn, return_turn}
+use Rattle.bhs_protocols.proofs.ExplorerSteps.{Way, does_by}
+use Rattle.bhs_protocols.proofs.ExplorerState.{Game, Onward, Turn, agents_two, all as all_of, along as along_of}
+use Rattle.bhs_protocols.proofs.ExplorerState.{distance, mem, placed_as, trial as trial_of, way as way_from}
+use Rattle.bhs_protocols.proofs.ExplorerTurns.{back_turn, begin_turn, out_turn, says_by, write_turn}
+use Rattle.bhs_protocols.proofs.ExplorerArrivals.{ahead_safe, bound_moves, comes_to, home_turn, last_safe, leave_turn}
+use Rattle.bhs_protocols.proofs.ExplorerArrivals.{return_turn}
 
 module _ {game : Game} (on : Turn game) where
-  open game use {world, n, naps, guide}
+  open game use {world, n, naps}
   open on use {s, o, picture, pair, inv}
 
   abbrev trial : Trial
@@ -38,7 +41,7 @@ module _ {game : Game} (on : Turn game) where
   abbrev along : (step : ℕ) → ℕ
   along = along_of game s M
 
-  abbrev way : Route
+  abbrev way : Way
   way = way_from game s M
 
   -- ---- any turn
@@ -57,9 +60,9 @@ module _ {game : Game} (on : Turn game) where
   by_phase : (phase : Phase) → M.phase ≡ phase → can_move_in trial picture s ≡ true
       → Onward game s o picture (turn_in trial picture s)
   by_phase Begins is moves = begin_turn on is
-  by_phase (GoesOut step) is moves = out_turn on step is
+  by_phase (GoesOut step port) is moves = out_turn on step port is
   by_phase (Leaves step) is moves = leave_turn on step is moves
-  by_phase (ComesBack step) is moves = back_turn on step is
+  by_phase (ComesBack step port) is moves = back_turn on step port is
   by_phase (Returns step) is moves = returns_turn step is
   by_phase Writes is moves = write_turn on is
   by_phase Ends is moves = absurd (true≢false (sym moves ∙ end_still is))
@@ -84,15 +87,15 @@ module _ {game : Game} (on : Turn game) where
   pub resting : (phase : Phase) → M.phase ≡ phase → can_move_in trial picture s ≡ false → (M.phase ≡ Ends) ⊎ IsLost
   resting Begins is still =
       let placed = placed_as game s picture Begins is inv.own in
-      absurd (true≢false (sym (says_moves Before Enter placed.0 refl (ap (does_in n guide M) is)) ∙ still))
-  resting (GoesOut step) is still =
-      let placed = placed_as game s picture (GoesOut step) is inv.own in
-      let place : Position = At (along step) placed.1.came in
+      absurd (true≢false (sym (says_moves Before Enter placed.0 refl (says_by on ∙ ap (does_by n way M) is)) ∙ still))
+  resting (GoesOut step port) is still =
+      let placed = placed_as game s picture (GoesOut step port) is inv.own in
+      let place : Position = At (along step) placed.2.came in
       absurd (by_cases (step + 1 == all && is_one_left n M) ⊥
-      (λ yes. true≢false (sym (says_moves place (Accuse (way.ahead step)) placed.1.at refl
-      (says_out on step is ∙ cond-true _ _ _ yes)) ∙ still))
-      (λ none. true≢false (sym (says_moves place (Depart (way.ahead step)) placed.1.at refl
-      (says_out on step is ∙ cond-false _ _ _ none)) ∙ still)))
+      (λ yes. true≢false (sym (says_moves place (Accuse port) placed.2.at refl
+      (says_by on ∙ ap (does_by n way M) is ∙ cond-true _ _ _ yes)) ∙ still))
+      (λ none. true≢false (sym (says_moves place (Depart port) placed.2.at refl
+      (says_by on ∙ ap (does_by n way M) is ∙ cond-false _ _ _ none)) ∙ still)))
   resting (Leaves step) is still =
       let placed = placed_as game s picture (Leaves step) is inv.own in
       let before : step < all = placed.0 in
@@ -106,10 +109,10 @@ module _ {game : Game} (on : Turn game) where
         | inr old ↦ absurd (true≢false (sym (bound_moves on (along step) (way.ahead step) placed.2
             ∙ ap not (ahead_safe on step (omega (arith, before, old.1)))) ∙ still))
       ]
-  resting (ComesBack step) is still =
-      let placed = placed_as game s picture (ComesBack step) is inv.own in
-      absurd (true≢false (sym (says_moves (At (along step) placed.3.came) (Depart (way.behind step)) placed.3.at refl
-      (says_back on step is)) ∙ still))
+  resting (ComesBack step port) is still =
+      let placed = placed_as game s picture (ComesBack step port) is inv.own in
+      absurd (true≢false (sym (says_moves (At (along step) placed.4.came) (Depart port) placed.4.at refl
+      (says_by on ∙ ap (does_by n way M) is)) ∙ still))
   resting (Returns step) is still =
       let placed = placed_as game s picture (Returns step) is inv.own in
       let some : 0 < step = placed.0 in
@@ -118,5 +121,5 @@ module _ {game : Game} (on : Turn game) where
       let placed = placed_as game s picture Writes is inv.own in
       absurd (true≢false (sym (says_moves (At world.home placed.1.came)
       (Write (text_by M.side M.mine M.theirs) (text_by M.side (M.mine + 1) M.theirs)) placed.1.at refl
-      (ap (does_in n guide M) is)) ∙ still))
+      (says_by on ∙ ap (does_by n way M) is)) ∙ still))
   resting Ends is still = inl is

@@ -1,6 +1,6 @@
--- Two agents that explore by a guide: turns of an agent at a node.
+-- Two agents that explore by ways: turns of an agent at a node.
 use Rattle.std.proofs.Common.{ℕ, ◌+◌, ◌-◌, ◌*◌, ◌<◌, ◌≤◌, ◌≡◌, Bool, true, false, ◌&&◌, ◌==◌, Option, Some, None, List}
-use Rattle.std.proofs.Common.{length, refl, sym, ap, ◌∙◌, subst, inl, inr, arith, if◌then◌else◌}
+use Rattle.std.proofs.Common.{◌∷◌, length, refl, sym, ap, ◌∙◌, subst, inl, inr, arith}
 use Rattle.std.specs.Prelude.{◌≢◌, bytes_eq}
 use Rattle.std.proofs.lemmas.Bool.{true≢false, eq-eqb, cond-true, cond-false}
 use Rattle.std.proofs.lemmas.Bool.Decides.{eqb_tells}
@@ -9,28 +9,29 @@ use Rattle.bhs_model.specs.declared.replies.Reply.TheVariants.{Here, Written, Ch
 use Rattle.bhs_model.specs.Runs.{At, Bound, After, changed}
 use Rattle.bhs_model.proofs.StepLemmas.{by_cases, changed_same}
 use Rattle.bhs_explore.specs.declared.minds.Step.TheVariants.{Says}
-use Rattle.bhs_explore.specs.Minds.{Heard}
+use Rattle.bhs_explore.specs.Minds.{Heard, History}
 use Rattle.bhs_explore.specs.Schedules.{Trial}
 use Rattle.bhs_protocols.specs.Pictures.{turn_in}
-use Rattle.bhs_protocols.specs.Shuttle.{other_in, text_by}
+use Rattle.bhs_protocols.specs.declared.shuttle.Memory.{Memory}
+use Rattle.bhs_protocols.specs.declared.shuttle.Phase.{Phase}
+use Rattle.bhs_protocols.specs.declared.shuttle.Phase.TheVariants.{Begins, GoesOut, Leaves, ComesBack, Returns, Writes}
+use Rattle.bhs_protocols.specs.declared.shuttle.Phase.TheVariants.{Ends}
+use Rattle.bhs_protocols.specs.Shuttle.{other_in, text_by, is_one_left}
 use Rattle.bhs_protocols.proofs.HalvesMarks.{equal}
 use Rattle.bhs_protocols.proofs.SearchLemmas.{read_other, text_fits, bytes_same, bytes_other}
 use Rattle.bhs_protocols.proofs.TurnLemmas.{enters, departs, accuses as accuses_link, writes, writes_not}
-use Rattle.bhs_mapped.specs.Guides.{Route, IsRoute}
-use Rattle.bhs_mapped.specs.Exploring.{Memory, Phase, Begins, GoesOut, Leaves, ComesBack, Returns, Writes, Ends}
-use Rattle.bhs_mapped.specs.Exploring.{way_of, is_one_left, does_in, after_in}
-use Rattle.bhs_mapped.proofs.Costs.{ended, paces, trip}
-use Rattle.bhs_mapped.proofs.State.{Game, Keeps, Onward, Turn, agents_two, all as all_of, along as along_of}
-use Rattle.bhs_mapped.proofs.State.{assembled, below_last, below_next, both_safe, come, cost, distance, has_room, mem}
-use Rattle.bhs_mapped.proofs.State.{most_moves, placed_as, sum_is, trial as trial_of, trips, trips_more}
-use Rattle.bhs_mapped.proofs.State.{way as way_from, way_is, within_n}
+use Rattle.bhs_protocols.proofs.ExplorerSteps.{Way, IsWay, IsAbout, does_by, ended, paces, trip}
+use Rattle.bhs_protocols.proofs.ExplorerState.{Game, Keeps, Onward, Turn, agents_two, all as all_of, along as along_of}
+use Rattle.bhs_protocols.proofs.ExplorerState.{assembled, below_last, below_next, both_safe, come, cost, distance}
+use Rattle.bhs_protocols.proofs.ExplorerState.{has_room, mem, most_moves, placed_as, sum_is, trial as trial_of, trips}
+use Rattle.bhs_protocols.proofs.ExplorerState.{way as way_from, way_is, within_n}
 
 -- a way to another node than the home base has a step
-pub has_steps : (game : Game) (s k : ℕ) → s < 2 → k < game.n → 0 < k → 0 < (game.guide.route s k).steps
+pub has_steps : (game : Game) (s k : ℕ) → s < 2 → k < game.n → 0 < k → 0 < (game.way_to s k).steps
 has_steps game s k below within some =
-    let is : IsRoute game.world.net (game.guide.node s) k (game.guide.route s k) =
-    game.search.guides.routes s k below within in
-    by_count (game.guide.route s k).steps (game.guide.route s k).place is.first is.last
+    let is : IsWay game.world.net (game.node s) k (game.way_to s k) =
+    game.ways s k below within in
+    by_count (game.way_to s k).steps (game.way_to s k).place is.first is.last
   where
     by_count : (steps : ℕ) (place : ℕ → ℕ) → place 0 ≡ 0 → place steps ≡ k → 0 < steps
     by_count steps place first last = elim (eqb_tells steps 0) [
@@ -49,10 +50,10 @@ some_steps game s m below safe =
 pub at_home : (game : Game) (s : ℕ) (m : Memory) → s < 2 → m.mine < distance game s
     → along_of game s m 0 ≡ game.world.home
 at_home game s m below safe =
-    ap (game.guide.node s) (way_is game s m below safe).first ∙ game.search.guides.start s
+    ap (game.node s) (way_is game s m below safe).first ∙ game.search.home s
 
 module _ {game : Game} (on : Turn game) where
-  open game use {world, n, guide, search, room}
+  open game use {world, n, holds, node, way_to, explorers, room}
   open on use {s, o, picture, pair, inv}
 
   abbrev trial : Trial
@@ -70,20 +71,32 @@ module _ {game : Game} (on : Turn game) where
   abbrev along : (step : ℕ) → ℕ
   along = along_of game s M
 
-  abbrev way : Route
+  abbrev way : Way
   way = way_from game s M
 
   -- it goes the way of its side
-  pub own_way : way_of guide M ≡ way
-  own_way i = guide.route (inv.own.side i) (M.mine + 1)
+  own_way : way_to M.side (M.mine + 1) ≡ way
+  own_way i = way_to (inv.own.side i) (M.mine + 1)
 
-  pub is_way : IsRoute world.net (guide.node s) (M.mine + 1) way
+  abbrev past : History
+  past = picture.history s
+
+  pub says_by : trial.minds s past ≡ does_by n way M M.phase
+  says_by = explorers.does s past ∙ (λ i. does_by n (own_way i) M M.phase)
+
+  pub about : (phase : Phase) → M.phase ≡ phase → IsAbout n trial.minds holds way_to s past phase
+  about phase is =
+      let safe : M.mine < distance game s = inv.own.safe in
+      let within : distance game s < n = within_n game s pair.own in
+      record { below = pair.own; side = inv.own.side; within = omega (arith, safe, within); is = is }
+
+  pub is_way : IsWay world.net (node s) (M.mine + 1) way
   is_way = way_is game s M pair.own inv.own.safe
 
   pub begin_turn : M.phase ≡ Begins → Onward game s o picture (turn_in trial picture s)
   begin_turn is =
       let placed = placed_as game s picture Begins is inv.own in
-      let says : trial.minds s (picture.history s) ≡ Says Enter = ap (does_in n guide M) is in
+      let says : trial.minds s past ≡ Says Enter = says_by ∙ ap (does_by n way M) is in
       let t : trip all M.phase ≡ 0 = ap (trip all) is in
       let e : ended M.phase ≡ 0 = ap ended is in
       let p : paces all M.phase ≡ 0 = ap (paces all) is in
@@ -92,19 +105,19 @@ module _ {game : Game} (on : Turn game) where
       let known : M.theirs ≤ O.mine = inv.known in
       let read : other_in M.side (picture.shown world.home) ≡ O.mine =
       (λ i. other_in (inv.own.side i) (inv.board i)) ∙ read_other s M.mine O.mine pair.own in
-      assembled game s o picture (turn_in trial picture s) (record M { theirs = O.mine; phase = GoesOut 0 })
-      (At world.home None)
+      assembled game s o picture (turn_in trial picture s)
+      (record M { theirs = O.mine; phase = GoesOut 0 (way.ahead 0) }) (At world.home None)
       (Heard (Here (world.net.degree world.home) None (picture.shown world.home))) 0 0 (picture.accused s)
       picture.shown picture.reached pair inv
       (enters trial picture s (agents_two game s pair.own) placed.0 says)
-      (ap (λ (ph : Phase). after_in guide M ph
-      (Heard (Here (world.net.degree world.home) None (picture.shown world.home)))) is
-      ∙ (λ i. record M { theirs = read i; phase = GoesOut 0 }))
+      (explorers.enters s past (world.net.degree world.home) None (picture.shown world.home) (about Begins is)
+      ∙ (λ i. record M { theirs = read i; phase = GoesOut 0 (way.ahead 0) }))
       (record {
         fit = record {
           side = inv.own.side;
           placed = (
             some_steps game s M pair.own inv.own.safe,
+            refl,
             record { came = None; at = ap (λ (k : ℕ). At k None) (sym (at_home game s M pair.own inv.own.safe)) },
             placed.1,
           );
@@ -122,8 +135,8 @@ module _ {game : Game} (on : Turn game) where
       })
 
   -- it goes on by a port
-  goes_turn : (node port : ℕ) (came : Option ℕ) (after : Memory) → after_in guide M M.phase (Heard Gone) ≡ after
-      → trial.minds s (picture.history s) ≡ Says (Depart port) → picture.position s ≡ At node came
+  goes_turn : (node port : ℕ) (came : Option ℕ) (after : Memory) → holds s (Heard Gone ∷ past) ≡ after
+      → trial.minds s past ≡ Says (Depart port) → picture.position s ≡ At node came
       → picture.used s < world.quota → port < world.net.degree node
       → Keeps game s o picture after (Bound node port) 1 1 (picture.accused s) picture.shown picture.reached
       → Onward game s o picture (turn_in trial picture s)
@@ -132,25 +145,19 @@ module _ {game : Game} (on : Turn game) where
       picture.shown picture.reached pair inv
       (departs trial picture s (agents_two game s pair.own) node port came at says room there) is keeps
 
-  pub says_out : (step : ℕ) → M.phase ≡ GoesOut step → trial.minds s (picture.history s)
-      ≡ (if step + 1 == all && is_one_left n M then Says (Accuse (way.ahead step)) else Says (Depart (way.ahead step)))
-  says_out step is =
-      ap (does_in n guide M) is
-      ∙ (λ i. if step + 1 == (own_way i).steps && is_one_left n M then Says (Accuse ((own_way i).ahead step))
-      else Says (Depart ((own_way i).ahead step)))
-
-  pub out_turn : (step : ℕ) → M.phase ≡ GoesOut step → Onward game s o picture (turn_in trial picture s)
-  out_turn step is =
-      let placed = placed_as game s picture (GoesOut step) is inv.own in
+  pub out_turn : (step port : ℕ) → M.phase ≡ GoesOut step port → Onward game s o picture (turn_in trial picture s)
+  out_turn step port is =
+      let placed = placed_as game s picture (GoesOut step port) is inv.own in
       let before : step < all = placed.0 in
-      let port : ℕ = way.ahead step in
+      let ahead : port ≡ way.ahead step = placed.1 in
       let t : trip all M.phase ≡ step = ap (trip all) is in
       let e : ended M.phase ≡ 0 = ap ended is in
       let p : paces all M.phase ≡ 1 + 2 * step = ap (paces all) is in
       let c : come game M.mine M.phase ≡ M.mine = ap (come game M.mine) is in
       let used : picture.used s ≤ cost game s M = inv.own.used in
       let safe : M.mine < distance game s = inv.own.safe in
-      let there : port < world.net.degree (along step) = is_way.ahead step before in
+      let there : port < world.net.degree (along step) =
+      subst (λ (k : ℕ). k < world.net.degree (along step)) (sym ahead) (is_way.ahead step before) in
       let rt : trips game s M.mine + all ≤ most_moves game s = below_last game s M.mine safe in
       let room : picture.used s < world.quota =
       has_room game s o picture pair inv (omega (arith, t, e, rt, before)) in
@@ -164,17 +171,21 @@ module _ {game : Game} (on : Turn game) where
       let safe_too : O.mine < distance game o = inv.other.safe in
       let known : M.theirs ≤ O.mine = inv.known in
       let edge : M.mine + 1 ≡ distance game s = omega (arith, sum, safe, safe_too, known, left_one) in
-      let says : trial.minds s (picture.history s) ≡ Says (Accuse port) =
-      says_out step is ∙ cond-true _ _ _ yes in
+      let says : trial.minds s past ≡ Says (Accuse port) =
+      says_by ∙ ap (does_by n way M) is ∙ cond-true _ _ _ yes in
       assembled game s o picture (turn_in trial picture s) (record M { phase = Ends }) After (Heard Noted) 1 0
       (Some (along step, port)) picture.shown picture.reached pair inv
-      (accuses_link trial picture s (agents_two game s pair.own) (along step) port placed.1.came placed.1.at says
-      room there)
-      (ap (λ (ph : Phase). after_in guide M ph (Heard Noted)) is)
+      (accuses_link trial picture s (agents_two game s pair.own) (along step) port placed.2.came placed.2.at says
+      room there) (explorers.ends s past step port (about (GoesOut step port) is))
       (record {
         fit = record {
           side = inv.own.side;
-          placed = (refl, edge, record { step = step; last = last; link = refl }, left_one);
+          placed = (
+            refl,
+            edge,
+            record { step = step; last = last; link = ap (λ (k : ℕ). Some (along step, k)) ahead },
+            left_one,
+          );
           safe = inv.own.safe;
           used = omega (arith, used, t, e, last);
           reached = λ k some far. inv.own.reached k some (omega (arith, far, c));
@@ -188,18 +199,18 @@ module _ {game : Game} (on : Turn game) where
         more = omega (arith, p, last);
       }))
       (λ none.
-      let says : trial.minds s (picture.history s) ≡ Says (Depart port) =
-      says_out step is ∙ cond-false _ _ _ none in
-      goes_turn (along step) port placed.1.came (record M { phase = Leaves step })
-      (ap (λ (ph : Phase). after_in guide M ph (Heard Gone)) is) says placed.1.at room there
+      let says : trial.minds s past ≡ Says (Depart port) =
+      says_by ∙ ap (does_by n way M) is ∙ cond-false _ _ _ none in
+      goes_turn (along step) port placed.2.came (record M { phase = Leaves step })
+      (explorers.goes s past step port (about (GoesOut step port) is)) says placed.2.at room there
       (record {
         fit = record {
           side = inv.own.side;
           placed = (
             before,
             (λ last. more_left M.mine M.theirs (step + 1) all last none two),
-            refl,
-            placed.2,
+            ap (λ (k : ℕ). Bound (along step) k) ahead,
+            placed.3,
           );
           safe = inv.own.safe;
           used = omega (arith, used, t, e);
@@ -226,17 +237,13 @@ module _ {game : Game} (on : Turn game) where
         | inr it ↦ omega (arith, two, it.1)
       ]
 
-  pub says_back : (step : ℕ) → M.phase ≡ ComesBack step
-      → trial.minds s (picture.history s) ≡ Says (Depart (way.behind step))
-  says_back step is = ap (does_in n guide M) is ∙ (λ i. Says (Depart ((own_way i).behind step)))
-
-  pub back_turn : (step : ℕ) → M.phase ≡ ComesBack step → Onward game s o picture (turn_in trial picture s)
-  back_turn step is =
-      let placed = placed_as game s picture (ComesBack step) is inv.own in
+  pub back_turn : (step port : ℕ) → M.phase ≡ ComesBack step port → Onward game s o picture (turn_in trial picture s)
+  back_turn step port is =
+      let placed = placed_as game s picture (ComesBack step port) is inv.own in
       let some : 0 < step = placed.0 in
       let within : step ≤ all = placed.1 in
       let next : M.mine + 1 < distance game s = placed.2 in
-      let port : ℕ = way.behind step in
+      let behind : port ≡ way.behind step = placed.3 in
       let t : trip all M.phase ≡ 2 * all - step = ap (trip all) is in
       let e : ended M.phase ≡ 0 = ap ended is in
       let p : paces all M.phase ≡ 1 + 2 * (2 * all - step) = ap (paces all) is in
@@ -244,16 +251,18 @@ module _ {game : Game} (on : Turn game) where
       let used : picture.used s ≤ cost game s M = inv.own.used in
       let index : step - 1 + 1 ≡ step = omega (arith, some) in
       let there : port < world.net.degree (along step) =
-      subst (λ (k : ℕ). way.behind k < world.net.degree (along k)) index
-      (is_way.behind (step - 1) (omega (arith, some, within))) in
+      subst (λ (k : ℕ). k < world.net.degree (along step)) (sym behind)
+      (subst (λ (k : ℕ). way.behind k < world.net.degree (along k)) index
+      (is_way.behind (step - 1) (omega (arith, some, within)))) in
       let rt : trips game s M.mine + 2 * all ≤ trips game s (distance game s - 1) = below_next game s M.mine next in
       let room : picture.used s < world.quota = has_room game s o picture pair inv (omega (arith, t, e, rt)) in
-      goes_turn (along step) port placed.3.came (record M { phase = Returns step })
-      (ap (λ (ph : Phase). after_in guide M ph (Heard Gone)) is) (says_back step is) placed.3.at room there
+      goes_turn (along step) port placed.4.came (record M { phase = Returns step })
+      (explorers.turns s past step port (about (ComesBack step port) is)) (says_by ∙ ap (does_by n way M) is)
+      placed.4.at room there
       (record {
         fit = record {
           side = inv.own.side;
-          placed = (some, within, next, refl, placed.4);
+          placed = (some, within, next, ap (λ (k : ℕ). Bound (along step) k) behind, placed.5);
           safe = inv.own.safe;
           used = omega (arith, used, t, e, within);
           reached = λ k some far. inv.own.reached k some (omega (arith, far, c));
@@ -281,31 +290,33 @@ module _ {game : Game} (on : Turn game) where
       let known : M.theirs ≤ O.mine = inv.known in
       let known_too : O.theirs ≤ M.mine = inv.known_too in
       let rt : trips game s M.mine + 2 * all ≤ trips game s (distance game s - 1) = below_next game s M.mine next in
-      let more : trips game s (M.mine + 1) ≡ trips game s M.mine + 2 * all = trips_more game s M.mine in
+      let more : trips game s (M.mine + 1) ≡ trips game s M.mine + 2 * all = game.more_trips s M.mine in
       let room_left : picture.used s < world.quota = has_room game s o picture pair inv (omega (arith, t, e, rt)) in
       let expect : List ℕ = text_by s M.mine M.theirs in
       let put : List ℕ = text_by s (M.mine + 1) M.theirs in
-      let says : trial.minds s (picture.history s) ≡ Says (Write expect put) =
-      ap (does_in n guide M) is
+      let says : trial.minds s past ≡ Says (Write expect put) =
+      says_by ∙ ap (does_by n way M) is
       ∙ (λ i. Says (Write (text_by (inv.own.side i) M.mine M.theirs)
       (text_by (inv.own.side i) (M.mine + 1) M.theirs))) in
       let length_of : length put ≤ 4 = text_fits s (M.mine + 1) M.theirs pair.own in
       let fits : length put ≤ world.board = omega (arith, length_of, room) in
-      let after : Memory = record M { mine = M.mine + 1; phase = GoesOut 0 } in
+      let port : ℕ = (way_to s (M.mine + 1 + 1)).ahead 0 in
+      let after : Memory = record M { mine = M.mine + 1; phase = GoesOut 0 port } in
       elim (eqb_tells M.theirs O.mine) [
         | inl h ↦
             let same : bytes_eq (picture.shown world.home) expect ≡ true =
             (λ i. bytes_eq (inv.board i) (text_by s M.mine (h.1 i))) ∙ bytes_same (text_by s M.mine O.mine) in
-            assembled game s o picture (turn_in trial picture s) (record M { mine = M.mine + 1; phase = GoesOut 0 })
+            assembled game s o picture (turn_in trial picture s) after
             (At world.home came) (Heard Written) 1 0 (picture.accused s)
             (changed picture.shown world.home put) picture.reached pair inv
             (writes trial picture s (agents_two game s pair.own) world.home came expect put on says room_left fits same)
-            (ap (λ (ph : Phase). after_in guide M ph (Heard Written)) is)
+            (explorers.wrote s past (about Writes is))
             (record {
               fit = record {
                 side = inv.own.side;
                 placed = (
                   some_steps game s after pair.own next,
+                  refl,
                   record {
                     came = came;
                     at = ap (λ (k : ℕ). At k came) (sym (at_home game s after pair.own next));
@@ -337,7 +348,7 @@ module _ {game : Game} (on : Turn game) where
             picture.shown picture.reached pair inv
             (writes_not trial picture s (agents_two game s pair.own) world.home came expect put on says room_left fits
             unlike)
-            (ap (λ (ph : Phase). after_in guide M ph (Heard (Changed (picture.shown world.home)))) is
+            (explorers.reads s past (picture.shown world.home) (about Writes is)
             ∙ (λ i. record M { theirs = read i; phase = is i }))
             (record {
               fit = record {

@@ -1,4 +1,4 @@
--- Two agents that explore by a guide: once nothing more can happen, the match is solved.
+-- Two agents that explore by ways: once nothing more can happen, the match is solved.
 use Rattle.std.proofs.Common.{ℕ, ◌+◌, ◌<◌, ◌≤◌, ◌≡◌, ◌⊎◌, Bool, true, false, not, ◌||◌, ◌==◌, Some, None, refl, ap}
 use Rattle.std.proofs.Common.{◌∙◌, inl, inr, arith}
 use Rattle.std.specs.List.{list_any}
@@ -8,15 +8,17 @@ use Rattle.bhs_referee.specs.Verdicts.{passes, accuses, is_right, is_hole_accuse
 use Rattle.bhs_referee.specs.Verdicts.{is_present}
 use Rattle.bhs_explore.specs.Schedules.{Trial}
 use Rattle.bhs_protocols.specs.Pictures.{Picture, IsResting, found_in, outcome_in, doomed_in}
+use Rattle.bhs_protocols.specs.declared.shuttle.Phase.{Phase}
+use Rattle.bhs_protocols.specs.declared.shuttle.Phase.TheVariants.{Begins, GoesOut, Leaves, ComesBack, Returns, Writes}
+use Rattle.bhs_protocols.specs.declared.shuttle.Phase.TheVariants.{Ends}
 use Rattle.bhs_protocols.proofs.SearchLemmas as lemmas
 use Rattle.bhs_protocols.proofs.SearchLemmas.{Pair, swapped_pair}
-use Rattle.bhs_mapped.specs.Exploring.{Phase, Begins, GoesOut, Leaves, ComesBack, Returns, Writes, Ends}
-use Rattle.bhs_mapped.proofs.State.{Game, Inv, along, at_turn, come, distance, mem, placed_as, sides, sum_is, swapped}
-use Rattle.bhs_mapped.proofs.State.{trial as trial_of, way, way_is}
-use Rattle.bhs_mapped.proofs.Rest.{IsLost, resting}
+use Rattle.bhs_protocols.proofs.ExplorerState.{Game, Inv, along, at_turn, come, distance, mem, placed_as, sum_is}
+use Rattle.bhs_protocols.proofs.ExplorerState.{swapped, trial as trial_of, way, way_is}
+use Rattle.bhs_protocols.proofs.ExplorerRest.{IsLost, resting}
 
 module _ (game : Game) where
-  open game use {world, n, right, left, guide, search}
+  open game use {world, n, right, left, node, search}
 
   abbrev trial : Trial
   trial = trial_of game
@@ -30,7 +32,7 @@ module _ (game : Game) where
     pub label : ℕ
     pub mine : ℕ
     pub edge : mine + 1 ≡ distance game s
-    pub far : world.net.far start port ≡ (guide.node s (mine + 1), label)
+    pub far : world.net.far start port ≡ (node s (mine + 1), label)
     pub accused : picture.accused s ≡ Some (start, port)
 
   accuser : (s o : ℕ) (picture : Picture) → Pair s o → Inv game s o picture → (mem game picture s).phase ≡ Ends
@@ -49,25 +51,25 @@ module _ (game : Game) where
         mine = m.mine;
         edge = placed.1;
         far = route.out it.step below
-            ∙ (λ i. ((ap (along game s m) last ∙ ap (guide.node s) route.last) i, (way game s m).behind (it.step + 1)));
+            ∙ (λ i. ((ap (along game s m) last ∙ ap (node s) route.last) i, (way game s m).behind (it.step + 1)));
         accused = it.link;
       }
 
   right_one : (s : ℕ) (picture : Picture) → s < 2 → (it : IsAccuser s picture)
       → is_right world (it.start, it.port) ≡ true
   right_one s picture below it =
-      lemmas.edge_right world n right left guide.node (sides game) s it.mine it.start it.port it.label below it.edge
+      lemmas.edge_right world n right left node search s it.mine it.start it.port it.label below it.edge
       it.far
 
   accuses_by : (picture : Picture) (test : ℕ × ℕ → Bool) (s : ℕ) → s < 2 → passes test (picture.accused s) ≡ true
       → accuses world (found_in picture) test ≡ true
-  accuses_by = lemmas.accuses_by world n right left guide.node (sides game)
+  accuses_by = lemmas.accuses_by world n right left node search
 
   each : (s o : ℕ) → Pair s o → (P : ℕ → Type 0) → P s → P o → (k : ℕ) → k < 2 → P k
-  each = lemmas.each world n right left guide.node (sides game)
+  each = lemmas.each world n right left node search
 
   pub zero_one : Pair 0 1
-  zero_one = lemmas.zero_one world n right left guide.node (sides game)
+  zero_one = lemmas.zero_one world n right left node search
 
   -- an agent at rest has accused nobody, or the black hole
   abbrev pub HasAccused : (s : ℕ) → Picture → Type 0
@@ -84,13 +86,13 @@ module _ (game : Game) where
   not_silent picture s below it =
       let some : accuses world (found_in picture) (λ link. true) ≡ true =
       accuses_by picture (λ link. true) s below (ap (passes (λ link. true)) it.accused) in
-      let test : ℕ × ℕ → Bool = λ link. guide.node 0 right == (world.net.far link.0 link.1).0 in
-      let there : guide.node 0 right ≡ guide.node s (it.mine + 1) =
-      lemmas.edge_hole world n right left guide.node (sides game) s it.mine below it.edge in
-      let hole : is_hole_accused world (found_in picture) (guide.node 0 right) ≡ true =
+      let test : ℕ × ℕ → Bool = λ link. node 0 right == (world.net.far link.0 link.1).0 in
+      let there : node 0 right ≡ node s (it.mine + 1) =
+      lemmas.edge_hole world n right left node search s it.mine below it.edge in
+      let hole : is_hole_accused world (found_in picture) (node 0 right) ≡ true =
       accuses_by picture test s below (ap (passes test) it.accused
-      ∙ ap (λ (f : ℕ × ℕ). guide.node 0 right == f.0) it.far
-      ∙ eq-eqb (guide.node 0 right) (guide.node s (it.mine + 1)) there) in
+      ∙ ap (λ (f : ℕ × ℕ). node 0 right == f.0) it.far
+      ∙ eq-eqb (node 0 right) (node s (it.mine + 1)) there) in
       (λ i. not (accuses world (found_in picture) (λ link. true))
       || list_any (λ h. not (is_hole_accused world (found_in picture) h)) (search.hole i)
       || list_any (λ e. not (is_dark_accused world (found_in picture) e)) (search.none_dark i))
@@ -100,16 +102,16 @@ module _ (game : Game) where
 
   least_come : (mine : ℕ) (phase : Phase) → mine ≤ come game mine phase
   least_come mine Begins = omega arith
-  least_come mine (GoesOut step) = omega arith
+  least_come mine (GoesOut step port) = omega arith
   least_come mine (Leaves step) = omega arith
-  least_come mine (ComesBack step) = omega arith
+  least_come mine (ComesBack step port) = omega arith
   least_come mine (Returns step) = omega arith
   least_come mine Writes = omega arith
   least_come mine Ends = omega arith
 
   all_known : (s o : ℕ) (picture : Picture) → Pair s o → Inv game s o picture → (mem game picture s).phase ≡ Ends
-      → (k : ℕ) → 0 < k → ((k < distance game s → picture.reached (guide.node s k) ≡ true)
-      × (k < distance game o → picture.reached (guide.node o k) ≡ true))
+      → (k : ℕ) → 0 < k → ((k < distance game s → picture.reached (node s k) ≡ true)
+      × (k < distance game o → picture.reached (node o k) ≡ true))
   all_known s o picture pair inv is k some =
       let placed = placed_as game s picture Ends is inv.own in
       let edge : (mem game picture s).mine + 1 ≡ distance game s = placed.1 in
@@ -143,21 +145,21 @@ module _ (game : Game) where
             let there = placed_as game o picture (Leaves h.step) h.phase inv_too.own in
             (inl there.3, ap is_present there.2)
       ] in (
-        lemmas.solved_by world n right left guide.node (sides game) picture
-            (lemmas.accuses_none world n right left guide.node (sides game) picture
+        lemmas.solved_by world n right left node search picture
+            (lemmas.accuses_none world n right left node search picture
             (λ link. not (is_right world link)) (λ k below. never_wrong picture k below
             (each s o pair (λ (j : ℕ). HasAccused j picture) (inr own) others.0 k below)))
             (not_silent picture s pair.own own)
-            (lemmas.unfinished_none world n right left guide.node (sides game) picture
+            (lemmas.unfinished_none world n right left node search picture
             (each s o pair (λ (j : ℕ). is_present (picture.position j) ≡ false)
             (ap is_present placed.0) others.1))
-            (lemmas.reached_all world n right left guide.node (sides game) picture (record {
+            (lemmas.reached_all world n right left node search picture (record {
               known = λ k place below some before.
                   let both_known = all_known s o picture pair inv is place some in
-                  each s o pair (λ (j : ℕ). place < distance game j → picture.reached (guide.node j place) ≡ true)
+                  each s o pair (λ (j : ℕ). place < distance game j → picture.reached (node j place) ≡ true)
                   both_known.0 both_known.1 k below before;
             })),
-        lemmas.few_doomed world n right left guide.node (sides game) picture s pair.own placed.0,
+        lemmas.few_doomed world n right left node search picture s pair.own placed.0,
       )
 
   -- both cannot be lost

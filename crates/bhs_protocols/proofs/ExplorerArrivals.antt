@@ -1,30 +1,29 @@
--- Two agents that explore by a guide: turns of an agent on a link.
-use Rattle.std.proofs.Common.{ℕ, suc, ◌+◌, ◌-◌, ◌*◌, ◌<◌, ◌≤◌, ◌≡◌, true, false, not, ◌==◌, Some, refl, sym}
-use Rattle.std.proofs.Common.{ap, ◌∙◌, subst, if◌then◌else◌, inl, inr, arith}
+-- Two agents that explore by ways: turns of an agent on a link.
+use Rattle.std.proofs.Common.{ℕ, suc, ◌+◌, ◌-◌, ◌*◌, ◌<◌, ◌≤◌, ◌≡◌, true, false, not, ◌==◌, Some, ◌∷◌, refl, sym}
+use Rattle.std.proofs.Common.{ap, ◌∙◌, subst, inl, inr, arith}
 use Rattle.std.proofs.lemmas.Bool.{true≢false, eq-eqb, cond-true, cond-false}
 use Rattle.std.proofs.lemmas.Bool.Decides.{eqb_tells}
 use Rattle.bhs_model.specs.declared.replies.Reply.TheVariants.{Here}
 use Rattle.bhs_model.specs.Worlds.{doomed}
 use Rattle.bhs_model.specs.Runs.{At, Bound, changed}
 use Rattle.bhs_model.proofs.StepLemmas.{changed_same}
-use Rattle.bhs_explore.specs.Minds.{Item, Heard}
+use Rattle.bhs_explore.specs.Minds.{Item, Heard, History}
 use Rattle.bhs_explore.specs.Schedules.{Trial}
 use Rattle.bhs_protocols.specs.Pictures.{can_move_in, turn_in}
+use Rattle.bhs_protocols.specs.declared.shuttle.Memory.{Memory}
+use Rattle.bhs_protocols.specs.declared.shuttle.Phase.TheVariants.{GoesOut, Leaves, ComesBack, Returns, Writes}
 use Rattle.bhs_protocols.specs.Shuttle.{other_in}
 use Rattle.bhs_protocols.proofs.SearchLemmas.{read_other}
 use Rattle.bhs_protocols.proofs.MovingLemmas as moving
 use Rattle.bhs_protocols.proofs.TurnLemmas.{Becomes}
-use Rattle.bhs_mapped.specs.Guides.{Route}
-use Rattle.bhs_mapped.specs.Exploring.{Memory, Phase, GoesOut, Leaves, ComesBack, Returns, Writes}
-use Rattle.bhs_mapped.specs.Exploring.{came_out, came_back, after_in}
-use Rattle.bhs_mapped.proofs.Costs.{ended, paces, trip}
-use Rattle.bhs_mapped.proofs.State.{Game, Onward, Turn, agents_two, all as all_of, along as along_of, assembled, come}
-use Rattle.bhs_mapped.proofs.State.{cost, distance, doomed_is, hole_at, mem, placed_as, safe_before, trial as trial_of}
-use Rattle.bhs_mapped.proofs.State.{way as way_from}
-use Rattle.bhs_mapped.proofs.Turns.{at_home, is_way, own_way}
+use Rattle.bhs_protocols.proofs.ExplorerSteps.{Way, back_by, ended, paces, trip}
+use Rattle.bhs_protocols.proofs.ExplorerState.{Game, Onward, Turn, agents_two, all as all_of, along as along_of}
+use Rattle.bhs_protocols.proofs.ExplorerState.{assembled, come, cost, distance, doomed_is, hole_at, mem, placed_as}
+use Rattle.bhs_protocols.proofs.ExplorerState.{safe_before, trial as trial_of, way as way_from}
+use Rattle.bhs_protocols.proofs.ExplorerTurns.{about, at_home, is_way}
 
 module _ {game : Game} (on : Turn game) where
-  open game use {world, n, right, naps, guide, search}
+  open game use {world, right, holds, node, explorers}
   open on use {s, o, picture, pair, inv}
 
   abbrev trial : Trial
@@ -42,34 +41,37 @@ module _ {game : Game} (on : Turn game) where
   abbrev along : (step : ℕ) → ℕ
   along = along_of game s M
 
-  abbrev way : Route
+  abbrev way : Way
   way = way_from game s M
+
+  abbrev past : History
+  past = picture.history s
 
   -- ---- on a link
 
-  pub bound_moves : (node port : ℕ) → picture.position s ≡ Bound node port
-      → can_move_in trial picture s ≡ not (doomed world node port)
-  bound_moves node port at = moving.bound_moves trial picture s (agents_two game s pair.own) node port at refl
+  pub bound_moves : (start port : ℕ) → picture.position s ≡ Bound start port
+      → can_move_in trial picture s ≡ not (doomed world start port)
+  bound_moves start port at = moving.bound_moves trial picture s (agents_two game s pair.own) start port at refl
 
   grows_by : (target k : ℕ) → picture.reached k ≡ true → changed picture.reached target true k ≡ true
   grows_by = moving.grows_by picture.reached
 
-  arrives_at : (node port target label : ℕ) → picture.position s ≡ Bound node port
-      → world.net.far node port ≡ (target, label) → doomed world node port ≡ false →
+  arrives_at : (start port target label : ℕ) → picture.position s ≡ Bound start port
+      → world.net.far start port ≡ (target, label) → doomed world start port ≡ false →
       Becomes picture (turn_in trial picture s) s (At target (Some label))
       (Heard (Here (world.net.degree target) (Some label) (picture.shown target))) 0 0 (picture.accused s)
       picture.shown (changed picture.reached target true)
-  arrives_at node port target label at far safe =
-      moving.arrives_at trial picture s (agents_two game s pair.own) node port target label at refl far safe
+  arrives_at start port target label at far safe =
+      moving.arrives_at trial picture s (agents_two game s pair.own) start port target label at refl far safe
 
   -- ---- out
 
   -- the last step of its way is at the new node
-  pub new_node : (step : ℕ) → step ≡ all → along step ≡ guide.node s (M.mine + 1)
-  new_node step last = ap (λ (k : ℕ). along k) last ∙ ap (guide.node s) (is_way on).last
+  pub new_node : (step : ℕ) → step ≡ all → along step ≡ node s (M.mine + 1)
+  new_node step last = ap (λ (k : ℕ). along k) last ∙ ap (node s) (is_way on).last
 
   pub ahead_doomed : (step : ℕ) → step < all
-      → doomed world (along step) (way.ahead step) ≡ (guide.node 0 right == along (step + 1))
+      → doomed world (along step) (way.ahead step) ≡ (node 0 right == along (step + 1))
   ahead_doomed step before =
       doomed_is game (along step) (way.ahead step) (along (step + 1)) (way.behind (step + 1))
       ((is_way on).out step before)
@@ -87,24 +89,15 @@ module _ {game : Game} (on : Turn game) where
       → doomed world (along step) (way.ahead step) ≡ false
   last_safe step last before =
       ahead_doomed step (omega (arith, last))
-      ∙ ap (λ (k : ℕ). guide.node 0 right == k) (new_node (step + 1) last)
+      ∙ ap (λ (k : ℕ). node 0 right == k) (new_node (step + 1) last)
       ∙ safe_before game s (M.mine + 1) pair.own before
 
   pub last_doomed : (step : ℕ) → step + 1 ≡ all → M.mine + 1 ≡ distance game s
       → doomed world (along step) (way.ahead step) ≡ true
   last_doomed step last edge =
-      let there : guide.node 0 right ≡ along (step + 1) =
-      sym (hole_at game s pair.own) ∙ ap (guide.node s) (sym edge) ∙ sym (new_node (step + 1) last) in
-      ahead_doomed step (omega (arith, last)) ∙ eq-eqb (guide.node 0 right) (along (step + 1)) there
-
-  holds_out : (step : ℕ) (news : Item) → M.phase ≡ Leaves step
-      → after_in guide M (Leaves step) news ≡ came_out guide M (step + 1) → after_in guide M M.phase news
-      ≡ (if step + 1 == all then record M { phase = ComesBack (step + 1) }
-      else record M { phase = GoesOut (step + 1) })
-  holds_out step news is comes =
-      ap (λ (ph : Phase). after_in guide M ph news) is ∙ comes
-      ∙ (λ i. if step + 1 == (own_way on i).steps then record M { phase = ComesBack (step + 1) }
-      else record M { phase = GoesOut (step + 1) })
+      let there : node 0 right ≡ along (step + 1) =
+      sym (hole_at game s pair.own) ∙ ap (node s) (sym edge) ∙ sym (new_node (step + 1) last) in
+      ahead_doomed step (omega (arith, last)) ∙ eq-eqb (node 0 right) (along (step + 1)) there
 
   pub leave_turn : (step : ℕ) → M.phase ≡ Leaves step → can_move_in trial picture s ≡ true
       → Onward game s o picture (turn_in trial picture s)
@@ -122,17 +115,19 @@ module _ {game : Game} (on : Turn game) where
       let label : ℕ = way.behind (step + 1) in
       let far : world.net.far (along step) (way.ahead step) ≡ (target, label) = (is_way on).out step before in
       let news : Item = Heard (Here (world.net.degree target) (Some label) (picture.shown target)) in
+      let comes_out = explorers.comes_out s past step (world.net.degree target) (picture.shown target)
+      (about on (Leaves step) is) before in
       elim (eqb_tells (step + 1) all) [
         | inl new ↦ elim (eqb_tells (M.mine + 1) (distance game s)) [
           | inl edge ↦ absurd (true≢false (sym moves ∙ bound_moves (along step) (way.ahead step) at
               ∙ ap not (last_doomed step new.1 edge.1)))
           | inr short ↦
               let next : M.mine + 1 < distance game s = omega (arith, safe, short.1) in
-              assembled game s o picture (turn_in trial picture s) (record M { phase = ComesBack (step + 1) })
+              assembled game s o picture (turn_in trial picture s) (record M { phase = ComesBack (step + 1) label })
               (At target (Some label)) news 0 0
               (picture.accused s) picture.shown (changed picture.reached target true) pair inv
               (arrives_at (along step) (way.ahead step) target label at far (last_safe step new.1 next))
-              (holds_out step news is refl ∙ cond-true _ _ _ new.0)
+              (comes_out ∙ cond-true _ _ _ new.0)
               (record {
                 fit = record {
                   side = inv.own.side;
@@ -140,6 +135,7 @@ module _ {game : Game} (on : Turn game) where
                     omega arith,
                     omega (arith, new.1),
                     next,
+                    refl,
                     record { came = Some label; at = refl },
                     placed.3,
                   );
@@ -147,9 +143,9 @@ module _ {game : Game} (on : Turn game) where
                   used = omega (arith, used, t, e, new.1);
                   reached = λ k some last. elim (eqb_tells k (M.mine + 1)) [
                     | inl it ↦ subst (λ (j : ℕ). changed picture.reached target true j ≡ true)
-                        (new_node (step + 1) new.1 ∙ ap (guide.node s) (sym it.1))
+                        (new_node (step + 1) new.1 ∙ ap (node s) (sym it.1))
                         (changed_same picture.reached target true)
-                    | inr it ↦ grows_by target (guide.node s k)
+                    | inr it ↦ grows_by target (node s k)
                         (inv.own.reached k some (omega (arith, last, c, it.1)))
                   ];
                 };
@@ -164,18 +160,18 @@ module _ {game : Game} (on : Turn game) where
         ]
         | inr old ↦
             let onward : step + 1 < all = omega (arith, before, old.1) in
-            assembled game s o picture (turn_in trial picture s) (record M { phase = GoesOut (step + 1) })
-            (At target (Some label)) news 0 0
+            assembled game s o picture (turn_in trial picture s)
+            (record M { phase = GoesOut (step + 1) (way.ahead (step + 1)) }) (At target (Some label)) news 0 0
             (picture.accused s) picture.shown (changed picture.reached target true) pair inv
             (arrives_at (along step) (way.ahead step) target label at far (ahead_safe step onward))
-            (holds_out step news is refl ∙ cond-false _ _ _ old.0)
+            (comes_out ∙ cond-false _ _ _ old.0)
             (record {
               fit = record {
                 side = inv.own.side;
-                placed = (onward, record { came = Some label; at = refl }, placed.3);
+                placed = (onward, refl, record { came = Some label; at = refl }, placed.3);
                 safe = inv.own.safe;
                 used = omega (arith, used, t, e);
-                reached = λ k some last. grows_by target (guide.node s k)
+                reached = λ k some last. grows_by target (node s k)
                     (inv.own.reached k some (omega (arith, last, c)));
               };
               grows = grows_by target;
@@ -196,9 +192,8 @@ module _ {game : Game} (on : Turn game) where
         (Heard (Here (world.net.degree (along left_over)) (Some (way.ahead left_over))
         (picture.shown (along left_over)))) 0 0 (picture.accused s) picture.shown
         (changed picture.reached (along left_over) true)
-    pub holds : after_in guide M M.phase (Heard (Here (world.net.degree (along left_over))
-        (Some (way.ahead left_over)) (picture.shown (along left_over))))
-        ≡ came_back M left_over (picture.shown (along left_over))
+    pub is : holds s (Heard (Here (world.net.degree (along left_over)) (Some (way.ahead left_over))
+        (picture.shown (along left_over))) ∷ past) ≡ back_by way M left_over (picture.shown (along left_over))
     pub moves : can_move_in trial picture s ≡ true
 
   pub comes_to : (left_over step : ℕ) → step ≡ left_over + 1 → M.phase ≡ Returns step → ComesTo left_over
@@ -218,12 +213,10 @@ module _ {game : Game} (on : Turn game) where
       let spared : doomed world start port ≡ false =
       doomed_is game start port target label far
       ∙ safe_before game s (way.place left_over) pair.own (omega (arith, early, next)) in
-      let less : step - 1 ≡ left_over = omega (arith, one_more) in
       record {
         becomes = arrives_at start port target label at far spared;
-        holds = ap (λ (ph : Phase). after_in guide M ph
-            (Heard (Here (world.net.degree target) (Some label) (picture.shown target)))) is
-            ∙ ap (λ (k : ℕ). came_back M k (picture.shown target)) less;
+        is = explorers.comes_back s past step left_over (world.net.degree target) (picture.shown target)
+            (about on (Returns step) is) one_more;
         moves = bound_moves start port at ∙ ap not spared;
       }
 
@@ -246,7 +239,7 @@ module _ {game : Game} (on : Turn game) where
       (At (along 0) (Some (way.ahead 0)))
       (Heard (Here (world.net.degree (along 0)) (Some (way.ahead 0)) (picture.shown (along 0)))) 0 0
       (picture.accused s) picture.shown (changed picture.reached (along 0) true) pair inv it.becomes
-      (it.holds ∙ (λ i. record M { phase = Writes; theirs = read i }))
+      (it.is ∙ (λ i. record M { phase = Writes; theirs = read i }))
       (record {
         fit = record {
           side = inv.own.side;
@@ -257,7 +250,7 @@ module _ {game : Game} (on : Turn game) where
           );
           safe = inv.own.safe;
           used = omega (arith, used, t, e, known, last, few);
-          reached = λ k some far. grows_by (along 0) (guide.node s k)
+          reached = λ k some far. grows_by (along 0) (node s k)
               (inv.own.reached k some (omega (arith, far, c)));
         };
         grows = grows_by (along 0);
@@ -282,9 +275,10 @@ module _ {game : Game} (on : Turn game) where
       let used : picture.used s ≤ cost game s M = inv.own.used in
       let target : ℕ = along (suc left_over) in
       let label : ℕ = way.ahead (suc left_over) in
-      assembled game s o picture (turn_in trial picture s) (record M { phase = ComesBack (suc left_over) })
+      assembled game s o picture (turn_in trial picture s)
+      (record M { phase = ComesBack (suc left_over) (way.behind (suc left_over)) })
       (At target (Some label)) (Heard (Here (world.net.degree target) (Some label) (picture.shown target))) 0 0
-      (picture.accused s) picture.shown (changed picture.reached target true) pair inv it.becomes it.holds
+      (picture.accused s) picture.shown (changed picture.reached target true) pair inv it.becomes it.is
       (record {
         fit = record {
           side = inv.own.side;
@@ -292,12 +286,13 @@ module _ {game : Game} (on : Turn game) where
             omega arith,
             omega (arith, few, one_more),
             placed.2,
+            refl,
             record { came = Some label; at = refl },
             placed.4,
           );
           safe = inv.own.safe;
           used = omega (arith, used, t, e, few, one_more);
-          reached = λ k some far. grows_by target (guide.node s k) (inv.own.reached k some (omega (arith, far, c)));
+          reached = λ k some far. grows_by target (node s k) (inv.own.reached k some (omega (arith, far, c)));
         };
         grows = grows_by target;
         known = inv.known;

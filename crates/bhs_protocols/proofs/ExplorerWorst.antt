@@ -1,4 +1,4 @@
--- Two agents that explore by a guide make all the moves that their bound allows: an agent whose side is known to nobody
+-- Two agents that explore by ways make all the moves that their bound allows: an agent whose side is known to nobody
 -- takes turns until it is lost, and then the other agent until it has accused.
 use Rattle.std.proofs.Common.{ℕ, zero, suc, ◌+◌, ◌-◌, ◌<◌, ◌≤◌, ◌≡◌, false, not, List, [], ◌∷◌, ◌++◌, refl}
 use Rattle.std.proofs.Common.{sym, ap, ◌∙◌, nat_lt, inl, inr, arith}
@@ -7,22 +7,23 @@ use Rattle.bhs_model.proofs.StepLemmas.{by_cases}
 use Rattle.bhs_explore.specs.Schedules.{Trial}
 use Rattle.bhs_protocols.specs.Pictures.{Picture, blank, can_move_in, turn_in, turns_in}
 use Rattle.bhs_protocols.specs.Attained.{IsAttained}
+use Rattle.bhs_protocols.specs.declared.shuttle.Memory.{Memory}
+use Rattle.bhs_protocols.specs.declared.shuttle.Phase.TheVariants.{Leaves, Ends}
 use Rattle.bhs_protocols.proofs.AttainedLemmas.{attained_by, two_rest}
 use Rattle.bhs_protocols.proofs.LastWordLemmas.{turns_in_append}
 use Rattle.bhs_protocols.proofs.SearchLemmas.{Pair, swapped_pair}
-use Rattle.bhs_mapped.specs.Exploring.{Memory, Leaves, Ends, commands_by}
-use Rattle.bhs_mapped.specs.MapLaws.{GuidedAgentsAttain}
-use Rattle.bhs_mapped.proofs.Costs.{trip}
-use Rattle.bhs_mapped.proofs.State.{Game, Inv, Onward, all, along, at_last, at_turn, distance, mem, most_moves}
-use Rattle.bhs_mapped.proofs.State.{placed_as, progress, spent, sum_is, swapped, trial as trial_of, trips, way}
-use Rattle.bhs_mapped.proofs.Turns.{some_steps}
-use Rattle.bhs_mapped.proofs.Arrivals.{bound_moves, last_doomed}
-use Rattle.bhs_mapped.proofs.Rest.{IsLost, any_turn, resting}
-use Rattle.bhs_mapped.proofs.Verdict.{not_both, zero_one}
-use Rattle.bhs_mapped.proofs.MapLemmas.{first_inv, spent_in}
+use Rattle.bhs_protocols.proofs.ExplorerSteps.{trip}
+use Rattle.bhs_protocols.proofs.ExplorerState.{Game, Inv, Onward, all, along, at_last, at_turn, distance, mem}
+use Rattle.bhs_protocols.proofs.ExplorerState.{most_commands, most_moves, placed_as, progress, spent, sum_is, swapped}
+use Rattle.bhs_protocols.proofs.ExplorerState.{trial as trial_of, trips, way}
+use Rattle.bhs_protocols.proofs.ExplorerTurns.{some_steps}
+use Rattle.bhs_protocols.proofs.ExplorerArrivals.{bound_moves, last_doomed}
+use Rattle.bhs_protocols.proofs.ExplorerRest.{IsLost, any_turn, resting}
+use Rattle.bhs_protocols.proofs.ExplorerVerdict.{not_both, zero_one}
+use Rattle.bhs_protocols.proofs.ExplorerLemmas.{first_inv, spent_in}
 
 module _ (game : Game) where
-  open game use {world, n, right, left, guide, search}
+  open game use {n, right, left, search}
 
   abbrev trial : Trial
   trial = trial_of game
@@ -35,7 +36,7 @@ module _ (game : Game) where
     still : can_move_in trial (turns_in trial picture schedule) s ≡ false
 
   abbrev most_progress : (s : ℕ) → ℕ
-  most_progress s = commands_by guide n s (distance game s) + most_moves game s + 1
+  most_progress s = most_commands game s + most_moves game s + 1
 
   runs : (s o : ℕ) (P : Picture → Type 0) → Pair s o
       → ((picture : Picture) → Inv game s o picture → P picture → Onward game s o picture (turn_in trial picture s)
@@ -87,7 +88,8 @@ module _ (game : Game) where
             let edge : (mem game picture s).mine + 1 ≡ distance game s = placed.1 in
             let one_left : (mem game picture s).mine + (mem game picture s).theirs + 2 ≡ n = placed.3 in
             let known : (mem game picture s).theirs ≤ (mem game picture o).mine = inv.known in
-            let none : (mem game picture o).mine ≡ 0 = ap (λ (m : Memory). m.mine) alone.other in
+            let none : (mem game picture o).mine ≡ 0 =
+            ap (λ (m : Memory). m.mine) (alone.other ∙ game.explorers.starts o) in
             let sum : distance game s + distance game o ≡ n = sum_is game s o pair in
             absurd (omega (arith, edge, one_left, known, none, sum, far))
         | inr h ↦ h
@@ -184,7 +186,7 @@ module _ (game : Game) where
       (λ none.
       let near : (1 < left) → ⊥ = λ h. true≢false (sym (lt-ltb 1 left h) ∙ none) in
       let sum : right + left ≡ n = search.sum in
-      let three : 3 ≤ n = search.guides.three in
+      let three : 3 ≤ n = game.three in
       let far : 2 ≤ right = omega (arith, near, sum, three) in
       let it : IsWorst 1 0 =
       worst_by 1 0 (swapped_pair 0 1 (zero_one game)) (swapped game 0 1 blank (zero_one game) (first_inv game)) far in
@@ -194,17 +196,3 @@ module _ (game : Game) where
     where
       turned : (a b : ℕ) → a + b - 1 ≡ b + a - 1
       turned a b = omega arith
-
-pub guided_agents_attain : GuidedAgentsAttain
-guided_agents_attain world n right left naps guide search room enough enough_too = attains (record {
-  world = world;
-  n = n;
-  right = right;
-  left = left;
-  naps = naps;
-  guide = guide;
-  search = search;
-  room = room;
-  enough = enough;
-  enough_too = enough_too;
-})

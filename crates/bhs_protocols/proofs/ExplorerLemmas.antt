@@ -1,0 +1,337 @@
+-- Two agents that explore by ways solve the match, and keep bounds.
+use Rattle.std.proofs.Common.{ℕ, zero, suc, ◌+◌, ◌-◌, ◌*◌, ◌<◌, ◌≤◌, ◌≡◌, ◌⊎◌, true, ◌&&◌, ◌==◌, Option, None, refl}
+use Rattle.std.proofs.Common.{◌∷◌, sym, ap, ◌∙◌, subst, if◌then◌else◌, inl, inr, arith}
+use Rattle.std.specs.Prelude.{◌≢◌}
+use Rattle.std.proofs.lemmas.Bool.{cond-true, cond-false}
+use Rattle.std.proofs.lemmas.Bool.Decides.{eqb_tells}
+use Rattle.bhs_model.specs.declared.commands.Command.{Command}
+use Rattle.bhs_model.specs.declared.replies.Reply.TheVariants.{Over}
+use Rattle.bhs_model.specs.Runs.{Position, Before}
+use Rattle.bhs_model.proofs.StepLemmas.{by_cases}
+use Rattle.bhs_explore.specs.declared.minds.Step.TheVariants.{Says, Sleeps, Fails}
+use Rattle.bhs_explore.specs.Minds.{Heard, History}
+use Rattle.bhs_explore.specs.Schedules.{Trial}
+use Rattle.bhs_protocols.specs.Pictures.{Picture, blank, can_move_in, turn_in}
+use Rattle.bhs_protocols.specs.declared.shuttle.Memory.{Memory}
+use Rattle.bhs_protocols.specs.declared.shuttle.Phase.{Phase}
+use Rattle.bhs_protocols.specs.declared.shuttle.Phase.TheVariants.{Begins, GoesOut, Leaves, ComesBack, Returns, Writes}
+use Rattle.bhs_protocols.specs.declared.shuttle.Phase.TheVariants.{Ends}
+use Rattle.bhs_protocols.specs.Shuttle.{text_by, is_one_left}
+use Rattle.bhs_protocols.specs.Invariants.{Bounds, GoesOn, IsInvariant, IsSolved}
+use Rattle.bhs_protocols.proofs.SearchLemmas.{Pair, swapped_pair}
+use Rattle.bhs_protocols.proofs.Principle.{invariants_solve}
+use Rattle.bhs_protocols.proofs.ExplorerSteps.{Way, does_by, ended, paces, trip}
+use Rattle.bhs_protocols.proofs.ExplorerState.{Game, Inv, IsFit, IsFitIn, IsPlaced, Onward, all, at_turn, below_last}
+use Rattle.bhs_protocols.proofs.ExplorerState.{below_next, both_safe, cost, distance, mem, most_commands, most_moves}
+use Rattle.bhs_protocols.proofs.ExplorerState.{placed_as, progress, spent, swapped, trial as trial_of, trips, within_n}
+use Rattle.bhs_protocols.proofs.ExplorerTurns.{has_steps, some_steps}
+use Rattle.bhs_protocols.proofs.ExplorerRest.{IsLost, any_turn}
+use Rattle.bhs_protocols.proofs.ExplorerVerdict.{at_rest, not_both, zero_one}
+
+module _ (game : Game) where
+  open game use {n, way_to, search, explorers}
+
+  abbrev trial : Trial
+  trial = trial_of game
+
+  -- ---- the bounds
+
+  -- an agent that is to come back has that way to go too
+  next_costs : (s : ℕ) (m : Memory) → m.mine + 1 < distance game s
+      → trips game s m.mine + 2 * all game s m ≤ trips game s (distance game s - 1)
+  next_costs s m = below_next game s m.mine
+
+  -- by what an agent is about: its moves, and its departures and arrivals
+  spent_within : (s : ℕ) (m : Memory) (phase : Phase) (position : Position) (accused : Option (ℕ × ℕ)) → s < 2
+      → m.mine < distance game s → IsPlaced game s m phase position accused →
+      (trips game s m.mine + trip (all game s m) phase ≤ most_moves game s)
+      × (2 * trips game s m.mine + paces (all game s m) phase ≤ 2 * most_moves game s + 1)
+  spent_within s m phase position accused below safe placed =
+      by_phase phase placed (below_last game s m.mine safe) (some_steps game s m below safe)
+    where
+      by_phase : (phase : Phase) → IsPlaced game s m phase position accused
+          → trips game s m.mine + all game s m ≤ most_moves game s → 0 < all game s m →
+          (trips game s m.mine + trip (all game s m) phase ≤ most_moves game s)
+          × (2 * trips game s m.mine + paces (all game s m) phase ≤ 2 * most_moves game s + 1)
+      by_phase Begins placed most long = (omega (arith, most), omega (arith, most))
+      by_phase (GoesOut step port) placed most long =
+          let before : step < all game s m = placed.0 in
+          (omega (arith, most, before), omega (arith, most, before))
+      by_phase (Leaves step) placed most long =
+          let before : step < all game s m = placed.0 in
+          (omega (arith, most, before), omega (arith, most, before))
+      by_phase (ComesBack step port) placed most long =
+          let next = next_costs s m placed.2 in
+          (omega (arith, next), omega (arith, next))
+      by_phase (Returns step) placed most long =
+          let next = next_costs s m placed.2 in
+          let some : 0 < step = placed.0 in
+          (omega (arith, next, some), omega (arith, next, some, long))
+      by_phase Writes placed most long =
+          let next = next_costs s m placed.0 in
+          (omega (arith, next), omega (arith, next))
+      by_phase Ends placed most long = (omega (arith, most), omega (arith, most))
+
+  -- only who is lost has made all the moves of its side
+  spent_less : (s o : ℕ) (picture : Picture) (pair : Pair s o) (inv : Inv game s o picture) (phase : Phase)
+      → (mem game picture s).phase ≡ phase →
+      (trips game s (mem game picture s).mine + trip (all game s (mem game picture s)) phase + 1 ≤ most_moves game s)
+      ⊎ IsLost (at_turn game s o picture pair inv)
+  spent_less s o picture pair inv phase is =
+      by_phase phase is (below_last game s (mem game picture s).mine inv.own.safe)
+      (some_steps game s (mem game picture s) pair.own inv.own.safe) last_long
+    where
+      last_long : 0 < (way_to s (distance game s)).steps
+      last_long =
+          let safe : (mem game picture s).mine < distance game s = inv.own.safe in
+          has_steps game s (distance game s) pair.own (within_n game s pair.own) (omega (arith, safe))
+
+      by_phase : (phase : Phase) → (mem game picture s).phase ≡ phase
+          → trips game s (mem game picture s).mine + all game s (mem game picture s) ≤ most_moves game s
+          → 0 < all game s (mem game picture s) → 0 < (way_to s (distance game s)).steps →
+          (trips game s (mem game picture s).mine + trip (all game s (mem game picture s)) phase + 1
+          ≤ most_moves game s)
+          ⊎ IsLost (at_turn game s o picture pair inv)
+      by_phase Begins is most long longer = inl (omega (arith, most, long))
+      by_phase (GoesOut step port) is most long longer =
+          let placed = placed_as game s picture (GoesOut step port) is inv.own in
+          let before : step < all game s (mem game picture s) = placed.0 in
+          inl (omega (arith, most, before))
+      by_phase (Leaves step) is most long longer =
+          let placed = placed_as game s picture (Leaves step) is inv.own in
+          let before : step < all game s (mem game picture s) = placed.0 in
+          let safe : (mem game picture s).mine < distance game s = inv.own.safe in
+          elim (eqb_tells (step + 1) (all game s (mem game picture s))) [
+            | inl last ↦ elim (eqb_tells ((mem game picture s).mine + 1) (distance game s)) [
+              | inl edge ↦ inr (record { step = step; phase = is; last = last.1; edge = edge.1 })
+              | inr short ↦
+                  let next = next_costs s (mem game picture s) (omega (arith, safe, short.1)) in
+                  inl (omega (arith, before, next))
+            ]
+            | inr old ↦ inl (omega (arith, before, most, old.1))
+          ]
+      by_phase (ComesBack step port) is most long longer =
+          let placed = placed_as game s picture (ComesBack step port) is inv.own in
+          let next = next_costs s (mem game picture s) placed.2 in
+          inl (omega (arith, next, longer))
+      by_phase (Returns step) is most long longer =
+          let placed = placed_as game s picture (Returns step) is inv.own in
+          let some : 0 < step = placed.0 in
+          let next = next_costs s (mem game picture s) placed.2 in
+          inl (omega (arith, next, some, longer))
+      by_phase Writes is most long longer =
+          let placed = placed_as game s picture Writes is inv.own in
+          let next = next_costs s (mem game picture s) placed.0 in
+          inl (omega (arith, next, longer))
+      by_phase Ends is most long longer = inl (omega (arith, most, long))
+
+  one_ended : (phase : Phase) → ended phase ≤ 1
+  one_ended Begins = omega arith
+  one_ended (GoesOut step port) = omega arith
+  one_ended (Leaves step) = omega arith
+  one_ended (ComesBack step port) = omega arith
+  one_ended (Returns step) = omega arith
+  one_ended Writes = omega arith
+  one_ended Ends = omega arith
+
+  pub spent_in : (s o : ℕ) (picture : Picture) → Pair s o → Inv game s o picture →
+      (spent game s (mem game picture s) ≤ most_moves game s)
+      × (progress game s (mem game picture s) ≤ most_commands game s + most_moves game s + 1)
+      × (picture.used s ≤ most_commands game s)
+  spent_in s o picture pair inv =
+      let m : Memory = mem game picture s in
+      let it =
+      spent_within s m m.phase (picture.position s) (picture.accused s) pair.own inv.own.safe inv.own.placed in
+      let moves : trips game s m.mine + trip (all game s m) m.phase ≤ most_moves game s = it.0 in
+      let steps : 2 * trips game s m.mine + paces (all game s m) m.phase ≤ 2 * most_moves game s + 1 = it.1 in
+      let two : m.mine + m.theirs + 2 ≤ n = both_safe game s o picture pair inv in
+      let used : picture.used s ≤ cost game s m = inv.own.used in
+      let once : ended m.phase ≤ 1 = one_ended m.phase in
+      (moves, omega (arith, steps, two), omega (arith, used, moves, two, once))
+
+  -- ---- no agent fails, and none sleeps
+
+  never_fails : (agent : ℕ) (past : History) → trial.minds agent past ≢ Fails
+  never_fails agent past h =
+      by_phase (way_to m.side (m.mine + 1)) m.phase (sym (explorers.does agent past) ∙ h)
+    where
+      m : Memory
+      m = game.holds agent past
+
+      by_phase : (way : Way) (phase : Phase) → does_by n way m phase ≢ Fails
+      by_phase way Begins = λ h. cc
+      by_phase way (GoesOut step port) = by_cases (step + 1 == way.steps && is_one_left n m)
+          (does_by n way m (GoesOut step port) ≢ Fails)
+          (λ yes h. differs (sym (cond-true _ _ _ yes) ∙ h)) (λ none h. differs (sym (cond-false _ _ _ none) ∙ h))
+        where
+          differs : {command : Command} → Says command ≡ Fails → ⊥
+          differs h = cc
+      by_phase way (Leaves step) = λ h. cc
+      by_phase way (ComesBack step port) = λ h. cc
+      by_phase way (Returns step) = λ h. cc
+      by_phase way Writes = λ h. cc
+      by_phase way Ends = λ h. cc
+
+  never_sleeps : (agent : ℕ) (past : History) → trial.minds agent past ≢ Sleeps
+  never_sleeps agent past h =
+      by_phase (way_to m.side (m.mine + 1)) m.phase (sym (explorers.does agent past) ∙ h)
+    where
+      m : Memory
+      m = game.holds agent past
+
+      by_phase : (way : Way) (phase : Phase) → does_by n way m phase ≢ Sleeps
+      by_phase way Begins = λ h. cc
+      by_phase way (GoesOut step port) = by_cases (step + 1 == way.steps && is_one_left n m)
+          (does_by n way m (GoesOut step port) ≢ Sleeps)
+          (λ yes h. differs (sym (cond-true _ _ _ yes) ∙ h)) (λ none h. differs (sym (cond-false _ _ _ none) ∙ h))
+        where
+          differs : {command : Command} → Says command ≡ Sleeps → ⊥
+          differs h = cc
+      by_phase way (Leaves step) = λ h. cc
+      by_phase way (ComesBack step port) = λ h. cc
+      by_phase way (Returns step) = λ h. cc
+      by_phase way Writes = λ h. cc
+      by_phase way Ends = λ h. cc
+
+  -- ---- all together
+
+  abbrev pub bounds : Bounds
+  bounds = record {
+    moves = most_moves game 0 + most_moves game 1 - 1;
+    lost = 1;
+    commands = λ agent. if agent == 0 then most_commands game 0
+        else (if agent == 1 then most_commands game 1 else 0);
+    turns = most_commands game 0 + most_moves game 0 + 1 + (most_commands game 1 + most_moves game 1 + 1);
+  }
+
+  -- the invariant, with the turns that are left
+  pub record Holds (picture : Picture) (turns : ℕ) : Type 0 where
+    pub inv : Inv game 0 1 picture
+    pub total : progress game 0 (mem game picture 0) + progress game 1 (mem game picture 1) + turns ≡ bounds.turns
+
+  -- before anything has happened
+  abbrev start : (s : ℕ) → Memory
+  start s = record { side = s; mine = 0; theirs = 0; phase = Begins }
+
+  starts : (s : ℕ) → mem game blank s ≡ start s
+  starts = explorers.starts
+
+  first_fit : (s : ℕ) → 0 < distance game s → IsFitIn game blank s
+  first_fit s some = subst (λ (m : Memory). IsFit game s m Before None 0 blank.reached) (sym (starts s)) (record {
+    side = refl;
+    placed = (refl, refl);
+    safe = some;
+    used = omega arith;
+    reached = λ k some far. absurd (omega (arith, some, far));
+  })
+
+  first_spent : (s : ℕ) → spent game s (mem game blank s) ≡ 0
+  first_spent s = ap (spent game s) (starts s) ∙ ap (λ (k : ℕ). k + 0) (game.no_trips s)
+
+  first_progress : (s : ℕ) → progress game s (mem game blank s) ≡ 0
+  first_progress s =
+      ap (progress game s) (starts s) ∙ ap (λ (k : ℕ). 2 * k + 0 + 0 + 0) (game.no_trips s)
+
+  pub first_inv : Inv game 0 1 blank
+  first_inv = record {
+    own = first_fit 0 search.not_home;
+    other = first_fit 1 search.nor_around;
+    known = omega (arith, ap (λ (m : Memory). m.theirs) (starts 0));
+    known_too = omega (arith, ap (λ (m : Memory). m.theirs) (starts 1));
+    fresh = inl (ap (λ (m : Memory). m.theirs) (starts 0) ∙ sym (ap (λ (m : Memory). m.mine) (starts 1)));
+    board = λ i. text_by 0 (sym (starts 0) i).mine (sym (starts 1) i).mine;
+    moves = omega (arith, first_spent 0, first_spent 1);
+    none = λ k beyond. refl;
+  }
+
+  totalled : (turns a b c d : ℕ) → a + b + turns ≡ bounds.turns → a + 1 ≤ c → d ≡ b
+      → c + d ≤ bounds.turns → (rest : ℕ) × (rest < turns) × (c + d + rest ≡ bounds.turns)
+  totalled turns a b c d total more same within =
+      (bounds.turns - (c + d), omega (arith, total, more, same, within), omega (arith, within))
+
+  goes_on_by : (picture : Picture) (turns agent : ℕ) → agent < 2 → can_move_in trial picture agent ≡ true
+      → Holds picture turns → GoesOn Holds turns (turn_in trial picture agent)
+  goes_on_by picture turns zero below moves held =
+      let on : Onward game 0 1 picture (turn_in trial picture 0) =
+      any_turn (at_turn game 0 1 picture (zero_one game) held.inv) moves in
+      let new : Picture = turn_in trial picture 0 in
+      let one = spent_in 0 1 new (zero_one game) on.inv in
+      let two = spent_in 1 0 new (swapped_pair 0 1 (zero_one game)) (swapped game 0 1 new (zero_one game) on.inv) in
+      let within : progress game 0 (mem game new 0) + progress game 1 (mem game new 1) ≤ bounds.turns =
+      omega (arith, one.1, two.1) in
+      let it = totalled turns (progress game 0 (mem game picture 0)) (progress game 1 (mem game picture 1))
+      (progress game 0 (mem game new 0))
+      (progress game 1 (mem game new 1)) held.total on.more (ap (progress game 1) on.same) within in
+      record { rest = it.0; fewer = it.1; holds = record { inv = on.inv; total = it.2 } }
+  goes_on_by picture turns (suc zero) below moves held =
+      let one_zero : Pair 1 0 = swapped_pair 0 1 (zero_one game) in
+      let on : Onward game 1 0 picture (turn_in trial picture 1) =
+      any_turn (at_turn game 1 0 picture one_zero (swapped game 0 1 picture (zero_one game) held.inv)) moves in
+      let new : Picture = turn_in trial picture 1 in
+      let back : Inv game 0 1 new = swapped game 1 0 new one_zero on.inv in
+      let one = spent_in 0 1 new (zero_one game) back in
+      let two = spent_in 1 0 new one_zero on.inv in
+      let within : progress game 1 (mem game new 1) + progress game 0 (mem game new 0) ≤ bounds.turns =
+      omega (arith, one.1, two.1) in
+      let total : progress game 1 (mem game picture 1) + progress game 0 (mem game picture 0) + turns ≡ bounds.turns =
+      ap (λ (k : ℕ). k + turns) (turned (progress game 1 (mem game picture 1)) (progress game 0 (mem game picture 0)))
+      ∙ held.total in
+      let it = totalled turns (progress game 1 (mem game picture 1)) (progress game 0 (mem game picture 0))
+      (progress game 1 (mem game new 1))
+      (progress game 0 (mem game new 0)) total on.more (ap (progress game 0) on.same) within in
+      record {
+        rest = it.0;
+        fewer = it.1;
+        holds = record {
+          inv = back;
+          total = ap (λ (k : ℕ). k + it.0)
+              (turned (progress game 0 (mem game new 0)) (progress game 1 (mem game new 1))) ∙ it.2;
+        };
+      }
+    where
+      turned : (a b : ℕ) → a + b ≡ b + a
+      turned a b = omega arith
+  goes_on_by picture turns (suc (suc k)) below moves held = absurd (omega (arith, below))
+
+  used_within : (picture : Picture) (agent : ℕ) → Inv game 0 1 picture → picture.used agent ≤ bounds.commands agent
+  used_within picture zero inv = (spent_in 0 1 picture (zero_one game) inv).2
+  used_within picture (suc zero) inv =
+      (spent_in 1 0 picture (swapped_pair 0 1 (zero_one game)) (swapped game 0 1 picture (zero_one game) inv)).2
+  used_within picture (suc (suc k)) inv =
+      let none : picture.used (suc (suc k)) ≡ 0 = inv.none (suc (suc k)) (omega arith) in omega (arith, none)
+
+  moves_within : (picture : Picture) → Inv game 0 1 picture → picture.moves ≤ bounds.moves
+  moves_within picture inv =
+      let one_zero : Pair 1 0 = swapped_pair 0 1 (zero_one game) in
+      let inv_too : Inv game 1 0 picture = swapped game 0 1 picture (zero_one game) inv in
+      let one = spent_in 0 1 picture (zero_one game) inv in
+      let two = spent_in 1 0 picture one_zero inv_too in
+      let is : picture.moves ≡ spent game 0 (mem game picture 0) + spent game 1 (mem game picture 1) = inv.moves in
+      elim (spent_less 0 1 picture (zero_one game) inv (mem game picture 0).phase refl) [
+        | inl h ↦ omega (arith, h, two.0, is)
+        | inr h ↦ elim (spent_less 1 0 picture one_zero inv_too (mem game picture 1).phase refl) [
+          | inl it ↦ omega (arith, it, one.0, is)
+          | inr it ↦ absurd (not_both game 0 1 picture (zero_one game) inv h one_zero inv_too it)
+        ]
+      ]
+
+  invariant : IsInvariant trial bounds Holds
+  invariant = record {
+    begins = record { inv = first_inv; total = omega (arith, first_progress 0, first_progress 1) };
+    goes_on = λ picture turns agent within moves held.
+        goes_on_by picture turns agent (subst (λ (k : ℕ). agent < k) search.agents within) moves held;
+    moves = λ picture turns held. moves_within picture held.inv;
+    commands = λ picture turns agent held. used_within picture agent held.inv;
+    fine = λ picture turns agent within held. never_fails agent (picture.history agent);
+    settles = λ picture turns still held.
+        let good = at_rest game picture held.inv still in
+        record {
+          outcome = good.0;
+          few = good.1;
+          over = λ agent node port within at. never_fails agent (Heard Over ∷ picture.history agent);
+          awake = λ agent within at. never_sleeps agent (picture.history agent);
+        };
+  }
+
+pub explorers_solve : (game : Game) → IsSolved (trial_of game) (bounds game)
+explorers_solve game = invariants_solve (trial_of game) (bounds game) (Holds game) (invariant game)
