@@ -13,13 +13,12 @@ use Rattle.bhs_protocols.specs.Pictures.{can_move_in, turn_in}
 use Rattle.bhs_protocols.specs.declared.shuttle.Memory.{Memory}
 use Rattle.bhs_protocols.specs.declared.shuttle.Phase.TheVariants.{GoesOut, Leaves, ComesBack, Returns, Writes}
 use Rattle.bhs_protocols.specs.Shuttle.{other_in}
-use Rattle.bhs_protocols.proofs.SearchLemmas.{read_other}
+use Rattle.bhs_protocols.proofs.SearchLemmas.{agents_two, distance, doomed_is, hole_at, read_other, safe_before}
 use Rattle.bhs_protocols.proofs.MovingLemmas as moving
 use Rattle.bhs_protocols.proofs.TurnLemmas.{Becomes}
 use Rattle.bhs_protocols.proofs.ExplorerSteps.{Way, back_by, ended, paces, trip}
-use Rattle.bhs_protocols.proofs.ExplorerState.{Game, Onward, Turn, agents_two, all as all_of, along as along_of}
-use Rattle.bhs_protocols.proofs.ExplorerState.{assembled, come, cost, distance, doomed_is, hole_at, mem, placed_as}
-use Rattle.bhs_protocols.proofs.ExplorerState.{safe_before, trial as trial_of, way as way_from}
+use Rattle.bhs_protocols.proofs.ExplorerState.{Game, Onward, Turn, all as all_of, along as along_of, assembled, come}
+use Rattle.bhs_protocols.proofs.ExplorerState.{cost, mem, placed_as, trial as trial_of, way as way_from}
 use Rattle.bhs_protocols.proofs.ExplorerTurns.{about, at_home, is_way}
 
 module _ {game : Game} (on : Turn game) where
@@ -51,18 +50,10 @@ module _ {game : Game} (on : Turn game) where
 
   pub bound_moves : (start port : ℕ) → picture.position s ≡ Bound start port
       → can_move_in trial picture s ≡ not (doomed world start port)
-  bound_moves start port at = moving.bound_moves trial picture s (agents_two game s pair.own) start port at refl
+  bound_moves start port at = moving.bound_moves trial picture s (agents_two game.search s pair.own) start port at refl
 
   grows_by : (target k : ℕ) → picture.reached k ≡ true → changed picture.reached target true k ≡ true
   grows_by = moving.grows_by picture.reached
-
-  arrives_at : (start port target label : ℕ) → picture.position s ≡ Bound start port
-      → world.net.far start port ≡ (target, label) → doomed world start port ≡ false →
-      Becomes picture (turn_in trial picture s) s (At target (Some label))
-      (Heard (Here (world.net.degree target) (Some label) (picture.shown target))) 0 0 (picture.accused s)
-      picture.shown (changed picture.reached target true)
-  arrives_at start port target label at far safe =
-      moving.arrives_at trial picture s (agents_two game s pair.own) start port target label at refl far safe
 
   -- ---- out
 
@@ -73,30 +64,30 @@ module _ {game : Game} (on : Turn game) where
   pub ahead_doomed : (step : ℕ) → step < all
       → doomed world (along step) (way.ahead step) ≡ (node 0 right == along (step + 1))
   ahead_doomed step before =
-      doomed_is game (along step) (way.ahead step) (along (step + 1)) (way.behind (step + 1))
+      doomed_is game.search (along step) (way.ahead step) (along (step + 1)) (way.behind (step + 1))
       ((is_way on).out step before)
 
   -- before the last step no link destroys
   pub ahead_safe : (step : ℕ) → step + 1 < all → doomed world (along step) (way.ahead step) ≡ false
   ahead_safe step before =
       let early : way.place (step + 1) < M.mine + 1 = (is_way on).early (step + 1) before in
-      let safe : M.mine < distance game s = inv.own.safe in
+      let safe : M.mine < distance game.search s = inv.own.safe in
       ahead_doomed step (omega (arith, before))
-      ∙ safe_before game s (way.place (step + 1)) pair.own (omega (arith, early, safe))
+      ∙ safe_before game.search s (way.place (step + 1)) pair.own (omega (arith, early, safe))
 
   -- nor at the last step, unless the new node is the black hole
-  pub last_safe : (step : ℕ) → step + 1 ≡ all → M.mine + 1 < distance game s
+  pub last_safe : (step : ℕ) → step + 1 ≡ all → M.mine + 1 < distance game.search s
       → doomed world (along step) (way.ahead step) ≡ false
   last_safe step last before =
       ahead_doomed step (omega (arith, last))
       ∙ ap (λ (k : ℕ). node 0 right == k) (new_node (step + 1) last)
-      ∙ safe_before game s (M.mine + 1) pair.own before
+      ∙ safe_before game.search s (M.mine + 1) pair.own before
 
-  pub last_doomed : (step : ℕ) → step + 1 ≡ all → M.mine + 1 ≡ distance game s
+  pub last_doomed : (step : ℕ) → step + 1 ≡ all → M.mine + 1 ≡ distance game.search s
       → doomed world (along step) (way.ahead step) ≡ true
   last_doomed step last edge =
       let there : node 0 right ≡ along (step + 1) =
-      sym (hole_at game s pair.own) ∙ ap (node s) (sym edge) ∙ sym (new_node (step + 1) last) in
+      sym (hole_at game.search s pair.own) ∙ ap (node s) (sym edge) ∙ sym (new_node (step + 1) last) in
       ahead_doomed step (omega (arith, last)) ∙ eq-eqb (node 0 right) (along (step + 1)) there
 
   pub leave_turn : (step : ℕ) → M.phase ≡ Leaves step → can_move_in trial picture s ≡ true
@@ -110,7 +101,7 @@ module _ {game : Game} (on : Turn game) where
       let p : paces all M.phase ≡ 2 + 2 * step = ap (paces all) is in
       let c : come game M.mine M.phase ≡ M.mine = ap (come game M.mine) is in
       let used : picture.used s ≤ cost game s M = inv.own.used in
-      let safe : M.mine < distance game s = inv.own.safe in
+      let safe : M.mine < distance game.search s = inv.own.safe in
       let target : ℕ = along (step + 1) in
       let label : ℕ = way.behind (step + 1) in
       let far : world.net.far (along step) (way.ahead step) ≡ (target, label) = (is_way on).out step before in
@@ -118,15 +109,16 @@ module _ {game : Game} (on : Turn game) where
       let comes_out = explorers.comes_out s past step (world.net.degree target) (picture.shown target)
       (about on (Leaves step) is) before in
       elim (eqb_tells (step + 1) all) [
-        | inl new ↦ elim (eqb_tells (M.mine + 1) (distance game s)) [
+        | inl new ↦ elim (eqb_tells (M.mine + 1) (distance game.search s)) [
           | inl edge ↦ absurd (true≢false (sym moves ∙ bound_moves (along step) (way.ahead step) at
               ∙ ap not (last_doomed step new.1 edge.1)))
           | inr short ↦
-              let next : M.mine + 1 < distance game s = omega (arith, safe, short.1) in
+              let next : M.mine + 1 < distance game.search s = omega (arith, safe, short.1) in
               assembled game s o picture (turn_in trial picture s) (record M { phase = ComesBack (step + 1) label })
               (At target (Some label)) news 0 0
               (picture.accused s) picture.shown (changed picture.reached target true) pair inv
-              (arrives_at (along step) (way.ahead step) target label at far (last_safe step new.1 next))
+              (moving.arrives_at trial picture s (agents_two game.search s pair.own) (along step) (way.ahead step)
+              target label at refl far (last_safe step new.1 next))
               (comes_out ∙ cond-true _ _ _ new.0)
               (record {
                 fit = record {
@@ -163,7 +155,8 @@ module _ {game : Game} (on : Turn game) where
             assembled game s o picture (turn_in trial picture s)
             (record M { phase = GoesOut (step + 1) (way.ahead (step + 1)) }) (At target (Some label)) news 0 0
             (picture.accused s) picture.shown (changed picture.reached target true) pair inv
-            (arrives_at (along step) (way.ahead step) target label at far (ahead_safe step onward))
+            (moving.arrives_at trial picture s (agents_two game.search s pair.own) (along step) (way.ahead step) target
+            label at refl far (ahead_safe step onward))
             (comes_out ∙ cond-false _ _ _ old.0)
             (record {
               fit = record {
@@ -200,7 +193,7 @@ module _ {game : Game} (on : Turn game) where
   comes_to left_over step one_more is =
       let placed = placed_as game s picture (Returns step) is inv.own in
       let few : step ≤ all = placed.1 in
-      let next : M.mine + 1 < distance game s = placed.2 in
+      let next : M.mine + 1 < distance game.search s = placed.2 in
       let below : left_over < all = omega (arith, few, one_more) in
       let start : ℕ = along (left_over + 1) in
       let port : ℕ = way.behind (left_over + 1) in
@@ -211,10 +204,11 @@ module _ {game : Game} (on : Turn game) where
       let far : world.net.far start port ≡ (target, label) = (is_way on).back left_over below in
       let early : way.place left_over < M.mine + 1 = (is_way on).early left_over below in
       let spared : doomed world start port ≡ false =
-      doomed_is game start port target label far
-      ∙ safe_before game s (way.place left_over) pair.own (omega (arith, early, next)) in
+      doomed_is game.search start port target label far
+      ∙ safe_before game.search s (way.place left_over) pair.own (omega (arith, early, next)) in
       record {
-        becomes = arrives_at start port target label at far spared;
+        becomes = moving.arrives_at trial picture s (agents_two game.search s pair.own) start port target label at
+            refl far spared;
         is = explorers.comes_back s past step left_over (world.net.degree target) (picture.shown target)
             (about on (Returns step) is) one_more;
         moves = bound_moves start port at ∙ ap not spared;

@@ -1,14 +1,11 @@
 -- Two agents that explore by ways solve the match, and keep bounds.
 use Rattle.std.proofs.Common.{ℕ, zero, suc, ◌+◌, ◌-◌, ◌*◌, ◌<◌, ◌≤◌, ◌≡◌, ◌⊎◌, true, ◌&&◌, ◌==◌, Option, None, refl}
 use Rattle.std.proofs.Common.{◌∷◌, sym, ap, ◌∙◌, subst, if◌then◌else◌, inl, inr, arith}
-use Rattle.std.specs.Prelude.{◌≢◌}
-use Rattle.std.proofs.lemmas.Bool.{cond-true, cond-false}
 use Rattle.std.proofs.lemmas.Bool.Decides.{eqb_tells}
-use Rattle.bhs_model.specs.declared.commands.Command.{Command}
+use Rattle.bhs_model.specs.declared.commands.Command.TheVariants.{Depart, Accuse}
 use Rattle.bhs_model.specs.declared.replies.Reply.TheVariants.{Over}
 use Rattle.bhs_model.specs.Runs.{Position, Before}
-use Rattle.bhs_model.proofs.StepLemmas.{by_cases}
-use Rattle.bhs_explore.specs.declared.minds.Step.TheVariants.{Says, Sleeps, Fails}
+use Rattle.bhs_explore.specs.declared.minds.Step.TheVariants.{Says}
 use Rattle.bhs_explore.specs.Minds.{Heard, History}
 use Rattle.bhs_explore.specs.Schedules.{Trial}
 use Rattle.bhs_protocols.specs.Pictures.{Picture, blank, can_move_in, turn_in}
@@ -18,15 +15,16 @@ use Rattle.bhs_protocols.specs.declared.shuttle.Phase.TheVariants.{Begins, GoesO
 use Rattle.bhs_protocols.specs.declared.shuttle.Phase.TheVariants.{Ends}
 use Rattle.bhs_protocols.specs.Shuttle.{text_by, is_one_left}
 use Rattle.bhs_protocols.specs.Invariants.{Bounds, GoesOn, IsInvariant, IsSolved}
-use Rattle.bhs_protocols.proofs.SearchLemmas.{Pair, swapped_pair}
+use Rattle.bhs_protocols.proofs.SearchLemmas.{Pair, distance, one_zero, within_n, zero_one}
 use Rattle.bhs_protocols.proofs.Principle.{invariants_solve}
+use Rattle.bhs_protocols.proofs.MovingLemmas.{is_steady, fails_not, sleeps_not, steady_if}
 use Rattle.bhs_protocols.proofs.ExplorerSteps.{Way, does_by, ended, paces, trip}
 use Rattle.bhs_protocols.proofs.ExplorerState.{Game, Inv, IsFit, IsFitIn, IsPlaced, Onward, all, at_turn, below_last}
-use Rattle.bhs_protocols.proofs.ExplorerState.{below_next, both_safe, cost, distance, mem, most_commands, most_moves}
-use Rattle.bhs_protocols.proofs.ExplorerState.{placed_as, progress, spent, swapped, trial as trial_of, trips, within_n}
+use Rattle.bhs_protocols.proofs.ExplorerState.{below_next, both_safe, cost, mem, most_commands, most_moves, placed_as}
+use Rattle.bhs_protocols.proofs.ExplorerState.{progress, spent, swapped, trial as trial_of, trips}
 use Rattle.bhs_protocols.proofs.ExplorerTurns.{has_steps, some_steps}
 use Rattle.bhs_protocols.proofs.ExplorerRest.{IsLost, any_turn}
-use Rattle.bhs_protocols.proofs.ExplorerVerdict.{at_rest, not_both, zero_one}
+use Rattle.bhs_protocols.proofs.ExplorerVerdict.{at_rest, not_both}
 
 module _ (game : Game) where
   open game use {n, way_to, search, explorers}
@@ -37,13 +35,13 @@ module _ (game : Game) where
   -- ---- the bounds
 
   -- an agent that is to come back has that way to go too
-  next_costs : (s : ℕ) (m : Memory) → m.mine + 1 < distance game s
-      → trips game s m.mine + 2 * all game s m ≤ trips game s (distance game s - 1)
+  next_costs : (s : ℕ) (m : Memory) → m.mine + 1 < distance game.search s
+      → trips game s m.mine + 2 * all game s m ≤ trips game s (distance game.search s - 1)
   next_costs s m = below_next game s m.mine
 
   -- by what an agent is about: its moves, and its departures and arrivals
   spent_within : (s : ℕ) (m : Memory) (phase : Phase) (position : Position) (accused : Option (ℕ × ℕ)) → s < 2
-      → m.mine < distance game s → IsPlaced game s m phase position accused →
+      → m.mine < distance game.search s → IsPlaced game s m phase position accused →
       (trips game s m.mine + trip (all game s m) phase ≤ most_moves game s)
       × (2 * trips game s m.mine + paces (all game s m) phase ≤ 2 * most_moves game s + 1)
   spent_within s m phase position accused below safe placed =
@@ -81,14 +79,14 @@ module _ (game : Game) where
       by_phase phase is (below_last game s (mem game picture s).mine inv.own.safe)
       (some_steps game s (mem game picture s) pair.own inv.own.safe) last_long
     where
-      last_long : 0 < (way_to s (distance game s)).steps
+      last_long : 0 < (way_to s (distance game.search s)).steps
       last_long =
-          let safe : (mem game picture s).mine < distance game s = inv.own.safe in
-          has_steps game s (distance game s) pair.own (within_n game s pair.own) (omega (arith, safe))
+          let safe : (mem game picture s).mine < distance game.search s = inv.own.safe in
+          has_steps game s (distance game.search s) pair.own (within_n game.search s pair.own) (omega (arith, safe))
 
       by_phase : (phase : Phase) → (mem game picture s).phase ≡ phase
           → trips game s (mem game picture s).mine + all game s (mem game picture s) ≤ most_moves game s
-          → 0 < all game s (mem game picture s) → 0 < (way_to s (distance game s)).steps →
+          → 0 < all game s (mem game picture s) → 0 < (way_to s (distance game.search s)).steps →
           (trips game s (mem game picture s).mine + trip (all game s (mem game picture s)) phase + 1
           ≤ most_moves game s)
           ⊎ IsLost (at_turn game s o picture pair inv)
@@ -100,9 +98,9 @@ module _ (game : Game) where
       by_phase (Leaves step) is most long longer =
           let placed = placed_as game s picture (Leaves step) is inv.own in
           let before : step < all game s (mem game picture s) = placed.0 in
-          let safe : (mem game picture s).mine < distance game s = inv.own.safe in
+          let safe : (mem game picture s).mine < distance game.search s = inv.own.safe in
           elim (eqb_tells (step + 1) (all game s (mem game picture s))) [
-            | inl last ↦ elim (eqb_tells ((mem game picture s).mine + 1) (distance game s)) [
+            | inl last ↦ elim (eqb_tells ((mem game picture s).mine + 1) (distance game.search s)) [
               | inl edge ↦ inr (record { step = step; phase = is; last = last.1; edge = edge.1 })
               | inr short ↦
                   let next = next_costs s (mem game picture s) (omega (arith, safe, short.1)) in
@@ -151,47 +149,20 @@ module _ (game : Game) where
 
   -- ---- no agent fails, and none sleeps
 
-  never_fails : (agent : ℕ) (past : History) → trial.minds agent past ≢ Fails
-  never_fails agent past h =
-      by_phase (way_to m.side (m.mine + 1)) m.phase (sym (explorers.does agent past) ∙ h)
-    where
-      m : Memory
-      m = game.holds agent past
+  steady_by : (way : Way) (m : Memory) (phase : Phase) → is_steady (does_by n way m phase) ≡ true
+  steady_by way m Begins = refl
+  steady_by way m (GoesOut step port) =
+      steady_if (step + 1 == way.steps && is_one_left n m) (Says (Accuse port)) (Says (Depart port)) refl refl
+  steady_by way m (Leaves step) = refl
+  steady_by way m (ComesBack step port) = refl
+  steady_by way m (Returns step) = refl
+  steady_by way m Writes = refl
+  steady_by way m Ends = refl
 
-      by_phase : (way : Way) (phase : Phase) → does_by n way m phase ≢ Fails
-      by_phase way Begins = λ h. cc
-      by_phase way (GoesOut step port) = by_cases (step + 1 == way.steps && is_one_left n m)
-          (does_by n way m (GoesOut step port) ≢ Fails)
-          (λ yes h. differs (sym (cond-true _ _ _ yes) ∙ h)) (λ none h. differs (sym (cond-false _ _ _ none) ∙ h))
-        where
-          differs : {command : Command} → Says command ≡ Fails → ⊥
-          differs h = cc
-      by_phase way (Leaves step) = λ h. cc
-      by_phase way (ComesBack step port) = λ h. cc
-      by_phase way (Returns step) = λ h. cc
-      by_phase way Writes = λ h. cc
-      by_phase way Ends = λ h. cc
-
-  never_sleeps : (agent : ℕ) (past : History) → trial.minds agent past ≢ Sleeps
-  never_sleeps agent past h =
-      by_phase (way_to m.side (m.mine + 1)) m.phase (sym (explorers.does agent past) ∙ h)
-    where
-      m : Memory
-      m = game.holds agent past
-
-      by_phase : (way : Way) (phase : Phase) → does_by n way m phase ≢ Sleeps
-      by_phase way Begins = λ h. cc
-      by_phase way (GoesOut step port) = by_cases (step + 1 == way.steps && is_one_left n m)
-          (does_by n way m (GoesOut step port) ≢ Sleeps)
-          (λ yes h. differs (sym (cond-true _ _ _ yes) ∙ h)) (λ none h. differs (sym (cond-false _ _ _ none) ∙ h))
-        where
-          differs : {command : Command} → Says command ≡ Sleeps → ⊥
-          differs h = cc
-      by_phase way (Leaves step) = λ h. cc
-      by_phase way (ComesBack step port) = λ h. cc
-      by_phase way (Returns step) = λ h. cc
-      by_phase way Writes = λ h. cc
-      by_phase way Ends = λ h. cc
+  steady : (agent : ℕ) (past : History) → is_steady (trial.minds agent past) ≡ true
+  steady agent past =
+      let m : Memory = game.holds agent past in
+      ap is_steady (explorers.does agent past) ∙ steady_by (way_to m.side (m.mine + 1)) m m.phase
 
   -- ---- all together
 
@@ -216,7 +187,7 @@ module _ (game : Game) where
   starts : (s : ℕ) → mem game blank s ≡ start s
   starts = explorers.starts
 
-  first_fit : (s : ℕ) → 0 < distance game s → IsFitIn game blank s
+  first_fit : (s : ℕ) → 0 < distance game.search s → IsFitIn game blank s
   first_fit s some = subst (λ (m : Memory). IsFit game s m Before None 0 blank.reached) (sym (starts s)) (record {
     side = refl;
     placed = (refl, refl);
@@ -253,10 +224,10 @@ module _ (game : Game) where
       → Holds picture turns → GoesOn Holds turns (turn_in trial picture agent)
   goes_on_by picture turns zero below moves held =
       let on : Onward game 0 1 picture (turn_in trial picture 0) =
-      any_turn (at_turn game 0 1 picture (zero_one game) held.inv) moves in
+      any_turn (at_turn game 0 1 picture zero_one held.inv) moves in
       let new : Picture = turn_in trial picture 0 in
-      let one = spent_in 0 1 new (zero_one game) on.inv in
-      let two = spent_in 1 0 new (swapped_pair 0 1 (zero_one game)) (swapped game 0 1 new (zero_one game) on.inv) in
+      let one = spent_in 0 1 new zero_one on.inv in
+      let two = spent_in 1 0 new one_zero (swapped game 0 1 new zero_one on.inv) in
       let within : progress game 0 (mem game new 0) + progress game 1 (mem game new 1) ≤ bounds.turns =
       omega (arith, one.1, two.1) in
       let it = totalled turns (progress game 0 (mem game picture 0)) (progress game 1 (mem game picture 1))
@@ -264,12 +235,11 @@ module _ (game : Game) where
       (progress game 1 (mem game new 1)) held.total on.more (ap (progress game 1) on.same) within in
       record { rest = it.0; fewer = it.1; holds = record { inv = on.inv; total = it.2 } }
   goes_on_by picture turns (suc zero) below moves held =
-      let one_zero : Pair 1 0 = swapped_pair 0 1 (zero_one game) in
       let on : Onward game 1 0 picture (turn_in trial picture 1) =
-      any_turn (at_turn game 1 0 picture one_zero (swapped game 0 1 picture (zero_one game) held.inv)) moves in
+      any_turn (at_turn game 1 0 picture one_zero (swapped game 0 1 picture zero_one held.inv)) moves in
       let new : Picture = turn_in trial picture 1 in
       let back : Inv game 0 1 new = swapped game 1 0 new one_zero on.inv in
-      let one = spent_in 0 1 new (zero_one game) back in
+      let one = spent_in 0 1 new zero_one back in
       let two = spent_in 1 0 new one_zero on.inv in
       let within : progress game 1 (mem game new 1) + progress game 0 (mem game new 0) ≤ bounds.turns =
       omega (arith, one.1, two.1) in
@@ -294,24 +264,23 @@ module _ (game : Game) where
   goes_on_by picture turns (suc (suc k)) below moves held = absurd (omega (arith, below))
 
   used_within : (picture : Picture) (agent : ℕ) → Inv game 0 1 picture → picture.used agent ≤ bounds.commands agent
-  used_within picture zero inv = (spent_in 0 1 picture (zero_one game) inv).2
+  used_within picture zero inv = (spent_in 0 1 picture zero_one inv).2
   used_within picture (suc zero) inv =
-      (spent_in 1 0 picture (swapped_pair 0 1 (zero_one game)) (swapped game 0 1 picture (zero_one game) inv)).2
+      (spent_in 1 0 picture one_zero (swapped game 0 1 picture zero_one inv)).2
   used_within picture (suc (suc k)) inv =
       let none : picture.used (suc (suc k)) ≡ 0 = inv.none (suc (suc k)) (omega arith) in omega (arith, none)
 
   moves_within : (picture : Picture) → Inv game 0 1 picture → picture.moves ≤ bounds.moves
   moves_within picture inv =
-      let one_zero : Pair 1 0 = swapped_pair 0 1 (zero_one game) in
-      let inv_too : Inv game 1 0 picture = swapped game 0 1 picture (zero_one game) inv in
-      let one = spent_in 0 1 picture (zero_one game) inv in
+      let inv_too : Inv game 1 0 picture = swapped game 0 1 picture zero_one inv in
+      let one = spent_in 0 1 picture zero_one inv in
       let two = spent_in 1 0 picture one_zero inv_too in
       let is : picture.moves ≡ spent game 0 (mem game picture 0) + spent game 1 (mem game picture 1) = inv.moves in
-      elim (spent_less 0 1 picture (zero_one game) inv (mem game picture 0).phase refl) [
+      elim (spent_less 0 1 picture zero_one inv (mem game picture 0).phase refl) [
         | inl h ↦ omega (arith, h, two.0, is)
         | inr h ↦ elim (spent_less 1 0 picture one_zero inv_too (mem game picture 1).phase refl) [
           | inl it ↦ omega (arith, it, one.0, is)
-          | inr it ↦ absurd (not_both game 0 1 picture (zero_one game) inv h one_zero inv_too it)
+          | inr it ↦ absurd (not_both game 0 1 picture zero_one inv h one_zero inv_too it)
         ]
       ]
 
@@ -322,14 +291,14 @@ module _ (game : Game) where
         goes_on_by picture turns agent (subst (λ (k : ℕ). agent < k) search.agents within) moves held;
     moves = λ picture turns held. moves_within picture held.inv;
     commands = λ picture turns agent held. used_within picture agent held.inv;
-    fine = λ picture turns agent within held. never_fails agent (picture.history agent);
+    fine = λ picture turns agent within held. fails_not _ (steady agent (picture.history agent));
     settles = λ picture turns still held.
         let good = at_rest game picture held.inv still in
         record {
           outcome = good.0;
           few = good.1;
-          over = λ agent node port within at. never_fails agent (Heard Over ∷ picture.history agent);
-          awake = λ agent within at. never_sleeps agent (picture.history agent);
+          over = λ agent node port within at. fails_not _ (steady agent (Heard Over ∷ picture.history agent));
+          awake = λ agent within at. sleeps_not _ (steady agent (picture.history agent));
         };
   }
 

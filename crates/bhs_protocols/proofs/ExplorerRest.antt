@@ -19,8 +19,9 @@ use Rattle.bhs_protocols.specs.declared.shuttle.Phase.TheVariants.{Ends}
 use Rattle.bhs_protocols.specs.Shuttle.{text_by, is_one_left}
 use Rattle.bhs_protocols.proofs.MovingLemmas as moving
 use Rattle.bhs_protocols.proofs.ExplorerSteps.{Way, does_by}
-use Rattle.bhs_protocols.proofs.ExplorerState.{Game, Onward, Turn, agents_two, all as all_of, along as along_of}
-use Rattle.bhs_protocols.proofs.ExplorerState.{distance, mem, placed_as, trial as trial_of, way as way_from}
+use Rattle.bhs_protocols.proofs.SearchLemmas.{agents_two, distance}
+use Rattle.bhs_protocols.proofs.ExplorerState.{Game, Onward, Turn, all as all_of, along as along_of, mem, placed_as}
+use Rattle.bhs_protocols.proofs.ExplorerState.{trial as trial_of, way as way_from}
 use Rattle.bhs_protocols.proofs.ExplorerTurns.{back_turn, begin_turn, out_turn, says_by, write_turn}
 use Rattle.bhs_protocols.proofs.ExplorerArrivals.{ahead_safe, bound_moves, comes_to, home_turn, last_safe, leave_turn}
 use Rattle.bhs_protocols.proofs.ExplorerArrivals.{return_turn}
@@ -48,7 +49,7 @@ module _ {game : Game} (on : Turn game) where
 
   end_still : M.phase ≡ Ends → can_move_in trial picture s ≡ false
   end_still is =
-      moving.end_stays trial picture s (agents_two game s pair.own) (placed_as game s picture Ends is inv.own).0
+      moving.end_stays trial picture s (agents_two game.search s pair.own) (placed_as game s picture Ends is inv.own).0
 
   returns_turn : (step : ℕ) → M.phase ≡ Returns step → Onward game s o picture (turn_in trial picture s)
   returns_turn zero is =
@@ -75,14 +76,14 @@ module _ {game : Game} (on : Turn game) where
   says_moves : (place : Position) (command : Command) → picture.position s ≡ place
       → deed_at none_held naps place (picture.woken s) (Says command) s ≡ Makes (Tell s command)
       → trial.minds s (picture.history s) ≡ Says command → can_move_in trial picture s ≡ true
-  says_moves = moving.says_moves trial picture s (agents_two game s pair.own)
+  says_moves = moving.says_moves trial picture s (agents_two game.search s pair.own)
 
   -- an agent that cannot move has ended or is lost
   pub record IsLost : Type 0 where
     pub step : ℕ
     pub phase : M.phase ≡ Leaves step
     pub last : step + 1 ≡ all
-    pub edge : M.mine + 1 ≡ distance game s
+    pub edge : M.mine + 1 ≡ distance game.search s
 
   pub resting : (phase : Phase) → M.phase ≡ phase → can_move_in trial picture s ≡ false → (M.phase ≡ Ends) ⊎ IsLost
   resting Begins is still =
@@ -99,9 +100,9 @@ module _ {game : Game} (on : Turn game) where
   resting (Leaves step) is still =
       let placed = placed_as game s picture (Leaves step) is inv.own in
       let before : step < all = placed.0 in
-      let safe : M.mine < distance game s = inv.own.safe in
+      let safe : M.mine < distance game.search s = inv.own.safe in
       elim (eqb_tells (step + 1) all) [
-        | inl new ↦ elim (eqb_tells (M.mine + 1) (distance game s)) [
+        | inl new ↦ elim (eqb_tells (M.mine + 1) (distance game.search s)) [
           | inl edge ↦ inr (record { step = step; phase = is; last = new.1; edge = edge.1 })
           | inr short ↦ absurd (true≢false (sym (bound_moves on (along step) (way.ahead step) placed.2
               ∙ ap not (last_safe on step new.1 (omega (arith, safe, short.1)))) ∙ still))

@@ -3,7 +3,7 @@ use Rattle.std.proofs.Common.{ℕ, zero, suc}
 use Rattle.std.proofs.Common.{◌+◌, ◌-◌, ◌*◌, ◌<◌, ◌≤◌, ◌≡◌, ◌⊎◌, Bool, true, false, ◌==◌, Option, Some, None}
 use Rattle.std.proofs.Common.{List, ◌∷◌, sym, ap, ◌∙◌, subst, inl, inr, arith}
 use Rattle.std.proofs.lemmas.Bool.Decides.{eqb_tells}
-use Rattle.bhs_model.specs.Worlds.{World, doomed}
+use Rattle.bhs_model.specs.Worlds.{World}
 use Rattle.bhs_model.specs.Runs.{Position, Before, At, Bound, After}
 use Rattle.bhs_model.specs.Examples.{none_held}
 use Rattle.bhs_explore.specs.Minds.{Item, History, Minds}
@@ -14,8 +14,8 @@ use Rattle.bhs_protocols.specs.declared.shuttle.Phase.{Phase}
 use Rattle.bhs_protocols.specs.declared.shuttle.Phase.TheVariants.{Begins, GoesOut, Leaves, ComesBack, Returns, Writes}
 use Rattle.bhs_protocols.specs.declared.shuttle.Phase.TheVariants.{Ends}
 use Rattle.bhs_protocols.specs.Shuttle.{text_by}
-use Rattle.bhs_protocols.proofs.SearchLemmas as lemmas
-use Rattle.bhs_protocols.proofs.SearchLemmas.{both, Pair, apart_from, text_other, IsTwoSided}
+use Rattle.bhs_protocols.proofs.SearchLemmas.{IsTwoSided, Pair, apart_from, both, distance, sum_is, text_other}
+use Rattle.bhs_protocols.proofs.SearchLemmas.{within_n}
 use Rattle.bhs_protocols.proofs.TurnLemmas.{Becomes}
 use Rattle.bhs_protocols.proofs.ExplorerSteps.{Way, IsWay, AreExplorers, ended, paces, trip}
 
@@ -51,34 +51,14 @@ module _ (game : Game) where
   abbrev pub mem : Picture → (s : ℕ) → Memory
   mem picture s = holds s (picture.history s)
 
-  -- ---- the two sides
-
-  -- the number of the black hole on a side
-  abbrev pub distance : ℕ → ℕ
-  distance = lemmas.distance world n right left node search
-
-  pub sum_is : (s o : ℕ) → Pair s o → distance s + distance o ≡ n
-  sum_is = lemmas.sum_is world n right left node search
-
-  pub within_n : (s : ℕ) → s < 2 → distance s < n
-  within_n = lemmas.within_n world n right left node search
-
-  pub doomed_is : (start port target label : ℕ) → world.net.far start port ≡ (target, label)
-      → doomed world start port ≡ (node 0 right == target)
-  doomed_is = lemmas.doomed_is world n right left node search
-
-  pub hole_at : (s : ℕ) → s < 2 → node s (distance s) ≡ node 0 right
-  hole_at = lemmas.hole_at world n right left node search
-
-  pub safe_before : (s place : ℕ) → s < 2 → place < distance s → (node 0 right == node s place) ≡ false
-  safe_before = lemmas.safe_before world n right left node search
+  -- ---- what it may cost
 
   abbrev pub trips : (s k : ℕ) → ℕ
   trips = round_trips
 
   -- the most moves and commands of an agent
   abbrev pub most_moves : (s : ℕ) → ℕ
-  most_moves s = trips s (distance s - 1) + (way_to s (distance s)).steps
+  most_moves s = trips s (distance search s - 1) + (way_to s (distance search s)).steps
 
   abbrev pub most_commands : (s : ℕ) → ℕ
   most_commands s = most_moves s + n
@@ -99,10 +79,10 @@ module _ (game : Game) where
   abbrev pub along : (s : ℕ) → Memory → (step : ℕ) → ℕ
   along s m step = node s ((way s m).place step)
 
-  pub way_is : (s : ℕ) (m : Memory) → s < 2 → m.mine < distance s
+  pub way_is : (s : ℕ) (m : Memory) → s < 2 → m.mine < distance search s
       → IsWay world.net (node s) (m.mine + 1) (way s m)
   way_is s m below safe =
-      let within : distance s < n = within_n s below in
+      let within : distance search s < n = within_n search s below in
       game.ways s (m.mine + 1) below (omega (arith, safe, within))
 
   -- at this node
@@ -125,15 +105,15 @@ module _ (game : Game) where
       (step < all s m) × (step + 1 ≡ all s m → m.mine + m.theirs + 3 ≤ n)
       × (position ≡ Bound (along s m step) ((way s m).ahead step)) × (accused ≡ None)
   IsPlaced s m (ComesBack step port) position accused =
-      (0 < step) × (step ≤ all s m) × (m.mine + 1 < distance s) × (port ≡ (way s m).behind step)
+      (0 < step) × (step ≤ all s m) × (m.mine + 1 < distance search s) × (port ≡ (way s m).behind step)
       × IsAtNode (along s m step) position × (accused ≡ None)
   IsPlaced s m (Returns step) position accused =
-      (0 < step) × (step ≤ all s m) × (m.mine + 1 < distance s)
+      (0 < step) × (step ≤ all s m) × (m.mine + 1 < distance search s)
       × (position ≡ Bound (along s m step) ((way s m).behind step)) × (accused ≡ None)
   IsPlaced s m Writes position accused =
-      (m.mine + 1 < distance s) × IsAtNode world.home position × (accused ≡ None)
+      (m.mine + 1 < distance search s) × IsAtNode world.home position × (accused ≡ None)
   IsPlaced s m Ends position accused =
-      (position ≡ After) × (m.mine + 1 ≡ distance s) × HasAccused s m accused × (m.mine + m.theirs + 2 ≡ n)
+      (position ≡ After) × (m.mine + 1 ≡ distance search s) × HasAccused s m accused × (m.mine + m.theirs + 2 ≡ n)
 
   -- how many nodes of its side an agent has come to
   abbrev pub come : (mine : ℕ) → Phase → ℕ
@@ -161,7 +141,7 @@ module _ (game : Game) where
       Type 0 where
     pub side : m.side ≡ s
     pub placed : IsPlaced s m m.phase position accused
-    pub safe : m.mine < distance s
+    pub safe : m.mine < distance search s
     pub used : spends ≤ cost s m
     pub reached : (k : ℕ) → 0 < k → k ≤ come m.mine m.phase → seen (node s k) ≡ true
 
@@ -288,9 +268,6 @@ module _ (game : Game) where
 
   -- ---- the turns of an agent, by what it is about
 
-  pub agents_two : (s : ℕ) → s < 2 → s < world.agents
-  agents_two s below = subst (λ (k : ℕ). s < k) (sym search.agents) below
-
   pub placed_as : (s : ℕ) (picture : Picture) (phase : Phase) → (mem picture s).phase ≡ phase → IsFitIn picture s
       → IsPlaced s (mem picture s) phase (picture.position s) (picture.accused s)
   placed_as s picture phase is fit =
@@ -300,9 +277,9 @@ module _ (game : Game) where
   pub both_safe : (s o : ℕ) (picture : Picture) → Pair s o → Inv s o picture
       → (mem picture s).mine + (mem picture s).theirs + 2 ≤ n
   both_safe s o picture pair inv =
-      let sum : distance s + distance o ≡ n = sum_is s o pair in
-      let safe : (mem picture s).mine < distance s = inv.own.safe in
-      let safe_too : (mem picture o).mine < distance o = inv.other.safe in
+      let sum : distance search s + distance search o ≡ n = sum_is search s o pair in
+      let safe : (mem picture s).mine < distance search s = inv.own.safe in
+      let safe_too : (mem picture o).mine < distance search o = inv.other.safe in
       let known : (mem picture s).theirs ≤ (mem picture o).mine = inv.known in
       omega (arith, sum, safe, safe_too, known)
 
@@ -318,28 +295,28 @@ module _ (game : Game) where
       omega (arith, rest, more, at)
 
   -- before the black hole is the next node
-  pub below_next : (s mine : ℕ) → mine + 1 < distance s
-      → trips s mine + 2 * (way_to s (mine + 1)).steps ≤ trips s (distance s - 1)
+  pub below_next : (s mine : ℕ) → mine + 1 < distance search s
+      → trips s mine + 2 * (way_to s (mine + 1)).steps ≤ trips s (distance search s - 1)
   below_next s mine safe =
       let more : trips s (mine + 1) ≡ trips s mine + 2 * (way_to s (mine + 1)).steps = game.more_trips s mine in
-      let gap : ℕ = distance s - 1 - (mine + 1) in
-      let index : mine + 1 + gap ≡ distance s - 1 = omega (arith, safe) in
-      let at : trips s (mine + 1 + gap) ≡ trips s (distance s - 1) = ap (trips s) index in
+      let gap : ℕ = distance search s - 1 - (mine + 1) in
+      let index : mine + 1 + gap ≡ distance search s - 1 = omega (arith, safe) in
+      let at : trips s (mine + 1 + gap) ≡ trips s (distance search s - 1) = ap (trips s) index in
       let within : trips s (mine + 1) ≤ trips s (mine + 1 + gap) = trips_mono s (mine + 1) gap in
       omega (arith, more, within, at)
 
   -- once it is
-  pub at_last : (s mine : ℕ) → mine + 1 ≡ distance s
+  pub at_last : (s mine : ℕ) → mine + 1 ≡ distance search s
       → trips s mine + (way_to s (mine + 1)).steps ≡ most_moves s
   at_last s mine edge =
-      let index : mine ≡ distance s - 1 = omega (arith, edge) in
-      let before : trips s mine ≡ trips s (distance s - 1) = ap (trips s) index in
-      let last : (way_to s (mine + 1)).steps ≡ (way_to s (distance s)).steps =
+      let index : mine ≡ distance search s - 1 = omega (arith, edge) in
+      let before : trips s mine ≡ trips s (distance search s - 1) = ap (trips s) index in
+      let last : (way_to s (mine + 1)).steps ≡ (way_to s (distance search s)).steps =
       ap (λ (k : ℕ). (way_to s k).steps) edge in
       omega (arith, before, last)
 
-  pub below_last : (s mine : ℕ) → mine < distance s → trips s mine + (way_to s (mine + 1)).steps ≤ most_moves s
-  below_last s mine safe = elim (eqb_tells (mine + 1) (distance s)) [
+  pub below_last : (s mine : ℕ) → mine < distance search s → trips s mine + (way_to s (mine + 1)).steps ≤ most_moves s
+  below_last s mine safe = elim (eqb_tells (mine + 1) (distance search s)) [
     | inl h ↦ let same = at_last s mine h.1 in omega (arith, same)
     | inr h ↦ let next = below_next s mine (omega (arith, safe, h.1)) in omega (arith, next)
   ]

@@ -18,13 +18,13 @@ use Rattle.bhs_protocols.specs.declared.shuttle.Phase.TheVariants.{Begins, GoesO
 use Rattle.bhs_protocols.specs.declared.shuttle.Phase.TheVariants.{Ends}
 use Rattle.bhs_protocols.specs.Shuttle.{other_in, text_by, is_one_left}
 use Rattle.bhs_protocols.proofs.HalvesMarks.{equal}
-use Rattle.bhs_protocols.proofs.SearchLemmas.{read_other, text_fits, bytes_same, bytes_other}
+use Rattle.bhs_protocols.proofs.SearchLemmas.{agents_two, bytes_other, bytes_same, distance, read_other, sum_is}
+use Rattle.bhs_protocols.proofs.SearchLemmas.{text_fits, within_n}
 use Rattle.bhs_protocols.proofs.TurnLemmas.{enters, departs, accuses as accuses_link, writes, writes_not}
 use Rattle.bhs_protocols.proofs.ExplorerSteps.{Way, IsWay, IsAbout, does_by, ended, paces, trip}
-use Rattle.bhs_protocols.proofs.ExplorerState.{Game, Keeps, Onward, Turn, agents_two, all as all_of, along as along_of}
-use Rattle.bhs_protocols.proofs.ExplorerState.{assembled, below_last, below_next, both_safe, come, cost, distance}
-use Rattle.bhs_protocols.proofs.ExplorerState.{has_room, mem, most_moves, placed_as, sum_is, trial as trial_of, trips}
-use Rattle.bhs_protocols.proofs.ExplorerState.{way as way_from, way_is, within_n}
+use Rattle.bhs_protocols.proofs.ExplorerState.{Game, Keeps, Onward, Turn, all as all_of, along as along_of, assembled}
+use Rattle.bhs_protocols.proofs.ExplorerState.{below_last, below_next, both_safe, come, cost, has_room, mem, most_moves}
+use Rattle.bhs_protocols.proofs.ExplorerState.{placed_as, trial as trial_of, trips, way as way_from, way_is}
 
 -- a way to another node than the home base has a step
 pub has_steps : (game : Game) (s k : ℕ) → s < 2 → k < game.n → 0 < k → 0 < (game.way_to s k).steps
@@ -41,13 +41,13 @@ has_steps game s k below within some =
       | inr h ↦ omega (arith, h.1)
     ]
 
-pub some_steps : (game : Game) (s : ℕ) (m : Memory) → s < 2 → m.mine < distance game s → 0 < all_of game s m
+pub some_steps : (game : Game) (s : ℕ) (m : Memory) → s < 2 → m.mine < distance game.search s → 0 < all_of game s m
 some_steps game s m below safe =
-    let within : distance game s < game.n = within_n game s below in
+    let within : distance game.search s < game.n = within_n game.search s below in
     has_steps game s (m.mine + 1) below (omega (arith, safe, within)) (omega arith)
 
 -- each way begins at the home base
-pub at_home : (game : Game) (s : ℕ) (m : Memory) → s < 2 → m.mine < distance game s
+pub at_home : (game : Game) (s : ℕ) (m : Memory) → s < 2 → m.mine < distance game.search s
     → along_of game s m 0 ≡ game.world.home
 at_home game s m below safe =
     ap (game.node s) (way_is game s m below safe).first ∙ game.search.home s
@@ -86,8 +86,8 @@ module _ {game : Game} (on : Turn game) where
 
   pub about : (phase : Phase) → M.phase ≡ phase → IsAbout n trial.minds holds way_to s past phase
   about phase is =
-      let safe : M.mine < distance game s = inv.own.safe in
-      let within : distance game s < n = within_n game s pair.own in
+      let safe : M.mine < distance game.search s = inv.own.safe in
+      let within : distance game.search s < n = within_n game.search s pair.own in
       record { below = pair.own; side = inv.own.side; within = omega (arith, safe, within); is = is }
 
   pub is_way : IsWay world.net (node s) (M.mine + 1) way
@@ -109,7 +109,7 @@ module _ {game : Game} (on : Turn game) where
       (record M { theirs = O.mine; phase = GoesOut 0 (way.ahead 0) }) (At world.home None)
       (Heard (Here (world.net.degree world.home) None (picture.shown world.home))) 0 0 (picture.accused s)
       picture.shown picture.reached pair inv
-      (enters trial picture s (agents_two game s pair.own) placed.0 says)
+      (enters trial picture s (agents_two game.search s pair.own) placed.0 says)
       (explorers.enters s past (world.net.degree world.home) None (picture.shown world.home) (about Begins is)
       ∙ (λ i. record M { theirs = read i; phase = GoesOut 0 (way.ahead 0) }))
       (record {
@@ -143,7 +143,7 @@ module _ {game : Game} (on : Turn game) where
   goes_turn node port came after is says at room there keeps =
       assembled game s o picture (turn_in trial picture s) after (Bound node port) (Heard Gone) 1 1 (picture.accused s)
       picture.shown picture.reached pair inv
-      (departs trial picture s (agents_two game s pair.own) node port came at says room there) is keeps
+      (departs trial picture s (agents_two game.search s pair.own) node port came at says room there) is keeps
 
   pub out_turn : (step port : ℕ) → M.phase ≡ GoesOut step port → Onward game s o picture (turn_in trial picture s)
   out_turn step port is =
@@ -155,7 +155,7 @@ module _ {game : Game} (on : Turn game) where
       let p : paces all M.phase ≡ 1 + 2 * step = ap (paces all) is in
       let c : come game M.mine M.phase ≡ M.mine = ap (come game M.mine) is in
       let used : picture.used s ≤ cost game s M = inv.own.used in
-      let safe : M.mine < distance game s = inv.own.safe in
+      let safe : M.mine < distance game.search s = inv.own.safe in
       let there : port < world.net.degree (along step) =
       subst (λ (k : ℕ). k < world.net.degree (along step)) (sym ahead) (is_way.ahead step before) in
       let rt : trips game s M.mine + all ≤ most_moves game s = below_last game s M.mine safe in
@@ -167,15 +167,15 @@ module _ {game : Game} (on : Turn game) where
       let tests = both_true (step + 1 == all) (is_one_left n M) yes in
       let last : step + 1 ≡ all = equal (step + 1) all tests.0 in
       let left_one : M.mine + M.theirs + 2 ≡ n = equal (M.mine + M.theirs + 2) n tests.1 in
-      let sum : distance game s + distance game o ≡ n = sum_is game s o pair in
-      let safe_too : O.mine < distance game o = inv.other.safe in
+      let sum : distance game.search s + distance game.search o ≡ n = sum_is game.search s o pair in
+      let safe_too : O.mine < distance game.search o = inv.other.safe in
       let known : M.theirs ≤ O.mine = inv.known in
-      let edge : M.mine + 1 ≡ distance game s = omega (arith, sum, safe, safe_too, known, left_one) in
+      let edge : M.mine + 1 ≡ distance game.search s = omega (arith, sum, safe, safe_too, known, left_one) in
       let says : trial.minds s past ≡ Says (Accuse port) =
       says_by ∙ ap (does_by n way M) is ∙ cond-true _ _ _ yes in
       assembled game s o picture (turn_in trial picture s) (record M { phase = Ends }) After (Heard Noted) 1 0
       (Some (along step, port)) picture.shown picture.reached pair inv
-      (accuses_link trial picture s (agents_two game s pair.own) (along step) port placed.2.came placed.2.at says
+      (accuses_link trial picture s (agents_two game.search s pair.own) (along step) port placed.2.came placed.2.at says
       room there) (explorers.ends s past step port (about (GoesOut step port) is))
       (record {
         fit = record {
@@ -242,7 +242,7 @@ module _ {game : Game} (on : Turn game) where
       let placed = placed_as game s picture (ComesBack step port) is inv.own in
       let some : 0 < step = placed.0 in
       let within : step ≤ all = placed.1 in
-      let next : M.mine + 1 < distance game s = placed.2 in
+      let next : M.mine + 1 < distance game.search s = placed.2 in
       let behind : port ≡ way.behind step = placed.3 in
       let t : trip all M.phase ≡ 2 * all - step = ap (trip all) is in
       let e : ended M.phase ≡ 0 = ap ended is in
@@ -254,7 +254,8 @@ module _ {game : Game} (on : Turn game) where
       subst (λ (k : ℕ). k < world.net.degree (along step)) (sym behind)
       (subst (λ (k : ℕ). way.behind k < world.net.degree (along k)) index
       (is_way.behind (step - 1) (omega (arith, some, within)))) in
-      let rt : trips game s M.mine + 2 * all ≤ trips game s (distance game s - 1) = below_next game s M.mine next in
+      let rt : trips game s M.mine + 2 * all ≤ trips game s (distance game.search s - 1) =
+      below_next game s M.mine next in
       let room : picture.used s < world.quota = has_room game s o picture pair inv (omega (arith, t, e, rt)) in
       goes_turn (along step) port placed.4.came (record M { phase = Returns step })
       (explorers.turns s past step port (about (ComesBack step port) is)) (says_by ∙ ap (does_by n way M) is)
@@ -279,7 +280,7 @@ module _ {game : Game} (on : Turn game) where
   pub write_turn : M.phase ≡ Writes → Onward game s o picture (turn_in trial picture s)
   write_turn is =
       let placed = placed_as game s picture Writes is inv.own in
-      let next : M.mine + 1 < distance game s = placed.0 in
+      let next : M.mine + 1 < distance game.search s = placed.0 in
       let came : Option ℕ = placed.1.came in
       let on : picture.position s ≡ At world.home came = placed.1.at in
       let t : trip all M.phase ≡ 2 * all = ap (trip all) is in
@@ -289,7 +290,8 @@ module _ {game : Game} (on : Turn game) where
       let used : picture.used s ≤ cost game s M = inv.own.used in
       let known : M.theirs ≤ O.mine = inv.known in
       let known_too : O.theirs ≤ M.mine = inv.known_too in
-      let rt : trips game s M.mine + 2 * all ≤ trips game s (distance game s - 1) = below_next game s M.mine next in
+      let rt : trips game s M.mine + 2 * all ≤ trips game s (distance game.search s - 1) =
+      below_next game s M.mine next in
       let more : trips game s (M.mine + 1) ≡ trips game s M.mine + 2 * all = game.more_trips s M.mine in
       let room_left : picture.used s < world.quota = has_room game s o picture pair inv (omega (arith, t, e, rt)) in
       let expect : List ℕ = text_by s M.mine M.theirs in
@@ -309,7 +311,8 @@ module _ {game : Game} (on : Turn game) where
             assembled game s o picture (turn_in trial picture s) after
             (At world.home came) (Heard Written) 1 0 (picture.accused s)
             (changed picture.shown world.home put) picture.reached pair inv
-            (writes trial picture s (agents_two game s pair.own) world.home came expect put on says room_left fits same)
+            (writes trial picture s (agents_two game.search s pair.own) world.home came expect put on says room_left
+            fits same)
             (explorers.wrote s past (about Writes is))
             (record {
               fit = record {
@@ -346,8 +349,8 @@ module _ {game : Game} (on : Turn game) where
             assembled game s o picture (turn_in trial picture s) (record M { theirs = O.mine; phase = Writes })
             (At world.home came) (Heard (Changed (picture.shown world.home))) 1 0 (picture.accused s)
             picture.shown picture.reached pair inv
-            (writes_not trial picture s (agents_two game s pair.own) world.home came expect put on says room_left fits
-            unlike)
+            (writes_not trial picture s (agents_two game.search s pair.own) world.home came expect put on says room_left
+            fits unlike)
             (explorers.reads s past (picture.shown world.home) (about Writes is)
             ∙ (λ i. record M { theirs = read i; phase = is i }))
             (record {

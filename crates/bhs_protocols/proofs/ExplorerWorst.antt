@@ -11,15 +11,15 @@ use Rattle.bhs_protocols.specs.declared.shuttle.Memory.{Memory}
 use Rattle.bhs_protocols.specs.declared.shuttle.Phase.TheVariants.{Leaves, Ends}
 use Rattle.bhs_protocols.proofs.AttainedLemmas.{attained_by, two_rest}
 use Rattle.bhs_protocols.proofs.LastWordLemmas.{turns_in_append}
-use Rattle.bhs_protocols.proofs.SearchLemmas.{Pair, swapped_pair}
+use Rattle.bhs_protocols.proofs.SearchLemmas.{Pair, distance, one_zero, sum_is, swapped_pair, zero_one}
 use Rattle.bhs_protocols.proofs.ExplorerSteps.{trip}
-use Rattle.bhs_protocols.proofs.ExplorerState.{Game, Inv, Onward, all, along, at_last, at_turn, distance, mem}
-use Rattle.bhs_protocols.proofs.ExplorerState.{most_commands, most_moves, placed_as, progress, spent, sum_is, swapped}
-use Rattle.bhs_protocols.proofs.ExplorerState.{trial as trial_of, trips, way}
+use Rattle.bhs_protocols.proofs.ExplorerState.{Game, Inv, Onward, all, along, at_last, at_turn, mem, most_commands}
+use Rattle.bhs_protocols.proofs.ExplorerState.{most_moves, placed_as, progress, spent, swapped, trial as trial_of}
+use Rattle.bhs_protocols.proofs.ExplorerState.{trips, way}
 use Rattle.bhs_protocols.proofs.ExplorerTurns.{some_steps}
 use Rattle.bhs_protocols.proofs.ExplorerArrivals.{bound_moves, last_doomed}
 use Rattle.bhs_protocols.proofs.ExplorerRest.{IsLost, any_turn, resting}
-use Rattle.bhs_protocols.proofs.ExplorerVerdict.{not_both, zero_one}
+use Rattle.bhs_protocols.proofs.ExplorerVerdict.{not_both}
 use Rattle.bhs_protocols.proofs.ExplorerLemmas.{first_inv, spent_in}
 
 module _ (game : Game) where
@@ -80,17 +80,17 @@ module _ (game : Game) where
     other : mem game picture o ≡ mem game blank o
 
   gone_by : (s o : ℕ) (picture : Picture) (pair : Pair s o) (inv : Inv game s o picture) → IsAlone o picture
-      → 2 ≤ distance game o → can_move_in trial picture s ≡ false → IsLost (at_turn game s o picture pair inv)
+      → 2 ≤ distance game.search o → can_move_in trial picture s ≡ false → IsLost (at_turn game s o picture pair inv)
   gone_by s o picture pair inv alone far still =
       elim (resting (at_turn game s o picture pair inv) (mem game picture s).phase refl still) [
         | inl h ↦
             let placed = placed_as game s picture Ends h inv.own in
-            let edge : (mem game picture s).mine + 1 ≡ distance game s = placed.1 in
+            let edge : (mem game picture s).mine + 1 ≡ distance game.search s = placed.1 in
             let one_left : (mem game picture s).mine + (mem game picture s).theirs + 2 ≡ n = placed.3 in
             let known : (mem game picture s).theirs ≤ (mem game picture o).mine = inv.known in
             let none : (mem game picture o).mine ≡ 0 =
             ap (λ (m : Memory). m.mine) (alone.other ∙ game.explorers.starts o) in
-            let sum : distance game s + distance game o ≡ n = sum_is game s o pair in
+            let sum : distance game.search s + distance game.search o ≡ n = sum_is game.search s o pair in
             absurd (omega (arith, edge, one_left, known, none, sum, far))
         | inr h ↦ h
       ]
@@ -99,7 +99,7 @@ module _ (game : Game) where
   record IsGone (s step : ℕ) (picture : Picture) : Type 0 where
     phase : (mem game picture s).phase ≡ Leaves step
     last : step + 1 ≡ all game s (mem game picture s)
-    edge : (mem game picture s).mine + 1 ≡ distance game s
+    edge : (mem game picture s).mine + 1 ≡ distance game.search s
 
   -- then the other accuses, and all moves but its last one are made
   all_made : (s o step : ℕ) (picture : Picture) (pair : Pair s o) (inv : Inv game o s picture) → IsGone s step picture
@@ -118,7 +118,7 @@ module _ (game : Game) where
       elim (resting (at_turn game o s picture pair_too inv) m_too.phase refl still) [
         | inl h ↦
             let placed = placed_as game o picture Ends h inv.own in
-            let edge_too : m_too.mine + 1 ≡ distance game o = placed.1 in
+            let edge_too : m_too.mine + 1 ≡ distance game.search o = placed.1 in
             let on_trip_too : trip (all game o m_too) m_too.phase ≡ all game o m_too - 1 =
             ap (trip (all game o m_too)) h in
             let whole_too : trips game o m_too.mine + all game o m_too ≡ most_moves game o =
@@ -166,7 +166,7 @@ module _ (game : Game) where
             ∙ all_made s o step end pair two.inv two.holds two.still;
       }
 
-  worst_after : (s o : ℕ) → Pair s o → 2 ≤ distance game o → HasRun s o (IsAlone o) blank → IsWorst s o
+  worst_after : (s o : ℕ) → Pair s o → 2 ≤ distance game.search o → HasRun s o (IsAlone o) blank → IsWorst s o
   worst_after s o pair far one =
       let middle : Picture = turns_in trial blank one.schedule in
       let gone : IsLost (at_turn game s o middle pair one.inv) =
@@ -174,13 +174,13 @@ module _ (game : Game) where
       worst_of s o gone.step pair one (second_run s o gone.step middle pair one.inv
       (record { phase = gone.phase; last = gone.last; edge = gone.edge }))
 
-  worst_by : (s o : ℕ) → Pair s o → Inv game s o blank → 2 ≤ distance game o → IsWorst s o
+  worst_by : (s o : ℕ) → Pair s o → Inv game s o blank → 2 ≤ distance game.search o → IsWorst s o
   worst_by s o pair first far = worst_after s o pair far (first_run s o pair first)
 
   pub attains : IsAttained trial (most_moves game 0 + most_moves game 1 - 1)
   attains = by_cases (nat_lt 1 left) (IsAttained trial (most_moves game 0 + most_moves game 1 - 1))
       (λ yes.
-      let it : IsWorst 0 1 = worst_by 0 1 (zero_one game) (first_inv game) (ltb-true 1 left yes) in
+      let it : IsWorst 0 1 = worst_by 0 1 zero_one (first_inv game) (ltb-true 1 left yes) in
       attained_by trial it.schedule (most_moves game 0 + most_moves game 1 - 1) (turns_in trial blank it.schedule) refl
       (two_rest trial (turns_in trial blank it.schedule) search.agents it.still it.still_too) it.moves)
       (λ none.
@@ -189,7 +189,7 @@ module _ (game : Game) where
       let three : 3 ≤ n = game.three in
       let far : 2 ≤ right = omega (arith, near, sum, three) in
       let it : IsWorst 1 0 =
-      worst_by 1 0 (swapped_pair 0 1 (zero_one game)) (swapped game 0 1 blank (zero_one game) (first_inv game)) far in
+      worst_by 1 0 one_zero (swapped game 0 1 blank zero_one (first_inv game)) far in
       attained_by trial it.schedule (most_moves game 0 + most_moves game 1 - 1) (turns_in trial blank it.schedule) refl
       (two_rest trial (turns_in trial blank it.schedule) search.agents it.still_too it.still)
       (it.moves ∙ turned (most_moves game 1) (most_moves game 0)))

@@ -20,13 +20,12 @@ use Rattle.bhs_protocols.specs.Shuttle.{other_in, text_by}
 use Rattle.bhs_protocols.specs.Halving.{walks_at}
 use Rattle.bhs_protocols.specs.Halves.{own_in, target_by, theirs_by, learned, follows, came_near, goes_back, after_in}
 use Rattle.bhs_protocols.proofs.HalvesDues.{owing, paces, miss, mark_at, beside, come, last, part, told}
-use Rattle.bhs_protocols.proofs.SearchLemmas.{both, opposite, text_other, read_other, bytes_same}
+use Rattle.bhs_protocols.proofs.SearchLemmas.{agents_two, both, bytes_same, opposite, read_other, sides, text_other}
 use Rattle.bhs_protocols.proofs.MovingLemmas as moving
 use Rattle.bhs_protocols.proofs.TurnLemmas.{Becomes}
 use Rattle.bhs_protocols.proofs.HalvesMarks.{equal, mark_here, read_own}
-use Rattle.bhs_protocols.proofs.HalvesState.{Game, IsDone, Onward, Turn, agents_two, distance, doomed_is, hole_at, mem}
-use Rattle.bhs_protocols.proofs.HalvesState.{nodes_due, positive, rest_of, safe_before, stale, trial as trial_of}
-use Rattle.bhs_protocols.proofs.HalvesState.{within_n}
+use Rattle.bhs_protocols.proofs.HalvesState.{Game, IsDone, Onward, Turn, distance, doomed_is, hole_at, mem, nodes_due}
+use Rattle.bhs_protocols.proofs.HalvesState.{positive, rest_of, safe_before, stale, trial as trial_of, within_n}
 use Rattle.bhs_protocols.proofs.HalvesTurns.{far_safe, held, other_fit, own_fit, paced, part_more, placed_as}
 use Rattle.bhs_protocols.proofs.HalvesTurns.{small_side, two_sides}
 
@@ -53,7 +52,7 @@ module _ {game : Game} (on : Turn game) where
 
   pub bound_moves : (node port : ℕ) → picture.position s ≡ Bound node port
       → can_move_in trial picture s ≡ not (doomed world node port)
-  bound_moves node port at = moving.bound_moves trial picture s (agents_two game s pair.own) node port at refl
+  bound_moves node port at = moving.bound_moves trial picture s (agents_two (sides search) s pair.own) node port at refl
 
   grows_by : (target k : ℕ) → picture.reached k ≡ true → changed picture.reached target true k ≡ true
   grows_by = moving.grows_by picture.reached
@@ -65,14 +64,6 @@ module _ {game : Game} (on : Turn game) where
   Arrives node label = Becomes picture (turn_in trial picture s) s (At node (Some label)) (come_to node label) 0 0
       (picture.accused s) picture.shown (changed picture.reached node true)
 
-  arrives_at : (node port target label : ℕ) → picture.position s ≡ Bound node port
-      → world.net.far node port ≡ (target, label) → doomed world node port ≡ false →
-      Becomes picture (turn_in trial picture s) s (At target (Some label))
-      (Heard (Here (world.net.degree target) (Some label) (picture.shown target))) 0 0 (picture.accused s)
-      picture.shown (changed picture.reached target true)
-  arrives_at node port target label at far safe =
-      moving.arrives_at trial picture s (agents_two game s pair.own) node port target label at refl far safe
-
   -- outwards, and towards the home base
   out_to : (side steps : ℕ) → side < 2 → steps + 1 < distance game side
       → picture.position s ≡ Bound (ways.node side steps) (ways.ahead side steps)
@@ -80,8 +71,8 @@ module _ {game : Game} (on : Turn game) where
   out_to side steps below before at =
       let within : distance game side < n = within_n game side below in
       let far = search.ring.out side steps below (omega (arith, before, within)) in
-      arrives_at (ways.node side steps) (ways.ahead side steps) (ways.node side (steps + 1))
-      (1 - ways.ahead side (steps + 1)) at far
+      moving.arrives_at trial picture s (agents_two (sides search) s pair.own) (ways.node side steps)
+      (ways.ahead side steps) (ways.node side (steps + 1)) (1 - ways.ahead side (steps + 1)) at refl far
       (doomed_is game (ways.node side steps) (ways.ahead side steps) (ways.node side (steps + 1))
       (1 - ways.ahead side (steps + 1)) far ∙ safe_before game side (steps + 1) below before)
 
@@ -90,8 +81,8 @@ module _ {game : Game} (on : Turn game) where
       → Arrives (ways.node side steps) (ways.ahead side steps)
   back_to side steps below within before at =
       let far = search.ring.back side steps below within in
-      arrives_at (ways.node side (steps + 1)) (1 - ways.ahead side (steps + 1)) (ways.node side steps)
-      (ways.ahead side steps) at far
+      moving.arrives_at trial picture s (agents_two (sides search) s pair.own) (ways.node side (steps + 1))
+      (1 - ways.ahead side (steps + 1)) (ways.node side steps) (ways.ahead side steps) at refl far
       (doomed_is game (ways.node side (steps + 1)) (1 - ways.ahead side (steps + 1)) (ways.node side steps)
       (ways.ahead side steps) far ∙ safe_before game side steps below before)
 

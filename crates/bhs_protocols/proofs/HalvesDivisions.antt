@@ -22,12 +22,12 @@ use Rattle.bhs_protocols.specs.Halving.{rounds, walks_at}
 use Rattle.bhs_protocols.specs.Halves.{own_in, left_by, does_in, after_in}
 use Rattle.bhs_protocols.proofs.HalvesDues.{spent, back, ways_due, owing, paces, miss, mark_at, beside, come, last}
 use Rattle.bhs_protocols.proofs.HalvesDues.{part, told}
-use Rattle.bhs_protocols.proofs.SearchLemmas.{both, opposite, text_other, read_other, text_fits}
+use Rattle.bhs_protocols.proofs.SearchLemmas.{agents_two, both, opposite, read_other, sides, text_fits, text_other}
 use Rattle.bhs_protocols.proofs.HalvingLemmas.{ways_are_paid, rounds_half, rounds_within, walks_at_within}
 use Rattle.bhs_protocols.proofs.TurnLemmas.{writes, writes_not}
 use Rattle.bhs_protocols.proofs.HalvesMarks.{equal, mark_after, mark_before, mark_here, not_lt, read_own}
-use Rattle.bhs_protocols.proofs.HalvesState.{Game, IsDone, IsPlaced, Onward, Turn, agents_two, assembled, distance, due}
-use Rattle.bhs_protocols.proofs.HalvesState.{link, mem, nodes_due, rest_of, stale, trial as trial_of}
+use Rattle.bhs_protocols.proofs.HalvesState.{Game, IsDone, IsPlaced, Onward, Turn, assembled, distance, due, link, mem}
+use Rattle.bhs_protocols.proofs.HalvesState.{nodes_due, rest_of, stale, trial as trial_of}
 use Rattle.bhs_protocols.proofs.HalvesTurns.{accuse_turn, ahead_fits, by_port, distances, done_part, far_safe, has_room}
 use Rattle.bhs_protocols.proofs.HalvesTurns.{other_fit, own_fit, part_small, placed_as, small_side, two_sides}
 use Rattle.bhs_protocols.proofs.HalvesArrivals.{far_below, firsts_back, follows_at, homes_are, marked_far}
@@ -310,7 +310,7 @@ module _ {game : Game} (on : Turn game) where
       subst (λ (side : ℕ). steps < distance game side) pair.is (omega (arith, last_node, safe_too)) in
       assembled game s o v w picture (turn_in trial picture s) after (At node came) (Heard Written) 1 0
       (picture.accused s) 0 mark shown picture.reached pair inv
-      (writes trial picture s (agents_two game s pair.own) node came (text_by s M.own M.other) put at says
+      (writes trial picture s (agents_two (sides search) s pair.own) node came (text_by s M.own M.other) put at says
       (has_room on (omega (arith, p))) fits same)
       holds
       (record {
@@ -471,7 +471,7 @@ module _ {game : Game} (on : Turn game) where
       (λ none.
       let st_is : stale game s M M.phase picture.shown ≡ 1 = st ∙ ap miss none in
       follows_at on steps port (At node came) (Heard (Changed (picture.shown node))) 1 0 came picture.reached
-      (writes_not trial picture s (agents_two game s pair.own) node came expect put placed.3.at says
+      (writes_not trial picture s (agents_two (sides search) s pair.own) node came expect put placed.3.at says
       (has_room on (omega (arith, p))) fits none)
       (ap (λ (ph : Phase). after_in n M ph (Heard (Changed (picture.shown node)))) is) refl done few placed.2
       placed.5 (λ k was. was) (λ k some far. (own_fit on).reached k some (omega (arith, far, c))) (omega arith)

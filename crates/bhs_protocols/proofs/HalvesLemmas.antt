@@ -1,12 +1,11 @@
 -- The search by halves solves every ring.
 use Rattle.std.proofs.Common.{ℕ, zero, suc, ◌+◌, ◌-◌, ◌/◌, ◌<◌, ◌≤◌, ◌≡◌, true, false, ◌==◌, [], refl, sym, ap, ◌∙◌}
 use Rattle.std.proofs.Common.{subst, nat_lt, arith}
-use Rattle.std.specs.Prelude.{◌≢◌}
 use Rattle.std.proofs.lemmas.Bool.{lt-ltb, ltb-true, true≢false, cond-true, cond-false}
-use Rattle.bhs_model.specs.declared.commands.Command.{Command}
+use Rattle.bhs_model.specs.declared.commands.Command.TheVariants.{Depart, Accuse}
 use Rattle.bhs_model.specs.declared.replies.Reply.TheVariants.{Over}
 use Rattle.bhs_model.proofs.StepLemmas.{by_cases}
-use Rattle.bhs_explore.specs.declared.minds.Step.TheVariants.{Says, Sleeps, Fails}
+use Rattle.bhs_explore.specs.declared.minds.Step.TheVariants.{Says}
 use Rattle.bhs_explore.specs.Minds.{Heard}
 use Rattle.bhs_explore.specs.Schedules.{Trial}
 use Rattle.bhs_protocols.specs.Pictures.{Picture, blank, can_move_in, turn_in}
@@ -22,14 +21,15 @@ use Rattle.bhs_protocols.specs.Halving.{most_turns}
 use Rattle.bhs_protocols.proofs.HalvesDues.{mark_at, beside, last}
 use Rattle.bhs_protocols.specs.HalvesLaws.{halves_bounds, HalvesSolve}
 use Rattle.bhs_protocols.specs.Invariants.{Bounds, GoesOn, IsInvariant}
-use Rattle.bhs_protocols.proofs.SearchLemmas.{both}
+use Rattle.bhs_protocols.proofs.SearchLemmas.{both, one_zero, zero_one}
 use Rattle.bhs_protocols.proofs.Principle.{invariants_solve}
+use Rattle.bhs_protocols.proofs.MovingLemmas.{is_steady, fails_not, sleeps_not, steady_if}
 use Rattle.bhs_protocols.proofs.HalvingLemmas.{rounds_within, walks_at_within}
 use Rattle.bhs_protocols.proofs.HalvesMarks.{mark_after, mark_here, not_lt}
 use Rattle.bhs_protocols.proofs.HalvesState.{AreMarked, Game, Inv, Onward, at_turn, due, mem, rest_of, swapped}
 use Rattle.bhs_protocols.proofs.HalvesState.{trial as trial_of, turns_due}
 use Rattle.bhs_protocols.proofs.HalvesRest.{any_turn}
-use Rattle.bhs_protocols.proofs.HalvesVerdict.{at_rest, one_zero, zero_one}
+use Rattle.bhs_protocols.proofs.HalvesVerdict.{at_rest}
 
 module _ (game : Game) where
   open game use {n, right, left, search}
@@ -39,58 +39,23 @@ module _ (game : Game) where
 
   -- ---- no program fails, and none sleeps
 
-  says_not : {command : Command} → Says command ≢ Fails
-  says_not h = cc
-
-  says_awake : {command : Command} → Says command ≢ Sleeps
-  says_awake h = cc
-
-  never_fails : (m : Memory) (phase : Phase) → does_in n m phase ≢ Fails
-  never_fails m Begins = λ h. cc
-  never_fails m (GoesOut steps port) = by_cases (is_done m steps) (does_in n m (GoesOut steps port) ≢ Fails)
-      (λ yes. by_cases (left_by n m.mine m.theirs == 1) (does_in n m (GoesOut steps port) ≢ Fails)
-      (λ only h. says_not (sym (cond-true _ _ _ yes ∙ cond-true _ _ _ only) ∙ h))
-      (λ more h. says_not (sym (cond-true _ _ _ yes ∙ cond-false _ _ _ more) ∙ h)))
-      (λ none h. says_not (sym (cond-false _ _ _ none) ∙ h))
-  never_fails m (Leaves steps) = λ h. cc
-  never_fails m Tries = λ h. cc
-  never_fails m (Turns port) = λ h. cc
-  never_fails m Returns = λ h. cc
-  never_fails m (Writes port) = λ h. cc
-  never_fails m (GoesHome steps port) = λ h. cc
-  never_fails m (NearsHome steps) = λ h. cc
-  never_fails m (Follows steps port) = λ h. cc
-  never_fails m (Passes steps) = λ h. cc
-  never_fails m (Tells steps port) = by_cases (left_by n m.mine steps == 1)
-      (does_in n m (Tells steps port) ≢ Fails)
-      (λ only h. says_not (sym (cond-true _ _ _ only) ∙ h)) (λ more h. says_not (sym (cond-false _ _ _ more) ∙ h))
-  never_fails m (ComesHome steps port) = λ h. cc
-  never_fails m (NearsBack steps) = λ h. cc
-  never_fails m Ends = λ h. cc
-
-  never_sleeps : (m : Memory) (phase : Phase) → does_in n m phase ≢ Sleeps
-  never_sleeps m Begins = λ h. cc
-  never_sleeps m (GoesOut steps port) = by_cases (is_done m steps) (does_in n m (GoesOut steps port) ≢ Sleeps)
-      (λ yes. by_cases (left_by n m.mine m.theirs == 1) (does_in n m (GoesOut steps port) ≢ Sleeps)
-      (λ only h. says_awake (sym (cond-true _ _ _ yes ∙ cond-true _ _ _ only) ∙ h))
-      (λ more h. says_awake (sym (cond-true _ _ _ yes ∙ cond-false _ _ _ more) ∙ h)))
-      (λ none h. says_awake (sym (cond-false _ _ _ none) ∙ h))
-  never_sleeps m (Leaves steps) = λ h. cc
-  never_sleeps m Tries = λ h. cc
-  never_sleeps m (Turns port) = λ h. cc
-  never_sleeps m Returns = λ h. cc
-  never_sleeps m (Writes port) = λ h. cc
-  never_sleeps m (GoesHome steps port) = λ h. cc
-  never_sleeps m (NearsHome steps) = λ h. cc
-  never_sleeps m (Follows steps port) = λ h. cc
-  never_sleeps m (Passes steps) = λ h. cc
-  never_sleeps m (Tells steps port) = by_cases (left_by n m.mine steps == 1)
-      (does_in n m (Tells steps port) ≢ Sleeps)
-      (λ only h. says_awake (sym (cond-true _ _ _ only) ∙ h))
-      (λ more h. says_awake (sym (cond-false _ _ _ more) ∙ h))
-  never_sleeps m (ComesHome steps port) = λ h. cc
-  never_sleeps m (NearsBack steps) = λ h. cc
-  never_sleeps m Ends = λ h. cc
+  steady : (m : Memory) (phase : Phase) → is_steady (does_in n m phase) ≡ true
+  steady m Begins = refl
+  steady m (GoesOut steps port) = steady_if (is_done m steps) _ (Says (Depart port))
+      (steady_if (left_by n m.mine m.theirs == 1) (Says (Accuse port)) (Says (Depart (1 - port))) refl refl) refl
+  steady m (Leaves steps) = refl
+  steady m Tries = refl
+  steady m (Turns port) = refl
+  steady m Returns = refl
+  steady m (Writes port) = refl
+  steady m (GoesHome steps port) = refl
+  steady m (NearsHome steps) = refl
+  steady m (Follows steps port) = refl
+  steady m (Passes steps) = refl
+  steady m (Tells steps port) = steady_if (left_by n m.mine steps == 1) (Says (Accuse port)) _ refl refl
+  steady m (ComesHome steps port) = refl
+  steady m (NearsBack steps) = refl
+  steady m Ends = refl
 
   -- ---- before anything has happened
 
@@ -223,7 +188,7 @@ module _ (game : Game) where
   goes_on_by picture turns zero below moves held =
       let new : Picture = turn_in trial picture 0 in
       let on : Onward game 0 1 held.mark held.mark_too picture new =
-      any_turn (at_turn game 0 1 held.mark held.mark_too picture (zero_one game) held.inv) moves in
+      any_turn (at_turn game 0 1 held.mark held.mark_too picture zero_one held.inv) moves in
       let fewer : turns_due game 0 (mem game new 0) on.mark new.shown
       + turns_due game 1 (mem game new 1) on.mark_too new.shown
       < turns_due game 0 (mem game picture 0) held.mark picture.shown
@@ -240,7 +205,7 @@ module _ (game : Game) where
   goes_on_by picture turns (suc zero) below moves held =
       let new : Picture = turn_in trial picture 1 in
       let on : Onward game 1 0 held.mark_too held.mark picture new =
-      any_turn (at_turn game 1 0 held.mark_too held.mark picture (one_zero game)
+      any_turn (at_turn game 1 0 held.mark_too held.mark picture one_zero
       (swapped game 0 1 held.mark held.mark_too picture held.inv))
       moves in
       let fewer : turns_due game 1 (mem game new 1) on.mark new.shown
@@ -277,16 +242,17 @@ module _ (game : Game) where
         let used : picture.used agent + turns_due game 0 (mem game picture 0) held.mark picture.shown
         + turns_due game 1 (mem game picture 1) held.mark_too picture.shown ≤ most_turns n = held.inv.used agent in
         omega (arith, used);
-    fine = λ picture turns agent within held. never_fails (mem game picture agent) (mem game picture agent).phase;
+    fine = λ picture turns agent within held.
+        fails_not _ (steady (mem game picture agent) (mem game picture agent).phase);
     settles = λ picture turns still held.
         let good = at_rest game held.mark held.mark_too picture held.inv still in
         record {
           outcome = good.0;
           few = good.1;
           over = λ agent node port within at.
-              never_fails (after_in n (mem game picture agent) (mem game picture agent).phase (Heard Over))
-              (after_in n (mem game picture agent) (mem game picture agent).phase (Heard Over)).phase;
-          awake = λ agent within at. never_sleeps (mem game picture agent) (mem game picture agent).phase;
+              let now : Memory = after_in n (mem game picture agent) (mem game picture agent).phase (Heard Over) in
+              fails_not _ (steady now now.phase);
+          awake = λ agent within at. sleeps_not _ (steady (mem game picture agent) (mem game picture agent).phase);
         };
   }
 

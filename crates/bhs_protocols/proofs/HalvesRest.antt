@@ -1,5 +1,5 @@
 -- The search by halves: any turn of an agent, and where it stands if it cannot move.
-use Rattle.std.proofs.Common.{ℕ, zero, suc, ◌+◌, ◌-◌, ◌<◌, ◌≤◌, ◌≡◌, ◌⊎◌, true, false, not, ◌==◌, Option, refl}
+use Rattle.std.proofs.Common.{ℕ, zero, suc, ◌+◌, ◌-◌, ◌<◌, ◌≤◌, ◌≡◌, ◌⊎◌, true, false, not, ◌==◌, refl}
 use Rattle.std.proofs.Common.{sym, ap, ◌∙◌, subst, inl, inr, arith}
 use Rattle.std.proofs.lemmas.Bool.{true≢false, cond-true, cond-false}
 use Rattle.std.proofs.lemmas.Bool.Decides.{eqb_tells}
@@ -20,8 +20,8 @@ use Rattle.bhs_protocols.specs.declared.halves.Phase.TheVariants.{ComesHome, Nea
 use Rattle.bhs_protocols.specs.Shuttle.{text_by}
 use Rattle.bhs_protocols.specs.Halves.{left_by, is_done, does_in}
 use Rattle.bhs_protocols.proofs.MovingLemmas as moving
-use Rattle.bhs_protocols.proofs.SearchLemmas.{opposite}
-use Rattle.bhs_protocols.proofs.HalvesState.{Game, Onward, Turn, agents_two, distance, doomed_is, mem, safe_before}
+use Rattle.bhs_protocols.proofs.SearchLemmas.{agents_two, opposite, sides}
+use Rattle.bhs_protocols.proofs.HalvesState.{Game, Onward, Turn, distance, doomed_is, mem, safe_before}
 use Rattle.bhs_protocols.proofs.HalvesState.{trial as trial_of, within_n}
 use Rattle.bhs_protocols.proofs.HalvesTurns.{begin_turn, come_home_turn, far_safe, follow_turn, home_turn, out_turn}
 use Rattle.bhs_protocols.proofs.HalvesTurns.{own_fit, placed_as, small_side, turns_turn}
@@ -46,7 +46,7 @@ module _ {game : Game} (on : Turn game) where
   -- ---- any turn
 
   end_still : M.phase ≡ Ends → can_move_in trial picture s ≡ false
-  end_still is = moving.end_stays trial picture s (agents_two game s pair.own) (placed_as on Ends is).0
+  end_still is = moving.end_stays trial picture s (agents_two (sides search) s pair.own) (placed_as on Ends is).0
 
   near_any : (steps : ℕ) → M.phase ≡ NearsHome steps → Onward game s o v w picture (turn_in trial picture s)
   near_any zero is = let some : 0 < 0 = (placed_as on (NearsHome zero) is).1 in absurd (omega (arith, some))
@@ -82,13 +82,7 @@ module _ {game : Game} (on : Turn game) where
   says_moves : (place : Position) (command : Command) → picture.position s ≡ place
       → deed_at none_held naps place (picture.woken s) (Says command) s ≡ Makes (Tell s command)
       → trial.minds s (picture.history s) ≡ Says command → can_move_in trial picture s ≡ true
-  says_moves = moving.says_moves trial picture s (agents_two game s pair.own)
-
-  at_node_moves : (node : ℕ) (came : Option ℕ) (command : Command) → picture.position s ≡ At node came
-      → trial.minds s (picture.history s) ≡ Says command
-      → deed_at none_held naps (At node came) (picture.woken s) (Says command) s ≡ Makes (Tell s command)
-      → can_move_in trial picture s ≡ true
-  at_node_moves node came command at says makes = says_moves (At node came) command at makes says
+  says_moves = moving.says_moves trial picture s (agents_two (sides search) s pair.own)
 
   out_moves : (side steps : ℕ) → side < 2 → steps + 1 < distance game side
       → picture.position s ≡ Bound (ways.node side steps) (ways.ahead side steps)

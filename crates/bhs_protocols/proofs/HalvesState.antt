@@ -22,7 +22,7 @@ use Rattle.bhs_protocols.specs.Halves.{after_in, halves, halves_trial}
 use Rattle.bhs_protocols.proofs.HalvesDues.{Seat, owing, paces, miss, mark_at, beside, come, last, part, told}
 use Rattle.bhs_protocols.specs.Halving.{most_turns}
 use Rattle.bhs_protocols.proofs.SearchLemmas as lemmas
-use Rattle.bhs_protocols.proofs.SearchLemmas.{both, opposite, Pair, apart_from, sides}
+use Rattle.bhs_protocols.proofs.SearchLemmas.{opposite, Pair, apart_from, sides}
 use Rattle.bhs_protocols.proofs.TurnLemmas.{Becomes}
 
 -- a match that the theorem speaks of
@@ -52,26 +52,26 @@ module _ (game : Game) where
   -- ---- the ring
 
   abbrev pub distance : ℕ → ℕ
-  distance = lemmas.distance world n right left ways.node (sides search)
+  distance = lemmas.distance (sides search)
 
   pub sum_is : (s o : ℕ) → Pair s o → distance s + distance o ≡ n
-  sum_is = lemmas.sum_is world n right left ways.node (sides search)
+  sum_is = lemmas.sum_is (sides search)
 
   pub positive : (s : ℕ) → s < 2 → 0 < distance s
-  positive = lemmas.positive world n right left ways.node (sides search)
+  positive = lemmas.positive (sides search)
 
   pub within_n : (s : ℕ) → s < 2 → distance s < n
-  within_n = lemmas.within_n world n right left ways.node (sides search)
+  within_n = lemmas.within_n (sides search)
 
   pub doomed_is : (node port target label : ℕ) → world.net.far node port ≡ (target, label)
       → doomed world node port ≡ (ways.node 0 right == target)
-  doomed_is = lemmas.doomed_is world n right left ways.node (sides search)
+  doomed_is = lemmas.doomed_is (sides search)
 
   pub hole_at : (s : ℕ) → s < 2 → ways.node s (distance s) ≡ ways.node 0 right
-  hole_at = lemmas.hole_at world n right left ways.node (sides search)
+  hole_at = lemmas.hole_at (sides search)
 
   pub safe_before : (s steps : ℕ) → s < 2 → steps < distance s → (ways.node 0 right == ways.node s steps) ≡ false
-  safe_before = lemmas.safe_before world n right left ways.node (sides search)
+  safe_before = lemmas.safe_before (sides search)
 
   -- ---- where agents are
 
@@ -334,9 +334,6 @@ module _ (game : Game) where
             keeps.progress;
         fewer = omega (arith, turns, fewer);
       }
-
-  pub agents_two : (s : ℕ) → s < 2 → s < world.agents
-  agents_two s below = subst (λ (k : ℕ). s < k) (sym search.agents) below
 
   -- a turn of agent s, with v and w the marks at the last safe nodes of both sides
   pub record Turn : Type 0 where

@@ -21,13 +21,13 @@ use Rattle.bhs_protocols.specs.Halving.{rounds, walks_at}
 use Rattle.bhs_protocols.specs.Halves.{target_by, theirs_by, left_by, is_done, does_in, after_in}
 use Rattle.bhs_protocols.specs.Halving.{most_turns}
 use Rattle.bhs_protocols.proofs.HalvesDues.{spent, owing, paces, come, last, part, told}
-use Rattle.bhs_protocols.proofs.SearchLemmas.{opposite}
+use Rattle.bhs_protocols.proofs.SearchLemmas.{agents_two, opposite, sides}
 use Rattle.bhs_protocols.proofs.HalvingLemmas.{last_ways_are_paid}
 use Rattle.bhs_protocols.proofs.TurnLemmas.{Becomes, enters, departs, accuses as accuses_link}
 use Rattle.bhs_protocols.proofs.HalvesMarks.{both_true, equal}
-use Rattle.bhs_protocols.proofs.HalvesState.{Fit, Game, IsDone, IsLate, IsPlaced, Onward, Turn, agents_two, assembled}
-use Rattle.bhs_protocols.proofs.HalvesState.{distance, due, link, mem, nodes_due, rest_of, seat, stale, sum_is}
-use Rattle.bhs_protocols.proofs.HalvesState.{trial as trial_of, turns_due, within_n}
+use Rattle.bhs_protocols.proofs.HalvesState.{Fit, Game, IsDone, IsLate, IsPlaced, Onward, Turn, assembled, distance}
+use Rattle.bhs_protocols.proofs.HalvesState.{due, link, mem, nodes_due, rest_of, seat, stale, sum_is, trial as trial_of}
+use Rattle.bhs_protocols.proofs.HalvesState.{turns_due, within_n}
 
 module _ {game : Game} (on : Turn game) where
   open game use {world, n, ways, search, enough}
@@ -187,7 +187,7 @@ module _ {game : Game} (on : Turn game) where
       → Onward game s o v w picture (turn_in trial picture s)
   goes phase node port came is says at there came_to placed one two none dues =
       paced M.target M.theirs M.own M.other phase (Bound node port) (Heard Gone) 1 1 (picture.accused s)
-      picture.reached (departs trial picture s (agents_two game s pair.own) node port came at says
+      picture.reached (departs trial picture s (agents_two (sides search) s pair.own) node port came at says
       (has_room (omega (arith, one))) there) is refl refl own_fit.reachable own_fit.known placed (λ k was. was)
       (λ k some far. own_fit.reached k some (omega (arith, far, came_to))) (omega arith) dues
       (omega (arith, one, two, none))
@@ -285,7 +285,7 @@ module _ {game : Game} (on : Turn game) where
       let c : come M.mine M.phase ≡ M.mine = ap (come M.mine) is in
       paced M.target M.theirs M.own M.other (GoesOut 0 M.side) (At world.home None)
       (Heard (Here (world.net.degree world.home) None (picture.shown world.home))) 0 0 (picture.accused s)
-      picture.reached (enters trial picture s (agents_two game s pair.own) placed.0 says)
+      picture.reached (enters trial picture s (agents_two (sides search) s pair.own) placed.0 says)
       (ap (λ (ph : Phase). after_in n M ph
       (Heard (Here (world.net.degree world.home) None (picture.shown world.home)))) is)
       refl refl own_fit.reachable own_fit.known (
@@ -392,7 +392,7 @@ module _ {game : Game} (on : Turn game) where
       let p : paces M.phase ≡ paces phase = ap paces is in
       let come_is : come M.mine M.phase ≡ come M.mine phase = ap (come M.mine) is in
       paced_by M.target M.theirs M.own M.other Ends After (Heard Noted) 1 0 (Some (node, port)) picture.reached
-      (accuses_link trial picture s (agents_two game s pair.own) node port came at says
+      (accuses_link trial picture s (agents_two (sides search) s pair.own) node port came at says
       (has_room (omega (arith, p, one)))
       there) holds refl refl own_fit.reachable own_fit.known (refl, all, right_one) (λ k was. was)
       (λ k some far. own_fit.reached k some (omega (arith, far, come_is, c))) (omega arith)

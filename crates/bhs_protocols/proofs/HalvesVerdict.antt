@@ -1,23 +1,17 @@
 -- The search by halves: once nothing more can happen, the match is solved.
-use Rattle.std.proofs.Common.{ℕ, ◌+◌, ◌-◌, ◌<◌, ◌≤◌, ◌≡◌, ◌⊎◌, Bool, true, false, not, ◌||◌, ◌==◌, Some, None, refl, ap}
-use Rattle.std.proofs.Common.{◌∙◌, subst, inl, inr, arith}
-use Rattle.std.specs.List.{list_any}
-use Rattle.std.proofs.lemmas.Bool.{eq-eqb}
-use Rattle.bhs_model.specs.Runs.{After}
+use Rattle.std.proofs.Common.{ℕ, ◌+◌, ◌<◌, ◌≤◌, ◌≡◌, ◌⊎◌, true, false, refl, ap, subst, inl, inr, arith}
 use Rattle.bhs_referee.specs.declared.verdicts.Outcome.TheVariants.{Solved}
-use Rattle.bhs_referee.specs.Verdicts.{passes, accuses, is_right, is_hole_accused, is_dark_accused, is_silent}
-use Rattle.bhs_referee.specs.Verdicts.{is_present, is_unfinished, first_unreached}
+use Rattle.bhs_referee.specs.Verdicts.{is_present}
 use Rattle.bhs_explore.specs.Schedules.{Trial}
-use Rattle.bhs_protocols.specs.Pictures.{Picture, IsResting, found_in, outcome_in, doomed_in}
+use Rattle.bhs_protocols.specs.Pictures.{Picture, IsResting, outcome_in, doomed_in}
 use Rattle.bhs_protocols.specs.declared.halves.Phase.{Phase}
 use Rattle.bhs_protocols.specs.declared.halves.Phase.TheVariants.{Begins, GoesOut, Leaves, Tries, Turns, Returns}
 use Rattle.bhs_protocols.specs.declared.halves.Phase.TheVariants.{Writes, GoesHome, NearsHome, Follows, Passes, Tells}
 use Rattle.bhs_protocols.specs.declared.halves.Phase.TheVariants.{ComesHome, NearsBack, Ends}
 use Rattle.bhs_protocols.proofs.HalvesDues.{come, part}
-use Rattle.bhs_protocols.proofs.SearchLemmas as lemmas
-use Rattle.bhs_protocols.proofs.SearchLemmas.{both, opposite, Pair, swapped_pair, sides}
+use Rattle.bhs_protocols.proofs.SearchLemmas.{opposite, Pair, IsAccuser, HasAccused, one_zero, ring_accuser, sides}
+use Rattle.bhs_protocols.proofs.SearchLemmas.{solved_once, zero_one}
 use Rattle.bhs_protocols.proofs.HalvesState.{Game, Inv, at_turn, distance, mem, sum_is, swapped, trial as trial_of}
-use Rattle.bhs_protocols.proofs.HalvesState.{within_n}
 use Rattle.bhs_protocols.proofs.HalvesTurns.{part_more, placed_as}
 use Rattle.bhs_protocols.proofs.HalvesRest.{IsLost, resting}
 
@@ -27,115 +21,7 @@ module _ (game : Game) where
   abbrev trial : Trial
   trial = trial_of game
 
-  -- ---- the verdict
-
-  edge_far : (s mine : ℕ) → s < 2 → mine + 1 ≡ distance game s
-      → world.net.far (ways.node s mine) (ways.ahead s mine) ≡ (ways.node s (mine + 1), 1 - ways.ahead s (mine + 1))
-  edge_far s mine below edge =
-      let within : distance game s < n = within_n game s below in
-      search.ring.out s mine below (omega (arith, edge, within))
-
-  edge_hole : (s mine : ℕ) → s < 2 → mine + 1 ≡ distance game s → ways.node 0 right ≡ ways.node s (mine + 1)
-  edge_hole = lemmas.edge_hole world n right left ways.node (sides search)
-
-  edge_right : (s mine : ℕ) → s < 2 → mine + 1 ≡ distance game s
-      → is_right world (ways.node s mine, ways.ahead s mine) ≡ true
-  edge_right s mine below edge =
-      lemmas.edge_right world n right left ways.node (sides search) s mine (ways.node s mine) (ways.ahead s mine)
-      (1 - ways.ahead s (mine + 1)) below edge (edge_far s mine below edge)
-
-  accuses_by : (picture : Picture) (test : ℕ × ℕ → Bool) (s : ℕ) → s < 2 → passes test (picture.accused s) ≡ true
-      → accuses world (found_in picture) test ≡ true
-  accuses_by = lemmas.accuses_by world n right left ways.node (sides search)
-
-  accuses_none : (picture : Picture) (test : ℕ × ℕ → Bool)
-      → ((s : ℕ) → s < 2 → passes test (picture.accused s) ≡ false)
-      → accuses world (found_in picture) test ≡ false
-  accuses_none = lemmas.accuses_none world n right left ways.node (sides search)
-
-  unfinished_none : (picture : Picture) → ((s : ℕ) → s < 2 → is_present (picture.position s) ≡ false)
-      → is_unfinished world picture.position ≡ false
-  unfinished_none = lemmas.unfinished_none world n right left ways.node (sides search)
-
-  solved_by : (picture : Picture) → accuses world (found_in picture) (λ link. not (is_right world link)) ≡ false
-      → is_silent world (found_in picture) ≡ false → is_unfinished world picture.position ≡ false
-      → first_unreached world (found_in picture) ≡ None → outcome_in world picture ≡ Solved
-  solved_by = lemmas.solved_by world n right left ways.node (sides search)
-
-  abbrev pub IsAllKnown : Picture → Type 0
-  IsAllKnown = lemmas.IsAllKnown world n right left ways.node (sides search)
-
-  reached_all : (picture : Picture) → IsAllKnown picture → first_unreached world (found_in picture) ≡ None
-  reached_all = lemmas.reached_all world n right left ways.node (sides search)
-
-  few_doomed : (picture : Picture) (s : ℕ) → s < 2 → picture.position s ≡ After → doomed_in world picture ≤ 1
-  few_doomed = lemmas.few_doomed world n right left ways.node (sides search)
-
-  each : (s o : ℕ) → Pair s o → (P : ℕ → Type 0) → P s → P o → (k : ℕ) → k < 2 → P k
-  each = lemmas.each world n right left ways.node (sides search)
-
-  pub zero_one : Pair 0 1
-  zero_one = lemmas.zero_one world n right left ways.node (sides search)
-
-  -- what an agent has accused, if it has, is right
-  pub record IsAccuser (s : ℕ) (picture : Picture) : Type 0 where
-    pub side : ℕ
-    pub below : side < 2
-    pub mine : ℕ
-    pub edge : mine + 1 ≡ distance game side
-    pub accused : picture.accused s ≡ Some (ways.node side mine, ways.ahead side mine)
-
-  accuser : (s o v w : ℕ) (picture : Picture) → Pair s o → Inv game s o v w picture → (mem game picture s).phase ≡ Ends
-      → IsAccuser s picture
-  accuser s o v w picture pair inv is =
-      let placed = placed_as (at_turn game s o v w picture pair inv) Ends is in
-      let all : (mem game picture s).mine + (mem game picture o).mine + 2 ≡ n = placed.1 in
-      let safe : (mem game picture s).mine < distance game s = inv.state.own.safe in
-      let safe_too : (mem game picture o).mine < distance game o = inv.state.other.safe in
-      let sum : distance game s + distance game o ≡ n = sum_is game s o pair in
-      let edge_too : (mem game picture o).mine + 1 ≡ distance game o = omega (arith, all, safe, safe_too, sum) in
-      elim placed.2 [
-        | inl h ↦ record {
-          side = s;
-          below = pair.own;
-          mine = (mem game picture s).mine;
-          edge = omega (arith, all, safe, safe_too, sum);
-          accused = h;
-        }
-        | inr h ↦ record {
-          side = opposite s;
-          below = subst (λ (k : ℕ). k < 2) pair.is pair.other;
-          mine = (mem game picture o).mine;
-          edge = subst (λ (k : ℕ). (mem game picture o).mine + 1 ≡ distance game k) pair.is edge_too;
-          accused = h;
-        }
-      ]
-
-  -- an agent at rest has accused nobody, or the black hole
-  abbrev pub HasAccused : (s : ℕ) → Picture → Type 0
-  HasAccused s picture = (picture.accused s ≡ None) ⊎ IsAccuser s picture
-
-  never_wrong : (picture : Picture) (s : ℕ) → HasAccused s picture
-      → passes (λ link. not (is_right world link)) (picture.accused s) ≡ false
-  never_wrong picture s has = elim has [
-    | inl h ↦ ap (passes (λ link. not (is_right world link))) h
-    | inr h ↦ ap (passes (λ link. not (is_right world link))) h.accused
-        ∙ ap not (edge_right h.side h.mine h.below h.edge)
-  ]
-
-  not_silent : (picture : Picture) (s : ℕ) → s < 2 → IsAccuser s picture → is_silent world (found_in picture) ≡ false
-  not_silent picture s below it =
-      let some : accuses world (found_in picture) (λ link. true) ≡ true =
-      accuses_by picture (λ link. true) s below (ap (passes (λ link. true)) it.accused) in
-      let test : ℕ × ℕ → Bool = λ link. ways.node 0 right == (world.net.far link.0 link.1).0 in
-      let hole : is_hole_accused world (found_in picture) (ways.node 0 right) ≡ true =
-      accuses_by picture test s below (ap (passes test) it.accused
-      ∙ ap (λ (f : ℕ × ℕ). ways.node 0 right == f.0) (edge_far it.side it.mine it.below it.edge)
-      ∙ eq-eqb (ways.node 0 right) (ways.node it.side (it.mine + 1)) (edge_hole it.side it.mine it.below it.edge)) in
-      (λ i. not (accuses world (found_in picture) (λ link. true))
-      || list_any (λ h. not (is_hole_accused world (found_in picture) h)) (search.hole i)
-      || list_any (λ e. not (is_dark_accused world (found_in picture) e)) (search.none_dark i))
-      ∙ (λ i. not (some i) || (not (hole i) || false) || false)
+  -- ---- each node was reached
 
   least_come : (mine : ℕ) (phase : Phase) → mine ≤ come mine phase
   least_come mine Begins = omega arith
@@ -177,34 +63,42 @@ module _ (game : Game) where
   abbrev pub AtRest : (s o v w : ℕ) (picture : Picture) (pair : Pair s o) → Inv game s o v w picture → Type 0
   AtRest s o v w picture pair inv = ((mem game picture s).phase ≡ Ends) ⊎ IsLost (at_turn game s o v w picture pair inv)
 
+  accuser : (s o v w : ℕ) (picture : Picture) → Pair s o → Inv game s o v w picture → (mem game picture s).phase ≡ Ends
+      → IsAccuser (sides search) s picture
+  accuser s o v w picture pair inv is =
+      let placed = placed_as (at_turn game s o v w picture pair inv) Ends is in
+      let all : (mem game picture s).mine + (mem game picture o).mine + 2 ≡ n = placed.1 in
+      let safe : (mem game picture s).mine < distance game s = inv.state.own.safe in
+      let safe_too : (mem game picture o).mine < distance game o = inv.state.other.safe in
+      let sum : distance game s + distance game o ≡ n = sum_is game s o pair in
+      let edge_too : (mem game picture o).mine + 1 ≡ distance game o = omega (arith, all, safe, safe_too, sum) in
+      elim placed.2 [
+        | inl h ↦ ring_accuser search picture s s (mem game picture s).mine pair.own
+            (omega (arith, all, safe, safe_too, sum)) h
+        | inr h ↦ ring_accuser search picture s (opposite s) (mem game picture o).mine
+            (subst (λ (k : ℕ). k < 2) pair.is pair.other)
+            (subst (λ (k : ℕ). (mem game picture o).mine + 1 ≡ distance game k) pair.is edge_too) h
+      ]
+
   solved_if : (s o v w : ℕ) (picture : Picture) (pair : Pair s o) (inv : Inv game s o v w picture)
       → (mem game picture s).phase ≡ Ends → (pair_too : Pair o s) (inv_too : Inv game o s w v picture)
       → AtRest o s w v picture pair_too inv_too → (outcome_in world picture ≡ Solved) × (doomed_in world picture ≤ 1)
   solved_if s o v w picture pair inv is pair_too inv_too rest =
-      let placed = placed_as (at_turn game s o v w picture pair inv) Ends is in
-      let own : IsAccuser s picture = accuser s o v w picture pair inv is in
-      let others : HasAccused o picture × (is_present (picture.position o) ≡ false) = elim rest [
+      let others : HasAccused (sides search) o picture × (is_present (picture.position o) ≡ false) = elim rest [
         | inl h ↦
             let there = placed_as (at_turn game o s w v picture pair_too inv_too) Ends h in
             (inr (accuser o s w v picture pair_too inv_too h), ap is_present there.0)
         | inr h ↦
             let there = placed_as (at_turn game o s w v picture pair_too inv_too) Tries h.phase in
             (inl there.2, ap is_present there.1)
-      ] in (
-        solved_by picture
-            (accuses_none picture (λ link. not (is_right world link)) (λ k below. never_wrong picture k
-            (each s o pair (λ (j : ℕ). HasAccused j picture) (inr own) others.0 k below)))
-            (not_silent picture s pair.own own)
-            (unfinished_none picture (each s o pair (λ (j : ℕ). is_present (picture.position j) ≡ false)
-            (ap is_present placed.0) others.1))
-            (reached_all picture (record {
-              known = λ k steps below some before.
-                  let both_known = all_known s o v w picture pair inv is steps some in
-                  each s o pair (λ (j : ℕ). steps < distance game j → picture.reached (ways.node j steps) ≡ true)
-                  both_known.0 both_known.1 k below before;
-            })),
-        few_doomed picture s pair.own placed.0,
-      )
+      ] in
+      solved_once (sides search) s o picture pair (record {
+        accuses = accuser s o v w picture pair inv is;
+        ended = (placed_as (at_turn game s o v w picture pair inv) Ends is).0;
+        other = others.0;
+        away = others.1;
+        reached = all_known s o v w picture pair inv is;
+      })
 
   -- both cannot be lost: their parts do not overlap
   not_both : (s o v w : ℕ) (picture : Picture) (pair : Pair s o) (inv : Inv game s o v w picture)
@@ -222,9 +116,6 @@ module _ (game : Game) where
       let sum : distance game s + distance game o ≡ n = sum_is game s o pair in
       let parts : part n (mem game picture s) v + part n (mem game picture o) w + 1 ≡ n = inv.state.sum in
       omega (arith, further, further_too, edge, edge_too, sum, parts)
-
-  pub one_zero : Pair 1 0
-  one_zero = swapped_pair 0 1 zero_one
 
   pub at_rest : (v w : ℕ) (picture : Picture) → Inv game 0 1 v w picture → IsResting trial picture
       → (outcome_in world picture ≡ Solved) × (doomed_in world picture ≤ 1)

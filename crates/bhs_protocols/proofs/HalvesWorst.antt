@@ -16,7 +16,7 @@ use Rattle.bhs_protocols.proofs.AttainedLemmas.{attained_by, two_rest}
 use Rattle.bhs_protocols.proofs.LastWordLemmas.{turns_in_append}
 use Rattle.bhs_protocols.proofs.StandardLemmas.{is_search}
 use Rattle.bhs_protocols.proofs.HalvingLemmas.{doubled_some, doubled_within, rounds_reach, rounds_least, rounds_over}
-use Rattle.bhs_protocols.proofs.SearchLemmas.{Pair}
+use Rattle.bhs_protocols.proofs.SearchLemmas.{Pair, one_zero, zero_one}
 use Rattle.bhs_protocols.proofs.HalvesDues.{owing, last, part, told}
 use Rattle.bhs_protocols.proofs.HalvesMarks.{not_lt}
 use Rattle.bhs_protocols.proofs.HalvesState.{Game, Inv, Onward, at_turn, distance, doomed_is}
@@ -25,7 +25,6 @@ use Rattle.bhs_protocols.proofs.HalvesState.{turns_due, within_n}
 use Rattle.bhs_protocols.proofs.HalvesTurns.{part_more, placed_as}
 use Rattle.bhs_protocols.proofs.HalvesArrivals.{bound_moves}
 use Rattle.bhs_protocols.proofs.HalvesRest.{IsLost, any_turn, resting}
-use Rattle.bhs_protocols.proofs.HalvesVerdict.{one_zero, zero_one}
 use Rattle.bhs_protocols.proofs.HalvesLemmas.{first_inv}
 
 -- ---- in numbers
@@ -328,7 +327,7 @@ module _ (game : Game) where
     -- ---- both have run
 
     second_is : (v w : ℕ) (picture : Picture) (inv : Inv game 0 1 v w picture) → IsFirst v w picture
-        → IsWorst (n / 2 + 1 - right) (rounds (n / 2)) → IsLost (at_turn game 0 1 v w picture (zero_one game) inv)
+        → IsWorst (n / 2 + 1 - right) (rounds (n / 2)) → IsLost (at_turn game 0 1 v w picture zero_one inv)
         → IsSecond w v picture
     second_is v w picture inv it worst gone =
         let sum : right + left ≡ n = search.sum in
@@ -358,7 +357,7 @@ module _ (game : Game) where
     not_round : (v w : ℕ) (picture : Picture) → Inv game 0 1 v w picture → IsFirst v w picture
         → (mem game picture 0).phase ≡ Ends → ⊥
     not_round v w picture inv it is =
-        let placed = placed_as (at_turn game 0 1 v w picture (zero_one game) inv) Ends is in
+        let placed = placed_as (at_turn game 0 1 v w picture zero_one inv) Ends is in
         let all : (mem game picture 0).mine + (mem game picture 1).mine + 2 ≡ n = placed.1 in
         let none : (mem game picture 1).mine ≡ 0 = ap (λ (m : Memory). m.mine) it.other in
         let safe : (mem game picture 0).mine < right = inv.state.own.safe in
@@ -369,7 +368,7 @@ module _ (game : Game) where
     lost_still : (v w : ℕ) (picture : Picture) → Inv game 0 1 v w picture → (mem game picture 0).phase ≡ Tries
         → (mem game picture 0).mine + 1 ≡ right → can_move_in trial picture 0 ≡ false
     lost_still v w picture inv is edge =
-        let placed = placed_as (at_turn game 0 1 v w picture (zero_one game) inv) Tries is in
+        let placed = placed_as (at_turn game 0 1 v w picture zero_one inv) Tries is in
         let mine : ℕ = (mem game picture 0).mine in
         let within : right < n = within_n game 0 (omega arith) in
         let target : ℕ = ways.node 0 (mine + 1) in
@@ -377,7 +376,7 @@ module _ (game : Game) where
         let far : world.net.far (ways.node 0 mine) (ways.ahead 0 mine) ≡ (target, label) =
         search.ring.out 0 mine (omega arith) (omega (arith, edge, within)) in
         let there : ways.node 0 right ≡ target = ap (ways.node 0) (sym edge) in
-        bound_moves (at_turn game 0 1 v w picture (zero_one game) inv) (ways.node 0 mine) (ways.ahead 0 mine) placed.1
+        bound_moves (at_turn game 0 1 v w picture zero_one inv) (ways.node 0 mine) (ways.ahead 0 mine) placed.1
         ∙ ap not (doomed_is game (ways.node 0 mine) (ways.ahead 0 mine) target label far
         ∙ eq-eqb (ways.node 0 right) target there)
 
@@ -385,7 +384,7 @@ module _ (game : Game) where
     all_made : (v w : ℕ) (picture : Picture) (inv : Inv game 1 0 v w picture) → IsSecond v w picture
         → can_move_in trial picture 1 ≡ false → picture.moves ≡ most_moves n
     all_made v w picture inv it still =
-        let turn_of = at_turn game 1 0 v w picture (one_zero game) inv in
+        let turn_of = at_turn game 1 0 v w picture one_zero inv in
         let before : part n (mem game picture 1) v < left = it.before in
         let sum : right + left ≡ n = search.sum in
         let edge : (mem game picture 0).mine + 1 ≡ right = it.edge in
@@ -421,14 +420,14 @@ module _ (game : Game) where
 
     first_run : HasRun 0 1 IsFirst blank
     first_run =
-        runs 0 1 IsFirst (zero_one game) first_keeps
+        runs 0 1 IsFirst zero_one first_keeps
         (turns_due game 0 (mem game blank 0) 0 blank.shown + turns_due game 1 (mem game blank 1) 0 blank.shown) 0 0
         blank (first_inv game) first_is (omega arith)
 
     first_lost : (one : HasRun 0 1 IsFirst blank) → IsLost (at_turn game 0 1 one.mark one.mark_too
-        (turns_in trial blank one.schedule) (zero_one game) one.inv)
+        (turns_in trial blank one.schedule) zero_one one.inv)
     first_lost one =
-        elim (resting (at_turn game 0 1 one.mark one.mark_too (turns_in trial blank one.schedule) (zero_one game)
+        elim (resting (at_turn game 0 1 one.mark one.mark_too (turns_in trial blank one.schedule) zero_one
         one.inv) (mem game (turns_in trial blank one.schedule) 0).phase refl one.still) [
           | inl h ↦ absurd (not_round one.mark one.mark_too (turns_in trial blank one.schedule) one.inv one.holds h)
           | inr h ↦ h
@@ -438,7 +437,7 @@ module _ (game : Game) where
         → HasRun 1 0 IsSecond (turns_in trial blank one.schedule)
     second_run worst one =
         let middle : Picture = turns_in trial blank one.schedule in
-        runs 1 0 IsSecond (one_zero game) second_keeps
+        runs 1 0 IsSecond one_zero second_keeps
         (turns_due game 1 (mem game middle 1) one.mark_too middle.shown
         + turns_due game 0 (mem game middle 0) one.mark middle.shown)
         one.mark_too one.mark middle (swapped game 0 1 one.mark one.mark_too middle one.inv)

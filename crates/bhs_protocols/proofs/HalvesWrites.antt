@@ -22,11 +22,11 @@ use Rattle.bhs_protocols.specs.Shuttle.{other_in, text_by}
 use Rattle.bhs_protocols.specs.Halving.{rounds, walks_at}
 use Rattle.bhs_protocols.specs.Halves.{own_in, does_in, after_in}
 use Rattle.bhs_protocols.proofs.HalvesDues.{owing, paces, miss, mark_at, beside, come, last, part, told}
-use Rattle.bhs_protocols.proofs.SearchLemmas.{both, opposite, text_other, read_other, text_fits}
+use Rattle.bhs_protocols.proofs.SearchLemmas.{agents_two, both, opposite, read_other, sides, text_fits, text_other}
 use Rattle.bhs_protocols.proofs.TurnLemmas.{writes, writes_not}
 use Rattle.bhs_protocols.proofs.HalvesMarks.{mark_after, mark_before, mark_here, not_equal, read_own}
-use Rattle.bhs_protocols.proofs.HalvesState.{Game, IsPlaced, Onward, Turn, agents_two, assembled, distance, mem}
-use Rattle.bhs_protocols.proofs.HalvesState.{nodes_due, rest_of, stale, trial as trial_of}
+use Rattle.bhs_protocols.proofs.HalvesState.{Game, IsPlaced, Onward, Turn, assembled, distance, mem, nodes_due, rest_of}
+use Rattle.bhs_protocols.proofs.HalvesState.{stale, trial as trial_of}
 use Rattle.bhs_protocols.proofs.HalvesTurns.{distances, far_safe, has_room, other_fit, own_fit, placed_as}
 use Rattle.bhs_protocols.proofs.HalvesArrivals.{learns, marked_here}
 
@@ -256,7 +256,7 @@ module _ {game : Game} (on : Turn game) where
       let st_is : stale game s M M.phase picture.shown ≡ 0 = st ∙ ap miss yes in
       assembled game s o v w picture (turn_in trial picture s) after (At node came) (Heard Written) 1 0
       (picture.accused s) 0 w shown picture.reached pair inv
-      (writes trial picture s (agents_two game s pair.own) node came expect put placed.3.at says
+      (writes trial picture s (agents_two (sides search) s pair.own) node came expect put placed.3.at says
       (has_room on (omega (arith, p))) fits yes)
       (ap (λ (ph : Phase). after_in n M ph (Heard Written)) is)
       (record {
@@ -331,7 +331,7 @@ module _ {game : Game} (on : Turn game) where
       (λ none.
       let st_is : stale game s M M.phase picture.shown ≡ 1 = st ∙ ap miss none in
       learns on (At node came) (Heard (Changed (picture.shown node))) 1 port came picture.reached
-      (writes_not trial picture s (agents_two game s pair.own) node came expect put placed.3.at says
+      (writes_not trial picture s (agents_two (sides search) s pair.own) node came expect put placed.3.at says
       (has_room on (omega (arith, p))) fits none)
       (ap (λ (ph : Phase). after_in n M ph (Heard (Changed (picture.shown node)))) is) refl more next placed.2
       placed.6 (λ k was. was) (λ k some far. (own_fit on).reached k some (omega (arith, far, c))) (omega arith)

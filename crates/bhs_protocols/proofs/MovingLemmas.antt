@@ -1,13 +1,17 @@
--- Whether a turn of an agent moves, by where the agent is and what its mind says. This does for any search.
-use Rattle.std.proofs.Common.{ℕ, ◌<◌, ◌≡◌, Bool, true, false, not, Some, refl, ap, ◌∙◌, subst, if◌then◌else◌, inl, inr}
-use Rattle.std.proofs.lemmas.Bool.{lt-ltb, cond-false}
+-- Whether a turn of an agent moves, by where the agent is and what its mind says, and whether a mind fails or sleeps.
+-- This does for any search.
+use Rattle.std.proofs.Common.{ℕ, ◌<◌, ◌≡◌, Bool, true, false, not, Some, refl, sym, ap, ◌∙◌, subst, if◌then◌else◌}
+use Rattle.std.proofs.Common.{inl, inr}
+use Rattle.std.specs.Prelude.{◌≢◌}
+use Rattle.std.proofs.lemmas.Bool.{lt-ltb, cond-false, true≢false}
 use Rattle.std.proofs.lemmas.Bool.Decides.{eqb_tells}
 use Rattle.bhs_model.specs.declared.commands.Command.{Command}
 use Rattle.bhs_model.specs.declared.events.Event.TheVariants.{Tell}
 use Rattle.bhs_model.specs.declared.replies.Reply.TheVariants.{Here}
 use Rattle.bhs_model.specs.Worlds.{doomed}
 use Rattle.bhs_model.specs.Runs.{Position, At, Bound, After, changed}
-use Rattle.bhs_explore.specs.declared.minds.Step.TheVariants.{Says}
+use Rattle.bhs_explore.specs.declared.minds.Step.{Step}
+use Rattle.bhs_explore.specs.declared.minds.Step.TheVariants.{Says, Sleeps, Fails}
 use Rattle.bhs_explore.specs.Minds.{Heard}
 use Rattle.bhs_explore.specs.Schedules.{Trial, Makes, Rests, deed_at, is_move}
 use Rattle.bhs_protocols.specs.Pictures.{Picture, can_move_in, turn_in}
@@ -58,3 +62,22 @@ grows_by reached target k was = elim (eqb_tells k target) [
   | inl h ↦ rw h.0 refl
   | inr h ↦ rw h.0 was
 ]
+
+-- ---- steps
+
+-- it neither fails nor sleeps
+abbrev pub is_steady : Step → Bool
+is_steady Fails = false
+is_steady Sleeps = false
+is_steady step = true
+
+pub steady_if : (test : Bool) (one other : Step) → is_steady one ≡ true → is_steady other ≡ true
+    → is_steady (if test then one else other) ≡ true
+steady_if true one other steady steady_too = steady
+steady_if false one other steady steady_too = steady_too
+
+pub fails_not : (step : Step) → is_steady step ≡ true → step ≢ Fails
+fails_not step steady fails = true≢false (sym steady ∙ ap is_steady fails)
+
+pub sleeps_not : (step : Step) → is_steady step ≡ true → step ≢ Sleeps
+sleeps_not step steady sleeps = true≢false (sym steady ∙ ap is_steady sleeps)

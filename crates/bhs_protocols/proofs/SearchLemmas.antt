@@ -2,7 +2,7 @@
 -- is, and when a match is solved.
 use Rattle.std.proofs.Common.{ℕ, zero, suc, ◌+◌, ◌-◌, ◌*◌, ◌/◌, ◌%◌, ◌<◌, ◌≤◌, ◌≡◌, ◌⊎◌, Bool, true, false, not, ◌&&◌}
 use Rattle.std.proofs.Common.{◌||◌}
-use Rattle.std.proofs.Common.{◌==◌, None, List, [], ◌∷◌, length, refl, sym, ap, ◌∙◌, subst, if◌then◌else◌}
+use Rattle.std.proofs.Common.{◌==◌, Some, None, List, [], ◌∷◌, length, refl, sym, ap, ◌∙◌, subst, if◌then◌else◌}
 use Rattle.std.proofs.Common.{nat_lt, inl, inr, arith}
 use Rattle.std.specs.Prelude.{◌≢◌, bytes_eq, cond, find, count_by}
 use Rattle.std.specs.List.{list_any, range_with_len}
@@ -14,7 +14,7 @@ use Rattle.bhs_model.specs.Worlds.{World, doomed, is_hole, is_dark}
 use Rattle.bhs_model.specs.Runs.{After, is_doomed}
 use Rattle.bhs_model.proofs.StepLemmas.{by_cases}
 use Rattle.bhs_referee.specs.declared.verdicts.Outcome.TheVariants.{Solved}
-use Rattle.bhs_referee.specs.Verdicts.{passes, accuses, is_over_dark, is_right}
+use Rattle.bhs_referee.specs.Verdicts.{passes, accuses, is_dark_accused, is_hole_accused, is_over_dark, is_right}
 use Rattle.bhs_referee.specs.Verdicts.{is_silent, is_present, is_unfinished, is_unreached, first_unreached}
 use Rattle.bhs_referee.specs.Verdicts.{guess_or_solved}
 use Rattle.bhs_protocols.specs.Pictures.{Picture, found_in, outcome_in}
@@ -60,6 +60,12 @@ pub record Pair (s o : ℕ) : Type 0 where
 
 pub swapped_pair : (s o : ℕ) → Pair s o → Pair o s
 swapped_pair s o pair = record { own = pair.other; other = pair.own; is = pair.was; was = pair.is }
+
+pub zero_one : Pair 0 1
+zero_one = record { own = omega arith; other = omega arith; is = refl; was = refl }
+
+pub one_zero : Pair 1 0
+one_zero = swapped_pair 0 1 zero_one
 
 -- what holds of 0 and of 1 holds of both agents
 pub both : (P : ℕ → Type 0) → P 0 → P 1 → (s : ℕ) → s < 2 → P s
@@ -132,12 +138,15 @@ sides search = record {
   agents = search.agents;
 }
 
-module _ (world : World) (n right left : ℕ) (node_at : (side place : ℕ) → ℕ)
+module _ {world : World} {n right left : ℕ} {node_at : (side place : ℕ) → ℕ}
     (search : IsTwoSided world n right left node_at) where
   -- the number of the black hole on each side
   abbrev pub distance : ℕ → ℕ
   distance zero = right
   distance (suc k) = left
+
+  pub agents_two : (s : ℕ) → s < 2 → s < world.agents
+  agents_two s below = subst (λ (k : ℕ). s < k) (sym search.agents) below
 
   pub sum_is : (s o : ℕ) → Pair s o → distance s + distance o ≡ n
   sum_is s o pair =
@@ -174,7 +183,7 @@ module _ (world : World) (n right left : ℕ) (node_at : (side place : ℕ) → 
       (search.around left right (omega (arith, sum)) search.nor_around search.not_home) s below
 
   -- before the black hole there is none
-  pub safe_right : (steps : ℕ) → steps < right → (node_at 0 right == node_at 0 steps) ≡ false
+  safe_right : (steps : ℕ) → steps < right → (node_at 0 right == node_at 0 steps) ≡ false
   safe_right steps before = elim (eqb_tells (node_at 0 right) (node_at 0 steps)) [
     | inl h ↦
         let below : right < n = within_n 0 (omega arith) in
@@ -183,7 +192,7 @@ module _ (world : World) (n right left : ℕ) (node_at : (side place : ℕ) → 
     | inr h ↦ h.0
   ]
 
-  pub safe_left : (steps : ℕ) → steps < left → (node_at 0 right == node_at 1 steps) ≡ false
+  safe_left : (steps : ℕ) → steps < left → (node_at 0 right == node_at 1 steps) ≡ false
   safe_left zero before =
       subst (λ (k : ℕ). (node_at 0 right == k) ≡ false) (search.home 0 ∙ sym (search.home 1))
       (safe_right 0 search.not_home)
@@ -206,26 +215,16 @@ module _ (world : World) (n right left : ℕ) (node_at : (side place : ℕ) → 
 
   -- ---- the verdict
 
-  pub edge_hole : (s mine : ℕ) → s < 2 → mine + 1 ≡ distance s → node_at 0 right ≡ node_at s (mine + 1)
-  edge_hole s mine below edge = sym (hole_at s below) ∙ ap (node_at s) (sym edge)
-
-  -- a link to the black hole is right to accuse
-  pub edge_right : (s mine start port label : ℕ) → s < 2 → mine + 1 ≡ distance s
-      → world.net.far start port ≡ (node_at s (mine + 1), label) → is_right world (start, port) ≡ true
-  edge_right s mine start port label below edge far =
-      doomed_is start port (node_at s (mine + 1)) label far
-      ∙ eq-eqb (node_at 0 right) (node_at s (mine + 1)) (edge_hole s mine below edge)
-
-  pub or_true : (b : Bool) → (b || true) ≡ true
+  or_true : (b : Bool) → (b || true) ≡ true
   or_true true = refl
   or_true false = refl
 
-  pub accuses_two : (picture : Picture) (test : ℕ × ℕ → Bool) → accuses world (found_in picture) test
+  accuses_two : (picture : Picture) (test : ℕ × ℕ → Bool) → accuses world (found_in picture) test
       ≡ (passes test (picture.accused 0) || (passes test (picture.accused 1) || false))
   accuses_two picture test =
       ap (λ (k : ℕ). list_any (λ agent. passes test (picture.accused agent)) (range_with_len 0 k)) search.agents
 
-  pub accuses_by : (picture : Picture) (test : ℕ × ℕ → Bool) (s : ℕ) → s < 2 → passes test (picture.accused s) ≡ true
+  accuses_by : (picture : Picture) (test : ℕ × ℕ → Bool) (s : ℕ) → s < 2 → passes test (picture.accused s) ≡ true
       → accuses world (found_in picture) test ≡ true
   accuses_by picture test s below =
       both (λ (k : ℕ). passes test (picture.accused k) ≡ true → accuses world (found_in picture) test ≡ true)
@@ -235,19 +234,19 @@ module _ (world : World) (n right left : ℕ) (node_at : (side place : ℕ) → 
       ∙ or_true (passes test (picture.accused 0)))
       s below
 
-  pub accuses_none : (picture : Picture) (test : ℕ × ℕ → Bool)
+  accuses_none : (picture : Picture) (test : ℕ × ℕ → Bool)
       → ((s : ℕ) → s < 2 → passes test (picture.accused s) ≡ false)
       → accuses world (found_in picture) test ≡ false
   accuses_none picture test none =
       accuses_two picture test ∙ (λ i. none 0 (omega arith) i || (none 1 (omega arith) i || false))
 
-  pub unfinished_none : (picture : Picture) → ((s : ℕ) → s < 2 → is_present (picture.position s) ≡ false)
+  unfinished_none : (picture : Picture) → ((s : ℕ) → s < 2 → is_present (picture.position s) ≡ false)
       → is_unfinished world picture.position ≡ false
   unfinished_none picture none =
       ap (λ (k : ℕ). list_any (λ agent. is_present (picture.position agent)) (range_with_len 0 k)) search.agents
       ∙ (λ i. none 0 (omega arith) i || (none 1 (omega arith) i || false))
 
-  pub solved_by : (picture : Picture) → accuses world (found_in picture) (λ link. not (is_right world link)) ≡ false
+  solved_by : (picture : Picture) → accuses world (found_in picture) (λ link. not (is_right world link)) ≡ false
       → is_silent world (found_in picture) ≡ false → is_unfinished world picture.position ≡ false
       → first_unreached world (found_in picture) ≡ None → outcome_in world picture ≡ Solved
   solved_by picture right_ones spoken finished reached =
@@ -261,7 +260,7 @@ module _ (world : World) (n right left : ℕ) (node_at : (side place : ℕ) → 
 
   -- ---- each node was reached
 
-  pub find_none : (test : ℕ → Bool) (start count : ℕ) → ((k : ℕ) → start ≤ k → k < start + count → test k ≡ false)
+  find_none : (test : ℕ → Bool) (start count : ℕ) → ((k : ℕ) → start ≤ k → k < start + count → test k ≡ false)
       → find test (range_with_len start count) ≡ None
   find_none test start zero none = refl
   find_none test start (suc count) none =
@@ -269,10 +268,10 @@ module _ (world : World) (n right left : ℕ) (node_at : (side place : ℕ) → 
       ∙ find_none test (start + 1) count (λ k after before. none k (omega (arith, after)) (omega (arith, before)))
 
   -- all nodes of both sides but the black hole are known to be safe
-  pub record IsAllKnown (picture : Picture) : Type 0 where
-    pub known : (s k : ℕ) → s < 2 → 0 < k → k < distance s → picture.reached (node_at s k) ≡ true
+  record IsAllKnown (picture : Picture) : Type 0 where
+    known : (s k : ℕ) → s < 2 → 0 < k → k < distance s → picture.reached (node_at s k) ≡ true
 
-  pub reached_all : (picture : Picture) → IsAllKnown picture → first_unreached world (found_in picture) ≡ None
+  reached_all : (picture : Picture) → IsAllKnown picture → first_unreached world (found_in picture) ≡ None
   reached_all picture all =
       ap (λ (k : ℕ). find (is_unreached world (found_in picture)) (range_with_len 0 k)) search.size
       ∙ find_none (is_unreached world (found_in picture)) 0 n (λ node after before.
@@ -319,11 +318,11 @@ module _ (world : World) (n right left : ℕ) (node_at : (side place : ℕ) → 
 
   -- ---- few are lost
 
-  pub number_of : (ℕ → Bool) → List ℕ → ℕ
+  number_of : (ℕ → Bool) → List ℕ → ℕ
   number_of p [] = 0
   number_of p (x ∷ xs) = cond (p x) (1 + number_of p xs) (number_of p xs)
 
-  pub counted_two : (p : ℕ → Bool) → (p 0 ≡ false) ⊎ (p 1 ≡ false) → number_of p (0 ∷ 1 ∷ []) ≤ 1
+  counted_two : (p : ℕ → Bool) → (p 0 ≡ false) ⊎ (p 1 ≡ false) → number_of p (0 ∷ 1 ∷ []) ≤ 1
   unfolding number_of
   counted_two p spared = elim spared [
     | inl h ↦ rw h (one_at_most (p 1))
@@ -334,11 +333,11 @@ module _ (world : World) (n right left : ℕ) (node_at : (side place : ℕ) → 
       one_at_most true = omega arith
       one_at_most false = omega arith
 
-  pub number_is : (p : ℕ → Bool) (xs : List ℕ) → number_of p xs ≡ count_by p xs
+  number_is : (p : ℕ → Bool) (xs : List ℕ) → number_of p xs ≡ count_by p xs
   unfolding number_of
   number_is p xs = is_count_by (number_of p) p refl (λ x others. refl) xs
 
-  pub few_doomed : (picture : Picture) (s : ℕ) → s < 2 → picture.position s ≡ After → doomed_in world picture ≤ 1
+  few_doomed : (picture : Picture) (s : ℕ) → s < 2 → picture.position s ≡ After → doomed_in world picture ≤ 1
   few_doomed picture s below at =
       let test : ℕ → Bool = λ agent. is_doomed world (picture.position agent) in
       let spared : test s ≡ false = ap (is_doomed world) at in
@@ -352,10 +351,91 @@ module _ (world : World) (n right left : ℕ) (node_at : (side place : ℕ) → 
 
   -- ---- two agents
 
-  pub each : (s o : ℕ) → Pair s o → (P : ℕ → Type 0) → P s → P o → (k : ℕ) → k < 2 → P k
+  each : (s o : ℕ) → Pair s o → (P : ℕ → Type 0) → P s → P o → (k : ℕ) → k < 2 → P k
   each s o pair P mine theirs =
       both (λ (k : ℕ). P k → P (opposite k) → (j : ℕ) → j < 2 → P j) (λ p q. both P p q) (λ p q. both P q p) s pair.own
       mine (subst P pair.is theirs)
 
-  pub zero_one : Pair 0 1
-  zero_one = record { own = omega arith; other = omega arith; is = refl; was = refl }
+  -- an agent has accused a link that leads to the black hole
+  pub record IsAccuser (s : ℕ) (picture : Picture) : Type 0 where
+    pub start : ℕ
+    pub port : ℕ
+    pub label : ℕ
+    pub far : world.net.far start port ≡ (node_at 0 right, label)
+    pub accused : picture.accused s ≡ Some (start, port)
+
+  -- so it is if that link leads to the next node of a side of whose nodes no other is left
+  pub accuser : (picture : Picture) (agent s mine start port label : ℕ) → s < 2 → mine + 1 ≡ distance s
+      → world.net.far start port ≡ (node_at s (mine + 1), label) → picture.accused agent ≡ Some (start, port)
+      → IsAccuser agent picture
+  accuser picture agent s mine start port label below edge far accused = record {
+    start = start;
+    port = port;
+    label = label;
+    far = far ∙ (λ i. ((ap (node_at s) edge ∙ hole_at s below) i, label));
+    accused = accused;
+  }
+
+  -- an agent at rest has accused nobody, or the black hole
+  abbrev pub HasAccused : (s : ℕ) → Picture → Type 0
+  HasAccused s picture = (picture.accused s ≡ None) ⊎ IsAccuser s picture
+
+  never_wrong : (picture : Picture) (s : ℕ) → HasAccused s picture
+      → passes (λ link. not (is_right world link)) (picture.accused s) ≡ false
+  never_wrong picture s has = elim has [
+    | inl h ↦ ap (passes (λ link. not (is_right world link))) h
+    | inr h ↦ ap (passes (λ link. not (is_right world link))) h.accused
+        ∙ ap not (doomed_is h.start h.port (node_at 0 right) h.label h.far
+        ∙ eq-eqb (node_at 0 right) (node_at 0 right) refl)
+  ]
+
+  not_silent : (picture : Picture) (s : ℕ) → s < 2 → IsAccuser s picture → is_silent world (found_in picture) ≡ false
+  not_silent picture s below it =
+      let some : accuses world (found_in picture) (λ link. true) ≡ true =
+      accuses_by picture (λ link. true) s below (ap (passes (λ link. true)) it.accused) in
+      let test : ℕ × ℕ → Bool = λ link. node_at 0 right == (world.net.far link.0 link.1).0 in
+      let hole : is_hole_accused world (found_in picture) (node_at 0 right) ≡ true =
+      accuses_by picture test s below (ap (passes test) it.accused
+      ∙ ap (λ (f : ℕ × ℕ). node_at 0 right == f.0) it.far ∙ eq-eqb (node_at 0 right) (node_at 0 right) refl) in
+      (λ i. not (accuses world (found_in picture) (λ link. true))
+      || list_any (λ h. not (is_hole_accused world (found_in picture) h)) (search.hole i)
+      || list_any (λ e. not (is_dark_accused world (found_in picture) e)) (search.none_dark i))
+      ∙ (λ i. not (some i) || (not (hole i) || false) || false)
+
+  -- agent s has accused and ended, the other one is done too, and all nodes but the black hole were reached
+  pub record IsDone (s o : ℕ) (picture : Picture) : Type 0 where
+    pub accuses : IsAccuser s picture
+    pub ended : picture.position s ≡ After
+    pub other : HasAccused o picture
+    pub away : is_present (picture.position o) ≡ false
+    pub reached : (k : ℕ) → 0 < k → ((k < distance s → picture.reached (node_at s k) ≡ true)
+        × (k < distance o → picture.reached (node_at o k) ≡ true))
+
+  pub solved_once : (s o : ℕ) (picture : Picture) → Pair s o → IsDone s o picture
+      → (outcome_in world picture ≡ Solved) × (doomed_in world picture ≤ 1)
+  solved_once s o picture pair it = (
+    solved_by picture
+        (accuses_none picture (λ link. not (is_right world link)) (λ k below. never_wrong picture k
+        (each s o pair (λ (j : ℕ). HasAccused j picture) (inr it.accuses) it.other k below)))
+        (not_silent picture s pair.own it.accuses)
+        (unfinished_none picture (each s o pair (λ (j : ℕ). is_present (picture.position j) ≡ false)
+        (ap is_present it.ended) it.away))
+        (reached_all picture (record {
+          known = λ k place below some before.
+              let both_known = it.reached place some in
+              each s o pair (λ (j : ℕ). place < distance j → picture.reached (node_at j place) ≡ true)
+              both_known.0 both_known.1 k below before;
+        })),
+    few_doomed picture s pair.own it.ended,
+  )
+
+-- on a ring it is so if that link is ahead of the last safe node of a side
+pub ring_accuser : {world : World} {n right left : ℕ} {ways : Ways} (search : IsSearch world n right left ways)
+    (picture : Picture) (agent side steps : ℕ) → side < 2 → steps + 1 ≡ distance (sides search) side
+    → picture.accused agent ≡ Some (ways.node side steps, ways.ahead side steps)
+    → IsAccuser (sides search) agent picture
+ring_accuser {ways = ways} search picture agent side steps below edge accused =
+    let within = within_n (sides search) side below in
+    accuser (sides search) picture agent side steps (ways.node side steps) (ways.ahead side steps)
+    (1 - ways.ahead side (steps + 1)) below edge (search.ring.out side steps below (omega (arith, edge, within)))
+    accused

@@ -1,2 +1,1 @@
-pub mod VerdictLemmas
 pub mod TriangleLemmas

@@ -25,13 +25,12 @@ use Rattle.bhs_protocols.specs.AllRings.{IsAway, ways_of}
 use Rattle.bhs_protocols.proofs.Principle.{invariants_solve}
 use Rattle.bhs_protocols.proofs.RingLemmas.{rings_are_rings}
 use Rattle.bhs_protocols.proofs.SearchLemmas as lemmas
-use Rattle.bhs_protocols.proofs.SearchLemmas.{both, Pair, apart_from, swapped_pair, opposite, sides}
+use Rattle.bhs_protocols.proofs.SearchLemmas.{both, Pair, apart_from, one_zero, opposite, sides, zero_one}
 use Rattle.bhs_protocols.proofs.TurnLemmas.{Becomes, enters, departs, accuses}
 use Rattle.bhs_triangle.specs.Triangle.{Phase, Begins, Departs, Goes, Turns, ComesBack, Accuses, Ends}
 use Rattle.bhs_triangle.specs.Triangle.{does_in, next_phase, phase_after, triangle_trial, triangle_bounds}
 use Rattle.bhs_triangle.specs.Triangle.{TriangleIsSolved}
 use Rattle.bhs_protocols.proofs.MovingLemmas.{says_moves, bound_moves, end_stays, arrives_at, grows_by}
-use Rattle.bhs_triangle.proofs.VerdictLemmas.{found_is_solved}
 
 module _ (world : World) (n right left naps : ℕ) (ways : Ways) (search : IsSearch world n right left ways)
     (three : n ≡ 3) (enough : 3 ≤ world.quota) where
@@ -63,13 +62,13 @@ module _ (world : World) (n right left naps : ℕ) (ways : Ways) (search : IsSea
 
   -- how far the black hole is on a side: one step on the one side, and two on the other
   abbrev distance : ℕ → ℕ
-  distance = lemmas.distance world n right left ways.node (sides search)
+  distance = lemmas.distance (sides search)
 
   sum_is : (s o : ℕ) → Pair s o → distance s + distance o ≡ 3
-  sum_is s o pair = lemmas.sum_is world n right left ways.node (sides search) s o pair ∙ three
+  sum_is s o pair = lemmas.sum_is (sides search) s o pair ∙ three
 
   positive : (s : ℕ) → s < 2 → 0 < distance s
-  positive = lemmas.positive world n right left ways.node (sides search)
+  positive = lemmas.positive (sides search)
 
   near_or_far : (s o : ℕ) → Pair s o → (distance s ≡ 1) ⊎ (distance s ≡ 2)
   near_or_far s o pair = elim (eqb_tells (distance s) 1) [
@@ -80,23 +79,23 @@ module _ (world : World) (n right left naps : ℕ) (ways : Ways) (search : IsSea
   -- which links destroy
   out_doomed : (s : ℕ) → s < 2 → doomed world world.home s ≡ (ways.node 0 right == next s)
   out_doomed s below =
-      lemmas.doomed_is world n right left ways.node (sides search) world.home s (next s) (label s) (out s below)
+      lemmas.doomed_is (sides search) world.home s (next s) (label s) (out s below)
 
   near_doomed : (s : ℕ) → s < 2 → distance s ≡ 1 → doomed world world.home s ≡ true
   near_doomed s below near =
       out_doomed s below
       ∙ eq-eqb (ways.node 0 right) (next s)
-      (sym (lemmas.hole_at world n right left ways.node (sides search) s below) ∙ ap (ways.node s) near)
+      (sym (lemmas.hole_at (sides search) s below) ∙ ap (ways.node s) near)
 
   far_safe : (s : ℕ) → s < 2 → distance s ≡ 2 → doomed world world.home s ≡ false
   far_safe s below far =
-      out_doomed s below ∙ lemmas.safe_before world n right left ways.node (sides search) s 1 below (omega (arith, far))
+      out_doomed s below ∙ lemmas.safe_before (sides search) s 1 below (omega (arith, far))
 
   back_safe : (s : ℕ) → s < 2 → doomed world (next s) (label s) ≡ false
   back_safe s below =
-      lemmas.doomed_is world n right left ways.node (sides search) (next s) (label s) world.home s (back s below)
+      lemmas.doomed_is (sides search) (next s) (label s) world.home s (back s below)
       ∙ ap (λ (k : ℕ). ways.node 0 right == k) (sym (search.ring.home s))
-      ∙ lemmas.safe_before world n right left ways.node (sides search) s 0 below (positive s below)
+      ∙ lemmas.safe_before (sides search) s 0 below (positive s below)
 
   -- ---- the invariant: by what an agent is about,
 
@@ -355,32 +354,21 @@ module _ (world : World) (n right left naps : ℕ) (ways : Ways) (search : IsSea
     solved_if ends goes near =
         let known = inv.own.safe (ap was_there ends) in
         let across : 1 - s ≡ o = both (λ (k : ℕ). 1 - k ≡ opposite k) refl refl s pair.own ∙ sym pair.is in
-        found_is_solved world n right left ways search s o pair old (record {
-          side = o;
-          steps = 0;
-          below = pair.other;
-          edge = sym near;
-          blames = blames_as Ends ends
-              ∙ (λ i. Some (sym (search.ring.home o) i, (across ∙ sym (search.ring.first o pair.other)) i));
+        lemmas.solved_once (sides search) s o old pair (record {
+          accuses = lemmas.ring_accuser search old s o 0 pair.other (sym near) (blames_as Ends ends
+              ∙ (λ i. Some (sym (search.ring.home o) i, (across ∙ sym (search.ring.first o pair.other)) i)));
           ended = at_as Ends ends;
-          others_none = inv.other.blames ∙ ap (accusation o) goes;
-          others_away = ap is_present (inv.other.at ∙ ap (place o) goes);
-          known = λ k steps below some short.
-              lemmas.each world n right left ways.node (sides search) s o pair
-              (λ (m : ℕ). steps < distance m → old.reached (ways.node m steps) ≡ true)
-              (λ before.
-              let one : steps ≡ 1 = omega (arith, some, before, known.0) in
-              ap (λ (m : ℕ). old.reached (ways.node s m)) one ∙ known.1)
-              (λ before. absurd (omega (arith, some, before, near))) k below short;
+          other = inl (inv.other.blames ∙ ap (accusation o) goes);
+          away = ap is_present (inv.other.at ∙ ap (place o) goes);
+          reached = λ steps some. (
+            λ before.
+                let one : steps ≡ 1 = omega (arith, some, before, known.0) in
+                ap (λ (m : ℕ). old.reached (ways.node s m)) one ∙ known.1,
+            λ before. absurd (omega (arith, some, before, near)),
+          );
         })
 
   -- ---- all together
-
-  abbrev zero_one : Pair 0 1
-  zero_one = lemmas.zero_one world n right left ways.node (sides search)
-
-  abbrev one_zero : Pair 1 0
-  one_zero = swapped_pair 0 1 zero_one
 
   -- both have not ended, since the black hole is next to the home base on one side, and both are not lost
   at_rest : (picture : Picture) → Inv 0 1 picture → IsResting trial picture
