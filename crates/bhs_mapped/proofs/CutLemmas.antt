@@ -1,6 +1,5 @@
 -- No agent passes a black hole that cuts a network in two.
-use Rattle.std.proofs.Common.{ℕ, ◌<◌, ◌≡◌, ◌⊎◌, true, false, List, [], ◌∷◌, refl, sym, ap}
-use Rattle.std.proofs.Common.{◌∙◌, subst, nat_lt, inl, inr}
+use Rattle.std.proofs.Common.{ℕ, ◌<◌, ◌≡◌, ◌⊎◌, true, false, List, [], ◌∷◌, refl, sym, ap, ◌∙◌, subst, nat_lt, inl, inr}
 use Rattle.std.specs.Prelude.{◌≢◌}
 use Rattle.std.proofs.lemmas.Bool.{ltb-true, true≢false, eq-eqb, cond-true, cond-false}
 use Rattle.std.proofs.lemmas.Bool.Decides.{eqb_tells}
@@ -27,7 +26,7 @@ use Rattle.bhs_protocols.specs.Pictures.{said_in, delivered_in, done_in, turn_in
 use Rattle.bhs_protocols.specs.LastWord.{searched}
 use Rattle.bhs_protocols.proofs.PictureLemmas.{pictures_follow}
 use Rattle.bhs_protocols.proofs.LastWordLemmas as last_word
-use Rattle.bhs_protocols.proofs.LossLemmas as losses
+use Rattle.bhs_protocols.proofs.AloneLemmas.{unreached_unsolved}
 use Rattle.bhs_mapped.specs.Cuts.{NoTeamPassesACut}
 
 module _ (net : Network) (setup : Setup) (held : Held) (naps : ℕ) (minds : Minds) (cut : ℕ)
@@ -155,8 +154,7 @@ module _ (net : Network) (setup : Setup) (held : Held) (naps : ℕ) (minds : Min
   unsolved : (picture : Picture) (node : ℕ) → node < nodes_of net → node ≢ cut → node ≢ setup.home
       → picture.reached node ≡ false → outcome_in trial.world picture ≢ Solved
   unsolved picture node below off not_home never =
-      losses.unreached_unsolved (world_of net setup) held naps minds cut node picture below not_home
-      (λ same. off (sym same)) never
+      unreached_unsolved (world_of net setup) cut node picture below not_home (λ same. off (sym same)) never
 
   -- a node to which such a path leads, or the match is not solved
   near_or : (picture : Picture) → IsInside picture → (node : ℕ) → node < nodes_of net → node ≢ cut

@@ -2,7 +2,7 @@
 use Rattle.std.proofs.Common.{ℕ, ◌+◌, ◌<◌, ◌≤◌, ◌≡◌, Bool, true, false, ◌||◌, Option, Some, None, List, ◌∷◌}
 use Rattle.std.proofs.Common.{length, refl, sym, ap, ◌∙◌, subst, if◌then◌else◌, nat_lt, inl, inr, arith}
 use Rattle.std.specs.Prelude.{nat_le, bytes_eq}
-use Rattle.std.proofs.lemmas.Bool.{lt-ltb, ltb-true, true≢false, cond-true, cond-false}
+use Rattle.std.proofs.lemmas.Bool.{lt-ltb, le-ltb, ltb-true, true≢false, cond-true, cond-false}
 use Rattle.std.proofs.lemmas.Bool.Decides.{eqb_tells}
 use Rattle.bhs_model.specs.declared.commands.Command.{Command}
 use Rattle.bhs_model.specs.declared.commands.Command.TheVariants.{Enter, Look, Write, Depart, Accuse, Leave, Bad}
@@ -20,9 +20,8 @@ use Rattle.bhs_referee.specs.Findings.{accused_by, moves_by}
 use Rattle.bhs_explore.specs.declared.minds.Step.TheVariants.{Says}
 use Rattle.bhs_explore.specs.Minds.{Item, Heard, Woke, History, Minds}
 use Rattle.bhs_explore.specs.Schedules.{Trial, faced, is_same_sight}
-use Rattle.bhs_protocols.specs.Pictures.{Picture, shown_in, is_heard, answer_at, shown_after, told_at}
-use Rattle.bhs_protocols.specs.Pictures.{refused_in, said_in, arrived_in, delivered_in, woken_in}
-use Rattle.bhs_protocols.specs.Pictures.{faces_alike}
+use Rattle.bhs_protocols.specs.Pictures.{Picture, shown_in, is_heard, answer_at, shown_after, told_at, refused_in}
+use Rattle.bhs_protocols.specs.Pictures.{said_in, arrived_in, delivered_in, woken_in, faces_alike}
 use Rattle.bhs_protocols.specs.Programs.{held_after}
 use Rattle.bhs_mapped.specs.Parts.{IsPart, Follower, bare, command_of, step_of, answered, heard_at, followed, followers}
 use Rattle.bhs_mapped.specs.Parts.{on_part, through_part}
@@ -391,13 +390,8 @@ module _ (world : World) (part : Network) (port : (node port : ℕ) → ℕ) (na
     has_port by has =
         lt-ltb (port node by) (world.net.degree node) (is.ports node by below (ltb-true by (part.degree node) has))
 
-    not_less : (a b : ℕ) → b ≤ a → nat_lt a b ≡ false
-    not_less a b more = by_cases (nat_lt a b) (nat_lt a b ≡ false)
-        (λ yes. let less : a < b = ltb-true a b yes in absurd (omega (arith, less, more)))
-        (λ none. none)
-
     no_port : (by : ℕ) → nat_lt by (part.degree node) ≡ false → nat_lt (port node by) (world.net.degree node) ≡ false
-    no_port by none = not_less (port node by) (world.net.degree node) (is.beyond node by below (no_less by none))
+    no_port by none = le-ltb (port node by) (world.net.degree node) (is.beyond node by below (no_less by none))
       where
         no_less : (by : ℕ) → nat_lt by (part.degree node) ≡ false → part.degree node ≤ by
         no_less by none =

@@ -3,7 +3,7 @@
 use Rattle.std.proofs.Common.{ℕ, zero, suc, ◌+◌, ◌-◌, ◌<◌, ◌≤◌, ◌≡◌, ◌⊎◌, true, false, ◌==◌, List, [], ◌∷◌}
 use Rattle.std.proofs.Common.{length, refl, sym, ap, ◌∙◌, subst, inl, inr, arith, if◌then◌else◌, nat_lt}
 use Rattle.std.proofs.Math.ListN.{get_or}
-use Rattle.std.proofs.lemmas.Bool.{true≢false, lt-ltb, ltb-true, eq-eqb, cond-true, cond-false}
+use Rattle.std.proofs.lemmas.Bool.{true≢false, lt-ltb, ltb-true, eq-eqb, ne_eqb, cond-true, cond-false}
 use Rattle.std.proofs.lemmas.Bool.Decides.{eqb_tells}
 use Rattle.bhs_net.specs.Links.{End}
 use Rattle.bhs_net.specs.Network.{Network, IsNetwork, Leads, nodes_of, degree_of, far_of}
@@ -49,14 +49,8 @@ module _ (net : Network) (node : ℕ → ℕ) where
     abbrev new : Route
     new = extended old k port label
 
-    other : (a b : ℕ) → a < b → (a == b) ≡ false
-    other a b below = elim (eqb_tells a b) [
-      | inl h ↦ absurd (omega (arith, h.1, below))
-      | inr h ↦ h.0
-    ]
-
     place_old : (step : ℕ) → step < old.steps + 1 → new.place step ≡ old.place step
-    place_old step below = cond-false _ _ _ (other step (old.steps + 1) below)
+    place_old step below = cond-false _ _ _ (ne_eqb step (old.steps + 1) (λ h. omega (arith, h, below)))
 
     place_new : (step : ℕ) → step ≡ old.steps + 1 → new.place step ≡ k
     place_new step same = cond-true _ _ _ (eq-eqb step (old.steps + 1) same)
@@ -65,13 +59,13 @@ module _ (net : Network) (node : ℕ → ℕ) where
     place_last step same = place_old step (omega (arith, same)) ∙ ap old.place same ∙ is.last
 
     behind_old : (step : ℕ) → step < old.steps + 1 → new.behind step ≡ old.behind step
-    behind_old step below = cond-false _ _ _ (other step (old.steps + 1) below)
+    behind_old step below = cond-false _ _ _ (ne_eqb step (old.steps + 1) (λ h. omega (arith, h, below)))
 
     behind_new : (step : ℕ) → step ≡ old.steps + 1 → new.behind step ≡ label
     behind_new step same = cond-true _ _ _ (eq-eqb step (old.steps + 1) same)
 
     ahead_old : (step : ℕ) → step < old.steps → new.ahead step ≡ old.ahead step
-    ahead_old step below = cond-false _ _ _ (other step old.steps below)
+    ahead_old step below = cond-false _ _ _ (ne_eqb step old.steps (λ h. omega (arith, h, below)))
 
     ahead_new : (step : ℕ) → step ≡ old.steps → new.ahead step ≡ port
     ahead_new step same = cond-true _ _ _ (eq-eqb step old.steps same)

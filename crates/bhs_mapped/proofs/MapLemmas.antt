@@ -1,9 +1,7 @@
 -- Two agents that have a map solve every network of a file: by a guide they explore as the shuttle does.
 use Rattle.std.proofs.Common.{ℕ, zero, suc, ◌+◌, ◌-◌, ◌*◌, ◌<◌, ◌≤◌, ◌≡◌, Bool, true, false, ◌==◌, Some, List, refl}
-use Rattle.std.proofs.Common.{[], ◌∷◌, sym, ap, ◌∙◌, subst, if◌then◌else◌, inl, inr, arith, add-one}
+use Rattle.std.proofs.Common.{[], ◌∷◌, sym, ap, ◌∙◌, subst, if◌then◌else◌, arith, add-one}
 use Rattle.std.specs.Prelude.{◌≢◌}
-use Rattle.std.proofs.lemmas.Bool.{cond-false}
-use Rattle.std.proofs.lemmas.Bool.Decides.{eqb_tells}
 use Rattle.bhs_net.specs.Network.{Network, nodes_of}
 use Rattle.bhs_model.specs.declared.replies.Reply.{Reply}
 use Rattle.bhs_model.specs.declared.replies.Reply.TheVariants.{Here, Written, Changed, Gone, Noted}
@@ -23,7 +21,7 @@ use Rattle.bhs_protocols.specs.LastWord.{searched, SolvesEverywhere}
 use Rattle.bhs_protocols.specs.Programs.{held_after, minds_by}
 use Rattle.bhs_protocols.specs.AllRings.{ring_bounds}
 use Rattle.bhs_protocols.proofs.LossLemmas.{each_black_hole_destroys}
-use Rattle.bhs_protocols.proofs.RingLemmas.{solved_wherever, within_more, quota_enough}
+use Rattle.bhs_protocols.proofs.RingLemmas.{quota_enough, solved_wherever, two_within, within_more}
 use Rattle.bhs_protocols.proofs.ExplorerSteps.{Way, AreExplorers, does_by, out_by, back_by}
 use Rattle.bhs_protocols.proofs.ExplorerState.{Game}
 use Rattle.bhs_protocols.proofs.ExplorerLemmas.{explorers_solve}
@@ -237,19 +235,8 @@ module _ (net : Network) (home : ℕ) (has : HasGuide net home) where
 
     commands_few : (agent : ℕ) → (guided_bounds has.guide n one other).commands agent
         ≤ (shuttle_bounds n one other).commands agent
-    commands_few zero = omega (arith, few_one)
-    commands_few (suc zero) = omega (arith, few_other)
-    commands_few (suc (suc k)) =
-        let none : (guided_bounds has.guide n one other).commands (suc (suc k)) ≡ 0 =
-        cond-false _ _ _ (apart (suc (suc k)) 0 (omega arith))
-        ∙ cond-false _ _ _ (apart (suc (suc k)) 1 (omega arith)) in
-        omega (arith, none)
-      where
-        apart : (a b : ℕ) → b < a → (a == b) ≡ false
-        apart a b less = elim (eqb_tells a b) [
-          | inl h ↦ absurd (omega (arith, h.1, less))
-          | inr h ↦ h.0
-        ]
+    commands_few = two_within (commands_by has.guide n 0 one) (commands_by has.guide n 1 other)
+        (shuttle_bounds n one other).commands (omega (arith, few_one)) (omega (arith, few_other))
 
     as_on_a_ring : (trial : Trial) → IsSolved trial (guided_bounds has.guide n one other)
         → IsSolved trial (ring_bounds n)

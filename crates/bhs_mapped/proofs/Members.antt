@@ -3,7 +3,7 @@ use Rattle.std.proofs.Common.{ℕ, zero, suc, ◌<◌, ◌≤◌, ◌≡◌, ◌
 use Rattle.std.proofs.Common.{refl, sym, ap, ◌∙◌, subst, inl, inr, arith}
 use Rattle.std.specs.List.{list_any}
 use Rattle.std.proofs.Math.Dec.{eqb}
-use Rattle.std.proofs.lemmas.Bool.{true≢false, eq-eqb}
+use Rattle.std.proofs.lemmas.Bool.{true≢false, eq-eqb, ne_eqb}
 use Rattle.std.proofs.lemmas.Bool.Decides.{eqb_tells}
 use Rattle.std.proofs.lemmas.List.Folds.{list_any-append, list_any_at}
 use Rattle.std.proofs.lemmas.Map.Keys.{IsDistinct-from_apart}
@@ -58,11 +58,8 @@ pub apart_at : (qs : List ℕ) (i j d : ℕ) → AreApart qs → i < j → j < l
     → eqb (get_or qs i d) (get_or qs j d) ≡ false
 apart_at [] i j d apart less last = absurd (omega (arith, last))
 apart_at (q ∷ qs) i zero d apart less last = absurd (omega (arith, less))
-apart_at (q ∷ qs) zero (suc j) d apart less last = elim (eqb_tells q (get_or qs j d)) [
-  | inl h ↦ absurd (true≢false (sym (subst (λ (k : ℕ). is_in k qs ≡ true) (sym h.1)
-      (at_in qs j d (omega (arith, last)))) ∙ apart.0))
-  | inr h ↦ h.0
-]
+apart_at (q ∷ qs) zero (suc j) d apart less last = ne_eqb q (get_or qs j d) (λ same.
+    true≢false (sym (subst (λ (k : ℕ). is_in k qs ≡ true) (sym same) (at_in qs j d (omega (arith, last)))) ∙ apart.0))
 apart_at (q ∷ qs) (suc i) (suc j) d apart less last =
     apart_at qs i j d apart.1 (omega (arith, less)) (omega (arith, last))
 

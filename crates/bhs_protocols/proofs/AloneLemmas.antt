@@ -1,17 +1,14 @@
 -- One agent alone fails: either it never arrives anywhere, or the first node at which it would arrive is the black
 -- hole.
-use Rattle.std.proofs.Common.{ℕ, zero, suc, ◌+◌, ◌<◌, ◌≤◌, ◌≡◌, ◌⊎◌, Bool, true, false, not, ◌&&◌, ◌||◌, ◌==◌, Option}
-use Rattle.std.proofs.Common.{Some}
+use Rattle.std.proofs.Common.{ℕ, zero, suc, ◌+◌, ◌<◌, ◌≤◌, ◌≡◌, ◌⊎◌, Bool, true, false, not, ◌&&◌, ◌||◌, Option, Some}
 use Rattle.std.proofs.Common.{None, List, [], ◌∷◌, refl, sym, ap, ◌∙◌, subst, if◌then◌else◌, nat_lt, inl, inr, arith}
 use Rattle.std.specs.Prelude.{◌≢◌, find}
 use Rattle.std.specs.List.{range_with_len}
-use Rattle.std.proofs.lemmas.Bool.{ltb-true, true≢false, eq-eqb, cond-true, cond-false}
+use Rattle.std.proofs.lemmas.Bool.{ltb-true, true≢false, eq-eqb, ne_eqb, cond-true, cond-false}
 use Rattle.std.proofs.lemmas.Bool.Decides.{eqb_tells}
 use Rattle.bhs_model.specs.declared.commands.Command.{Command}
 use Rattle.bhs_model.specs.declared.commands.Command.TheVariants.{Enter, Look, Write, Depart, Accuse, Leave, Bad}
 use Rattle.bhs_model.specs.declared.events.Event.TheVariants.{Tell}
-use Rattle.bhs_model.specs.declared.replies.Reply.{Reply}
-use Rattle.bhs_model.specs.declared.replies.Reply.TheVariants as replies
 use Rattle.bhs_model.specs.Worlds.{World}
 use Rattle.bhs_model.specs.Runs.{Position, Before, At, Bound, After, position_after}
 use Rattle.bhs_model.specs.Examples.{none_held}
@@ -31,6 +28,88 @@ use Rattle.bhs_protocols.specs.Pictures.{Picture, picture_of, blank, deed_in, ca
 use Rattle.bhs_protocols.specs.Pictures.{refused_in, woken_in, done_in, turn_in, turns_in, found_in, outcome_in}
 use Rattle.bhs_protocols.specs.Alone.{alone, HasThree, FailsSomewhere, OneAloneFails}
 use Rattle.bhs_protocols.proofs.PictureLemmas.{pictures_follow}
+use Rattle.bhs_protocols.proofs.LastWordLemmas.{accused_write}
+
+-- ---- what is not solved
+
+unsolved_by : (a b c d : Bool) (first : Option ℕ) → (b ≡ false → d ≡ true) → (first ≡ None → ⊥) →
+    (if a then Wrong else (if b then Silent else (if c then Unfinished
+    else (if d then guess_or_solved first else Solved)))) ≡ Solved → ⊥
+unsolved_by true b c d first accused some h = cc
+unsolved_by false true c d first accused some h = cc
+unsolved_by false false true d first accused some h = cc
+unsolved_by false false false true None accused some h = some refl
+unsolved_by false false false true (Some node) accused some h = cc
+unsolved_by false false false false first accused some h = absurd (true≢false (sym (accused refl)))
+
+find_some : (test : ℕ → Bool) (start count node : ℕ) → start ≤ node → node < start + count → test node ≡ true
+    → find test (range_with_len start count) ≡ None → ⊥
+find_some test start zero node after before passes_it none = omega (arith, after, before)
+find_some test start (suc count) node after before passes_it none = by_cases (test start) ⊥
+    (λ here. let found : Some start ≡ None = sym (cond-true _ _ _ here) ∙ none in cc)
+    (λ not_here.
+    let apart : start ≢ node = λ same. true≢false (sym passes_it ∙ ap test (sym same) ∙ not_here) in
+    find_some test (start + 1) count node (omega (arith, after, apart)) (omega (arith, before)) passes_it
+    (sym (cond-false _ _ _ not_here) ∙ none))
+
+-- a match with one black hole is not if another node was not reached
+pub unreached_unsolved : (world : World) (hole node : ℕ) (picture : Picture) → node < world.net.nodes
+    → node ≢ world.home → hole ≢ node → picture.reached node ≡ false
+    → outcome_in (record world { holes = hole ∷ []; dark = [] }) picture ≢ Solved
+unreached_unsolved world hole node picture below not_home apart never =
+    let w : World = record world { holes = hole ∷ []; dark = [] } in
+    let lonely : is_unreached w (found_in picture) node ≡ true =
+    (λ i. not (ne_eqb node world.home not_home i) && (not (ne_eqb hole node apart i || false) && not (never i))) in
+    unsolved_by (accuses w (found_in picture) (λ link. not (is_right w link))) (is_silent w (found_in picture))
+    (is_unfinished w picture.position) (accuses w (found_in picture) (λ link. not (is_over_dark w link)))
+    (first_unreached w (found_in picture))
+    (spoken (accuses w (found_in picture) (λ link. true)) (not (is_hole_accused w (found_in picture) hole)))
+    (find_some (is_unreached w (found_in picture)) 0 world.net.nodes node (omega arith) (omega (arith, below)) lonely)
+  where
+    spoken : (a b : Bool) → (not a || (b || false) || false) ≡ false → a ≡ true
+    spoken true b h = refl
+    spoken false b h = cc
+
+-- nor is one that a rule calls silent
+pub silent_unsolved : (wrong silent : Bool) (rest : Outcome) → silent ≡ true
+    → (if wrong then Wrong else (if silent then Silent else rest)) ≡ Solved → ⊥
+silent_unsolved true silent rest is h = cc
+silent_unsolved false true rest is h = cc
+silent_unsolved false false rest is h = cc
+
+-- ---- one agent
+
+-- a number below 3 that is neither of two
+pub record IsThird (one two : ℕ) : Type 0 where
+  pub it : ℕ
+  pub small : it < 3
+  pub first : it ≢ one
+  pub second : it ≢ two
+
+pub third : (one two : ℕ) → IsThird one two
+third one two = elim (eqb_tells 0 one) [
+  | inl a ↦ elim (eqb_tells 1 two) [
+    | inl b ↦ record {
+      it = 2;
+      small = omega arith;
+      first = λ h. omega (arith, h, a.1);
+      second = λ h. omega (arith, h, b.1);
+    }
+    | inr b ↦ record { it = 1; small = omega arith; first = λ h. omega (arith, h, a.1); second = b.1 }
+  ]
+  | inr a ↦ elim (eqb_tells 0 two) [
+    | inl b ↦ elim (eqb_tells 1 one) [
+      | inl c ↦ record {
+        it = 2;
+        small = omega arith;
+        first = λ h. omega (arith, h, c.1);
+        second = λ h. omega (arith, h, b.1);
+      }
+      | inr c ↦ record { it = 1; small = omega arith; first = c.1; second = λ h. omega (arith, h, b.1) }
+    ]
+    | inr b ↦ record { it = 0; small = omega arith; first = a.1; second = b.1 }
+  ]
+]
 
 module _ (world : World) (naps : ℕ) (minds : Minds) where
   abbrev trial : (hole : ℕ) → Trial
@@ -65,17 +144,6 @@ module _ (world : World) (naps : ℕ) (minds : Minds) where
   record IsGoing (picture : Picture) : Type 0 where
     leaves : IsLeaving (picture.position 0)
     honest : picture.accused 0 ≡ None
-
-  accused_write : (reply : Reply) (expect put : List ℕ) (place : Position) (before : Option (ℕ × ℕ))
-      → accused_by (Some reply) (Write expect put) place before ≡ before
-  accused_write (replies.Here ports came board) expect put place before = refl
-  accused_write replies.Written expect put place before = refl
-  accused_write (replies.Changed board) expect put place before = refl
-  accused_write replies.Gone expect put place before = refl
-  accused_write replies.Noted expect put place before = refl
-  accused_write replies.Bye expect put place before = refl
-  accused_write replies.Over expect put place before = refl
-  accused_write (replies.No why) expect put place before = refl
 
   -- the world, but for where the black hole is
   abbrev some_world : World
@@ -234,97 +302,18 @@ module _ (world : World) (naps : ℕ) (minds : Minds) where
 
   -- ---- it has not solved
 
-  pub unsolved_by : (a b c d : Bool) (first : Option ℕ) → (b ≡ false → d ≡ true) → (first ≡ None → ⊥) →
-      (if a then Wrong else (if b then Silent else (if c then Unfinished
-      else (if d then guess_or_solved first else Solved)))) ≡ Solved → ⊥
-  unsolved_by true b c d first accused some h = cc
-  unsolved_by false true c d first accused some h = cc
-  unsolved_by false false true d first accused some h = cc
-  unsolved_by false false false true None accused some h = some refl
-  unsolved_by false false false true (Some node) accused some h = cc
-  unsolved_by false false false false first accused some h = absurd (true≢false (sym (accused refl)))
-
-  silent_by : (a b c : Bool) (x : Outcome) → b ≡ true →
-      (if a then Wrong else (if b then Silent else (if c then Unfinished else x))) ≡ Solved → ⊥
-  silent_by true b c x silent h = cc
-  silent_by false true c x silent h = cc
-  silent_by false false c x silent h = cc
-
-  pub find_some : (test : ℕ → Bool) (start count node : ℕ) → start ≤ node → node < start + count → test node ≡ true
-      → find test (range_with_len start count) ≡ None → ⊥
-  find_some test start zero node after before passes_it none = omega (arith, after, before)
-  find_some test start (suc count) node after before passes_it none = by_cases (test start) ⊥
-      (λ here. let found : Some start ≡ None = sym (cond-true _ _ _ here) ∙ none in cc)
-      (λ not_here.
-      let apart : start ≢ node = λ same. true≢false (sym passes_it ∙ ap test (sym same) ∙ not_here) in
-      find_some test (start + 1) count node (omega (arith, after, apart)) (omega (arith, before)) passes_it
-      (sym (cond-false _ _ _ not_here) ∙ none))
-
-  -- a number below 3 that is neither of two
-  pub record IsThird (one two : ℕ) : Type 0 where
-    pub it : ℕ
-    pub small : it < 3
-    pub first : it ≢ one
-    pub second : it ≢ two
-
-  pub third : (one two : ℕ) → IsThird one two
-  third one two = elim (eqb_tells 0 one) [
-    | inl a ↦ elim (eqb_tells 1 two) [
-      | inl b ↦ record {
-        it = 2;
-        small = omega arith;
-        first = λ h. omega (arith, h, a.1);
-        second =
-            λ h. omega (arith, h, b.1);
-      }
-      | inr b ↦ record { it = 1; small = omega arith; first = λ h. omega (arith, h, a.1); second = b.1 }
-    ]
-    | inr a ↦ elim (eqb_tells 0 two) [
-      | inl b ↦ elim (eqb_tells 1 one) [
-        | inl c ↦ record {
-          it = 2;
-          small = omega arith;
-          first = λ h. omega (arith, h, c.1);
-          second =
-              λ h. omega (arith, h, b.1);
-        }
-        | inr c ↦ record { it = 1; small = omega arith; first = c.1; second = λ h. omega (arith, h, b.1) }
-      ]
-      | inr b ↦ record { it = 0; small = omega arith; first = a.1; second = b.1 }
-    ]
-  ]
-
-  pub not_equal : (a b : ℕ) → a ≢ b → (a == b) ≡ false
-  not_equal a b apart = elim (eqb_tells a b) [
-    | inl h ↦ absurd (apart h.1)
-    | inr h ↦ h.0
-  ]
-
   quiet_unsolved : (hole : ℕ) (picture : Picture) → HasThree world → IsQuiet picture
       → outcome_in (trial hole).world picture ≢ Solved
   quiet_unsolved hole picture has quiet =
-      let w : World = (trial hole).world in
       let it : IsThird world.home hole = third world.home hole in
       let three : 3 ≤ world.net.nodes = has.three in
-      let lonely : is_unreached w (found_in picture) it.it ≡ true =
-      (λ i. not (not_equal it.it world.home it.first i)
-      && (not (not_equal hole it.it (λ h. it.second (sym h)) i || false) && not (quiet.unreached it.it i))) in
-      unsolved_by (accuses w (found_in picture) (λ link. not (is_right w link))) (is_silent w (found_in picture))
-      (is_unfinished w picture.position) (accuses w (found_in picture) (λ link. not (is_over_dark w link)))
-      (first_unreached w (found_in picture))
-      (spoken (accuses w (found_in picture) (λ link. true)) (not (is_hole_accused w (found_in picture) hole)))
-      (find_some (is_unreached w (found_in picture)) 0 world.net.nodes it.it (omega arith)
-      (omega (arith, it.small, three)) lonely)
-    where
-      spoken : (a b : Bool) → (not a || (b || false) || false) ≡ false → a ≡ true
-      spoken true b h = refl
-      spoken false b h = cc
+      unreached_unsolved (trial hole).world hole it.it picture (omega (arith, it.small, three)) it.first
+      (λ h. it.second (sym h)) (quiet.unreached it.it)
 
   going_unsolved : (hole : ℕ) (picture : Picture) → IsGoing picture → outcome_in (trial hole).world picture ≢ Solved
   going_unsolved hole picture going =
       let w : World = (trial hole).world in
-      silent_by (accuses w (found_in picture) (λ link. not (is_right w link))) (is_silent w (found_in picture))
-      (is_unfinished w picture.position) _
+      silent_unsolved (accuses w (found_in picture) (λ link. not (is_right w link))) (is_silent w (found_in picture)) _
       (ap (λ (a : Option (ℕ × ℕ)). not (passes (λ link. true) a || false)
       || (not (is_hole_accused w (found_in picture) hole) || false) || false) going.honest)
 

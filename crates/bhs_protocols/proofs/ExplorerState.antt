@@ -1,7 +1,7 @@
 -- Two agents that explore by ways: what holds of them at each time, and what a turn has to keep.
-use Rattle.std.proofs.Common.{ℕ, zero, suc}
-use Rattle.std.proofs.Common.{◌+◌, ◌-◌, ◌*◌, ◌<◌, ◌≤◌, ◌≡◌, ◌⊎◌, Bool, true, false, ◌==◌, Option, Some, None}
-use Rattle.std.proofs.Common.{List, ◌∷◌, sym, ap, ◌∙◌, subst, inl, inr, arith}
+use Rattle.std.proofs.Common.{ℕ, zero, suc, ◌+◌, ◌-◌, ◌*◌, ◌<◌, ◌≤◌, ◌≡◌, ◌⊎◌, Bool, true, false, ◌==◌, Option, Some}
+use Rattle.std.proofs.Common.{None, List, ◌∷◌, sym, ap, ◌∙◌, subst, inl, inr, arith}
+use Rattle.std.proofs.lemmas.Bool.{ne_eqb}
 use Rattle.std.proofs.lemmas.Bool.Decides.{eqb_tells}
 use Rattle.bhs_model.specs.Worlds.{World}
 use Rattle.bhs_model.specs.Runs.{Position, Before, At, Bound, After}
@@ -261,10 +261,7 @@ module _ (game : Game) where
           omega (arith, total, before, spends, own, other)
 
       beyond_two : (k : ℕ) → 2 ≤ k → (k == s) ≡ false
-      beyond_two k beyond = elim (eqb_tells k s) [
-        | inl h ↦ absurd (omega (arith, h.1, beyond, pair.own))
-        | inr h ↦ h.0
-      ]
+      beyond_two k beyond = ne_eqb k s (λ h. omega (arith, h, beyond, pair.own))
 
   -- ---- the turns of an agent, by what it is about
 

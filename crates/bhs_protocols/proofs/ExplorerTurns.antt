@@ -1,8 +1,8 @@
 -- Two agents that explore by ways: turns of an agent at a node.
-use Rattle.std.proofs.Common.{ℕ, ◌+◌, ◌-◌, ◌*◌, ◌<◌, ◌≤◌, ◌≡◌, Bool, true, false, ◌&&◌, ◌==◌, Option, Some, None, List}
+use Rattle.std.proofs.Common.{ℕ, ◌+◌, ◌-◌, ◌*◌, ◌<◌, ◌≤◌, ◌≡◌, true, false, ◌&&◌, ◌==◌, Option, Some, None, List}
 use Rattle.std.proofs.Common.{◌∷◌, length, refl, sym, ap, ◌∙◌, subst, inl, inr, arith}
 use Rattle.std.specs.Prelude.{◌≢◌, bytes_eq}
-use Rattle.std.proofs.lemmas.Bool.{true≢false, eq-eqb, cond-true, cond-false}
+use Rattle.std.proofs.lemmas.Bool.{true≢false, eq-eqb, cond-true, cond-false, eqb-true, and_parts}
 use Rattle.std.proofs.lemmas.Bool.Decides.{eqb_tells}
 use Rattle.bhs_model.specs.declared.commands.Command.TheVariants.{Enter, Write, Depart, Accuse}
 use Rattle.bhs_model.specs.declared.replies.Reply.TheVariants.{Here, Written, Changed, Gone, Noted}
@@ -17,7 +17,6 @@ use Rattle.bhs_protocols.specs.declared.shuttle.Phase.{Phase}
 use Rattle.bhs_protocols.specs.declared.shuttle.Phase.TheVariants.{Begins, GoesOut, Leaves, ComesBack, Returns, Writes}
 use Rattle.bhs_protocols.specs.declared.shuttle.Phase.TheVariants.{Ends}
 use Rattle.bhs_protocols.specs.Shuttle.{other_in, text_by, is_one_left}
-use Rattle.bhs_protocols.proofs.HalvesMarks.{equal}
 use Rattle.bhs_protocols.proofs.SearchLemmas.{agents_two, bytes_other, bytes_same, distance, read_other, sum_is}
 use Rattle.bhs_protocols.proofs.SearchLemmas.{text_fits, within_n}
 use Rattle.bhs_protocols.proofs.TurnLemmas.{enters, departs, accuses as accuses_link, writes, writes_not}
@@ -164,9 +163,9 @@ module _ {game : Game} (on : Turn game) where
       let two : M.mine + M.theirs + 2 ≤ n = both_safe game s o picture pair inv in
       by_cases (step + 1 == all && is_one_left n M) (Onward game s o picture (turn_in trial picture s))
       (λ yes.
-      let tests = both_true (step + 1 == all) (is_one_left n M) yes in
-      let last : step + 1 ≡ all = equal (step + 1) all tests.0 in
-      let left_one : M.mine + M.theirs + 2 ≡ n = equal (M.mine + M.theirs + 2) n tests.1 in
+      let tests = and_parts (step + 1 == all) (is_one_left n M) yes in
+      let last : step + 1 ≡ all = eqb-true (step + 1) all tests.0 in
+      let left_one : M.mine + M.theirs + 2 ≡ n = eqb-true (M.mine + M.theirs + 2) n tests.1 in
       let sum : distance game.search s + distance game.search o ≡ n = sum_is game.search s o pair in
       let safe_too : O.mine < distance game.search o = inv.other.safe in
       let known : M.theirs ≤ O.mine = inv.known in
@@ -225,11 +224,6 @@ module _ {game : Game} (on : Turn game) where
         more = omega (arith, p);
       }))
     where
-      both_true : (a b : Bool) → (a && b) ≡ true → (a ≡ true) × (b ≡ true)
-      both_true true true h = (refl, refl)
-      both_true true false h = cc
-      both_true false b h = cc
-
       more_left : (mine theirs one other : ℕ) → one ≡ other → (one == other && (mine + theirs + 2 == n)) ≡ false
           → mine + theirs + 2 ≤ n → mine + theirs + 3 ≤ n
       more_left mine theirs one other last none two = elim (eqb_tells (mine + theirs + 2) n) [

@@ -2,7 +2,7 @@
 use Rattle.std.proofs.Common.{ℕ, zero, suc, ◌+◌, ◌-◌, ◌*◌, ◌<◌, ◌≤◌, ◌≡◌, Bool, true, false, not, ◌==◌, Option, Some}
 use Rattle.std.proofs.Common.{None, List, refl, sym, ap, ◌∙◌, subst, inl, inr, arith}
 use Rattle.std.specs.Prelude.{◌≢◌, bytes_eq}
-use Rattle.std.proofs.lemmas.Bool.{true≢false, eq-eqb, cond-true, cond-false}
+use Rattle.std.proofs.lemmas.Bool.{true≢false, eq-eqb, cond-true, cond-false, eqb-true}
 use Rattle.std.proofs.lemmas.Bool.Decides.{eqb_tells}
 use Rattle.bhs_model.specs.declared.replies.Reply.TheVariants.{Here}
 use Rattle.bhs_model.specs.Worlds.{doomed}
@@ -23,7 +23,7 @@ use Rattle.bhs_protocols.proofs.HalvesDues.{owing, paces, miss, mark_at, beside,
 use Rattle.bhs_protocols.proofs.SearchLemmas.{agents_two, both, bytes_same, opposite, read_other, sides, text_other}
 use Rattle.bhs_protocols.proofs.MovingLemmas as moving
 use Rattle.bhs_protocols.proofs.TurnLemmas.{Becomes}
-use Rattle.bhs_protocols.proofs.HalvesMarks.{equal, mark_here, read_own}
+use Rattle.bhs_protocols.proofs.HalvesMarks.{mark_here, read_own}
 use Rattle.bhs_protocols.proofs.HalvesState.{Game, IsDone, Onward, Turn, distance, doomed_is, hole_at, mem, nodes_due}
 use Rattle.bhs_protocols.proofs.HalvesState.{positive, rest_of, safe_before, stale, trial as trial_of, within_n}
 use Rattle.bhs_protocols.proofs.HalvesTurns.{far_safe, held, other_fit, own_fit, paced, part_more, placed_as}
@@ -263,7 +263,7 @@ module _ {game : Game} (on : Turn game) where
       read_theirs board (beside M.mine v steps) (mark_at O.mine w steps) marked in
       by_cases (y == 1) (Onward game s o v w picture (turn_in trial picture s))
       (λ yes.
-      let one : y ≡ 1 = equal y 1 yes in
+      let one : y ≡ 1 = eqb-true y 1 yes in
       let not_last : steps ≢ O.mine =
       λ h. (other_fit on).plain (sym (mark_here O.mine w steps h) ∙ sym y_is ∙ one) in
       paced on M.target M.theirs x y (Follows steps port) place news costs moved (picture.accused s) seen becomes

@@ -2,7 +2,7 @@
 use Rattle.std.proofs.Common.{ℕ, zero, suc, ◌+◌, ◌-◌, ◌*◌, ◌/◌, ◌<◌, ◌≤◌, ◌≡◌, true, false, ◌==◌, Option, None}
 use Rattle.std.proofs.Common.{List, length, refl, sym, ap, ◌∙◌, subst, nat_lt, inl, inr, arith}
 use Rattle.std.specs.Prelude.{◌≢◌, bytes_eq}
-use Rattle.std.proofs.lemmas.Bool.{lt-ltb, ltb-true, true≢false, eq-eqb, cond-true, cond-false}
+use Rattle.std.proofs.lemmas.Bool.{lt-ltb, ltb-true, true≢false, eq-eqb, cond-true, cond-false, eqb-true, le-ltb}
 use Rattle.std.proofs.lemmas.Bool.Decides.{eqb_tells}
 use Rattle.bhs_model.specs.declared.commands.Command.TheVariants.{Write}
 use Rattle.bhs_model.specs.declared.replies.Reply.TheVariants.{Written, Changed, Noted}
@@ -25,7 +25,7 @@ use Rattle.bhs_protocols.proofs.HalvesDues.{part, told}
 use Rattle.bhs_protocols.proofs.SearchLemmas.{agents_two, both, opposite, read_other, sides, text_fits, text_other}
 use Rattle.bhs_protocols.proofs.HalvingLemmas.{ways_are_paid, rounds_half, rounds_within, walks_at_within}
 use Rattle.bhs_protocols.proofs.TurnLemmas.{writes, writes_not}
-use Rattle.bhs_protocols.proofs.HalvesMarks.{equal, mark_after, mark_before, mark_here, not_lt, read_own}
+use Rattle.bhs_protocols.proofs.HalvesMarks.{mark_after, mark_before, mark_here, read_own}
 use Rattle.bhs_protocols.proofs.HalvesState.{Game, IsDone, IsPlaced, Onward, Turn, assembled, distance, due, link, mem}
 use Rattle.bhs_protocols.proofs.HalvesState.{nodes_due, rest_of, stale, trial as trial_of}
 use Rattle.bhs_protocols.proofs.HalvesTurns.{accuse_turn, ahead_fits, by_port, distances, done_part, far_safe, has_room}
@@ -191,7 +191,7 @@ module _ {game : Game} (on : Turn game) where
       let last_s : last (part n M v) (distance game s) ≡ 0 = cond-true _ _ _ (part_small on before_s) in
       let rest_s : rest_of game s M v ≡ n - 1 - part n M v - told M v = cond-true _ _ _ (part_small on before_s) in
       let over_o : nat_lt (part n O w) (distance game o) ≡ false =
-      not_lt (part n O w) (distance game o) (omega (arith, sum, part_is, safe, ds)) in
+      le-ltb (part n O w) (distance game o) (omega (arith, sum, part_is, safe, ds)) in
       let last_o : last (part n O w) (distance game o) ≡ 1 = cond-false _ _ _ over_o in
       let rest_o : rest_of game o O w ≡ 1 = cond-false _ _ _ over_o in
       let rounds_o : rounds (rest_of game o O w) ≡ 0 = ap rounds rest_o in
@@ -221,7 +221,7 @@ module _ {game : Game} (on : Turn game) where
       let rest_after : rest_of game s after 0 ≡ rest - rest / 2 =
       cond-true _ _ _ yes ∙ halves_left M.mine steps rest all in
       let over : nat_lt (part n O mark) (distance game o) ≡ false =
-      not_lt (part n O mark) (distance game o) (omega (arith, before, part_s, part_o, all, last_node, ds)) in
+      le-ltb (part n O mark) (distance game o) (omega (arith, before, part_s, part_o, all, last_node, ds)) in
       let last_o_after : last (part n O mark) (distance game o) ≡ 1 = cond-false _ _ _ over in
       let rest_o_after : rest_of game o O mark ≡ 1 = cond-false _ _ _ over in
       let walks_after : walks_at n (rest_of game s after 0) ≡ walks_at n (rest - rest / 2) =
@@ -259,7 +259,7 @@ module _ {game : Game} (on : Turn game) where
       let rest_after : rest_of game s after 0 ≡ rest - rest / 2 =
       cond-true _ _ _ yes ∙ halves_left M.mine steps rest all in
       let over : nat_lt (part n O mark) (distance game o) ≡ false =
-      not_lt (part n O mark) (distance game o) (omega (arith, before, part_s, part_o, all, last_node, ds)) in
+      le-ltb (part n O mark) (distance game o) (omega (arith, before, part_s, part_o, all, last_node, ds)) in
       let rest_o_after : rest_of game o O mark ≡ 1 = cond-false _ _ _ over in
       let rounds_after : rounds (rest_of game s after 0) ≡ rounds (rest - rest / 2) = ap rounds rest_after in
       let rounds_o_after : rounds (rest_of game o O mark) ≡ 0 = ap rounds rest_o_after in (
@@ -432,7 +432,7 @@ module _ {game : Game} (on : Turn game) where
       let put : List ℕ = text_by s M.own (M.mine + 2) in
       by_cases (left_by n M.mine steps == 1) (Onward game s o v w picture (turn_in trial picture s))
       (λ only.
-      let one_left : n - 1 - M.mine - steps ≡ 1 = equal (left_by n M.mine steps) 1 only in
+      let one_left : n - 1 - M.mine - steps ≡ 1 = eqb-true (left_by n M.mine steps) 1 only in
       let last_node : steps ≡ O.mine = omega (arith, one_left, two, few) in
       accuse_turn on (Tells steps port) node port came is (ap (λ (ph : Phase). after_in n M ph (Heard Noted)) is)
       (ap (does_in n M) is ∙ cond-true _ _ _ only) placed.3.at there (omega (arith, one_left, two, last_node))

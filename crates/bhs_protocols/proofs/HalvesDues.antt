@@ -5,8 +5,7 @@ use Rattle.bhs_model.specs.Runs.{Position}
 use Rattle.bhs_protocols.specs.declared.halves.Memory.{Memory}
 use Rattle.bhs_protocols.specs.declared.halves.Phase.{Phase}
 use Rattle.bhs_protocols.specs.declared.halves.Phase.TheVariants.{Begins, GoesOut, Leaves, Tries, Turns, Returns}
-use Rattle.bhs_protocols.specs.declared.halves.Phase.TheVariants.{Writes}
-use Rattle.bhs_protocols.specs.declared.halves.Phase.TheVariants.{GoesHome, NearsHome, Follows, Passes, Tells}
+use Rattle.bhs_protocols.specs.declared.halves.Phase.TheVariants.{Writes, GoesHome, NearsHome, Follows, Passes, Tells}
 use Rattle.bhs_protocols.specs.declared.halves.Phase.TheVariants.{ComesHome, NearsBack, Ends}
 use Rattle.bhs_protocols.specs.Halves.{target_by, theirs_by}
 

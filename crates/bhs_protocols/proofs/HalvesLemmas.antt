@@ -1,7 +1,7 @@
 -- The search by halves solves every ring.
 use Rattle.std.proofs.Common.{ℕ, zero, suc, ◌+◌, ◌-◌, ◌/◌, ◌<◌, ◌≤◌, ◌≡◌, true, false, ◌==◌, [], refl, sym, ap, ◌∙◌}
 use Rattle.std.proofs.Common.{subst, nat_lt, arith}
-use Rattle.std.proofs.lemmas.Bool.{lt-ltb, ltb-true, true≢false, cond-true, cond-false}
+use Rattle.std.proofs.lemmas.Bool.{lt-ltb, ltb-true, true≢false, cond-true, cond-false, le-ltb}
 use Rattle.bhs_model.specs.declared.commands.Command.TheVariants.{Depart, Accuse}
 use Rattle.bhs_model.specs.declared.replies.Reply.TheVariants.{Over}
 use Rattle.bhs_model.proofs.StepLemmas.{by_cases}
@@ -25,7 +25,7 @@ use Rattle.bhs_protocols.proofs.SearchLemmas.{both, one_zero, zero_one}
 use Rattle.bhs_protocols.proofs.Principle.{invariants_solve}
 use Rattle.bhs_protocols.proofs.MovingLemmas.{is_steady, fails_not, sleeps_not, steady_if}
 use Rattle.bhs_protocols.proofs.HalvingLemmas.{rounds_within, walks_at_within}
-use Rattle.bhs_protocols.proofs.HalvesMarks.{mark_after, mark_here, not_lt}
+use Rattle.bhs_protocols.proofs.HalvesMarks.{mark_after, mark_here}
 use Rattle.bhs_protocols.proofs.HalvesState.{AreMarked, Game, Inv, Onward, at_turn, due, mem, rest_of, swapped}
 use Rattle.bhs_protocols.proofs.HalvesState.{trial as trial_of, turns_due}
 use Rattle.bhs_protocols.proofs.HalvesRest.{any_turn}
@@ -83,7 +83,7 @@ module _ (game : Game) where
       × (rounds (rest_of game 0 (mem game blank 0) 0) + rounds (rest_of game 1 (mem game blank 1) 0) ≤ rounds (n / 2)))
       (λ yes.
       let below : n / 2 < right = ltb-true (n / 2) right yes in
-      let over : nat_lt ((n - 1) / 2) left ≡ false = not_lt ((n - 1) / 2) left (omega (arith, below, sum)) in
+      let over : nat_lt ((n - 1) / 2) left ≡ false = le-ltb ((n - 1) / 2) left (omega (arith, below, sum)) in
       let last_0 : last (n / 2) right ≡ 0 = cond-true _ _ _ yes in
       let last_1 : last ((n - 1) / 2) left ≡ 1 = cond-false _ _ _ over in
       let rest_0 : rest_of game 0 (mem game blank 0) 0 ≡ n - 1 - n / 2 - 0 = cond-true _ _ _ yes in

@@ -1,7 +1,6 @@
 -- The search by halves: what holds of it at each time, and what a turn has to keep.
 use Rattle.std.proofs.Common.{ℕ, ◌+◌, ◌-◌, ◌*◌, ◌/◌, ◌<◌, ◌≤◌, ◌≡◌, ◌⊎◌, Bool, true, false, ◌==◌, Option, Some, None}
-use Rattle.std.proofs.Common.{List}
-use Rattle.std.proofs.Common.{sym, ap, ◌∙◌, subst, if◌then◌else◌, nat_lt, inl, inr, arith}
+use Rattle.std.proofs.Common.{List, sym, ap, ◌∙◌, subst, if◌then◌else◌, nat_lt, inl, inr, arith}
 use Rattle.std.specs.Prelude.{◌≢◌, bytes_eq}
 use Rattle.std.proofs.lemmas.Bool.Decides.{eqb_tells}
 use Rattle.bhs_model.specs.Worlds.{World, doomed}

@@ -2,7 +2,7 @@
 use Rattle.std.proofs.Common.{ℕ, zero, suc, ◌+◌, ◌-◌, ◌*◌, ◌<◌, ◌≤◌, ◌≡◌, ◌⊎◌, Bool, true, ◌&&◌, ◌==◌, Option}
 use Rattle.std.proofs.Common.{Some, None, refl, sym, ap, ◌∙◌, subst, if◌then◌else◌, nat_lt, inl, inr, arith}
 use Rattle.std.specs.Prelude.{◌≢◌}
-use Rattle.std.proofs.lemmas.Bool.{lt-ltb, ltb-true, true≢false, eq-eqb, cond-true, cond-false}
+use Rattle.std.proofs.lemmas.Bool.{lt-ltb, ltb-true, true≢false, eq-eqb, cond-true, cond-false, and_parts, eqb-true}
 use Rattle.std.proofs.lemmas.Bool.Decides.{eqb_tells}
 use Rattle.bhs_model.specs.declared.commands.Command.TheVariants.{Enter, Depart, Accuse}
 use Rattle.bhs_model.specs.declared.replies.Reply.TheVariants.{Here, Gone, Noted}
@@ -24,7 +24,6 @@ use Rattle.bhs_protocols.proofs.HalvesDues.{spent, owing, paces, come, last, par
 use Rattle.bhs_protocols.proofs.SearchLemmas.{agents_two, opposite, sides}
 use Rattle.bhs_protocols.proofs.HalvingLemmas.{last_ways_are_paid}
 use Rattle.bhs_protocols.proofs.TurnLemmas.{Becomes, enters, departs, accuses as accuses_link}
-use Rattle.bhs_protocols.proofs.HalvesMarks.{both_true, equal}
 use Rattle.bhs_protocols.proofs.HalvesState.{Fit, Game, IsDone, IsLate, IsPlaced, Onward, Turn, assembled, distance}
 use Rattle.bhs_protocols.proofs.HalvesState.{due, link, mem, nodes_due, rest_of, seat, stale, sum_is, trial as trial_of}
 use Rattle.bhs_protocols.proofs.HalvesState.{turns_due, within_n}
@@ -414,12 +413,12 @@ module _ {game : Game} (on : Turn game) where
       by_port (ways.node s steps) port (ways.ahead s steps) ahead (ahead_fits s steps pair.own within) in
       by_cases (is_done M steps) (Onward game s o v w picture (turn_in trial picture s))
       (λ yes.
-      let tests = both_true (steps == M.mine) (M.mine == M.target) yes in
-      let here : steps ≡ M.mine = equal steps M.mine tests.0 in
-      let all_of_it : M.mine ≡ M.target = equal M.mine M.target tests.1 in
+      let tests = and_parts (steps == M.mine) (M.mine == M.target) yes in
+      let here : steps ≡ M.mine = eqb-true steps M.mine tests.0 in
+      let all_of_it : M.mine ≡ M.target = eqb-true M.mine M.target tests.1 in
       by_cases (left_by n M.mine M.theirs == 1) (Onward game s o v w picture (turn_in trial picture s))
       (λ only.
-      let one_left : n - 1 - M.mine - M.theirs ≡ 1 = equal (left_by n M.mine M.theirs) 1 only in
+      let one_left : n - 1 - M.mine - M.theirs ≡ 1 = eqb-true (left_by n M.mine M.theirs) 1 only in
       let nothing : W ≡ 0 = none_to_walk all_of_it one_left in
       accuse_turn (GoesOut steps port) (ways.node s steps) port placed.3.came is
       (ap (λ (ph : Phase). after_in n M ph (Heard Noted)) is)

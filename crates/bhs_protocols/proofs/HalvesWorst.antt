@@ -2,7 +2,7 @@
 -- turns until it is lost, then agent 1 until it has accused.
 use Rattle.std.proofs.Common.{ℕ, zero, suc, ◌+◌, ◌-◌, ◌*◌, ◌/◌, ◌<◌, ◌≤◌, ◌≡◌, ◌⊎◌, true, false, not, List, []}
 use Rattle.std.proofs.Common.{◌∷◌, ◌++◌, refl, sym, ap, ◌∙◌, subst, if◌then◌else◌, nat_lt, inl, inr, arith}
-use Rattle.std.proofs.lemmas.Bool.{lt-ltb, eq-eqb, cond-true, cond-false}
+use Rattle.std.proofs.lemmas.Bool.{lt-ltb, eq-eqb, cond-true, cond-false, le-ltb}
 use Rattle.bhs_model.proofs.StepLemmas.{by_cases}
 use Rattle.bhs_explore.specs.Schedules.{Trial}
 use Rattle.bhs_protocols.specs.Pictures.{Picture, blank, can_move_in, turn_in, turns_in}
@@ -18,10 +18,8 @@ use Rattle.bhs_protocols.proofs.StandardLemmas.{is_search}
 use Rattle.bhs_protocols.proofs.HalvingLemmas.{doubled_some, doubled_within, rounds_reach, rounds_least, rounds_over}
 use Rattle.bhs_protocols.proofs.SearchLemmas.{Pair, one_zero, zero_one}
 use Rattle.bhs_protocols.proofs.HalvesDues.{owing, last, part, told}
-use Rattle.bhs_protocols.proofs.HalvesMarks.{not_lt}
-use Rattle.bhs_protocols.proofs.HalvesState.{Game, Inv, Onward, at_turn, distance, doomed_is}
-use Rattle.bhs_protocols.proofs.HalvesState.{due, mem, nodes_due, rest_of, swapped, trial as trial_of}
-use Rattle.bhs_protocols.proofs.HalvesState.{turns_due, within_n}
+use Rattle.bhs_protocols.proofs.HalvesState.{Game, Inv, Onward, at_turn, distance, doomed_is, due, mem, nodes_due}
+use Rattle.bhs_protocols.proofs.HalvesState.{rest_of, swapped, trial as trial_of, turns_due, within_n}
 use Rattle.bhs_protocols.proofs.HalvesTurns.{part_more, placed_as}
 use Rattle.bhs_protocols.proofs.HalvesArrivals.{bound_moves}
 use Rattle.bhs_protocols.proofs.HalvesRest.{IsLost, any_turn, resting}
@@ -206,7 +204,7 @@ module _ (game : Game) where
         let three : 3 ≤ n = search.ring.three in
         let first : 0 < right = search.not_home in
         let second : 0 < left = search.nor_around in
-        let over : nat_lt (n / 2) right ≡ false = not_lt (n / 2) right near in
+        let over : nat_lt (n / 2) right ≡ false = le-ltb (n / 2) right near in
         let yes : nat_lt ((n - 1) / 2) left ≡ true =
         lt-ltb ((n - 1) / 2) left (omega (arith, near, sum, three)) in
         let last_0 : last (n / 2) right ≡ 1 = cond-false _ _ _ over in
@@ -397,7 +395,7 @@ module _ (game : Game) where
               let none_last : last (part n (mem game picture 1) v) left ≡ 0 =
               cond-true _ _ _ (lt-ltb (part n (mem game picture 1) v) left before) in
               let over : nat_lt (part n (mem game picture 0) w) right ≡ false =
-              not_lt (part n (mem game picture 0) w) right (omega (arith, before, parts, sum)) in
+              le-ltb (part n (mem game picture 0) w) right (omega (arith, before, parts, sum)) in
               let one_last : last (part n (mem game picture 0) w) right ≡ 1 = cond-false _ _ _ over in
               let rest_0 : rest_of game 0 (mem game picture 0) w ≡ 1 = cond-false _ _ _ over in
               let walks_0 : walks_at n (rest_of game 0 (mem game picture 0) w) ≡ 0 = ap (walks_at n) rest_0 in

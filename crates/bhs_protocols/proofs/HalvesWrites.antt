@@ -2,7 +2,7 @@
 use Rattle.std.proofs.Common.{ℕ, zero, suc, ◌+◌, ◌-◌, ◌*◌, ◌<◌, ◌≤◌, ◌≡◌, Bool, true, false, Option, List, length, refl}
 use Rattle.std.proofs.Common.{sym, ap, ◌∙◌, subst, if◌then◌else◌, nat_lt, inl, inr, arith}
 use Rattle.std.specs.Prelude.{◌≢◌, bytes_eq}
-use Rattle.std.proofs.lemmas.Bool.{lt-ltb, ltb-true, true≢false}
+use Rattle.std.proofs.lemmas.Bool.{lt-ltb, ltb-true, true≢false, ne_eqb}
 use Rattle.std.proofs.lemmas.Bool.Decides.{eqb_tells}
 use Rattle.std.proofs.lemmas.Slice.Eq.{bytes_eq-Decides}
 use Rattle.bhs_model.specs.declared.commands.Command.TheVariants.{Write}
@@ -24,7 +24,7 @@ use Rattle.bhs_protocols.specs.Halves.{own_in, does_in, after_in}
 use Rattle.bhs_protocols.proofs.HalvesDues.{owing, paces, miss, mark_at, beside, come, last, part, told}
 use Rattle.bhs_protocols.proofs.SearchLemmas.{agents_two, both, opposite, read_other, sides, text_fits, text_other}
 use Rattle.bhs_protocols.proofs.TurnLemmas.{writes, writes_not}
-use Rattle.bhs_protocols.proofs.HalvesMarks.{mark_after, mark_before, mark_here, not_equal, read_own}
+use Rattle.bhs_protocols.proofs.HalvesMarks.{mark_after, mark_before, mark_here, read_own}
 use Rattle.bhs_protocols.proofs.HalvesState.{Game, IsPlaced, Onward, Turn, assembled, distance, mem, nodes_due, rest_of}
 use Rattle.bhs_protocols.proofs.HalvesState.{stale, trial as trial_of}
 use Rattle.bhs_protocols.proofs.HalvesTurns.{distances, far_safe, has_room, other_fit, own_fit, placed_as}
@@ -111,7 +111,7 @@ module _ {game : Game} (on : Turn game) where
       → changed picture.shown (ways.node side j) put (ways.node side k) ≡ picture.shown (ways.node side k)
   shown_there side j k put below before before_too other =
       changed_other picture.shown (ways.node side j) (ways.node side k) put
-      (not_equal (ways.node side k) (ways.node side j)
+      (ne_eqb (ways.node side k) (ways.node side j)
       (λ same. other (apart_on side below k j before_too before same)))
 
   pub shown_across : (side j k : ℕ) (put : List ℕ) → side < 2 → j < distance game side
@@ -120,7 +120,7 @@ module _ {game : Game} (on : Turn game) where
       ≡ picture.shown (ways.node (opposite side) k)
   shown_across side j k put below before before_too some =
       changed_other picture.shown (ways.node side j) (ways.node (opposite side) k) put
-      (not_equal (ways.node (opposite side) k) (ways.node side j)
+      (ne_eqb (ways.node (opposite side) k) (ways.node side j)
       (λ same. crossed_on side below j k before before_too some (sym same)))
 
   pub same_bytes : (xs ys : List ℕ) → bytes_eq xs ys ≡ true → xs ≡ ys

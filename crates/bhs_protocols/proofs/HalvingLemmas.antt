@@ -1,11 +1,10 @@
 -- What a search by halves costs.
 use Rattle.std.proofs.Common.{ℕ, zero, suc, ◌+◌, ◌-◌, ◌*◌, ◌/◌, ◌<◌, ◌≤◌, ◌≡◌, true, false, sym, ap, ◌∙◌, subst}
 use Rattle.std.proofs.Common.{nat_lt, arith}
-use Rattle.std.proofs.lemmas.Bool.{lt-ltb, ltb-true, true≢false, cond-true, cond-false}
+use Rattle.std.proofs.lemmas.Bool.{ltb-true, cond-true, cond-false, ltb-false}
 use Rattle.bhs_model.proofs.StepLemmas.{by_cases}
-use Rattle.bhs_protocols.specs.Halving.{doubled, rounds_to, rounds, walks, walks_at, most_moves}
-use Rattle.bhs_protocols.specs.Halving.{WaysArePaid, LastWaysArePaid, MovesAre, MovesAreFew, RoundsAreLeast}
-use Rattle.bhs_protocols.specs.Halving.{RoundsReach}
+use Rattle.bhs_protocols.specs.Halving.{doubled, rounds_to, rounds, walks, walks_at, most_moves, WaysArePaid}
+use Rattle.bhs_protocols.specs.Halving.{LastWaysArePaid, MovesAre, MovesAreFew, RoundsAreLeast, RoundsReach}
 
 pub doubled_some : (k : ℕ) → 0 < doubled k
 doubled_some zero = omega arith
@@ -33,11 +32,6 @@ doubled_within j k within =
     let more : doubled j ≤ doubled (j + (k - j)) = doubled_mono j (k - j) in
     omega (arith, more, at)
 
-not_less : (a b : ℕ) → nat_lt a b ≡ false → b ≤ a
-not_less a b none =
-    let not_below : (a < b) → ⊥ = λ h. true≢false (sym (lt-ltb a b h) ∙ none) in
-    omega (arith, not_below)
-
 -- ---- rounds
 
 more_rounds : (k left : ℕ) → nat_lt (doubled k) left ≡ true → rounds_to (suc k) left ≡ suc k
@@ -51,7 +45,7 @@ reach_to zero left within = within
 reach_to (suc k) left within = by_cases (nat_lt (doubled k) left) (left ≤ doubled (rounds_to (suc k) left))
     (λ yes. subst (λ (r : ℕ). left ≤ doubled r) (sym (more_rounds k left yes)) within)
     (λ none. subst (λ (r : ℕ). left ≤ doubled r) (sym (same_rounds k left none))
-    (reach_to k left (not_less (doubled k) left none)))
+    (reach_to k left (ltb-false (doubled k) left none)))
 
 pub rounds_reach : RoundsReach
 rounds_reach left = let over : left < doubled left = doubled_over left in reach_to left left (omega (arith, over))

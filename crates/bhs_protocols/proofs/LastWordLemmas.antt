@@ -5,7 +5,7 @@ use Rattle.std.proofs.Common.{None, List, [], ◌∷◌, ◌++◌, refl, sym, ap
 use Rattle.std.proofs.Common.{arith}
 use Rattle.std.specs.Prelude.{◌≢◌}
 use Rattle.std.specs.List.{list_any, range_with_len}
-use Rattle.std.proofs.lemmas.Bool.{true≢false, cond-true, cond-false, eqb-true}
+use Rattle.std.proofs.lemmas.Bool.{true≢false, cond-true, cond-false, eqb-true, ne_eqb}
 use Rattle.std.proofs.lemmas.Bool.Decides.{eqb_tells}
 use Rattle.bhs_model.specs.declared.commands.Command.{Command}
 use Rattle.bhs_model.specs.declared.commands.Command.TheVariants.{Enter, Look, Write, Depart, Accuse, Leave, Bad}
@@ -79,16 +79,16 @@ reached_later trial picture (agent ∷ schedule) node was =
 abbrev IsHonest : Position → Option (ℕ × ℕ) → Type 0
 IsHonest position accused = (accused ≡ None) ⊎ (position ≡ After)
 
-accused_write : (reply : Reply) (expect put : List ℕ) (place : Position)
-    → accused_by (Some reply) (Write expect put) place None ≡ None
-accused_write (replies.Here ports came board) expect put place = refl
-accused_write replies.Written expect put place = refl
-accused_write (replies.Changed board) expect put place = refl
-accused_write replies.Gone expect put place = refl
-accused_write replies.Noted expect put place = refl
-accused_write replies.Bye expect put place = refl
-accused_write replies.Over expect put place = refl
-accused_write (replies.No why) expect put place = refl
+pub accused_write : (reply : Reply) (expect put : List ℕ) (place : Position) (before : Option (ℕ × ℕ))
+    → accused_by (Some reply) (Write expect put) place before ≡ before
+accused_write (replies.Here ports came board) expect put place before = refl
+accused_write replies.Written expect put place before = refl
+accused_write (replies.Changed board) expect put place before = refl
+accused_write replies.Gone expect put place before = refl
+accused_write replies.Noted expect put place before = refl
+accused_write replies.Bye expect put place before = refl
+accused_write replies.Over expect put place before = refl
+accused_write (replies.No why) expect put place before = refl
 
 accused_depart : (reply : Reply) (port : ℕ) (place : Position) → accused_by (Some reply) (Depart port) place None ≡ None
 accused_depart (replies.Here ports came board) port place = refl
@@ -108,7 +108,7 @@ told_honest world (At node came) (Accuse port) shown =
     (accused_by (Some (answer_at world shown (At node came) (Accuse port))) (Accuse port) (At node came) None))
     (λ (yes : nat_lt port (world.net.degree node) ≡ true). rw yes (inr refl))
     (λ (none : nat_lt port (world.net.degree node) ≡ false). rw none (inl refl))
-told_honest world (At node came) (Write expect put) shown = inl (accused_write _ expect put (At node came))
+told_honest world (At node came) (Write expect put) shown = inl (accused_write _ expect put (At node came) None)
 told_honest world (At node came) (Depart port) shown = inl (accused_depart _ port (At node came))
 told_honest world (At node came) Enter shown = inl refl
 told_honest world (At node came) Look shown = inl refl
@@ -396,14 +396,8 @@ module _ (world : World) (held : Held) (naps : ℕ) (minds : Minds) (hole node :
           ∙ changed_same picture.reached target true)
           ∙ (sym (ap (λ (p : Picture). p.reached node) is) ∙ never)) in
           let safe : doomed two.world start port ≡ false =
-          doomed_is node start port ∙ not_equal node target apart in
+          doomed_is node start port ∙ ne_eqb node target apart in
           inl (cond-false _ picture arrived safe ∙ sym is))
-        where
-          not_equal : (a b : ℕ) → a ≢ b → (a == b) ≡ false
-          not_equal a b apart = elim (eqb_tells a b) [
-            | inl h ↦ absurd (apart h.1)
-            | inr h ↦ h.0
-          ]
       by_place Before never = inl refl
       by_place (At place came) never = inl refl
       by_place After never = inl refl

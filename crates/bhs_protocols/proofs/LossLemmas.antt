@@ -1,6 +1,6 @@
 -- Each black hole destroys an agent: where another node is the black hole this one is reached, and until then the same
 -- happens in both matches.
-use Rattle.std.proofs.Common.{ℕ, zero, suc, ◌+◌, ◌<◌, ◌≤◌, ◌≡◌, Bool, true, false, not, ◌&&◌, ◌||◌, List, []}
+use Rattle.std.proofs.Common.{ℕ, zero, suc, ◌+◌, ◌<◌, ◌≤◌, ◌≡◌, Bool, true, false, not, ◌&&◌, List, []}
 use Rattle.std.proofs.Common.{◌∷◌, ◌++◌, refl, sym, ap, ◌∙◌, subst, if◌then◌else◌, nat_lt, inl, inr, arith}
 use Rattle.std.specs.Prelude.{◌≢◌, cond, count_by}
 use Rattle.std.specs.List.{range_with_len}
@@ -19,8 +19,6 @@ use Rattle.bhs_model.specs.Runs.{Position, Before, At, Bound, After, changed, is
 use Rattle.bhs_model.proofs.StepLemmas.{by_cases, changed_same}
 use Rattle.bhs_referee.specs.declared.verdicts.Outcome.TheVariants.{Solved}
 use Rattle.bhs_referee.specs.declared.verdicts.Verdict.{Verdict}
-use Rattle.bhs_referee.specs.Verdicts.{accuses, is_over_dark, is_right, is_silent, is_unfinished, is_unreached}
-use Rattle.bhs_referee.specs.Verdicts.{first_unreached, is_hole_accused}
 use Rattle.bhs_explore.specs.Minds.{Minds}
 use Rattle.bhs_explore.specs.Schedules.{Trial, Scene, opening, state_of, Deed, Makes, Wakes, Rests, deed, done}
 use Rattle.bhs_explore.specs.Schedules.{turn, turns, under, verdict}
@@ -28,7 +26,7 @@ use Rattle.bhs_explore.proofs.Closed.{IsKept, kept_by_turns, under_each}
 use Rattle.bhs_explore.proofs.Schedules.{turns_append}
 use Rattle.bhs_explore.proofs.Turns.{IsOwn, lost_more, verdict_is}
 use Rattle.bhs_protocols.specs.Pictures.{Picture, picture_of, blank, deed_in, is_heard, told_at, refused_in, arrived_in}
-use Rattle.bhs_protocols.specs.Pictures.{said_in, delivered_in, done_in, turn_in, turns_in, found_in, outcome_in}
+use Rattle.bhs_protocols.specs.Pictures.{said_in, delivered_in, done_in, turn_in, turns_in, outcome_in}
 use Rattle.bhs_protocols.specs.LastWord.{searched, SolvesFor}
 use Rattle.bhs_protocols.specs.Losses.{LosesOne, EachBlackHoleDestroys, ALossIsNeeded, ALossIsNeededOnNetworks}
 use Rattle.bhs_protocols.specs.Losses.{TheHalvesSolveEverywhere}
@@ -37,7 +35,7 @@ use Rattle.bhs_protocols.specs.Halving.{most_moves}
 use Rattle.bhs_protocols.specs.Halves.{halves_trial}
 use Rattle.bhs_protocols.specs.HalvesLaws.{halves_bounds}
 use Rattle.bhs_protocols.proofs.PictureLemmas.{pictures_follow, open_turn}
-use Rattle.bhs_protocols.proofs.AloneLemmas.{IsThird, third, not_equal, unsolved_by, find_some}
+use Rattle.bhs_protocols.proofs.AloneLemmas.{IsThird, third, unreached_unsolved}
 use Rattle.bhs_protocols.proofs.HalvesRings.{halves_solve_all_rings}
 use Rattle.bhs_protocols.proofs.LastWordLemmas.{IsSameRun, same_run, own_in, doomed_is}
 
@@ -222,24 +220,6 @@ module _ (world : World) (held : Held) (naps : ℕ) (minds : Minds) (hole node :
 
   -- ---- where another node is the black hole, it is reached
 
-  pub unreached_unsolved : (picture : Picture) → node < world.net.nodes → node ≢ world.home → hole ≢ node
-      → picture.reached node ≡ false → outcome_in one.world picture ≢ Solved
-  unreached_unsolved picture below not_home apart never =
-      let w : World = one.world in
-      let lonely : is_unreached w (found_in picture) node ≡ true =
-      (λ i. not (not_equal world naps minds node world.home not_home i)
-      && (not (not_equal world naps minds hole node apart i || false) && not (never i))) in
-      unsolved_by world naps minds (accuses w (found_in picture) (λ link. not (is_right w link)))
-      (is_silent w (found_in picture)) (is_unfinished w picture.position)
-      (accuses w (found_in picture) (λ link. not (is_over_dark w link))) (first_unreached w (found_in picture))
-      (spoken (accuses w (found_in picture) (λ link. true)) (not (is_hole_accused w (found_in picture) hole)))
-      (find_some world naps minds (is_unreached w (found_in picture)) 0 world.net.nodes node (omega arith)
-      (omega (arith, below)) lonely)
-    where
-      spoken : (a b : Bool) → (not a || (b || false) || false) ≡ false → a ≡ true
-      spoken true b h = refl
-      spoken false b h = cc
-
   loses : node < world.net.nodes → node ≢ world.home → hole ≢ node → SolvesFor one → SolvesFor two → LosesOne two
   loses below not_home apart solves solves_too =
       let more = solves.rests [] in
@@ -259,11 +239,12 @@ module _ (world : World) (held : Held) (naps : ℕ) (minds : Minds) (hole node :
       let run : IsSameRun world held naps minds hole node blank turn_is.schedule =
       same_run world held naps minds hole node turn_is.schedule blank turn_is.never in
       loses_by picture turn_is.agent run.other run.same coming solves_too)
-      (λ never. absurd (unreached_unsolved (turns_in one blank schedule) below not_home apart never solved))
+      (λ never.
+      absurd (unreached_unsolved world hole node (turns_in one blank schedule) below not_home apart never solved))
 
 pub each_black_hole_destroys : EachBlackHoleDestroys
 each_black_hole_destroys world held naps minds three solves hole below not_home =
-    let other : IsThird world naps minds world.home hole = third world naps minds world.home hole in
+    let other : IsThird world.home hole = third world.home hole in
     loses world held naps minds other.it hole below not_home other.second
     (solves other.it (omega (arith, other.small, three)) other.first) (solves hole below not_home)
 

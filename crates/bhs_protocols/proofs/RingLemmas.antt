@@ -1,11 +1,11 @@
 -- In a network whose nodes have two links each, one comes round to the home base by going on, past each node once.
 use Rattle.std.proofs.Common.{ℕ, zero, suc, ◌+◌, ◌-◌, ◌*◌, ◌<◌, ◌≤◌, ◌≡◌, ◌⊎◌, Bool, true, false, ◌&&◌, ◌==◌, List, []}
-use Rattle.std.proofs.Common.{◌∷◌}
-use Rattle.std.proofs.Common.{length, map, refl, sym, ap, ◌∙◌, subst, inl, inr, arith, add-one, ◌||◌, nat_lt}
+use Rattle.std.proofs.Common.{◌∷◌, length, map, refl, sym, ap, ◌∙◌, subst, inl, inr, arith, add-one, ◌||◌, nat_lt}
+use Rattle.std.proofs.Common.{if◌then◌else◌}
 use Rattle.std.specs.Prelude.{◌≢◌}
 use Rattle.std.specs.List.{list_any, range_with_len}
 use Rattle.std.proofs.Math.Dec.{eqb}
-use Rattle.std.proofs.lemmas.Bool.{true≢false, eq-eqb, lt-ltb, ltb-true, eqb-true, cond-false}
+use Rattle.std.proofs.lemmas.Bool.{true≢false, eq-eqb, lt-ltb, ltb-true, eqb-true, cond-false, ne_eqb}
 use Rattle.std.proofs.lemmas.Bool.Decides.{eqb_tells}
 use Rattle.std.proofs.lemmas.List.FromFn.{get_or-map-range_with_len, length-map-range_with_len}
 use Rattle.std.proofs.lemmas.Map.Steps.{length-le_from_distinct_below, le-length_from_below}
@@ -70,19 +70,13 @@ few_values f count bound below apart =
     let within : length xs ≤ bound = length-le_from_distinct_below xs bound
     (IsDistinct-from_apart eqb xs (λ i j d less last.
     let short : j < count = omega (arith, last, long) in
-    not_equal _ _ (λ same. apart i j less short
+    ne_eqb _ _ (λ same. apart i j less short
     (sym (get_or-map-range_with_len f 0 count i i d (omega (arith, less, short)) (omega arith)) ∙ same
     ∙ get_or-map-range_with_len f 0 count j j d short (omega arith)))))
     (λ q any. let it : IsValue f 0 count q = among f 0 count q any in
     let before : it.place < 0 + count = it.before in
     subst (λ (k : ℕ). k < bound) (sym it.is) (below it.place (omega (arith, before)))) in
     omega (arith, long, within)
-  where
-    not_equal : (a b : ℕ) → a ≢ b → eqb a b ≡ false
-    not_equal a b apart = elim (eqb_tells a b) [
-      | inl h ↦ absurd (apart h.1)
-      | inr h ↦ h.0
-    ]
 
 -- values that are all numbers below a bound are as many at least
 many_values : (f : ℕ → ℕ) (count bound : ℕ) → ((q : ℕ) → q < bound → IsValue f 0 count q) → bound ≤ count
@@ -428,6 +422,17 @@ trips_last n two =
     let next : n - 2 + 1 ≡ n - 1 = omega (arith, two) in
     trips_are (n - 2) ∙ ap (λ (k : ℕ). (n - 2) * k) next
 
+-- what holds of what two agents use, and others do not
+pub two_within : (one other : ℕ) (most : ℕ → ℕ) → one ≤ most 0 → other ≤ most 1 → (agent : ℕ)
+    → (if agent == 0 then one else (if agent == 1 then other else 0)) ≤ most agent
+two_within one other most first second zero = first
+two_within one other most first second (suc zero) = second
+two_within one other most first second (suc (suc k)) =
+    let none : (if suc (suc k) == 0 then one else (if suc (suc k) == 1 then other else 0)) ≡ 0 =
+    cond-false _ _ _ (ne_eqb (suc (suc k)) 0 (λ h. omega (arith, h)))
+    ∙ cond-false _ _ _ (ne_eqb (suc (suc k)) 1 (λ h. omega (arith, h))) in
+    omega (arith, none)
+
 -- what is solved within bounds is solved within greater ones
 pub within_more : (trial : Trial) (bounds more : Bounds) → bounds.moves ≤ more.moves → bounds.lost ≤ more.lost
     → ((agent : ℕ) → bounds.commands agent ≤ more.commands agent) → bounds.turns ≤ more.turns
@@ -456,18 +461,8 @@ module _ (n one other : ℕ) (sum : one + other ≡ n) (some : 0 < one) (some_to
       omega (arith, add, at, last)
 
   commands_within : (agent : ℕ) → (shuttle_bounds n one other).commands agent ≤ (n - 2) * (n - 1) + 2 * n
-  commands_within zero = omega (arith, all_trips, sum)
-  commands_within (suc zero) = omega (arith, all_trips, sum)
-  commands_within (suc (suc k)) =
-      let none : (shuttle_bounds n one other).commands (suc (suc k)) ≡ 0 =
-      cond-false _ _ _ (apart (suc (suc k)) 0 (omega arith)) ∙ cond-false _ _ _ (apart (suc (suc k)) 1 (omega arith)) in
-      omega (arith, none)
-    where
-      apart : (a b : ℕ) → b < a → (a == b) ≡ false
-      apart a b less = elim (eqb_tells a b) [
-        | inl h ↦ absurd (omega (arith, h.1, less))
-        | inr h ↦ h.0
-      ]
+  commands_within = two_within (commands_on n one) (commands_on n other) (λ agent. (n - 2) * (n - 1) + 2 * n)
+      (omega (arith, all_trips, sum)) (omega (arith, all_trips, sum))
 
 pub square : (n : ℕ) → 2 ≤ n → (n - 2) * (n - 1) + (n - 1) ≡ (n - 1) * (n - 1)
 square n two =

@@ -1,13 +1,12 @@
 -- Searches by two agents that have the nodes in an order and in its opposite: their whiteboards, where the black hole
 -- is, and when a match is solved.
 use Rattle.std.proofs.Common.{ℕ, zero, suc, ◌+◌, ◌-◌, ◌*◌, ◌/◌, ◌%◌, ◌<◌, ◌≤◌, ◌≡◌, ◌⊎◌, Bool, true, false, not, ◌&&◌}
-use Rattle.std.proofs.Common.{◌||◌}
-use Rattle.std.proofs.Common.{◌==◌, Some, None, List, [], ◌∷◌, length, refl, sym, ap, ◌∙◌, subst, if◌then◌else◌}
+use Rattle.std.proofs.Common.{◌||◌, ◌==◌, Some, None, List, [], ◌∷◌, length, refl, sym, ap, ◌∙◌, subst, if◌then◌else◌}
 use Rattle.std.proofs.Common.{nat_lt, inl, inr, arith}
 use Rattle.std.specs.Prelude.{◌≢◌, bytes_eq, cond, find, count_by}
 use Rattle.std.specs.List.{list_any, range_with_len}
 use Rattle.std.proofs.lemmas.List.Recursion.{is_count_by}
-use Rattle.std.proofs.lemmas.Bool.{lt-ltb, ltb-true, true≢false, eq-eqb, cond-false}
+use Rattle.std.proofs.lemmas.Bool.{lt-ltb, ltb-true, true≢false, eq-eqb, ne_eqb, cond-false}
 use Rattle.std.proofs.lemmas.Bool.Decides.{eqb_tells}
 use Rattle.std.proofs.lemmas.Slice.Eq.{bytes_eq-Decides}
 use Rattle.bhs_model.specs.Worlds.{World, doomed, is_hole, is_dark}
@@ -17,8 +16,7 @@ use Rattle.bhs_referee.specs.declared.verdicts.Outcome.TheVariants.{Solved}
 use Rattle.bhs_referee.specs.Verdicts.{passes, accuses, is_dark_accused, is_hole_accused, is_over_dark, is_right}
 use Rattle.bhs_referee.specs.Verdicts.{is_silent, is_present, is_unfinished, is_unreached, first_unreached}
 use Rattle.bhs_referee.specs.Verdicts.{guess_or_solved}
-use Rattle.bhs_protocols.specs.Pictures.{Picture, found_in, outcome_in}
-use Rattle.bhs_protocols.specs.Pictures.{doomed_in}
+use Rattle.bhs_protocols.specs.Pictures.{Picture, found_in, outcome_in, doomed_in}
 use Rattle.bhs_protocols.specs.Rings.{Ways, IsSearch}
 use Rattle.bhs_protocols.specs.Shuttle.{board_text, right_in, left_in, other_in, text_by}
 
@@ -184,29 +182,23 @@ module _ {world : World} {n right left : ℕ} {node_at : (side place : ℕ) → 
 
   -- before the black hole there is none
   safe_right : (steps : ℕ) → steps < right → (node_at 0 right == node_at 0 steps) ≡ false
-  safe_right steps before = elim (eqb_tells (node_at 0 right) (node_at 0 steps)) [
-    | inl h ↦
-        let below : right < n = within_n 0 (omega arith) in
-        let same : right ≡ steps = search.apart right steps below (omega (arith, before, below)) h.1 in
-        absurd (omega (arith, same, before))
-    | inr h ↦ h.0
-  ]
+  safe_right steps before = ne_eqb (node_at 0 right) (node_at 0 steps) (λ h.
+      let below : right < n = within_n 0 (omega arith) in
+      let same : right ≡ steps = search.apart right steps below (omega (arith, before, below)) h in
+      omega (arith, same, before))
 
   safe_left : (steps : ℕ) → steps < left → (node_at 0 right == node_at 1 steps) ≡ false
   safe_left zero before =
       subst (λ (k : ℕ). (node_at 0 right == k) ≡ false) (search.home 0 ∙ sym (search.home 1))
       (safe_right 0 search.not_home)
-  safe_left (suc steps) before = elim (eqb_tells (node_at 0 right) (node_at 1 (suc steps))) [
-    | inl h ↦
-        let sum : right + left ≡ n = search.sum in
-        let first : 0 < right = search.not_home in
-        let same : right ≡ n - suc steps = search.apart right (n - suc steps) (omega (arith, sum, before))
-        (omega (arith, sum, before)) (h.1
-        ∙ search.around (suc steps) (n - suc steps) (omega (arith, sum, before)) (omega arith)
-        (omega (arith, sum, before))) in
-        absurd (omega (arith, same, sum, before))
-    | inr h ↦ h.0
-  ]
+  safe_left (suc steps) before = ne_eqb (node_at 0 right) (node_at 1 (suc steps)) (λ h.
+      let sum : right + left ≡ n = search.sum in
+      let first : 0 < right = search.not_home in
+      let same : right ≡ n - suc steps = search.apart right (n - suc steps) (omega (arith, sum, before))
+      (omega (arith, sum, before)) (h
+      ∙ search.around (suc steps) (n - suc steps) (omega (arith, sum, before)) (omega arith)
+      (omega (arith, sum, before))) in
+      omega (arith, same, sum, before))
 
   pub safe_before : (s steps : ℕ) → s < 2 → steps < distance s → (node_at 0 right == node_at s steps) ≡ false
   safe_before zero steps below before = safe_right steps before

@@ -1,11 +1,10 @@
 -- On a ring with one node more the same happens, as long as nobody comes past its last safe nodes: then an accusation
 -- is right for one of two nodes at most.
 use Rattle.std.proofs.Common.{ℕ, zero, suc, ◌+◌, ◌-◌, ◌<◌, ◌≤◌, ◌≡◌, ◌⊎◌, Bool, true, false, not, ◌||◌, ◌==◌, Option}
-use Rattle.std.proofs.Common.{Some}
-use Rattle.std.proofs.Common.{None, List, [], ◌∷◌, refl, sym, ap, ◌∙◌, subst, if◌then◌else◌, nat_lt, inl, inr, arith}
+use Rattle.std.proofs.Common.{Some, None, List, [], ◌∷◌, refl, sym, ap, ◌∙◌, subst, nat_lt, inl, inr, arith}
 use Rattle.std.specs.Prelude.{◌≢◌}
 use Rattle.std.specs.List.{list_any, range_with_len}
-use Rattle.std.proofs.lemmas.Bool.{true≢false, eq-eqb, cond-true, cond-false, eqb-true}
+use Rattle.std.proofs.lemmas.Bool.{true≢false, eq-eqb, ne_eqb, cond-true, cond-false, eqb-true}
 use Rattle.std.proofs.lemmas.Bool.Decides.{eqb_tells}
 use Rattle.bhs_model.specs.declared.commands.Command.{Command}
 use Rattle.bhs_model.specs.declared.commands.Command.TheVariants.{Enter, Look, Write, Depart, Accuse, Leave, Bad}
@@ -14,8 +13,7 @@ use Rattle.bhs_model.specs.Worlds.{World, doomed}
 use Rattle.bhs_model.specs.Runs.{Position, Before, At, Bound, After, changed, position_after}
 use Rattle.bhs_model.proofs.StepLemmas.{by_cases}
 use Rattle.bhs_model.proofs.LegalLemmas.{either}
-use Rattle.bhs_referee.specs.declared.verdicts.Outcome.{Outcome}
-use Rattle.bhs_referee.specs.declared.verdicts.Outcome.TheVariants.{Solved, Wrong, Silent}
+use Rattle.bhs_referee.specs.declared.verdicts.Outcome.TheVariants.{Solved}
 use Rattle.bhs_referee.specs.declared.verdicts.Verdict.{Verdict}
 use Rattle.bhs_referee.specs.Verdicts.{passes, accuses, is_right, is_silent}
 use Rattle.bhs_explore.specs.Minds.{Minds}
@@ -27,12 +25,7 @@ use Rattle.bhs_protocols.specs.LastWord.{SolvesFor}
 use Rattle.bhs_protocols.specs.Sizes.{ring_net, Terms, played_on, NoTeamSolvesTwoSizes}
 use Rattle.bhs_protocols.proofs.PictureLemmas.{pictures_follow}
 use Rattle.bhs_protocols.proofs.LastWordLemmas.{right_after}
-
-not_equal : (a b : ℕ) → a ≢ b → (a == b) ≡ false
-not_equal a b apart = elim (eqb_tells a b) [
-  | inl h ↦ absurd (apart h.1)
-  | inr h ↦ h.0
-]
+use Rattle.bhs_protocols.proofs.AloneLemmas.{silent_unsolved}
 
 record IsSome (test : ℕ → Bool) (start count : ℕ) : Type 0 where
   place : ℕ
@@ -99,10 +92,10 @@ module _ (n : ℕ) (three : 3 ≤ n) (terms : Terms) (minds : Minds) (hole : ℕ
             let apart_too : node + 1 ≢ n + 1 = λ h. omega (arith, h, inside) in
             let one : small.world.net.far node port ≡ (node + 1, 1) =
             cond-true _ _ _ is ∙ ap (λ (k : ℕ). let end : ℕ × ℕ = (k, 1) in end)
-            (cond-false _ _ _ (not_equal (node + 1) n apart)) in
+            (cond-false _ _ _ (ne_eqb (node + 1) n apart)) in
             let two : great.world.net.far node port ≡ (node + 1, 1) =
             cond-true _ _ _ is ∙ ap (λ (k : ℕ). let end : ℕ × ℕ = (k, 1) in end)
-            (cond-false _ _ _ (not_equal (node + 1) (n + 1) apart_too)) in
+            (cond-false _ _ _ (ne_eqb (node + 1) (n + 1) apart_too)) in
             let not_hole : n - 1 ≢ node + 1 = spared (node + 1) 1 one in (
               two ∙ sym one,
               subst (λ (k : ℕ). k < n - 1) (sym (ap (λ (e : ℕ × ℕ). e.0) one))
@@ -200,7 +193,7 @@ module _ (n : ℕ) (three : 3 ≤ n) (terms : Terms) (minds : Minds) (hole : ℕ
         cond-false _ picture arrived none in
         let far_off : hole ≢ target = λ same. omega (arith, it.1, beyond, same) in
         let safe : doomed great.world node port ≡ false =
-        doomed_great node port ∙ ap (λ (e : ℕ × ℕ). hole == e.0) it.0 ∙ not_equal hole target far_off in
+        doomed_great node port ∙ ap (λ (e : ℕ × ℕ). hole == e.0) it.0 ∙ ne_eqb hole target far_off in
         let in_great : delivered_in great.world picture agent (Bound node port) ≡ arrived =
         cond-false _ _ _ safe ∙ ap (λ (e : ℕ × ℕ). arrived_in small.world picture agent e.0 e.1) it.0 in
         record {
@@ -260,17 +253,12 @@ spoken_at_rest : (world : World) (picture : Picture) → outcome_in world pictur
 spoken_at_rest world picture solved =
     by_cases (accuses world (found_in picture) (λ link. true)) (accuses world (found_in picture) (λ link. true) ≡ true)
     (λ yes. yes)
-    (λ none. absurd (not_silent (accuses world (found_in picture) (λ link. not (is_right world link)))
+    (λ none. absurd (silent_unsolved (accuses world (found_in picture) (λ link. not (is_right world link)))
     (is_silent world (found_in picture)) _ (silent _ _ _ none) solved))
   where
     silent : (a b c : Bool) → a ≡ false → (not a || b || c) ≡ true
     silent true b c h = cc
     silent false b c h = refl
-
-    not_silent : (a b : Bool) (x : Outcome) → b ≡ true → (if a then Wrong else (if b then Silent else x)) ≡ Solved → ⊥
-    not_silent true b x silent h = cc
-    not_silent false true x silent h = cc
-    not_silent false false x silent h = cc
 
 record HasLink (accused : Option (ℕ × ℕ)) : Type 0 where
   link : ℕ × ℕ

@@ -1,9 +1,8 @@
 -- The standard ring is a ring, so the shuttle solves it.
 use Rattle.std.proofs.Common.{ℕ, zero, suc, ◌+◌, ◌-◌, ◌*◌, ◌<◌, ◌≤◌, ◌≡◌, Bool, true, false, ◌==◌, List, [], length}
-use Rattle.std.proofs.Common.{refl, sym, ap, ◌∙◌, if◌then◌else◌, inl, inr, arith}
+use Rattle.std.proofs.Common.{refl, sym, ap, ◌∙◌, if◌then◌else◌, arith}
 use Rattle.std.specs.Prelude.{◌≢◌, slice_index_or}
-use Rattle.std.proofs.lemmas.Bool.{cond-true, cond-false, eq-eqb}
-use Rattle.std.proofs.lemmas.Bool.Decides.{eqb_tells}
+use Rattle.std.proofs.lemmas.Bool.{cond-true, cond-false, eq-eqb, ne_eqb}
 use Rattle.std.proofs.lemmas.List.FromFn.{get_or-map-range_with_len, length-map-range_with_len}
 use Rattle.bhs_net.specs.Links.{End}
 use Rattle.bhs_net.specs.Network as networks
@@ -16,12 +15,6 @@ use Rattle.bhs_protocols.specs.StandardRings.{standard_row, standard_ring, stand
 use Rattle.bhs_protocols.specs.StandardRings.{StandardRings, ShuttleSolvesStandardRings, MovesAreSquares}
 use Rattle.bhs_protocols.proofs.SearchLemmas.{both}
 use Rattle.bhs_protocols.proofs.ShuttleLemmas.{shuttle_solves}
-
-not_equal : (a b : ℕ) → a ≢ b → (a == b) ≡ false
-not_equal a b apart = elim (eqb_tells a b) [
-  | inl h ↦ absurd (apart h.1)
-  | inr h ↦ h.0
-]
 
 module _ (n hole : ℕ) (setup : Setup) (is : IsSetUp n hole setup) where
   abbrev world : World
@@ -41,7 +34,7 @@ module _ (n hole : ℕ) (setup : Setup) (is : IsSetUp n hole setup) where
 
   left_node : (steps : ℕ) → 0 < steps → ways.node 1 steps ≡ n - steps
   left_node steps some =
-      let apart : steps ≢ 0 = λ h. omega (arith, h, some) in cond-false _ _ _ (not_equal steps 0 apart)
+      let apart : steps ≢ 0 = λ h. omega (arith, h, some) in cond-false _ _ _ (ne_eqb steps 0 apart)
 
   left_within : (steps : ℕ) → steps < n → ways.node 1 steps < n
   left_within zero within = omega (arith, within)
@@ -53,14 +46,14 @@ module _ (n hole : ℕ) (setup : Setup) (is : IsSetUp n hole setup) where
   to_right node within =
       let apart : node + 1 ≢ n = λ h. omega (arith, h, within) in
       far_is node 0 (omega (arith, within))
-      ∙ ap (λ (k : ℕ). let end : ℕ × ℕ = (k, 1) in end) (cond-false _ _ _ (not_equal (node + 1) n apart))
+      ∙ ap (λ (k : ℕ). let end : ℕ × ℕ = (k, 1) in end) (cond-false _ _ _ (ne_eqb (node + 1) n apart))
 
   -- to the left
   to_left : (node : ℕ) → 0 < node → node < n → world.net.far node 1 ≡ (node - 1, 0)
   to_left node some within =
       let apart : node ≢ 0 = λ h. omega (arith, h, some) in
       far_is node 1 within
-      ∙ ap (λ (k : ℕ). let end : ℕ × ℕ = (k, 0) in end) (cond-false _ _ _ (not_equal node 0 apart))
+      ∙ ap (λ (k : ℕ). let end : ℕ × ℕ = (k, 0) in end) (cond-false _ _ _ (ne_eqb node 0 apart))
 
   -- across, between the last node and node 0
   across : 0 < n → world.net.far 0 1 ≡ (n - 1, 0)

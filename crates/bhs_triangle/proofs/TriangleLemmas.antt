@@ -4,7 +4,7 @@ use Rattle.std.proofs.Common.{ℕ, zero, suc, ◌+◌, ◌-◌, ◌*◌, ◌<◌
 use Rattle.std.proofs.Common.{Option, Some, None, refl, sym, ap, ◌∙◌, subst, inl, inr, arith}
 use Rattle.std.specs.Prelude.{◌≢◌}
 use Rattle.std.proofs.Math.Path.{transport⁻¹}
-use Rattle.std.proofs.lemmas.Bool.{true≢false, eq-eqb}
+use Rattle.std.proofs.lemmas.Bool.{true≢false, eq-eqb, ne_eqb}
 use Rattle.std.proofs.lemmas.Bool.Decides.{eqb_tells}
 use Rattle.bhs_model.specs.declared.commands.Command.TheVariants.{Enter, Depart, Accuse}
 use Rattle.bhs_model.specs.declared.replies.Reply.TheVariants.{Here, Gone, Noted, Over}
@@ -27,9 +27,8 @@ use Rattle.bhs_protocols.proofs.RingLemmas.{rings_are_rings}
 use Rattle.bhs_protocols.proofs.SearchLemmas as lemmas
 use Rattle.bhs_protocols.proofs.SearchLemmas.{both, Pair, apart_from, one_zero, opposite, sides, zero_one}
 use Rattle.bhs_protocols.proofs.TurnLemmas.{Becomes, enters, departs, accuses}
-use Rattle.bhs_triangle.specs.Triangle.{Phase, Begins, Departs, Goes, Turns, ComesBack, Accuses, Ends}
-use Rattle.bhs_triangle.specs.Triangle.{does_in, next_phase, phase_after, triangle_trial, triangle_bounds}
-use Rattle.bhs_triangle.specs.Triangle.{TriangleIsSolved}
+use Rattle.bhs_triangle.specs.Triangle.{Phase, Begins, Departs, Goes, Turns, ComesBack, Accuses, Ends, does_in}
+use Rattle.bhs_triangle.specs.Triangle.{next_phase, phase_after, triangle_trial, triangle_bounds, TriangleIsSolved}
 use Rattle.bhs_protocols.proofs.MovingLemmas.{says_moves, bound_moves, end_stays, arrives_at, grows_by}
 
 module _ (world : World) (n right left naps : ℕ) (ways : Ways) (search : IsSearch world n right left ways)
@@ -240,10 +239,7 @@ module _ (world : World) (n right left naps : ℕ) (ways : Ways) (search : IsSea
         }
       where
         beyond_two : (k : ℕ) → 2 ≤ k → (k == s) ≡ false
-        beyond_two k beyond = elim (eqb_tells k s) [
-          | inl h ↦ absurd (omega (arith, h.1, beyond, pair.own))
-          | inr h ↦ h.0
-        ]
+        beyond_two k beyond = ne_eqb k s (λ h. omega (arith, h, beyond, pair.own))
 
     within : s < world.agents
     within = subst (λ (k : ℕ). s < k) (sym search.agents) pair.own

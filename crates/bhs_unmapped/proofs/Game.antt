@@ -6,7 +6,7 @@ use Rattle.std.proofs.Common.{if◌then◌else◌, nat_lt, inl, inr, arith, appe
 use Rattle.std.specs.Prelude.{◌≢◌}
 use Rattle.std.specs.List.{list_any, range_with_len}
 use Rattle.std.proofs.Math.Dec.{eqb}
-use Rattle.std.proofs.lemmas.Bool.{cond-true, cond-false, lt-ltb, ltb-true, true≢false, cases_lt}
+use Rattle.std.proofs.lemmas.Bool.{cond-true, cond-false, lt-ltb, ltb-true, ne_eqb, true≢false, cases_lt}
 use Rattle.std.proofs.lemmas.Bool.Decides.{eqb_tells}
 use Rattle.std.proofs.lemmas.List.FromFn.{get_or-map-range_with_len, length-map-range_with_len}
 use Rattle.std.proofs.lemmas.Map.Steps.{length-le_from_distinct_below}
@@ -19,8 +19,7 @@ use Rattle.bhs_model.specs.Examples.{none_held}
 use Rattle.bhs_protocols.specs.Pictures.{Picture, blank, done_in, turn_in, turns_in}
 use Rattle.bhs_protocols.specs.Sizes.{Terms}
 use Rattle.bhs_protocols.proofs.LastWordLemmas.{turns_in_append}
-use Rattle.bhs_unmapped.proofs.Cycle.{Member, IsMember, beside, beside_below, leads, leads_on, leads_off}
-use Rattle.bhs_unmapped.proofs.Cycle.{first_slots}
+use Rattle.bhs_unmapped.proofs.Cycle.{Member, IsMember, beside, beside_below, leads, leads_on, leads_off, first_slots}
 use Rattle.bhs_unmapped.proofs.Alike.{Far, over, same_turn, Kind, Stays, Enters, Ends, Departs, Arrives, turn_kind}
 use Rattle.bhs_unmapped.proofs.Exchange.{Known, added, added_old, added_here, IsKnown, Agree, IsPort, linked}
 use Rattle.bhs_unmapped.proofs.Exchange.{linked_old, linked_here, linked_knows, exchanged, exchanged_is, IsFresh}
@@ -80,7 +79,7 @@ enough d count agents member known picture is stands =
     (IsDistinct-from_apart eqb occupants (λ i j k before small.
     let j_small : j < count = omega (arith, small, long) in
     let i_small : i < count = omega (arith, before, j_small) in
-    not_same (get_or occupants i k) (get_or occupants j k)
+    ne_eqb (get_or occupants i k) (get_or occupants j k)
     (λ same. let equal : i ≡ j = apart i j i_small j_small (sym (at i k i_small) ∙ same ∙ at j k j_small) in
     omega (arith, equal, before))))
     (λ q any. below q 0 count (omega arith) any) in
@@ -92,12 +91,6 @@ enough d count agents member known picture is stands =
         ∙ ap (λ (p : Position). member.slot (node_on p))
         (sym (stands.occupied i i_small) ∙ ap picture.position same ∙ stands.occupied j j_small)
         ∙ is.slot_of_owner j
-
-    not_same : (a b : ℕ) → a ≢ b → eqb a b ≡ false
-    not_same a b apart = elim (eqb_tells a b) [
-      | inl h ↦ absurd (apart h.1)
-      | inr h ↦ h.0
-    ]
 
     below : (q start some : ℕ) → start + some ≤ count
         → list_any (eqb q) (map stands.occupant (range_with_len start some)) ≡ true → q < agents

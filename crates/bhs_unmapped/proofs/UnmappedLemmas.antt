@@ -1,5 +1,5 @@
 -- A team that solves all networks of the family loses one agent after the other, and in the end more than it has.
-use Rattle.std.proofs.Common.{ℕ, zero, suc, ◌+◌, ◌*◌, ◌<◌, ◌≤◌, ◌≡◌, Bool, true, false, not, ◌&&◌, ◌||◌, List}
+use Rattle.std.proofs.Common.{ℕ, zero, suc, ◌+◌, ◌*◌, ◌<◌, ◌≤◌, ◌≡◌, false, List}
 use Rattle.std.proofs.Common.{[], ◌++◌, refl, sym, ap, ◌∙◌, subst, inl, inr, arith}
 use Rattle.std.specs.Prelude.{◌≢◌}
 use Rattle.std.proofs.lemmas.Bool.{cases_lt}
@@ -9,16 +9,14 @@ use Rattle.bhs_model.specs.Worlds as worlds
 use Rattle.bhs_model.specs.Setups.{network_of}
 use Rattle.bhs_referee.specs.declared.verdicts.Outcome.TheVariants.{Solved}
 use Rattle.bhs_referee.specs.declared.verdicts.Verdict.{Verdict}
-use Rattle.bhs_referee.specs.Verdicts.{accuses, is_over_dark, is_right, is_silent, is_unfinished, is_unreached}
-use Rattle.bhs_referee.specs.Verdicts.{first_unreached, is_hole_accused}
 use Rattle.bhs_explore.specs.Minds.{Minds}
 use Rattle.bhs_explore.specs.Schedules.{Trial, under}
 use Rattle.bhs_explore.proofs.Turns.{verdict_is}
-use Rattle.bhs_protocols.specs.Pictures.{Picture, picture_of, found_in, outcome_in}
+use Rattle.bhs_protocols.specs.Pictures.{Picture, picture_of, outcome_in}
 use Rattle.bhs_protocols.specs.LastWord.{SolvesFor}
 use Rattle.bhs_protocols.specs.Sizes.{Terms, played_on}
 use Rattle.bhs_protocols.proofs.PictureLemmas.{pictures_follow}
-use Rattle.bhs_protocols.proofs.AloneLemmas.{not_equal, unsolved_by, find_some}
+use Rattle.bhs_protocols.proofs.AloneLemmas as lemmas
 use Rattle.bhs_unmapped.specs.Unmapped.{SolvesNetworks, ManyAgentsAreNeeded}
 use Rattle.bhs_unmapped.proofs.Cycle.{Member, IsMember, leads}
 use Rattle.bhs_unmapped.proofs.Alike.{Far, over}
@@ -76,21 +74,8 @@ module _ (d : ℕ) (three : 3 ≤ d) (fits : 2 * d + 2 ≤ MAX_NODES) (terms : T
   unreached_unsolved : (member : Member) (picture : Picture) → picture.reached (2 * d) ≡ false
       → outcome_in (match_on member).world picture ≢ Solved
   unreached_unsolved member picture never =
-      let w : worlds.World = (match_on member).world in
-      let lonely : is_unreached w (found_in picture) (2 * d) ≡ true =
-      (λ i. not (not_equal w terms.naps minds (2 * d) 0 (λ h. omega (arith, h, three)) i)
-      && (not (not_equal w terms.naps minds (2 * d + 1) (2 * d) (λ h. omega (arith, h)) i || false)
-      && not (never i))) in
-      unsolved_by w terms.naps minds (accuses w (found_in picture) (λ link. not (is_right w link)))
-      (is_silent w (found_in picture)) (is_unfinished w picture.position)
-      (accuses w (found_in picture) (λ link. not (is_over_dark w link))) (first_unreached w (found_in picture))
-      (spoken (accuses w (found_in picture) (λ link. true)) (is_hole_accused w (found_in picture) (2 * d + 1)))
-      (find_some w terms.naps minds (is_unreached w (found_in picture)) 0 (2 * d + 2) (2 * d) (omega arith)
-      (omega arith) lonely)
-    where
-      spoken : (said named : Bool) → (not said || (not named || false) || false) ≡ false → said ≡ true
-      spoken true named h = refl
-      spoken false named h = cc
+      lemmas.unreached_unsolved (match_on member).world (2 * d + 1) (2 * d) picture (omega arith)
+      (λ h. omega (arith, h, three)) (λ h. omega (arith, h)) never
 
   -- so no schedule with such a state has come to rest
   unrested : (count : ℕ) (member : Member) (schedule : List ℕ) → State count member schedule
