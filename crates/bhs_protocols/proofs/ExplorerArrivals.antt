@@ -1,5 +1,5 @@
 -- Two agents that explore by ways: turns of an agent on a link.
-use Rattle.std.proofs.Common.{ℕ, suc, ◌+◌, ◌-◌, ◌*◌, ◌<◌, ◌≤◌, ◌≡◌, true, false, not, ◌==◌, Some, ◌∷◌, refl, sym}
+use Rattle.std.proofs.Common.{ℕ, suc, ◌+◌, ◌<◌, ◌≤◌, ◌≡◌, true, false, not, ◌==◌, Some, ◌∷◌, refl, sym}
 use Rattle.std.proofs.Common.{ap, ◌∙◌, subst, inl, inr, arith}
 use Rattle.std.proofs.lemmas.Bool.{true≢false, eq-eqb, cond-true, cond-false}
 use Rattle.std.proofs.lemmas.Bool.Decides.{eqb_tells}
@@ -13,13 +13,13 @@ use Rattle.bhs_protocols.specs.Pictures.{can_move_in, turn_in}
 use Rattle.bhs_protocols.specs.declared.shuttle.Memory.{Memory}
 use Rattle.bhs_protocols.specs.declared.shuttle.Phase.TheVariants.{GoesOut, Leaves, ComesBack, Returns, Writes}
 use Rattle.bhs_protocols.specs.Shuttle.{other_in}
-use Rattle.bhs_protocols.proofs.SearchLemmas.{agents_two, distance, doomed_is, hole_at, read_other, safe_before}
+use Rattle.bhs_protocols.proofs.SearchLemmas.{agents_two, distance, doomed_is, hole_at, safe_before}
 use Rattle.bhs_protocols.proofs.MovingLemmas as moving
 use Rattle.bhs_protocols.proofs.TurnLemmas.{Becomes}
-use Rattle.bhs_protocols.proofs.ExplorerSteps.{Way, back_by, ended, paces, trip}
-use Rattle.bhs_protocols.proofs.ExplorerState.{Game, Onward, Turn, all as all_of, along as along_of, assembled, come}
-use Rattle.bhs_protocols.proofs.ExplorerState.{cost, mem, placed_as, trial as trial_of, way as way_from}
-use Rattle.bhs_protocols.proofs.ExplorerTurns.{about, at_home, is_way}
+use Rattle.bhs_protocols.proofs.ExplorerSteps.{Way, back_by}
+use Rattle.bhs_protocols.proofs.ExplorerState.{Game, Onward, Turn, all as all_of, along as along_of}
+use Rattle.bhs_protocols.proofs.ExplorerState.{mem, placed_as, trial as trial_of, way as way_from}
+use Rattle.bhs_protocols.proofs.ExplorerTurns.{about, at_home, is_way, paced, read}
 
 module _ {game : Game} (on : Turn game) where
   open game use {world, right, holds, node, explorers}
@@ -96,11 +96,6 @@ module _ {game : Game} (on : Turn game) where
       let placed = placed_as game s picture (Leaves step) is inv.own in
       let before : step < all = placed.0 in
       let at : picture.position s ≡ Bound (along step) (way.ahead step) = placed.2 in
-      let t : trip all M.phase ≡ step + 1 = ap (trip all) is in
-      let e : ended M.phase ≡ 0 = ap ended is in
-      let p : paces all M.phase ≡ 2 + 2 * step = ap (paces all) is in
-      let c : come game M.mine M.phase ≡ M.mine = ap (come game M.mine) is in
-      let used : picture.used s ≤ cost game s M = inv.own.used in
       let safe : M.mine < distance game.search s = inv.own.safe in
       let target : ℕ = along (step + 1) in
       let label : ℕ = way.behind (step + 1) in
@@ -114,67 +109,36 @@ module _ {game : Game} (on : Turn game) where
               ∙ ap not (last_doomed step new.1 edge.1)))
           | inr short ↦
               let next : M.mine + 1 < distance game.search s = omega (arith, safe, short.1) in
-              assembled game s o picture (turn_in trial picture s) (record M { phase = ComesBack (step + 1) label })
-              (At target (Some label)) news 0 0
-              (picture.accused s) picture.shown (changed picture.reached target true) pair inv
+              paced on (Leaves step) (ComesBack (step + 1) label) M.theirs (At target (Some label)) news 0 0
+              (picture.accused s) (changed picture.reached target true) is
               (moving.arrives_at trial picture s (agents_two game.search s pair.own) (along step) (way.ahead step)
               target label at refl far (last_safe step new.1 next))
-              (comes_out ∙ cond-true _ _ _ new.0)
-              (record {
-                fit = record {
-                  side = inv.own.side;
-                  placed = (
-                    omega arith,
-                    omega (arith, new.1),
-                    next,
-                    refl,
-                    record { came = Some label; at = refl },
-                    placed.3,
-                  );
-                  safe = inv.own.safe;
-                  used = omega (arith, used, t, e, new.1);
-                  reached = λ k some last. elim (eqb_tells k (M.mine + 1)) [
-                    | inl it ↦ subst (λ (j : ℕ). changed picture.reached target true j ≡ true)
-                        (new_node (step + 1) new.1 ∙ ap (node s) (sym it.1))
-                        (changed_same picture.reached target true)
-                    | inr it ↦ grows_by target (node s k)
-                        (inv.own.reached k some (omega (arith, last, c, it.1)))
-                  ];
-                };
-                grows = grows_by target;
-                known = inv.known;
-                known_too = inv.known_too;
-                fresh = inv.fresh;
-                board = inv.board;
-                spends = omega (arith, t, new.1);
-                more = omega (arith, p, new.1);
-              })
+              (comes_out ∙ cond-true _ _ _ new.0) (
+                omega arith,
+                omega (arith, new.1),
+                next,
+                refl,
+                record { came = Some label; at = refl },
+                placed.3,
+              )
+              (inl refl) (grows_by target)
+              (λ k far. elim (eqb_tells k (M.mine + 1)) [
+                | inl it ↦ inr (subst (λ (j : ℕ). changed picture.reached target true j ≡ true)
+                    (new_node (step + 1) new.1 ∙ ap (node s) (sym it.1))
+                    (changed_same picture.reached target true))
+                | inr it ↦ inl (omega (arith, far, it.1))
+              ])
+              (omega arith) (omega (arith, new.1)) (omega (arith, new.1))
         ]
         | inr old ↦
             let onward : step + 1 < all = omega (arith, before, old.1) in
-            assembled game s o picture (turn_in trial picture s)
-            (record M { phase = GoesOut (step + 1) (way.ahead (step + 1)) }) (At target (Some label)) news 0 0
-            (picture.accused s) picture.shown (changed picture.reached target true) pair inv
+            paced on (Leaves step) (GoesOut (step + 1) (way.ahead (step + 1))) M.theirs (At target (Some label)) news 0
+            0 (picture.accused s) (changed picture.reached target true) is
             (moving.arrives_at trial picture s (agents_two game.search s pair.own) (along step) (way.ahead step) target
             label at refl far (ahead_safe step onward))
             (comes_out ∙ cond-false _ _ _ old.0)
-            (record {
-              fit = record {
-                side = inv.own.side;
-                placed = (onward, refl, record { came = Some label; at = refl }, placed.3);
-                safe = inv.own.safe;
-                used = omega (arith, used, t, e);
-                reached = λ k some last. grows_by target (node s k)
-                    (inv.own.reached k some (omega (arith, last, c)));
-              };
-              grows = grows_by target;
-              known = inv.known;
-              known_too = inv.known_too;
-              fresh = inv.fresh;
-              board = inv.board;
-              spends = omega (arith, t);
-              more = omega (arith, p);
-            })
+            (onward, refl, record { came = Some label; at = refl }, placed.3)
+            (inl refl) (grows_by target) (λ k far. inl far) (omega arith) (omega arith) (omega arith)
       ]
 
   -- ---- back
@@ -219,42 +183,20 @@ module _ {game : Game} (on : Turn game) where
       let placed = placed_as game s picture (Returns step) is inv.own in
       let it : ComesTo 0 = comes_to 0 step (omega (arith, last)) is in
       let few : step ≤ all = placed.1 in
-      let t : trip all M.phase ≡ 2 * all + 1 - step = ap (trip all) is in
-      let e : ended M.phase ≡ 0 = ap ended is in
-      let p : paces all M.phase ≡ 2 + 2 * (2 * all - step) = ap (paces all) is in
-      let c : come game M.mine M.phase ≡ M.mine + 1 = ap (come game M.mine) is in
-      let used : picture.used s ≤ cost game s M = inv.own.used in
       let known : M.theirs ≤ O.mine = inv.known in
       let home : along 0 ≡ world.home = at_home game s M pair.own inv.own.safe in
-      let read : other_in M.side (picture.shown (along 0)) ≡ O.mine =
-      (λ i. other_in (inv.own.side i) ((ap picture.shown home ∙ inv.board) i))
-      ∙ read_other s M.mine O.mine pair.own in
-      assembled game s o picture (turn_in trial picture s) (record M { phase = Writes; theirs = O.mine })
-      (At (along 0) (Some (way.ahead 0)))
+      let reads : other_in M.side (picture.shown (along 0)) ≡ O.mine =
+      ap (λ (k : ℕ). other_in M.side (picture.shown k)) home ∙ read on in
+      paced on (Returns step) Writes O.mine (At (along 0) (Some (way.ahead 0)))
       (Heard (Here (world.net.degree (along 0)) (Some (way.ahead 0)) (picture.shown (along 0)))) 0 0
-      (picture.accused s) picture.shown (changed picture.reached (along 0) true) pair inv it.becomes
-      (it.is ∙ (λ i. record M { phase = Writes; theirs = read i }))
-      (record {
-        fit = record {
-          side = inv.own.side;
-          placed = (
-            placed.2,
-            record { came = Some (way.ahead 0); at = ap (λ (k : ℕ). At k (Some (way.ahead 0))) home },
-            placed.4,
-          );
-          safe = inv.own.safe;
-          used = omega (arith, used, t, e, known, last, few);
-          reached = λ k some far. grows_by (along 0) (node s k)
-              (inv.own.reached k some (omega (arith, far, c)));
-        };
-        grows = grows_by (along 0);
-        known = omega arith;
-        known_too = inv.known_too;
-        fresh = inl refl;
-        board = inv.board;
-        spends = omega (arith, t, last, few);
-        more = omega (arith, p, known, last, few);
-      })
+      (picture.accused s) (changed picture.reached (along 0) true) is it.becomes
+      (it.is ∙ (λ i. record M { phase = Writes; theirs = reads i })) (
+        placed.2,
+        record { came = Some (way.ahead 0); at = ap (λ (k : ℕ). At k (Some (way.ahead 0))) home },
+        placed.4,
+      )
+      (inr refl) (grows_by (along 0)) (λ k far. inl far) (omega (arith, known)) (omega (arith, last, few))
+      (omega (arith, known, last, few))
 
   pub return_turn : (left_over step : ℕ) → step ≡ suc left_over + 1 → M.phase ≡ Returns step
       → Onward game s o picture (turn_in trial picture s)
@@ -262,37 +204,17 @@ module _ {game : Game} (on : Turn game) where
       let placed = placed_as game s picture (Returns step) is inv.own in
       let few : step ≤ all = placed.1 in
       let it : ComesTo (suc left_over) = comes_to (suc left_over) step one_more is in
-      let t : trip all M.phase ≡ 2 * all + 1 - step = ap (trip all) is in
-      let e : ended M.phase ≡ 0 = ap ended is in
-      let p : paces all M.phase ≡ 2 + 2 * (2 * all - step) = ap (paces all) is in
-      let c : come game M.mine M.phase ≡ M.mine + 1 = ap (come game M.mine) is in
-      let used : picture.used s ≤ cost game s M = inv.own.used in
       let target : ℕ = along (suc left_over) in
       let label : ℕ = way.ahead (suc left_over) in
-      assembled game s o picture (turn_in trial picture s)
-      (record M { phase = ComesBack (suc left_over) (way.behind (suc left_over)) })
+      paced on (Returns step) (ComesBack (suc left_over) (way.behind (suc left_over))) M.theirs
       (At target (Some label)) (Heard (Here (world.net.degree target) (Some label) (picture.shown target))) 0 0
-      (picture.accused s) picture.shown (changed picture.reached target true) pair inv it.becomes it.is
-      (record {
-        fit = record {
-          side = inv.own.side;
-          placed = (
-            omega arith,
-            omega (arith, few, one_more),
-            placed.2,
-            refl,
-            record { came = Some label; at = refl },
-            placed.4,
-          );
-          safe = inv.own.safe;
-          used = omega (arith, used, t, e, few, one_more);
-          reached = λ k some far. grows_by target (node s k) (inv.own.reached k some (omega (arith, far, c)));
-        };
-        grows = grows_by target;
-        known = inv.known;
-        known_too = inv.known_too;
-        fresh = inv.fresh;
-        board = inv.board;
-        spends = omega (arith, t, few, one_more);
-        more = omega (arith, p, few, one_more);
-      })
+      (picture.accused s) (changed picture.reached target true) is it.becomes it.is (
+        omega arith,
+        omega (arith, few, one_more),
+        placed.2,
+        refl,
+        record { came = Some label; at = refl },
+        placed.4,
+      )
+      (inl refl) (grows_by target) (λ k far. inl far) (omega arith) (omega (arith, few, one_more))
+      (omega (arith, few, one_more))

@@ -319,15 +319,15 @@ module _ (game : Game) where
   ]
 
   -- who has not ended has a command left
-  pub has_room : (s o : ℕ) (picture : Picture) → Pair s o → Inv s o picture
-      → trip (all s (mem picture s)) (mem picture s).phase + ended (mem picture s).phase
-      + trips s (mem picture s).mine ≤ most_moves s
+  pub has_room : (s o : ℕ) (picture : Picture) (was : Phase) → Pair s o → Inv s o picture
+      → (mem picture s).phase ≡ was
+      → trip (all s (mem picture s)) was + ended was + trips s (mem picture s).mine ≤ most_moves s
       → picture.used s < world.quota
-  has_room s o picture pair inv few =
+  has_room s o picture was pair inv is few =
       let used : picture.used s ≤ cost s (mem picture s) = inv.own.used in
       let safe : (mem picture s).mine + (mem picture s).theirs + 2 ≤ n = both_safe s o picture pair inv in
       let quota : most_commands s ≤ world.quota = quota_of s pair.own in
-      omega (arith, used, safe, quota, few)
+      omega (arith, used, safe, quota, few, ap (trip (all s (mem picture s))) is, ap ended is)
 
   -- a turn of agent s
   pub record Turn : Type 0 where

@@ -1,15 +1,15 @@
 -- Two agents that explore by ways: turns of an agent at a node.
-use Rattle.std.proofs.Common.{ℕ, ◌+◌, ◌-◌, ◌*◌, ◌<◌, ◌≤◌, ◌≡◌, true, false, ◌&&◌, ◌==◌, Option, Some, None, List}
-use Rattle.std.proofs.Common.{◌∷◌, length, refl, sym, ap, ◌∙◌, subst, inl, inr, arith}
+use Rattle.std.proofs.Common.{ℕ, ◌+◌, ◌-◌, ◌*◌, ◌<◌, ◌≤◌, ◌≡◌, ◌⊎◌, Bool, true, false, ◌&&◌, ◌==◌, Option, Some, None}
+use Rattle.std.proofs.Common.{List, ◌∷◌, length, refl, sym, ap, ◌∙◌, subst, inl, inr, arith}
 use Rattle.std.specs.Prelude.{◌≢◌, bytes_eq}
 use Rattle.std.proofs.lemmas.Bool.{true≢false, eq-eqb, cond-true, cond-false, eqb-true, and_parts}
 use Rattle.std.proofs.lemmas.Bool.Decides.{eqb_tells}
-use Rattle.bhs_model.specs.declared.commands.Command.TheVariants.{Enter, Write, Depart, Accuse}
+use Rattle.bhs_model.specs.declared.commands.Command.TheVariants.{Write}
 use Rattle.bhs_model.specs.declared.replies.Reply.TheVariants.{Here, Written, Changed, Gone, Noted}
-use Rattle.bhs_model.specs.Runs.{At, Bound, After, changed}
+use Rattle.bhs_model.specs.Runs.{Position, At, Bound, After, changed}
 use Rattle.bhs_model.proofs.StepLemmas.{by_cases, changed_same}
 use Rattle.bhs_explore.specs.declared.minds.Step.TheVariants.{Says}
-use Rattle.bhs_explore.specs.Minds.{Heard, History}
+use Rattle.bhs_explore.specs.Minds.{Item, Heard, History}
 use Rattle.bhs_explore.specs.Schedules.{Trial}
 use Rattle.bhs_protocols.specs.Pictures.{turn_in}
 use Rattle.bhs_protocols.specs.declared.shuttle.Memory.{Memory}
@@ -19,11 +19,11 @@ use Rattle.bhs_protocols.specs.declared.shuttle.Phase.TheVariants.{Ends}
 use Rattle.bhs_protocols.specs.Shuttle.{other_in, text_by, is_one_left}
 use Rattle.bhs_protocols.proofs.SearchLemmas.{agents_two, bytes_other, bytes_same, distance, read_other, sum_is}
 use Rattle.bhs_protocols.proofs.SearchLemmas.{text_fits, within_n}
-use Rattle.bhs_protocols.proofs.TurnLemmas.{enters, departs, accuses as accuses_link, writes, writes_not}
+use Rattle.bhs_protocols.proofs.TurnLemmas.{Becomes, enters, departs, accuses as accuses_link, writes, writes_not}
 use Rattle.bhs_protocols.proofs.ExplorerSteps.{Way, IsWay, IsAbout, does_by, ended, paces, trip}
-use Rattle.bhs_protocols.proofs.ExplorerState.{Game, Keeps, Onward, Turn, all as all_of, along as along_of, assembled}
-use Rattle.bhs_protocols.proofs.ExplorerState.{below_last, below_next, both_safe, come, cost, has_room, mem, most_moves}
-use Rattle.bhs_protocols.proofs.ExplorerState.{placed_as, trial as trial_of, trips, way as way_from, way_is}
+use Rattle.bhs_protocols.proofs.ExplorerState.{Game, IsPlaced, Onward, Turn, all as all_of, along as along_of}
+use Rattle.bhs_protocols.proofs.ExplorerState.{assembled, below_last, below_next, both_safe, come, cost, has_room, mem}
+use Rattle.bhs_protocols.proofs.ExplorerState.{most_moves, placed_as, trial as trial_of, trips, way as way_from, way_is}
 
 -- a way to another node than the home base has a step
 pub has_steps : (game : Game) (s k : ℕ) → s < 2 → k < game.n → 0 < k → 0 < (game.way_to s k).steps
@@ -92,74 +92,82 @@ module _ {game : Game} (on : Turn game) where
   pub is_way : IsWay world.net (node s) (M.mine + 1) way
   is_way = way_is game s M pair.own inv.own.safe
 
-  pub begin_turn : M.phase ≡ Begins → Onward game s o picture (turn_in trial picture s)
-  begin_turn is =
-      let placed = placed_as game s picture Begins is inv.own in
-      let says : trial.minds s past ≡ Says Enter = says_by ∙ ap (does_by n way M) is in
-      let t : trip all M.phase ≡ 0 = ap (trip all) is in
-      let e : ended M.phase ≡ 0 = ap ended is in
-      let p : paces all M.phase ≡ 0 = ap (paces all) is in
-      let c : come game M.mine M.phase ≡ M.mine = ap (come game M.mine) is in
+  -- it reads on the home base's whiteboard what the other one has explored
+  pub read : other_in M.side (picture.shown world.home) ≡ O.mine
+  read = (λ i. other_in (inv.own.side i) (inv.board i)) ∙ read_other s M.mine O.mine pair.own
+
+  -- It turns to something else, and knows as much as before, or also what the other one has told. What it has then come
+  -- to was reached before or is now.
+  pub paced : (was now : Phase) (theirs : ℕ) (place : Position) (news : Item) (costs moved : ℕ)
+      (accused : Option (ℕ × ℕ)) (reached : ℕ → Bool) → M.phase ≡ was
+      → Becomes picture (turn_in trial picture s) s place news costs moved accused picture.shown reached
+      → holds s (news ∷ past) ≡ record M { phase = now; theirs = theirs }
+      → IsPlaced game s (record M { phase = now; theirs = theirs }) now place accused
+      → (theirs ≡ M.theirs) ⊎ (theirs ≡ O.mine) → ((k : ℕ) → picture.reached k ≡ true → reached k ≡ true)
+      → ((k : ℕ) → k ≤ come game M.mine now → (k ≤ come game M.mine was) ⊎ (reached (node s k) ≡ true))
+      → costs + M.theirs + ended was ≤ moved + theirs + ended now → trip all now ≡ trip all was + moved
+      → paces all was + M.theirs + 1 ≤ paces all now + theirs → Onward game s o picture (turn_in trial picture s)
+  paced was now theirs place news costs moved accused reached is becomes after placed learns grows come_to fair spends
+      more =
+      let t : trip all M.phase ≡ trip all was = ap (trip all) is in
+      let e : ended M.phase ≡ ended was = ap ended is in
+      let p : paces all M.phase ≡ paces all was = ap (paces all) is in
+      let c : come game M.mine M.phase ≡ come game M.mine was = ap (come game M.mine) is in
       let used : picture.used s ≤ cost game s M = inv.own.used in
       let known : M.theirs ≤ O.mine = inv.known in
-      let read : other_in M.side (picture.shown world.home) ≡ O.mine =
-      (λ i. other_in (inv.own.side i) (inv.board i)) ∙ read_other s M.mine O.mine pair.own in
-      assembled game s o picture (turn_in trial picture s)
-      (record M { theirs = O.mine; phase = GoesOut 0 (way.ahead 0) }) (At world.home None)
-      (Heard (Here (world.net.degree world.home) None (picture.shown world.home))) 0 0 (picture.accused s)
-      picture.shown picture.reached pair inv
-      (enters trial picture s (agents_two game.search s pair.own) placed.0 says)
-      (explorers.enters s past (world.net.degree world.home) None (picture.shown world.home) (about Begins is)
-      ∙ (λ i. record M { theirs = read i; phase = GoesOut 0 (way.ahead 0) }))
+      assembled game s o picture (turn_in trial picture s) (record M { phase = now; theirs = theirs }) place news costs
+      moved accused picture.shown reached pair inv becomes after
       (record {
         fit = record {
           side = inv.own.side;
-          placed = (
-            some_steps game s M pair.own inv.own.safe,
-            refl,
-            record { came = None; at = ap (λ (k : ℕ). At k None) (sym (at_home game s M pair.own inv.own.safe)) },
-            placed.1,
-          );
+          placed = placed;
           safe = inv.own.safe;
-          used = omega (arith, used, t, e, known);
-          reached = λ k some far. inv.own.reached k some (omega (arith, far, c));
+          used = omega (arith, used, t, e, fair, spends);
+          reached = λ k some far. elim (come_to k far) [
+            | inl h ↦ grows (node s k) (inv.own.reached k some (omega (arith, h, c)))
+            | inr h ↦ h
+          ];
         };
-        grows = λ k was. was;
-        known = omega arith;
+        grows = grows;
+        known = elim learns [ inl h ↦ omega (arith, h, known) | inr h ↦ omega (arith, h) ];
         known_too = inv.known_too;
-        fresh = inl refl;
+        fresh = elim learns [
+          | inl h ↦ subst (λ (k : ℕ). (k ≡ O.mine) ⊎ (O.theirs ≡ M.mine)) (sym h) inv.fresh
+          | inr h ↦ inl h
+        ];
         board = inv.board;
-        spends = omega (arith, t);
-        more = omega (arith, p, known);
+        spends = omega (arith, t, spends);
+        more = omega (arith, p, more);
       })
 
-  -- it goes on by a port
-  goes_turn : (node port : ℕ) (came : Option ℕ) (after : Memory) → holds s (Heard Gone ∷ past) ≡ after
-      → trial.minds s past ≡ Says (Depart port) → picture.position s ≡ At node came
-      → picture.used s < world.quota → port < world.net.degree node
-      → Keeps game s o picture after (Bound node port) 1 1 (picture.accused s) picture.shown picture.reached
-      → Onward game s o picture (turn_in trial picture s)
-  goes_turn node port came after is says at room there keeps =
-      assembled game s o picture (turn_in trial picture s) after (Bound node port) (Heard Gone) 1 1 (picture.accused s)
-      picture.shown picture.reached pair inv
-      (departs trial picture s (agents_two game.search s pair.own) node port came at says room there) is keeps
+  pub begin_turn : M.phase ≡ Begins → Onward game s o picture (turn_in trial picture s)
+  begin_turn is =
+      let placed = placed_as game s picture Begins is inv.own in
+      let known : M.theirs ≤ O.mine = inv.known in
+      paced Begins (GoesOut 0 (way.ahead 0)) O.mine (At world.home None)
+      (Heard (Here (world.net.degree world.home) None (picture.shown world.home))) 0 0 (picture.accused s)
+      picture.reached is
+      (enters trial picture s (agents_two game.search s pair.own) placed.0 (says_by ∙ ap (does_by n way M) is))
+      (explorers.enters s past (world.net.degree world.home) None (picture.shown world.home) (about Begins is)
+      ∙ (λ i. record M { theirs = read i; phase = GoesOut 0 (way.ahead 0) })) (
+        some_steps game s M pair.own inv.own.safe,
+        refl,
+        record { came = None; at = ap (λ (k : ℕ). At k None) (sym (at_home game s M pair.own inv.own.safe)) },
+        placed.1,
+      )
+      (inr refl) (λ k was. was) (λ k far. inl far) (omega (arith, known)) (omega arith) (omega (arith, known))
 
   pub out_turn : (step port : ℕ) → M.phase ≡ GoesOut step port → Onward game s o picture (turn_in trial picture s)
   out_turn step port is =
       let placed = placed_as game s picture (GoesOut step port) is inv.own in
       let before : step < all = placed.0 in
       let ahead : port ≡ way.ahead step = placed.1 in
-      let t : trip all M.phase ≡ step = ap (trip all) is in
-      let e : ended M.phase ≡ 0 = ap ended is in
-      let p : paces all M.phase ≡ 1 + 2 * step = ap (paces all) is in
-      let c : come game M.mine M.phase ≡ M.mine = ap (come game M.mine) is in
-      let used : picture.used s ≤ cost game s M = inv.own.used in
       let safe : M.mine < distance game.search s = inv.own.safe in
       let there : port < world.net.degree (along step) =
       subst (λ (k : ℕ). k < world.net.degree (along step)) (sym ahead) (is_way.ahead step before) in
       let rt : trips game s M.mine + all ≤ most_moves game s = below_last game s M.mine safe in
       let room : picture.used s < world.quota =
-      has_room game s o picture pair inv (omega (arith, t, e, rt, before)) in
+      has_room game s o picture (GoesOut step port) pair inv is (omega (arith, rt, before)) in
       let two : M.mine + M.theirs + 2 ≤ n = both_safe game s o picture pair inv in
       by_cases (step + 1 == all && is_one_left n M) (Onward game s o picture (turn_in trial picture s))
       (λ yes.
@@ -170,59 +178,28 @@ module _ {game : Game} (on : Turn game) where
       let safe_too : O.mine < distance game.search o = inv.other.safe in
       let known : M.theirs ≤ O.mine = inv.known in
       let edge : M.mine + 1 ≡ distance game.search s = omega (arith, sum, safe, safe_too, known, left_one) in
-      let says : trial.minds s past ≡ Says (Accuse port) =
-      says_by ∙ ap (does_by n way M) is ∙ cond-true _ _ _ yes in
-      assembled game s o picture (turn_in trial picture s) (record M { phase = Ends }) After (Heard Noted) 1 0
-      (Some (along step, port)) picture.shown picture.reached pair inv
-      (accuses_link trial picture s (agents_two game.search s pair.own) (along step) port placed.2.came placed.2.at says
-      room there) (explorers.ends s past step port (about (GoesOut step port) is))
-      (record {
-        fit = record {
-          side = inv.own.side;
-          placed = (
-            refl,
-            edge,
-            record { step = step; last = last; link = ap (λ (k : ℕ). Some (along step, k)) ahead },
-            left_one,
-          );
-          safe = inv.own.safe;
-          used = omega (arith, used, t, e, last);
-          reached = λ k some far. inv.own.reached k some (omega (arith, far, c));
-        };
-        grows = λ k was. was;
-        known = inv.known;
-        known_too = inv.known_too;
-        fresh = inv.fresh;
-        board = inv.board;
-        spends = omega (arith, t, last);
-        more = omega (arith, p, last);
-      }))
+      paced (GoesOut step port) Ends M.theirs After (Heard Noted) 1 0 (Some (along step, port)) picture.reached is
+      (accuses_link trial picture s (agents_two game.search s pair.own) (along step) port placed.2.came placed.2.at
+      (says_by ∙ ap (does_by n way M) is ∙ cond-true _ _ _ yes) room there)
+      (explorers.ends s past step port (about (GoesOut step port) is)) (
+        refl,
+        edge,
+        record { step = step; last = last; link = ap (λ (k : ℕ). Some (along step, k)) ahead },
+        left_one,
+      )
+      (inl refl) (λ k was. was) (λ k far. inl far) (omega arith) (omega (arith, last)) (omega (arith, last)))
       (λ none.
-      let says : trial.minds s past ≡ Says (Depart port) =
-      says_by ∙ ap (does_by n way M) is ∙ cond-false _ _ _ none in
-      goes_turn (along step) port placed.2.came (record M { phase = Leaves step })
-      (explorers.goes s past step port (about (GoesOut step port) is)) says placed.2.at room there
-      (record {
-        fit = record {
-          side = inv.own.side;
-          placed = (
-            before,
-            (λ last. more_left M.mine M.theirs (step + 1) all last none two),
-            ap (λ (k : ℕ). Bound (along step) k) ahead,
-            placed.3,
-          );
-          safe = inv.own.safe;
-          used = omega (arith, used, t, e);
-          reached = λ k some far. inv.own.reached k some (omega (arith, far, c));
-        };
-        grows = λ k was. was;
-        known = inv.known;
-        known_too = inv.known_too;
-        fresh = inv.fresh;
-        board = inv.board;
-        spends = omega (arith, t);
-        more = omega (arith, p);
-      }))
+      paced (GoesOut step port) (Leaves step) M.theirs (Bound (along step) port) (Heard Gone) 1 1 (picture.accused s)
+      picture.reached is
+      (departs trial picture s (agents_two game.search s pair.own) (along step) port placed.2.came placed.2.at
+      (says_by ∙ ap (does_by n way M) is ∙ cond-false _ _ _ none) room there)
+      (explorers.goes s past step port (about (GoesOut step port) is)) (
+        before,
+        (λ last. more_left M.mine M.theirs (step + 1) all last none two),
+        ap (λ (k : ℕ). Bound (along step) k) ahead,
+        placed.3,
+      )
+      (inl refl) (λ k was. was) (λ k far. inl far) (omega arith) (omega arith) (omega arith))
     where
       more_left : (mine theirs one other : ℕ) → one ≡ other → (one == other && (mine + theirs + 2 == n)) ≡ false
           → mine + theirs + 2 ≤ n → mine + theirs + 3 ≤ n
@@ -236,40 +213,22 @@ module _ {game : Game} (on : Turn game) where
       let placed = placed_as game s picture (ComesBack step port) is inv.own in
       let some : 0 < step = placed.0 in
       let within : step ≤ all = placed.1 in
-      let next : M.mine + 1 < distance game.search s = placed.2 in
       let behind : port ≡ way.behind step = placed.3 in
-      let t : trip all M.phase ≡ 2 * all - step = ap (trip all) is in
-      let e : ended M.phase ≡ 0 = ap ended is in
-      let p : paces all M.phase ≡ 1 + 2 * (2 * all - step) = ap (paces all) is in
-      let c : come game M.mine M.phase ≡ M.mine + 1 = ap (come game M.mine) is in
-      let used : picture.used s ≤ cost game s M = inv.own.used in
       let index : step - 1 + 1 ≡ step = omega (arith, some) in
       let there : port < world.net.degree (along step) =
       subst (λ (k : ℕ). k < world.net.degree (along step)) (sym behind)
       (subst (λ (k : ℕ). way.behind k < world.net.degree (along k)) index
       (is_way.behind (step - 1) (omega (arith, some, within)))) in
       let rt : trips game s M.mine + 2 * all ≤ trips game s (distance game.search s - 1) =
-      below_next game s M.mine next in
-      let room : picture.used s < world.quota = has_room game s o picture pair inv (omega (arith, t, e, rt)) in
-      goes_turn (along step) port placed.4.came (record M { phase = Returns step })
-      (explorers.turns s past step port (about (ComesBack step port) is)) (says_by ∙ ap (does_by n way M) is)
-      placed.4.at room there
-      (record {
-        fit = record {
-          side = inv.own.side;
-          placed = (some, within, next, ap (λ (k : ℕ). Bound (along step) k) behind, placed.5);
-          safe = inv.own.safe;
-          used = omega (arith, used, t, e, within);
-          reached = λ k some far. inv.own.reached k some (omega (arith, far, c));
-        };
-        grows = λ k was. was;
-        known = inv.known;
-        known_too = inv.known_too;
-        fresh = inv.fresh;
-        board = inv.board;
-        spends = omega (arith, t, within);
-        more = omega (arith, p, within);
-      })
+      below_next game s M.mine placed.2 in
+      paced (ComesBack step port) (Returns step) M.theirs (Bound (along step) port) (Heard Gone) 1 1
+      (picture.accused s) picture.reached is
+      (departs trial picture s (agents_two game.search s pair.own) (along step) port placed.4.came placed.4.at
+      (says_by ∙ ap (does_by n way M) is)
+      (has_room game s o picture (ComesBack step port) pair inv is (omega (arith, rt))) there)
+      (explorers.turns s past step port (about (ComesBack step port) is))
+      (some, within, placed.2, ap (λ (k : ℕ). Bound (along step) k) behind, placed.5)
+      (inl refl) (λ k was. was) (λ k far. inl far) (omega arith) (omega (arith, within)) (omega (arith, within))
 
   pub write_turn : M.phase ≡ Writes → Onward game s o picture (turn_in trial picture s)
   write_turn is =
@@ -287,7 +246,8 @@ module _ {game : Game} (on : Turn game) where
       let rt : trips game s M.mine + 2 * all ≤ trips game s (distance game.search s - 1) =
       below_next game s M.mine next in
       let more : trips game s (M.mine + 1) ≡ trips game s M.mine + 2 * all = game.more_trips s M.mine in
-      let room_left : picture.used s < world.quota = has_room game s o picture pair inv (omega (arith, t, e, rt)) in
+      let room_left : picture.used s < world.quota =
+      has_room game s o picture Writes pair inv is (omega (arith, rt)) in
       let expect : List ℕ = text_by s M.mine M.theirs in
       let put : List ℕ = text_by s (M.mine + 1) M.theirs in
       let says : trial.minds s past ≡ Says (Write expect put) =
@@ -338,29 +298,12 @@ module _ {game : Game} (on : Turn game) where
             ap (λ (xs : List ℕ). bytes_eq xs expect) inv.board
             ∙ bytes_other s M.mine O.mine M.theirs pair.own different in
             let fewer : M.theirs < O.mine = omega (arith, known, h.1) in
-            let read : other_in M.side (picture.shown world.home) ≡ O.mine =
-            (λ i. other_in (inv.own.side i) (inv.board i)) ∙ read_other s M.mine O.mine pair.own in
-            assembled game s o picture (turn_in trial picture s) (record M { theirs = O.mine; phase = Writes })
-            (At world.home came) (Heard (Changed (picture.shown world.home))) 1 0 (picture.accused s)
-            picture.shown picture.reached pair inv
+            paced Writes Writes O.mine (At world.home came) (Heard (Changed (picture.shown world.home))) 1 0
+            (picture.accused s) picture.reached is
             (writes_not trial picture s (agents_two game.search s pair.own) world.home came expect put on says room_left
             fits unlike)
             (explorers.reads s past (picture.shown world.home) (about Writes is)
             ∙ (λ i. record M { theirs = read i; phase = is i }))
-            (record {
-              fit = record {
-                side = inv.own.side;
-                placed = (next, record { came = came; at = refl }, placed.2);
-                safe = inv.own.safe;
-                used = omega (arith, used, t, e, fewer);
-                reached = λ k some far. inv.own.reached k some (omega (arith, far, c));
-              };
-              grows = λ k was. was;
-              known = omega arith;
-              known_too = inv.known_too;
-              fresh = inl refl;
-              board = inv.board;
-              spends = omega (arith, t);
-              more = omega (arith, p, fewer);
-            })
+            (next, record { came = came; at = refl }, placed.2)
+            (inr refl) (λ k was. was) (λ k far. inl far) (omega (arith, fewer)) (omega arith) (omega (arith, fewer))
       ]

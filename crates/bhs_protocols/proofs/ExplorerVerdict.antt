@@ -1,14 +1,13 @@
 -- Two agents that explore by ways: once nothing more can happen, the match is solved.
-use Rattle.std.proofs.Common.{ℕ, ◌+◌, ◌<◌, ◌≤◌, ◌≡◌, ◌⊎◌, true, false, refl, ap, ◌∙◌, inl, inr, arith}
+use Rattle.std.proofs.Common.{ℕ, ◌+◌, ◌<◌, ◌≤◌, ◌≡◌, ◌⊎◌, refl, ap, ◌∙◌, inl, inr, arith}
 use Rattle.bhs_referee.specs.declared.verdicts.Outcome.TheVariants.{Solved}
 use Rattle.bhs_referee.specs.Verdicts.{is_present}
 use Rattle.bhs_explore.specs.Schedules.{Trial}
 use Rattle.bhs_protocols.specs.Pictures.{Picture, IsResting, outcome_in, doomed_in}
-use Rattle.bhs_protocols.specs.declared.shuttle.Phase.{Phase}
-use Rattle.bhs_protocols.specs.declared.shuttle.Phase.TheVariants.{Begins, GoesOut, Leaves, ComesBack, Returns, Writes}
-use Rattle.bhs_protocols.specs.declared.shuttle.Phase.TheVariants.{Ends}
+use Rattle.bhs_protocols.specs.declared.shuttle.Memory.{Memory}
+use Rattle.bhs_protocols.specs.declared.shuttle.Phase.TheVariants.{Leaves, Ends}
 use Rattle.bhs_protocols.proofs.SearchLemmas as lemmas
-use Rattle.bhs_protocols.proofs.SearchLemmas.{HasAccused, IsAccuser, Pair, distance, one_zero, solved_once, sum_is}
+use Rattle.bhs_protocols.proofs.SearchLemmas.{HasCome, IsAccuser, Pair, distance, one_zero, solved_once, sum_is}
 use Rattle.bhs_protocols.proofs.SearchLemmas.{zero_one}
 use Rattle.bhs_protocols.proofs.ExplorerState.{Game, Inv, along, at_turn, come, mem, placed_as, swapped}
 use Rattle.bhs_protocols.proofs.ExplorerState.{trial as trial_of, way, way_is}
@@ -19,36 +18,6 @@ module _ (game : Game) where
 
   abbrev trial : Trial
   trial = trial_of game
-
-  -- ---- each node was reached
-
-  least_come : (mine : ℕ) (phase : Phase) → mine ≤ come game mine phase
-  least_come mine Begins = omega arith
-  least_come mine (GoesOut step port) = omega arith
-  least_come mine (Leaves step) = omega arith
-  least_come mine (ComesBack step port) = omega arith
-  least_come mine (Returns step) = omega arith
-  least_come mine Writes = omega arith
-  least_come mine Ends = omega arith
-
-  all_known : (s o : ℕ) (picture : Picture) → Pair s o → Inv game s o picture → (mem game picture s).phase ≡ Ends
-      → (k : ℕ) → 0 < k → ((k < distance game.search s → picture.reached (node s k) ≡ true)
-      × (k < distance game.search o → picture.reached (node o k) ≡ true))
-  all_known s o picture pair inv is k some =
-      let placed = placed_as game s picture Ends is inv.own in
-      let edge : (mem game picture s).mine + 1 ≡ distance game.search s = placed.1 in
-      let left_one : (mem game picture s).mine + (mem game picture s).theirs + 2 ≡ n = placed.3 in
-      let sum : distance game.search s + distance game.search o ≡ n = sum_is game.search s o pair in
-      let known : (mem game picture s).theirs ≤ (mem game picture o).mine = inv.known in
-      let least : (mem game picture s).mine ≤ come game (mem game picture s).mine (mem game picture s).phase =
-      least_come (mem game picture s).mine (mem game picture s).phase in
-      let least_too : (mem game picture o).mine ≤ come game (mem game picture o).mine (mem game picture o).phase =
-      least_come (mem game picture o).mine (mem game picture o).phase in (
-        λ before. inv.own.reached k some (omega (arith, before, edge, least)),
-        λ before. inv.other.reached k some (omega (arith, before, edge, left_one, sum, known, least_too)),
-      )
-
-  -- ---- at rest the match is solved
 
   abbrev pub AtRest : (s o : ℕ) (picture : Picture) (pair : Pair s o) → Inv game s o picture → Type 0
   AtRest s o picture pair inv = ((mem game picture s).phase ≡ Ends) ⊎ IsLost (at_turn game s o picture pair inv)
@@ -67,24 +36,41 @@ module _ (game : Game) where
       ((way game s m).ahead it.step) label pair.own placed.1
       (route.out it.step below ∙ (λ i. ((ap (along game s m) last ∙ ap (node s) route.last) i, label))) it.link
 
+  has_come : (s o : ℕ) (picture : Picture) (pair : Pair s o) (inv : Inv game s o picture)
+      → AtRest s o picture pair inv → HasCome search s (mem game picture s).mine picture
+  has_come s o picture pair inv rest =
+      let m : Memory = mem game picture s in
+      elim rest [
+        | inl h ↦ record {
+          accused = inr (accuser s o picture pair inv h);
+          away = ap is_present (placed_as game s picture Ends h inv.own).0;
+          reached = λ k some far. inv.own.reached k some (omega (arith, far, ap (come game m.mine) h));
+        }
+        | inr h ↦
+            let placed = placed_as game s picture (Leaves h.step) h.phase inv.own in
+            record {
+              accused = inl placed.3;
+              away = ap is_present placed.2;
+              reached = λ k some far. inv.own.reached k some (omega (arith, far, ap (come game m.mine) h.phase));
+            }
+      ]
+
   solved_if : (s o : ℕ) (picture : Picture) (pair : Pair s o) (inv : Inv game s o picture)
       → (mem game picture s).phase ≡ Ends → (pair_too : Pair o s) (inv_too : Inv game o s picture)
       → AtRest o s picture pair_too inv_too → (outcome_in world picture ≡ Solved) × (doomed_in world picture ≤ 1)
   solved_if s o picture pair inv is pair_too inv_too rest =
-      let others : HasAccused search o picture × (is_present (picture.position o) ≡ false) = elim rest [
-        | inl h ↦
-            let there = placed_as game o picture Ends h inv_too.own in
-            (inr (accuser o s picture pair_too inv_too h), ap is_present there.0)
-        | inr h ↦
-            let there = placed_as game o picture (Leaves h.step) h.phase inv_too.own in
-            (inl there.3, ap is_present there.2)
-      ] in
-      solved_once search s o picture pair (record {
+      let placed = placed_as game s picture Ends is inv.own in
+      let edge : (mem game picture s).mine + 1 ≡ distance search s = placed.1 in
+      let left_one : (mem game picture s).mine + (mem game picture s).theirs + 2 ≡ n = placed.3 in
+      let sum : distance search s + distance search o ≡ n = sum_is search s o pair in
+      let known : (mem game picture s).theirs ≤ (mem game picture o).mine = inv.known in
+      solved_once search s o (mem game picture s).mine (mem game picture o).mine picture pair (record {
         accuses = accuser s o picture pair inv is;
-        ended = (placed_as game s picture Ends is inv.own).0;
-        other = others.0;
-        away = others.1;
-        reached = all_known s o picture pair inv is;
+        ended = placed.0;
+        own = has_come s o picture pair inv (inl is);
+        other = has_come o s picture pair_too inv_too rest;
+        all = omega (arith, edge);
+        all_too = omega (arith, edge, left_one, sum, known);
       })
 
   -- both cannot be lost

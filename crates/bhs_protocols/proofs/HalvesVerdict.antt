@@ -1,15 +1,13 @@
 -- The search by halves: once nothing more can happen, the match is solved.
-use Rattle.std.proofs.Common.{ℕ, ◌+◌, ◌<◌, ◌≤◌, ◌≡◌, ◌⊎◌, true, false, refl, ap, subst, inl, inr, arith}
+use Rattle.std.proofs.Common.{ℕ, ◌+◌, ◌<◌, ◌≤◌, ◌≡◌, ◌⊎◌, refl, ap, subst, inl, inr, arith}
 use Rattle.bhs_referee.specs.declared.verdicts.Outcome.TheVariants.{Solved}
 use Rattle.bhs_referee.specs.Verdicts.{is_present}
 use Rattle.bhs_explore.specs.Schedules.{Trial}
 use Rattle.bhs_protocols.specs.Pictures.{Picture, IsResting, outcome_in, doomed_in}
-use Rattle.bhs_protocols.specs.declared.halves.Phase.{Phase}
-use Rattle.bhs_protocols.specs.declared.halves.Phase.TheVariants.{Begins, GoesOut, Leaves, Tries, Turns, Returns}
-use Rattle.bhs_protocols.specs.declared.halves.Phase.TheVariants.{Writes, GoesHome, NearsHome, Follows, Passes, Tells}
-use Rattle.bhs_protocols.specs.declared.halves.Phase.TheVariants.{ComesHome, NearsBack, Ends}
+use Rattle.bhs_protocols.specs.declared.halves.Memory.{Memory}
+use Rattle.bhs_protocols.specs.declared.halves.Phase.TheVariants.{Ends, Tries}
 use Rattle.bhs_protocols.proofs.HalvesDues.{come, part}
-use Rattle.bhs_protocols.proofs.SearchLemmas.{opposite, Pair, IsAccuser, HasAccused, one_zero, ring_accuser, sides}
+use Rattle.bhs_protocols.proofs.SearchLemmas.{opposite, Pair, IsAccuser, HasCome, one_zero, ring_accuser, sides}
 use Rattle.bhs_protocols.proofs.SearchLemmas.{solved_once, zero_one}
 use Rattle.bhs_protocols.proofs.HalvesState.{Game, Inv, at_turn, distance, mem, sum_is, swapped, trial as trial_of}
 use Rattle.bhs_protocols.proofs.HalvesTurns.{part_more, placed_as}
@@ -20,45 +18,6 @@ module _ (game : Game) where
 
   abbrev trial : Trial
   trial = trial_of game
-
-  -- ---- each node was reached
-
-  least_come : (mine : ℕ) (phase : Phase) → mine ≤ come mine phase
-  least_come mine Begins = omega arith
-  least_come mine (GoesOut steps port) = omega arith
-  least_come mine (Leaves steps) = omega arith
-  least_come mine Tries = omega arith
-  least_come mine (Turns port) = omega arith
-  least_come mine Returns = omega arith
-  least_come mine (Writes port) = omega arith
-  least_come mine (GoesHome steps port) = omega arith
-  least_come mine (NearsHome steps) = omega arith
-  least_come mine (Follows steps port) = omega arith
-  least_come mine (Passes steps) = omega arith
-  least_come mine (Tells steps port) = omega arith
-  least_come mine (ComesHome steps port) = omega arith
-  least_come mine (NearsBack steps) = omega arith
-  least_come mine Ends = omega arith
-
-  all_known : (s o v w : ℕ) (picture : Picture) → Pair s o → Inv game s o v w picture
-      → (mem game picture s).phase ≡ Ends
-      → (k : ℕ) → 0 < k → ((k < distance game s → picture.reached (ways.node s k) ≡ true)
-      × (k < distance game o → picture.reached (ways.node o k) ≡ true))
-  all_known s o v w picture pair inv is k some =
-      let placed = placed_as (at_turn game s o v w picture pair inv) Ends is in
-      let all : (mem game picture s).mine + (mem game picture o).mine + 2 ≡ n = placed.1 in
-      let safe : (mem game picture s).mine < distance game s = inv.state.own.safe in
-      let safe_too : (mem game picture o).mine < distance game o = inv.state.other.safe in
-      let sum : distance game s + distance game o ≡ n = sum_is game s o pair in
-      let least : (mem game picture s).mine ≤ come (mem game picture s).mine (mem game picture s).phase =
-      least_come (mem game picture s).mine (mem game picture s).phase in
-      let least_too : (mem game picture o).mine ≤ come (mem game picture o).mine (mem game picture o).phase =
-      least_come (mem game picture o).mine (mem game picture o).phase in (
-        λ before. inv.state.own.reached k some (omega (arith, before, all, safe, safe_too, sum, least)),
-        λ before. inv.state.other.reached k some (omega (arith, before, all, safe, safe_too, sum, least_too)),
-      )
-
-  -- ---- at rest the match is solved
 
   abbrev pub AtRest : (s o v w : ℕ) (picture : Picture) (pair : Pair s o) → Inv game s o v w picture → Type 0
   AtRest s o v w picture pair inv = ((mem game picture s).phase ≡ Ends) ⊎ IsLost (at_turn game s o v w picture pair inv)
@@ -80,24 +39,41 @@ module _ (game : Game) where
             (subst (λ (k : ℕ). (mem game picture o).mine + 1 ≡ distance game k) pair.is edge_too) h
       ]
 
+  has_come : (s o v w : ℕ) (picture : Picture) (pair : Pair s o) (inv : Inv game s o v w picture)
+      → AtRest s o v w picture pair inv → HasCome (sides search) s (mem game picture s).mine picture
+  has_come s o v w picture pair inv rest =
+      let m : Memory = mem game picture s in
+      elim rest [
+        | inl h ↦ record {
+          accused = inr (accuser s o v w picture pair inv h);
+          away = ap is_present (placed_as (at_turn game s o v w picture pair inv) Ends h).0;
+          reached = λ k some far. inv.state.own.reached k some (omega (arith, far, ap (come m.mine) h));
+        }
+        | inr h ↦
+            let placed = placed_as (at_turn game s o v w picture pair inv) Tries h.phase in
+            record {
+              accused = inl placed.2;
+              away = ap is_present placed.1;
+              reached = λ k some far. inv.state.own.reached k some (omega (arith, far, ap (come m.mine) h.phase));
+            }
+      ]
+
   solved_if : (s o v w : ℕ) (picture : Picture) (pair : Pair s o) (inv : Inv game s o v w picture)
       → (mem game picture s).phase ≡ Ends → (pair_too : Pair o s) (inv_too : Inv game o s w v picture)
       → AtRest o s w v picture pair_too inv_too → (outcome_in world picture ≡ Solved) × (doomed_in world picture ≤ 1)
   solved_if s o v w picture pair inv is pair_too inv_too rest =
-      let others : HasAccused (sides search) o picture × (is_present (picture.position o) ≡ false) = elim rest [
-        | inl h ↦
-            let there = placed_as (at_turn game o s w v picture pair_too inv_too) Ends h in
-            (inr (accuser o s w v picture pair_too inv_too h), ap is_present there.0)
-        | inr h ↦
-            let there = placed_as (at_turn game o s w v picture pair_too inv_too) Tries h.phase in
-            (inl there.2, ap is_present there.1)
-      ] in
-      solved_once (sides search) s o picture pair (record {
+      let placed = placed_as (at_turn game s o v w picture pair inv) Ends is in
+      let all : (mem game picture s).mine + (mem game picture o).mine + 2 ≡ n = placed.1 in
+      let safe : (mem game picture s).mine < distance game s = inv.state.own.safe in
+      let safe_too : (mem game picture o).mine < distance game o = inv.state.other.safe in
+      let sum : distance game s + distance game o ≡ n = sum_is game s o pair in
+      solved_once (sides search) s o (mem game picture s).mine (mem game picture o).mine picture pair (record {
         accuses = accuser s o v w picture pair inv is;
-        ended = (placed_as (at_turn game s o v w picture pair inv) Ends is).0;
-        other = others.0;
-        away = others.1;
-        reached = all_known s o v w picture pair inv is;
+        ended = placed.0;
+        own = has_come s o v w picture pair inv (inl is);
+        other = has_come o s w v picture pair_too inv_too rest;
+        all = omega (arith, all, safe, safe_too, sum);
+        all_too = omega (arith, all, safe, safe_too, sum);
       })
 
   -- both cannot be lost: their parts do not overlap

@@ -394,29 +394,35 @@ module _ {world : World} {n right left : ℕ} {node_at : (side place : ℕ) → 
       || list_any (λ e. not (is_dark_accused world (found_in picture) e)) (search.none_dark i))
       ∙ (λ i. not (some i) || (not (hole i) || false) || false)
 
-  -- agent s has accused and ended, the other one is done too, and all nodes but the black hole were reached
-  pub record IsDone (s o : ℕ) (picture : Picture) : Type 0 where
+  -- an agent at rest: it is at no node, and has come to this many nodes of its side
+  pub record HasCome (s far : ℕ) (picture : Picture) : Type 0 where
+    pub accused : HasAccused s picture
+    pub away : is_present (picture.position s) ≡ false
+    pub reached : (k : ℕ) → 0 < k → k ≤ far → picture.reached (node_at s k) ≡ true
+
+  -- both are at rest, agent s has accused and ended, and all nodes but the black hole were reached
+  pub record IsDone (s o far far_too : ℕ) (picture : Picture) : Type 0 where
     pub accuses : IsAccuser s picture
     pub ended : picture.position s ≡ After
-    pub other : HasAccused o picture
-    pub away : is_present (picture.position o) ≡ false
-    pub reached : (k : ℕ) → 0 < k → ((k < distance s → picture.reached (node_at s k) ≡ true)
-        × (k < distance o → picture.reached (node_at o k) ≡ true))
+    pub own : HasCome s far picture
+    pub other : HasCome o far_too picture
+    pub all : distance s ≤ far + 1
+    pub all_too : distance o ≤ far_too + 1
 
-  pub solved_once : (s o : ℕ) (picture : Picture) → Pair s o → IsDone s o picture
+  pub solved_once : (s o far far_too : ℕ) (picture : Picture) → Pair s o → IsDone s o far far_too picture
       → (outcome_in world picture ≡ Solved) × (doomed_in world picture ≤ 1)
-  solved_once s o picture pair it = (
+  solved_once s o far far_too picture pair it = (
     solved_by picture
         (accuses_none picture (λ link. not (is_right world link)) (λ k below. never_wrong picture k
-        (each s o pair (λ (j : ℕ). HasAccused j picture) (inr it.accuses) it.other k below)))
+        (each s o pair (λ (j : ℕ). HasAccused j picture) it.own.accused it.other.accused k below)))
         (not_silent picture s pair.own it.accuses)
         (unfinished_none picture (each s o pair (λ (j : ℕ). is_present (picture.position j) ≡ false)
-        (ap is_present it.ended) it.away))
+        it.own.away it.other.away))
         (reached_all picture (record {
           known = λ k place below some before.
-              let both_known = it.reached place some in
               each s o pair (λ (j : ℕ). place < distance j → picture.reached (node_at j place) ≡ true)
-              both_known.0 both_known.1 k below before;
+              (λ less. it.own.reached place some (omega (arith, less, it.all)))
+              (λ less. it.other.reached place some (omega (arith, less, it.all_too))) k below before;
         })),
     few_doomed picture s pair.own it.ended,
   )

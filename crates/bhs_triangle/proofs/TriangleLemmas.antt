@@ -350,18 +350,25 @@ module _ (world : World) (n right left naps : ℕ) (ways : Ways) (search : IsSea
     solved_if ends goes near =
         let known = inv.own.safe (ap was_there ends) in
         let across : 1 - s ≡ o = both (λ (k : ℕ). 1 - k ≡ opposite k) refl refl s pair.own ∙ sym pair.is in
-        lemmas.solved_once (sides search) s o old pair (record {
-          accuses = lemmas.ring_accuser search old s o 0 pair.other (sym near) (blames_as Ends ends
-              ∙ (λ i. Some (sym (search.ring.home o) i, (across ∙ sym (search.ring.first o pair.other)) i)));
+        let accuses = lemmas.ring_accuser search old s o 0 pair.other (sym near) (blames_as Ends ends
+        ∙ (λ i. Some (sym (search.ring.home o) i, (across ∙ sym (search.ring.first o pair.other)) i))) in
+        lemmas.solved_once (sides search) s o 1 0 old pair (record {
+          accuses = accuses;
           ended = at_as Ends ends;
-          other = inl (inv.other.blames ∙ ap (accusation o) goes);
-          away = ap is_present (inv.other.at ∙ ap (place o) goes);
-          reached = λ steps some. (
-            λ before.
-                let one : steps ≡ 1 = omega (arith, some, before, known.0) in
-                ap (λ (m : ℕ). old.reached (ways.node s m)) one ∙ known.1,
-            λ before. absurd (omega (arith, some, before, near)),
-          );
+          own = record {
+            accused = inr accuses;
+            away = ap is_present (at_as Ends ends);
+            reached = λ k some far.
+                let one : k ≡ 1 = omega (arith, some, far) in
+                ap (λ (m : ℕ). old.reached (ways.node s m)) one ∙ known.1;
+          };
+          other = record {
+            accused = inl (inv.other.blames ∙ ap (accusation o) goes);
+            away = ap is_present (inv.other.at ∙ ap (place o) goes);
+            reached = λ k some far. absurd (omega (arith, some, far));
+          };
+          all = omega (arith, known.0);
+          all_too = omega (arith, near);
         })
 
   -- ---- all together
