@@ -15,13 +15,14 @@ use Rattle.bhs_protocols.specs.declared.shuttle.Phase.TheVariants.{Begins, GoesO
 use Rattle.bhs_protocols.specs.declared.shuttle.Phase.TheVariants.{Ends}
 use Rattle.bhs_protocols.specs.Shuttle.{text_by, is_one_left}
 use Rattle.bhs_protocols.specs.Invariants.{Bounds, GoesOn, IsInvariant, IsSolved}
-use Rattle.bhs_protocols.proofs.SearchLemmas.{Pair, distance, one_zero, within_n, zero_one}
+use Rattle.bhs_protocols.proofs.SearchLemmas.{Pair, both, either_goes_on, opposite, swapped_pair, distance, one_zero}
+use Rattle.bhs_protocols.proofs.SearchLemmas.{within_n, zero_one}
 use Rattle.bhs_protocols.proofs.Principle.{invariants_solve}
 use Rattle.bhs_protocols.proofs.MovingLemmas.{is_steady, fails_not, sleeps_not, steady_if}
 use Rattle.bhs_protocols.proofs.ExplorerSteps.{Way, does_by, ended, paces, trip}
-use Rattle.bhs_protocols.proofs.ExplorerState.{Game, Inv, IsFit, IsFitIn, IsPlaced, Onward, all, at_turn, below_last}
-use Rattle.bhs_protocols.proofs.ExplorerState.{below_next, both_safe, cost, mem, most_commands, most_moves, placed_as}
-use Rattle.bhs_protocols.proofs.ExplorerState.{progress, spent, swapped, trial as trial_of, trips}
+use Rattle.bhs_protocols.proofs.ExplorerState.{Game, Inv, IsFit, IsFitIn, IsPlaced, Onward, all, at_last, at_turn}
+use Rattle.bhs_protocols.proofs.ExplorerState.{below_last, below_next, both_safe, cost, mem, most_commands, most_moves}
+use Rattle.bhs_protocols.proofs.ExplorerState.{placed_as, progress, spent, swapped, trial as trial_of, trips}
 use Rattle.bhs_protocols.proofs.ExplorerTurns.{has_steps, some_steps}
 use Rattle.bhs_protocols.proofs.ExplorerRest.{IsLost, any_turn}
 use Rattle.bhs_protocols.proofs.ExplorerVerdict.{at_rest, not_both}
@@ -38,37 +39,6 @@ module _ (game : Game) where
   next_costs : (s : ℕ) (m : Memory) → m.mine + 1 < distance game.search s
       → trips game s m.mine + 2 * all game s m ≤ trips game s (distance game.search s - 1)
   next_costs s m = below_next game s m.mine
-
-  -- by what an agent is about: its moves, and its departures and arrivals
-  spent_within : (s : ℕ) (m : Memory) (phase : Phase) (position : Position) (accused : Option (ℕ × ℕ)) → s < 2
-      → m.mine < distance game.search s → IsPlaced game s m phase position accused →
-      (trips game s m.mine + trip (all game s m) phase ≤ most_moves game s)
-      × (2 * trips game s m.mine + paces (all game s m) phase ≤ 2 * most_moves game s + 1)
-  spent_within s m phase position accused below safe placed =
-      by_phase phase placed (below_last game s m.mine safe) (some_steps game s m below safe)
-    where
-      by_phase : (phase : Phase) → IsPlaced game s m phase position accused
-          → trips game s m.mine + all game s m ≤ most_moves game s → 0 < all game s m →
-          (trips game s m.mine + trip (all game s m) phase ≤ most_moves game s)
-          × (2 * trips game s m.mine + paces (all game s m) phase ≤ 2 * most_moves game s + 1)
-      by_phase Begins placed most long = (omega (arith, most), omega (arith, most))
-      by_phase (GoesOut step port) placed most long =
-          let before : step < all game s m = placed.0 in
-          (omega (arith, most, before), omega (arith, most, before))
-      by_phase (Leaves step) placed most long =
-          let before : step < all game s m = placed.0 in
-          (omega (arith, most, before), omega (arith, most, before))
-      by_phase (ComesBack step port) placed most long =
-          let next = next_costs s m placed.2 in
-          (omega (arith, next), omega (arith, next))
-      by_phase (Returns step) placed most long =
-          let next = next_costs s m placed.2 in
-          let some : 0 < step = placed.0 in
-          (omega (arith, next, some), omega (arith, next, some, long))
-      by_phase Writes placed most long =
-          let next = next_costs s m placed.0 in
-          (omega (arith, next), omega (arith, next))
-      by_phase Ends placed most long = (omega (arith, most), omega (arith, most))
 
   -- only who is lost has made all the moves of its side
   spent_less : (s o : ℕ) (picture : Picture) (pair : Pair s o) (inv : Inv game s o picture) (phase : Phase)
@@ -123,14 +93,18 @@ module _ (game : Game) where
           inl (omega (arith, next, longer))
       by_phase Ends is most long longer = inl (omega (arith, most, long))
 
-  one_ended : (phase : Phase) → ended phase ≤ 1
-  one_ended Begins = omega arith
-  one_ended (GoesOut step port) = omega arith
-  one_ended (Leaves step) = omega arith
-  one_ended (ComesBack step port) = omega arith
-  one_ended (Returns step) = omega arith
-  one_ended Writes = omega arith
-  one_ended Ends = omega arith
+  -- by what an agent is about: its departures and arrivals, by its moves
+  few_paces : (s : ℕ) (m : Memory) (phase : Phase) (position : Position) (accused : Option (ℕ × ℕ))
+      → IsPlaced game s m phase position accused →
+      (paces (all game s m) phase ≤ 2 * (trip (all game s m) phase + ended phase) + 1) × (ended phase ≤ 1)
+  few_paces s m Begins position accused placed = (omega arith, omega arith)
+  few_paces s m (GoesOut step port) position accused placed = (omega arith, omega arith)
+  few_paces s m (Leaves step) position accused placed = (omega arith, omega arith)
+  few_paces s m (ComesBack step port) position accused placed = (omega arith, omega arith)
+  few_paces s m (Returns step) position accused placed =
+      let few : step ≤ all game s m = placed.1 in (omega (arith, few), omega arith)
+  few_paces s m Writes position accused placed = (omega arith, omega arith)
+  few_paces s m Ends position accused placed = (omega arith, omega arith)
 
   pub spent_in : (s o : ℕ) (picture : Picture) → Pair s o → Inv game s o picture →
       (spent game s (mem game picture s) ≤ most_moves game s)
@@ -138,14 +112,19 @@ module _ (game : Game) where
       × (picture.used s ≤ most_commands game s)
   spent_in s o picture pair inv =
       let m : Memory = mem game picture s in
-      let it =
-      spent_within s m m.phase (picture.position s) (picture.accused s) pair.own inv.own.safe inv.own.placed in
-      let moves : trips game s m.mine + trip (all game s m) m.phase ≤ most_moves game s = it.0 in
-      let steps : 2 * trips game s m.mine + paces (all game s m) m.phase ≤ 2 * most_moves game s + 1 = it.1 in
+      let it = few_paces s m m.phase (picture.position s) (picture.accused s) inv.own.placed in
+      let few : paces (all game s m) m.phase ≤ 2 * (trip (all game s m) m.phase + ended m.phase) + 1 = it.0 in
+      let once : ended m.phase ≤ 1 = it.1 in
       let two : m.mine + m.theirs + 2 ≤ n = both_safe game s o picture pair inv in
       let used : picture.used s ≤ cost game s m = inv.own.used in
-      let once : ended m.phase ≤ 1 = one_ended m.phase in
-      (moves, omega (arith, steps, two), omega (arith, used, moves, two, once))
+      let moves : trips game s m.mine + trip (all game s m) m.phase + ended m.phase ≤ most_moves game s =
+      elim (spent_less s o picture pair inv m.phase refl) [
+        | inl h ↦ omega (arith, h, once)
+        | inr h ↦
+            let whole : trips game s m.mine + all game s m ≡ most_moves game s = at_last game s m.mine h.edge in
+            omega (arith, ap (trip (all game s m)) h.phase, ap ended h.phase, whole, h.last)
+      ] in
+      (omega (arith, moves), omega (arith, moves, few, two), omega (arith, used, moves, two))
 
   -- ---- no agent fails, and none sleeps
 
@@ -176,9 +155,15 @@ module _ (game : Game) where
   }
 
   -- the invariant, with the turns that are left
-  pub record Holds (picture : Picture) (turns : ℕ) : Type 0 where
-    pub inv : Inv game 0 1 picture
-    pub total : progress game 0 (mem game picture 0) + progress game 1 (mem game picture 1) + turns ≡ bounds.turns
+  pub record Holds (s o : ℕ) (picture : Picture) (turns : ℕ) : Type 0 where
+    pub inv : Inv game s o picture
+    pub total : progress game s (mem game picture s) + progress game o (mem game picture o) + turns ≡ bounds.turns
+
+  turned : (s o : ℕ) (picture : Picture) (turns : ℕ) → Pair s o → Holds s o picture turns → Holds o s picture turns
+  turned s o picture turns pair held =
+      let total : progress game s (mem game picture s) + progress game o (mem game picture o) + turns ≡ bounds.turns =
+      held.total in
+      record { inv = swapped game s o picture pair held.inv; total = omega (arith, total) }
 
   -- before anything has happened
   abbrev start : (s : ℕ) → Memory
@@ -215,53 +200,32 @@ module _ (game : Game) where
     none = λ k beyond. refl;
   }
 
-  totalled : (turns a b c d : ℕ) → a + b + turns ≡ bounds.turns → a + 1 ≤ c → d ≡ b
-      → c + d ≤ bounds.turns → (rest : ℕ) × (rest < turns) × (c + d + rest ≡ bounds.turns)
-  totalled turns a b c d total more same within =
-      (bounds.turns - (c + d), omega (arith, total, more, same, within), omega (arith, within))
+  abbrev pub most_progress : (s : ℕ) → ℕ
+  most_progress s = most_commands game s + most_moves game s + 1
 
-  goes_on_by : (picture : Picture) (turns agent : ℕ) → agent < 2 → can_move_in trial picture agent ≡ true
-      → Holds picture turns → GoesOn Holds turns (turn_in trial picture agent)
-  goes_on_by picture turns zero below moves held =
-      let on : Onward game 0 1 picture (turn_in trial picture 0) =
-      any_turn (at_turn game 0 1 picture zero_one held.inv) moves in
-      let new : Picture = turn_in trial picture 0 in
-      let one = spent_in 0 1 new zero_one on.inv in
-      let two = spent_in 1 0 new one_zero (swapped game 0 1 new zero_one on.inv) in
-      let within : progress game 0 (mem game new 0) + progress game 1 (mem game new 1) ≤ bounds.turns =
-      omega (arith, one.1, two.1) in
-      let it = totalled turns (progress game 0 (mem game picture 0)) (progress game 1 (mem game picture 1))
-      (progress game 0 (mem game new 0))
-      (progress game 1 (mem game new 1)) held.total on.more (ap (progress game 1) on.same) within in
-      record { rest = it.0; fewer = it.1; holds = record { inv = on.inv; total = it.2 } }
-  goes_on_by picture turns (suc zero) below moves held =
-      let on : Onward game 1 0 picture (turn_in trial picture 1) =
-      any_turn (at_turn game 1 0 picture one_zero (swapped game 0 1 picture zero_one held.inv)) moves in
-      let new : Picture = turn_in trial picture 1 in
-      let back : Inv game 0 1 new = swapped game 1 0 new one_zero on.inv in
-      let one = spent_in 0 1 new zero_one back in
-      let two = spent_in 1 0 new one_zero on.inv in
-      let within : progress game 1 (mem game new 1) + progress game 0 (mem game new 0) ≤ bounds.turns =
-      omega (arith, one.1, two.1) in
-      let total : progress game 1 (mem game picture 1) + progress game 0 (mem game picture 0) + turns ≡ bounds.turns =
-      ap (λ (k : ℕ). k + turns) (turned (progress game 1 (mem game picture 1)) (progress game 0 (mem game picture 0)))
-      ∙ held.total in
-      let it = totalled turns (progress game 1 (mem game picture 1)) (progress game 0 (mem game picture 0))
-      (progress game 1 (mem game new 1))
-      (progress game 0 (mem game new 0)) total on.more (ap (progress game 0) on.same) within in
+  goes_on : (s o : ℕ) (picture : Picture) (turns : ℕ) → Pair s o → can_move_in trial picture s ≡ true
+      → Holds s o picture turns → GoesOn (Holds s o) turns (turn_in trial picture s)
+  goes_on s o picture turns pair moves held =
+      let on : Onward game s o picture (turn_in trial picture s) =
+      any_turn (at_turn game s o picture pair held.inv) moves in
+      let new : Picture = turn_in trial picture s in
+      let pair_too : Pair o s = swapped_pair s o pair in
+      let one : progress game s (mem game new s) ≤ most_progress s = (spent_in s o new pair on.inv).1 in
+      let two : progress game o (mem game new o) ≤ most_progress o =
+      (spent_in o s new pair_too (swapped game s o new pair on.inv)).1 in
+      let most : most_progress s + most_progress o ≡ bounds.turns =
+      subst (λ (k : ℕ). most_progress s + most_progress k ≡ bounds.turns) (sym pair.is)
+      (both (λ (k : ℕ). most_progress k + most_progress (opposite k) ≡ bounds.turns) refl (omega arith) s pair.own) in
+      let more : progress game s (mem game picture s) + 1 ≤ progress game s (mem game new s) = on.more in
+      let same : progress game o (mem game new o) ≡ progress game o (mem game picture o) =
+      ap (progress game o) on.same in
+      let total : progress game s (mem game picture s) + progress game o (mem game picture o) + turns ≡ bounds.turns =
+      held.total in
       record {
-        rest = it.0;
-        fewer = it.1;
-        holds = record {
-          inv = back;
-          total = ap (λ (k : ℕ). k + it.0)
-              (turned (progress game 0 (mem game new 0)) (progress game 1 (mem game new 1))) ∙ it.2;
-        };
+        rest = bounds.turns - (progress game s (mem game new s) + progress game o (mem game new o));
+        fewer = omega (arith, total, more, same, one, two, most);
+        holds = record { inv = on.inv; total = omega (arith, one, two, most) };
       }
-    where
-      turned : (a b : ℕ) → a + b ≡ b + a
-      turned a b = omega arith
-  goes_on_by picture turns (suc (suc k)) below moves held = absurd (omega (arith, below))
 
   used_within : (picture : Picture) (agent : ℕ) → Inv game 0 1 picture → picture.used agent ≤ bounds.commands agent
   used_within picture zero inv = (spent_in 0 1 picture zero_one inv).2
@@ -284,11 +248,12 @@ module _ (game : Game) where
         ]
       ]
 
-  invariant : IsInvariant trial bounds Holds
+  invariant : IsInvariant trial bounds (Holds 0 1)
   invariant = record {
     begins = record { inv = first_inv; total = omega (arith, first_progress 0, first_progress 1) };
     goes_on = λ picture turns agent within moves held.
-        goes_on_by picture turns agent (subst (λ (k : ℕ). agent < k) search.agents within) moves held;
+        either_goes_on trial Holds turned goes_on picture turns agent
+        (subst (λ (k : ℕ). agent < k) search.agents within) moves held;
     moves = λ picture turns held. moves_within picture held.inv;
     commands = λ picture turns agent held. used_within picture agent held.inv;
     fine = λ picture turns agent within held. fails_not _ (steady agent (picture.history agent));
@@ -303,4 +268,4 @@ module _ (game : Game) where
   }
 
 pub explorers_solve : (game : Game) → IsSolved (trial_of game) (bounds game)
-explorers_solve game = invariants_solve (trial_of game) (bounds game) (Holds game) (invariant game)
+explorers_solve game = invariants_solve (trial_of game) (bounds game) (Holds game 0 1) (invariant game)

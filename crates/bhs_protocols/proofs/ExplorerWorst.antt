@@ -13,14 +13,13 @@ use Rattle.bhs_protocols.proofs.AttainedLemmas.{attained_by, two_rest}
 use Rattle.bhs_protocols.proofs.LastWordLemmas.{turns_in_append}
 use Rattle.bhs_protocols.proofs.SearchLemmas.{Pair, distance, one_zero, sum_is, swapped_pair, zero_one}
 use Rattle.bhs_protocols.proofs.ExplorerSteps.{trip}
-use Rattle.bhs_protocols.proofs.ExplorerState.{Game, Inv, Onward, all, along, at_last, at_turn, mem, most_commands}
-use Rattle.bhs_protocols.proofs.ExplorerState.{most_moves, placed_as, progress, spent, swapped, trial as trial_of}
-use Rattle.bhs_protocols.proofs.ExplorerState.{trips, way}
+use Rattle.bhs_protocols.proofs.ExplorerState.{Game, Inv, Onward, all, along, at_last, at_turn, mem, most_moves}
+use Rattle.bhs_protocols.proofs.ExplorerState.{placed_as, progress, spent, swapped, trial as trial_of, trips, way}
 use Rattle.bhs_protocols.proofs.ExplorerTurns.{some_steps}
 use Rattle.bhs_protocols.proofs.ExplorerArrivals.{bound_moves, last_doomed}
 use Rattle.bhs_protocols.proofs.ExplorerRest.{IsLost, any_turn, resting}
 use Rattle.bhs_protocols.proofs.ExplorerVerdict.{not_both}
-use Rattle.bhs_protocols.proofs.ExplorerLemmas.{first_inv, spent_in}
+use Rattle.bhs_protocols.proofs.ExplorerLemmas.{first_inv, most_progress, spent_in}
 
 module _ (game : Game) where
   open game use {n, right, left, search}
@@ -35,21 +34,18 @@ module _ (game : Game) where
     holds : P (turns_in trial picture schedule)
     still : can_move_in trial (turns_in trial picture schedule) s ≡ false
 
-  abbrev most_progress : (s : ℕ) → ℕ
-  most_progress s = most_commands game s + most_moves game s + 1
-
   runs : (s o : ℕ) (P : Picture → Type 0) → Pair s o
       → ((picture : Picture) → Inv game s o picture → P picture → Onward game s o picture (turn_in trial picture s)
       → P (turn_in trial picture s))
       → (fuel : ℕ) (picture : Picture) → Inv game s o picture → P picture
-      → most_progress s ≤ progress game s (mem game picture s) + fuel → HasRun s o P picture
+      → most_progress game s ≤ progress game s (mem game picture s) + fuel → HasRun s o P picture
   runs s o P pair keeps zero picture inv holds few =
       by_cases (can_move_in trial picture s) (HasRun s o P picture)
       (λ moves.
       let on : Onward game s o picture (turn_in trial picture s) = any_turn (at_turn game s o picture pair inv) moves in
       let more : progress game s (mem game picture s) + 1 ≤ progress game s (mem game (turn_in trial picture s) s) =
       on.more in
-      let most : progress game s (mem game (turn_in trial picture s) s) ≤ most_progress s =
+      let most : progress game s (mem game (turn_in trial picture s) s) ≤ most_progress game s =
       (spent_in game s o (turn_in trial picture s) pair on.inv).1 in
       absurd (omega (arith, more, most, few)))
       (λ rests. record { schedule = []; inv = inv; holds = holds; still = rests })
@@ -137,7 +133,7 @@ module _ (game : Game) where
   first_run : (s o : ℕ) → Pair s o → Inv game s o blank → HasRun s o (IsAlone o) blank
   first_run s o pair first =
       runs s o (IsAlone o) pair (λ picture inv alone on. record { other = on.same ∙ alone.other })
-      (most_progress s) blank first (record { other = refl }) (omega arith)
+      (most_progress game s) blank first (record { other = refl }) (omega arith)
 
   second_run : (s o step : ℕ) (picture : Picture) → Pair s o → Inv game s o picture → IsGone s step picture
       → HasRun o s (IsGone s step) picture
@@ -147,7 +143,7 @@ module _ (game : Game) where
         phase = ap (λ (m : Memory). m.phase) on.same ∙ away.phase;
         last = away.last ∙ ap (all game s) (sym on.same);
         edge = ap (λ (m : Memory). m.mine + 1) on.same ∙ away.edge;
-      }) (most_progress o) picture (swapped game s o picture pair inv) is (omega arith)
+      }) (most_progress game o) picture (swapped game s o picture pair inv) is (omega arith)
 
   worst_of : (s o step : ℕ) → Pair s o → (one : HasRun s o (IsAlone o) blank)
       → HasRun o s (IsGone s step) (turns_in trial blank one.schedule) → IsWorst s o

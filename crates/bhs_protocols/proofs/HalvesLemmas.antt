@@ -21,7 +21,7 @@ use Rattle.bhs_protocols.specs.Halving.{most_turns}
 use Rattle.bhs_protocols.proofs.HalvesDues.{mark_at, beside, last}
 use Rattle.bhs_protocols.specs.HalvesLaws.{halves_bounds, HalvesSolve}
 use Rattle.bhs_protocols.specs.Invariants.{Bounds, GoesOn, IsInvariant}
-use Rattle.bhs_protocols.proofs.SearchLemmas.{both, one_zero, zero_one}
+use Rattle.bhs_protocols.proofs.SearchLemmas.{Pair, both, either_goes_on}
 use Rattle.bhs_protocols.proofs.Principle.{invariants_solve}
 use Rattle.bhs_protocols.proofs.MovingLemmas.{is_steady, fails_not, sleeps_not, steady_if}
 use Rattle.bhs_protocols.proofs.HalvingLemmas.{rounds_within, walks_at_within}
@@ -176,63 +176,50 @@ module _ (game : Game) where
   bounds = halves_bounds n
 
   -- the invariant, with the turns that are left
-  pub record Holds (picture : Picture) (turns : ℕ) : Type 0 where
+  pub record Holds (s o : ℕ) (picture : Picture) (turns : ℕ) : Type 0 where
     pub mark : ℕ
     pub mark_too : ℕ
-    pub inv : Inv game 0 1 mark mark_too picture
-    pub total : turns_due game 0 (mem game picture 0) mark picture.shown
-        + turns_due game 1 (mem game picture 1) mark_too picture.shown ≤ turns
+    pub inv : Inv game s o mark mark_too picture
+    pub total : turns_due game s (mem game picture s) mark picture.shown
+        + turns_due game o (mem game picture o) mark_too picture.shown ≤ turns
 
-  goes_on_by : (picture : Picture) (turns agent : ℕ) → agent < 2 → can_move_in trial picture agent ≡ true
-      → Holds picture turns → GoesOn Holds turns (turn_in trial picture agent)
-  goes_on_by picture turns zero below moves held =
-      let new : Picture = turn_in trial picture 0 in
-      let on : Onward game 0 1 held.mark held.mark_too picture new =
-      any_turn (at_turn game 0 1 held.mark held.mark_too picture zero_one held.inv) moves in
-      let fewer : turns_due game 0 (mem game new 0) on.mark new.shown
-      + turns_due game 1 (mem game new 1) on.mark_too new.shown
-      < turns_due game 0 (mem game picture 0) held.mark picture.shown
-      + turns_due game 1 (mem game picture 1) held.mark_too picture.shown =
-      on.fewer in
-      let total : turns_due game 0 (mem game picture 0) held.mark picture.shown
-      + turns_due game 1 (mem game picture 1) held.mark_too picture.shown ≤ turns = held.total in
+  turned : (s o : ℕ) (picture : Picture) (turns : ℕ) → Pair s o → Holds s o picture turns → Holds o s picture turns
+  turned s o picture turns pair held =
+      let total : turns_due game s (mem game picture s) held.mark picture.shown
+      + turns_due game o (mem game picture o) held.mark_too picture.shown ≤ turns = held.total in
       record {
-        rest = turns_due game 0 (mem game new 0) on.mark new.shown
-            + turns_due game 1 (mem game new 1) on.mark_too new.shown;
+        mark = held.mark_too;
+        mark_too = held.mark;
+        inv = swapped game s o held.mark held.mark_too picture held.inv;
+        total = omega (arith, total);
+      }
+
+  goes_on : (s o : ℕ) (picture : Picture) (turns : ℕ) → Pair s o → can_move_in trial picture s ≡ true
+      → Holds s o picture turns → GoesOn (Holds s o) turns (turn_in trial picture s)
+  goes_on s o picture turns pair moves held =
+      let new : Picture = turn_in trial picture s in
+      let on : Onward game s o held.mark held.mark_too picture new =
+      any_turn (at_turn game s o held.mark held.mark_too picture pair held.inv) moves in
+      let fewer : turns_due game s (mem game new s) on.mark new.shown
+      + turns_due game o (mem game new o) on.mark_too new.shown
+      < turns_due game s (mem game picture s) held.mark picture.shown
+      + turns_due game o (mem game picture o) held.mark_too picture.shown =
+      on.fewer in
+      let total : turns_due game s (mem game picture s) held.mark picture.shown
+      + turns_due game o (mem game picture o) held.mark_too picture.shown ≤ turns = held.total in
+      record {
+        rest = turns_due game s (mem game new s) on.mark new.shown
+            + turns_due game o (mem game new o) on.mark_too new.shown;
         fewer = omega (arith, fewer, total);
         holds = record { mark = on.mark; mark_too = on.mark_too; inv = on.inv; total = omega arith };
       }
-  goes_on_by picture turns (suc zero) below moves held =
-      let new : Picture = turn_in trial picture 1 in
-      let on : Onward game 1 0 held.mark_too held.mark picture new =
-      any_turn (at_turn game 1 0 held.mark_too held.mark picture one_zero
-      (swapped game 0 1 held.mark held.mark_too picture held.inv))
-      moves in
-      let fewer : turns_due game 1 (mem game new 1) on.mark new.shown
-      + turns_due game 0 (mem game new 0) on.mark_too new.shown
-      < turns_due game 1 (mem game picture 1) held.mark_too picture.shown
-      + turns_due game 0 (mem game picture 0) held.mark picture.shown =
-      on.fewer in
-      let total : turns_due game 0 (mem game picture 0) held.mark picture.shown
-      + turns_due game 1 (mem game picture 1) held.mark_too picture.shown ≤ turns = held.total in
-      record {
-        rest = turns_due game 0 (mem game new 0) on.mark_too new.shown
-            + turns_due game 1 (mem game new 1) on.mark new.shown;
-        fewer = omega (arith, fewer, total);
-        holds = record {
-          mark = on.mark_too;
-          mark_too = on.mark;
-          inv = swapped game 1 0 on.mark on.mark_too new on.inv;
-          total = omega arith;
-        };
-      }
-  goes_on_by picture turns (suc (suc k)) below moves held = absurd (omega (arith, below))
 
-  invariant : IsInvariant trial bounds Holds
+  invariant : IsInvariant trial bounds (Holds 0 1)
   invariant = record {
     begins = record { mark = 0; mark_too = 0; inv = first_inv; total = first_turns };
     goes_on = λ picture turns agent within moves held.
-        goes_on_by picture turns agent (subst (λ (k : ℕ). agent < k) search.agents within) moves held;
+        either_goes_on trial Holds turned goes_on picture turns agent
+        (subst (λ (k : ℕ). agent < k) search.agents within) moves held;
     moves = λ picture turns held.
         let moves : picture.moves + due game 0 (mem game picture 0) held.mark
         + due game 1 (mem game picture 1) held.mark_too
@@ -269,4 +256,4 @@ halves_solve world n right left naps ways search room enough =
       room = room;
       enough = enough;
     } in
-    invariants_solve (halves_trial world naps n) (halves_bounds n) (Holds game) (invariant game)
+    invariants_solve (halves_trial world naps n) (halves_bounds n) (Holds game 0 1) (invariant game)

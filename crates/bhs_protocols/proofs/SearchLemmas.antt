@@ -16,7 +16,9 @@ use Rattle.bhs_referee.specs.declared.verdicts.Outcome.TheVariants.{Solved}
 use Rattle.bhs_referee.specs.Verdicts.{passes, accuses, is_dark_accused, is_hole_accused, is_over_dark, is_right}
 use Rattle.bhs_referee.specs.Verdicts.{is_silent, is_present, is_unfinished, is_unreached, first_unreached}
 use Rattle.bhs_referee.specs.Verdicts.{guess_or_solved}
-use Rattle.bhs_protocols.specs.Pictures.{Picture, found_in, outcome_in, doomed_in}
+use Rattle.bhs_explore.specs.Schedules.{Trial}
+use Rattle.bhs_protocols.specs.Pictures.{Picture, can_move_in, doomed_in, found_in, outcome_in, turn_in}
+use Rattle.bhs_protocols.specs.Invariants.{GoesOn}
 use Rattle.bhs_protocols.specs.Rings.{Ways, IsSearch}
 use Rattle.bhs_protocols.specs.Shuttle.{board_text, right_in, left_in, other_in, text_by}
 
@@ -64,6 +66,21 @@ zero_one = record { own = omega arith; other = omega arith; is = refl; was = ref
 
 pub one_zero : Pair 1 0
 one_zero = swapped_pair 0 1 zero_one
+
+-- An invariant that is the same seen from either agent goes on, whoever takes the turn.
+pub either_goes_on : (trial : Trial) (Holds : (s o : ℕ) → Picture → (left : ℕ) → Type 0)
+    → ((s o : ℕ) (picture : Picture) (left : ℕ) → Pair s o → Holds s o picture left → Holds o s picture left)
+    → ((s o : ℕ) (picture : Picture) (left : ℕ) → Pair s o → can_move_in trial picture s ≡ true
+    → Holds s o picture left → GoesOn (Holds s o) left (turn_in trial picture s)) → (picture : Picture)
+    (left agent : ℕ) → agent < 2 → can_move_in trial picture agent ≡ true → Holds 0 1 picture left
+    → GoesOn (Holds 0 1) left (turn_in trial picture agent)
+either_goes_on trial Holds turned goes_on picture left zero below moves held =
+    goes_on 0 1 picture left zero_one moves held
+either_goes_on trial Holds turned goes_on picture left (suc zero) below moves held =
+    let on : GoesOn (Holds 1 0) left (turn_in trial picture 1) =
+    goes_on 1 0 picture left one_zero moves (turned 0 1 picture left zero_one held) in
+    record { rest = on.rest; fewer = on.fewer; holds = turned 1 0 (turn_in trial picture 1) on.rest one_zero on.holds }
+either_goes_on trial Holds turned goes_on picture left (suc (suc k)) below moves held = absurd (omega (arith, below))
 
 -- what holds of 0 and of 1 holds of both agents
 pub both : (P : ℕ → Type 0) → P 0 → P 1 → (s : ℕ) → s < 2 → P s
