@@ -44,7 +44,7 @@ module _ (game : Game) where
   spent_less : (s o : ℕ) (picture : Picture) (pair : Pair s o) (inv : Inv game s o picture) (phase : Phase)
       → (mem game picture s).phase ≡ phase →
       (trips game s (mem game picture s).mine + trip (all game s (mem game picture s)) phase + 1 ≤ most_moves game s)
-      ⊎ IsLost (at_turn game s o picture pair inv)
+      ⊎ IsLost game s (mem game picture s)
   spent_less s o picture pair inv phase is =
       by_phase phase is (below_last game s (mem game picture s).mine inv.own.safe)
       (some_steps game s (mem game picture s) pair.own inv.own.safe) last_long
@@ -59,7 +59,7 @@ module _ (game : Game) where
           → 0 < all game s (mem game picture s) → 0 < (way_to s (distance game.search s)).steps →
           (trips game s (mem game picture s).mine + trip (all game s (mem game picture s)) phase + 1
           ≤ most_moves game s)
-          ⊎ IsLost (at_turn game s o picture pair inv)
+          ⊎ IsLost game s (mem game picture s)
       by_phase Begins is most long longer = inl (omega (arith, most, long))
       by_phase (GoesOut step port) is most long longer =
           let placed = placed_as game s picture (GoesOut step port) is inv.own in
@@ -244,7 +244,7 @@ module _ (game : Game) where
         | inl h ↦ omega (arith, h, two.0, is)
         | inr h ↦ elim (spent_less 1 0 picture one_zero inv_too (mem game picture 1).phase refl) [
           | inl it ↦ omega (arith, it, one.0, is)
-          | inr it ↦ absurd (not_both game 0 1 picture zero_one inv h one_zero inv_too it)
+          | inr it ↦ absurd (not_both game 0 1 picture zero_one inv h it)
         ]
       ]
 

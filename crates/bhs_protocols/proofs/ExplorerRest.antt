@@ -26,6 +26,13 @@ use Rattle.bhs_protocols.proofs.ExplorerTurns.{back_turn, begin_turn, out_turn, 
 use Rattle.bhs_protocols.proofs.ExplorerArrivals.{ahead_safe, bound_moves, comes_to, home_turn, last_safe, leave_turn}
 use Rattle.bhs_protocols.proofs.ExplorerArrivals.{return_turn}
 
+-- an agent that is lost: it is on its way to the black hole
+pub record IsLost (game : Game) (s : ℕ) (m : Memory) : Type 0 where
+  pub step : ℕ
+  pub phase : m.phase ≡ Leaves step
+  pub last : step + 1 ≡ all_of game s m
+  pub edge : m.mine + 1 ≡ distance game.search s
+
 module _ {game : Game} (on : Turn game) where
   open game use {world, n, naps}
   open on use {s, o, picture, pair, inv}
@@ -79,13 +86,8 @@ module _ {game : Game} (on : Turn game) where
   says_moves = moving.says_moves trial picture s (agents_two game.search s pair.own)
 
   -- an agent that cannot move has ended or is lost
-  pub record IsLost : Type 0 where
-    pub step : ℕ
-    pub phase : M.phase ≡ Leaves step
-    pub last : step + 1 ≡ all
-    pub edge : M.mine + 1 ≡ distance game.search s
-
-  pub resting : (phase : Phase) → M.phase ≡ phase → can_move_in trial picture s ≡ false → (M.phase ≡ Ends) ⊎ IsLost
+  pub resting : (phase : Phase) → M.phase ≡ phase → can_move_in trial picture s ≡ false
+      → (M.phase ≡ Ends) ⊎ IsLost game s M
   resting Begins is still =
       let placed = placed_as game s picture Begins is inv.own in
       absurd (true≢false (sym (says_moves Before Enter placed.0 refl (says_by on ∙ ap (does_by n way M) is)) ∙ still))

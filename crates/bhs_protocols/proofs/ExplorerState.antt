@@ -1,6 +1,7 @@
 -- Two agents that explore by ways: what holds of them at each time, and what a turn has to keep.
 use Rattle.std.proofs.Common.{ℕ, zero, suc, ◌+◌, ◌-◌, ◌*◌, ◌<◌, ◌≤◌, ◌≡◌, ◌⊎◌, Bool, true, false, ◌==◌, Option, Some}
 use Rattle.std.proofs.Common.{None, List, ◌∷◌, sym, ap, ◌∙◌, subst, inl, inr, arith}
+use Rattle.std.proofs.Math.Path.{transport⁻¹}
 use Rattle.std.proofs.lemmas.Bool.{ne_eqb}
 use Rattle.std.proofs.lemmas.Bool.Decides.{eqb_tells}
 use Rattle.bhs_model.specs.Worlds.{World}
@@ -181,24 +182,6 @@ module _ (game : Game) where
     pub more : progress s (mem old s) + 1 ≤ progress s (mem new s)
     pub same : mem new o ≡ mem old o
 
-  pub fit_other : (old new : Picture) (o : ℕ) → new.history o ≡ old.history o → new.position o ≡ old.position o
-      → new.accused o ≡ old.accused o → new.used o ≡ old.used o
-      → ((k : ℕ) → old.reached k ≡ true → new.reached k ≡ true) → IsFitIn old o → IsFitIn new o
-  fit_other old new o history position accused used grows fit =
-      let m : Memory = mem old o in
-      subst (λ (h : History). IsFit o (holds o h) (new.position o) (new.accused o) (new.used o)
-      new.reached) (sym history)
-      (subst (λ (p : Position). IsFit o m p (new.accused o) (new.used o) new.reached) (sym position)
-      (subst (λ (a : Option (ℕ × ℕ)). IsFit o m (old.position o) a (new.used o) new.reached) (sym accused)
-      (subst (λ (u : ℕ). IsFit o m (old.position o) (old.accused o) u new.reached) (sym used)
-      (record {
-        side = fit.side;
-        placed = fit.placed;
-        safe = fit.safe;
-        used = fit.used;
-        reached = λ k some far. grows (node o k) (fit.reached k some far);
-      }))))
-
   -- all that a turn of an agent has to keep
   pub record Keeps (s o : ℕ) (old : Picture) (after : Memory) (place : Position) (costs moved : ℕ)
       (accused : Option (ℕ × ℕ)) (shown : ℕ → List ℕ) (reached : ℕ → Bool) : Type 0 where
@@ -220,46 +203,34 @@ module _ (game : Game) where
       let apart : (o == s) ≡ false = apart_from s o pair in
       let own_mem : mem new s ≡ after = ap (holds s) becomes.news ∙ is in
       let other_mem : mem new o ≡ mem old o = ap (holds o) (becomes.other_news o apart) in
-      let fit : IsFitIn new s =
-      subst (λ (m : Memory). IsFit s m (new.position s) (new.accused s) (new.used s) new.reached) (sym own_mem)
-      (subst (λ (p : Position). IsFit s after p (new.accused s) (new.used s) new.reached) (sym becomes.place)
-      (subst (λ (a : Option (ℕ × ℕ)). IsFit s after place a (new.used s) new.reached) (sym becomes.accused)
-      (subst (λ (u : ℕ). IsFit s after place accused u new.reached) (sym becomes.used)
-      (subst (λ (r : ℕ → Bool). IsFit s after place accused (old.used s + costs) r) (sym becomes.reached)
-      keeps.fit)))) in
-      let grows : (k : ℕ) → old.reached k ≡ true → new.reached k ≡ true =
-      λ k was. ap (λ (r : ℕ → Bool). r k) becomes.reached ∙ keeps.grows k was in
-      let own_spent : spent s (mem new s) ≡ spent s after = ap (spent s) own_mem in
-      let other_spent : spent o (mem new o) ≡ spent o (mem old o) = ap (spent o) other_mem in
       let total : new.moves ≡ old.moves + moved = becomes.moves in
       let spends : spent s after ≡ spent s (mem old s) + moved = keeps.spends in
       let before : old.moves ≡ spent s (mem old s) + spent o (mem old o) = inv.moves in
       record {
         inv = record {
-          own = fit;
-          other = fit_other old new o (becomes.other_news o apart) (becomes.other_place o apart)
-              (becomes.other_accused o apart) (becomes.other_used o apart) grows inv.other;
-          known = subst (λ (m : Memory). m.theirs ≤ (mem new o).mine) (sym own_mem)
-              (subst (λ (m : Memory). after.theirs ≤ m.mine) (sym other_mem) keeps.known);
-          known_too = subst (λ (m : Memory). (mem new o).theirs ≤ m.mine) (sym own_mem)
-              (subst (λ (m : Memory). m.theirs ≤ after.mine) (sym other_mem) keeps.known_too);
-          fresh = subst (λ (m : Memory). (m.theirs ≡ (mem new o).mine) ⊎ ((mem new o).theirs ≡ m.mine)) (sym own_mem)
-              (subst (λ (m : Memory). (after.theirs ≡ m.mine) ⊎ (m.theirs ≡ after.mine)) (sym other_mem) keeps.fresh);
+          own = transport⁻¹ (λ i. IsFit s (own_mem i) (becomes.place i) (becomes.accused i) (becomes.used i)
+              (becomes.reached i)) keeps.fit;
+          other = transport⁻¹ (λ i. IsFit o (other_mem i) (becomes.other_place o apart i)
+              (becomes.other_accused o apart i) (becomes.other_used o apart i) (becomes.reached i)) (record {
+                side = inv.other.side;
+                placed = inv.other.placed;
+                safe = inv.other.safe;
+                used = inv.other.used;
+                reached = λ k some far. keeps.grows (node o k) (inv.other.reached k some far);
+              });
+          known = transport⁻¹ (λ i. (own_mem i).theirs ≤ (other_mem i).mine) keeps.known;
+          known_too = transport⁻¹ (λ i. (other_mem i).theirs ≤ (own_mem i).mine) keeps.known_too;
+          fresh = transport⁻¹ (λ i. ((own_mem i).theirs ≡ (other_mem i).mine)
+              ⊎ ((other_mem i).theirs ≡ (own_mem i).mine)) keeps.fresh;
           board = ap (λ (f : ℕ → List ℕ). f world.home) becomes.shown ∙ keeps.board
               ∙ (λ i. text_by s (sym own_mem i).mine (sym other_mem i).mine);
-          moves = moved_on new.moves old.moves moved (spent s (mem old s)) (spent s after) (spent s (mem new s))
-              (spent o (mem old o)) (spent o (mem new o)) total before spends own_spent other_spent;
+          moves = omega (arith, total, before, spends, ap (spent s) own_mem, ap (spent o) other_mem);
           none = λ k beyond. becomes.other_used k (beyond_two k beyond) ∙ inv.none k beyond;
         };
-        more = subst (λ (m : Memory). progress s (mem old s) + 1 ≤ progress s m) (sym own_mem) keeps.more;
+        more = transport⁻¹ (λ i. progress s (mem old s) + 1 ≤ progress s (own_mem i)) keeps.more;
         same = other_mem;
       }
     where
-      moved_on : (new old moved a b c d e : ℕ) → new ≡ old + moved → old ≡ a + d → b ≡ a + moved → c ≡ b → e ≡ d
-          → new ≡ c + e
-      moved_on new old moved a b c d e total before spends own other =
-          omega (arith, total, before, spends, own, other)
-
       beyond_two : (k : ℕ) → 2 ≤ k → (k == s) ≡ false
       beyond_two k beyond = ne_eqb k s (λ h. omega (arith, h, beyond, pair.own))
 

@@ -19,8 +19,8 @@ module _ (game : Game) where
   abbrev trial : Trial
   trial = trial_of game
 
-  abbrev pub AtRest : (s o : ℕ) (picture : Picture) (pair : Pair s o) → Inv game s o picture → Type 0
-  AtRest s o picture pair inv = ((mem game picture s).phase ≡ Ends) ⊎ IsLost (at_turn game s o picture pair inv)
+  abbrev pub AtRest : (s : ℕ) → Picture → Type 0
+  AtRest s picture = ((mem game picture s).phase ≡ Ends) ⊎ IsLost game s (mem game picture s)
 
   accuser : (s o : ℕ) (picture : Picture) → Pair s o → Inv game s o picture → (mem game picture s).phase ≡ Ends
       → IsAccuser search s picture
@@ -37,7 +37,7 @@ module _ (game : Game) where
       (route.out it.step below ∙ (λ i. ((ap (along game s m) last ∙ ap (node s) route.last) i, label))) it.link
 
   has_come : (s o : ℕ) (picture : Picture) (pair : Pair s o) (inv : Inv game s o picture)
-      → AtRest s o picture pair inv → HasCome search s (mem game picture s).mine picture
+      → AtRest s picture → HasCome search s (mem game picture s).mine picture
   has_come s o picture pair inv rest =
       let m : Memory = mem game picture s in
       elim rest [
@@ -57,7 +57,7 @@ module _ (game : Game) where
 
   solved_if : (s o : ℕ) (picture : Picture) (pair : Pair s o) (inv : Inv game s o picture)
       → (mem game picture s).phase ≡ Ends → (pair_too : Pair o s) (inv_too : Inv game o s picture)
-      → AtRest o s picture pair_too inv_too → (outcome_in world picture ≡ Solved) × (doomed_in world picture ≤ 1)
+      → AtRest o picture → (outcome_in world picture ≡ Solved) × (doomed_in world picture ≤ 1)
   solved_if s o picture pair inv is pair_too inv_too rest =
       let placed = placed_as game s picture Ends is inv.own in
       let edge : (mem game picture s).mine + 1 ≡ distance search s = placed.1 in
@@ -74,12 +74,11 @@ module _ (game : Game) where
       })
 
   -- both cannot be lost
-  pub not_both : (s o : ℕ) (picture : Picture) (pair : Pair s o) (inv : Inv game s o picture)
-      → IsLost (at_turn game s o picture pair inv)
-      → (pair_too : Pair o s) (inv_too : Inv game o s picture) → IsLost (at_turn game o s picture pair_too inv_too) → ⊥
-  not_both s o picture pair inv lost pair_too inv_too lost_too =
+  pub not_both : (s o : ℕ) (picture : Picture) → Pair s o → Inv game s o picture → IsLost game s (mem game picture s)
+      → IsLost game o (mem game picture o) → ⊥
+  not_both s o picture pair inv lost lost_too =
       let one = placed_as game s picture (Leaves lost.step) lost.phase inv.own in
-      let two = placed_as game o picture (Leaves lost_too.step) lost_too.phase inv_too.own in
+      let two = placed_as game o picture (Leaves lost_too.step) lost_too.phase inv.other in
       let edge : (mem game picture s).mine + 1 ≡ distance game.search s = lost.edge in
       let edge_too : (mem game picture o).mine + 1 ≡ distance game.search o = lost_too.edge in
       let sum : distance game.search s + distance game.search o ≡ n = sum_is game.search s o pair in
@@ -99,6 +98,6 @@ module _ (game : Game) where
             (resting (at_turn game 1 0 picture one_zero inv_too) (mem game picture 1).phase refl (still 1))
         | inr h ↦ elim (resting (at_turn game 1 0 picture one_zero inv_too) (mem game picture 1).phase refl (still 1)) [
           | inl it ↦ solved_if 1 0 picture one_zero inv_too it zero_one inv (inr h)
-          | inr it ↦ absurd (not_both 0 1 picture zero_one inv h one_zero inv_too it)
+          | inr it ↦ absurd (not_both 0 1 picture zero_one inv h it)
         ]
       ]

@@ -1,7 +1,7 @@
 -- Two agents that explore by ways make all the moves that their bound allows: an agent whose side is known to nobody
 -- takes turns until it is lost, and then the other agent until it has accused.
 use Rattle.std.proofs.Common.{ℕ, zero, suc, ◌+◌, ◌-◌, ◌<◌, ◌≤◌, ◌≡◌, false, not, List, [], ◌∷◌, ◌++◌, refl}
-use Rattle.std.proofs.Common.{sym, ap, ◌∙◌, nat_lt, inl, inr, arith}
+use Rattle.std.proofs.Common.{sym, ap, ◌∙◌, subst, nat_lt, inl, inr, arith}
 use Rattle.std.proofs.lemmas.Bool.{lt-ltb, ltb-true, true≢false}
 use Rattle.bhs_model.proofs.StepLemmas.{by_cases}
 use Rattle.bhs_explore.specs.Schedules.{Trial}
@@ -63,7 +63,7 @@ module _ (game : Game) where
 
   -- who is lost stays so
   lost_still : (s o : ℕ) (picture : Picture) (pair : Pair s o) (inv : Inv game s o picture)
-      → IsLost (at_turn game s o picture pair inv) → can_move_in trial picture s ≡ false
+      → IsLost game s (mem game picture s) → can_move_in trial picture s ≡ false
   lost_still s o picture pair inv gone =
       let placed = placed_as game s picture (Leaves gone.step) gone.phase inv.own in
       let m : Memory = mem game picture s in
@@ -76,7 +76,7 @@ module _ (game : Game) where
     other : mem game picture o ≡ mem game blank o
 
   gone_by : (s o : ℕ) (picture : Picture) (pair : Pair s o) (inv : Inv game s o picture) → IsAlone o picture
-      → 2 ≤ distance game.search o → can_move_in trial picture s ≡ false → IsLost (at_turn game s o picture pair inv)
+      → 2 ≤ distance game.search o → can_move_in trial picture s ≡ false → IsLost game s (mem game picture s)
   gone_by s o picture pair inv alone far still =
       elim (resting (at_turn game s o picture pair inv) (mem game picture s).phase refl still) [
         | inl h ↦
@@ -91,26 +91,17 @@ module _ (game : Game) where
         | inr h ↦ h
       ]
 
-  -- an agent that is on its way to the black hole
-  record IsGone (s step : ℕ) (picture : Picture) : Type 0 where
-    phase : (mem game picture s).phase ≡ Leaves step
-    last : step + 1 ≡ all game s (mem game picture s)
-    edge : (mem game picture s).mine + 1 ≡ distance game.search s
-
   -- then the other accuses, and all moves but its last one are made
-  all_made : (s o step : ℕ) (picture : Picture) (pair : Pair s o) (inv : Inv game o s picture) → IsGone s step picture
+  all_made : (s o : ℕ) (picture : Picture) → Pair s o → Inv game o s picture → IsLost game s (mem game picture s)
       → can_move_in trial picture o ≡ false → picture.moves ≡ most_moves game s + most_moves game o - 1
-  all_made s o step picture pair inv away still =
+  all_made s o picture pair inv gone still =
       let pair_too : Pair o s = swapped_pair s o pair in
-      let back : Inv game s o picture = swapped game o s picture pair_too inv in
-      let gone : IsLost (at_turn game s o picture pair back) =
-      record { step = step; phase = away.phase; last = away.last; edge = away.edge } in
       let m : Memory = mem game picture s in
       let m_too : Memory = mem game picture o in
       let moves : picture.moves ≡ spent game o m_too + spent game s m = inv.moves in
-      let on_trip : trip (all game s m) m.phase ≡ step + 1 = ap (trip (all game s m)) away.phase in
-      let whole : trips game s m.mine + all game s m ≡ most_moves game s = at_last game s m.mine away.edge in
-      let last : step + 1 ≡ all game s m = away.last in
+      let on_trip : trip (all game s m) m.phase ≡ gone.step + 1 = ap (trip (all game s m)) gone.phase in
+      let whole : trips game s m.mine + all game s m ≡ most_moves game s = at_last game s m.mine gone.edge in
+      let last : gone.step + 1 ≡ all game s m = gone.last in
       elim (resting (at_turn game o s picture pair_too inv) m_too.phase refl still) [
         | inl h ↦
             let placed = placed_as game o picture Ends h inv.own in
@@ -121,7 +112,7 @@ module _ (game : Game) where
             at_last game o m_too.mine edge_too in
             let long : 0 < all game o m_too = some_steps game o m_too pair.other inv.own.safe in
             omega (arith, moves, on_trip, whole, last, on_trip_too, whole_too, long)
-        | inr h ↦ absurd (not_both game s o picture pair back gone pair_too inv h)
+        | inr h ↦ absurd (not_both game o s picture pair_too inv h gone)
       ]
 
   record IsWorst (s o : ℕ) : Type 0 where
@@ -135,40 +126,32 @@ module _ (game : Game) where
       runs s o (IsAlone o) pair (λ picture inv alone on. record { other = on.same ∙ alone.other })
       (most_progress game s) blank first (record { other = refl }) (omega arith)
 
-  second_run : (s o step : ℕ) (picture : Picture) → Pair s o → Inv game s o picture → IsGone s step picture
-      → HasRun o s (IsGone s step) picture
-  second_run s o step picture pair inv is =
-      runs o s (IsGone s step) (swapped_pair s o pair)
-      (λ now inv_now away on. record {
-        phase = ap (λ (m : Memory). m.phase) on.same ∙ away.phase;
-        last = away.last ∙ ap (all game s) (sym on.same);
-        edge = ap (λ (m : Memory). m.mine + 1) on.same ∙ away.edge;
-      }) (most_progress game o) picture (swapped game s o picture pair inv) is (omega arith)
+  second_run : (s o : ℕ) (picture : Picture) → Pair s o → Inv game s o picture → IsLost game s (mem game picture s)
+      → HasRun o s (λ now. IsLost game s (mem game now s)) picture
+  second_run s o picture pair inv gone =
+      runs o s (λ now. IsLost game s (mem game now s)) (swapped_pair s o pair)
+      (λ now inv_now lost on. subst (IsLost game s) (sym on.same) lost) (most_progress game o) picture
+      (swapped game s o picture pair inv) gone (omega arith)
 
-  worst_of : (s o step : ℕ) → Pair s o → (one : HasRun s o (IsAlone o) blank)
-      → HasRun o s (IsGone s step) (turns_in trial blank one.schedule) → IsWorst s o
-  worst_of s o step pair one two =
+  worst_of : (s o : ℕ) → Pair s o → (one : HasRun s o (IsAlone o) blank)
+      → HasRun o s (λ now. IsLost game s (mem game now s)) (turns_in trial blank one.schedule) → IsWorst s o
+  worst_of s o pair one two =
       let end : Picture = turns_in trial (turns_in trial blank one.schedule) two.schedule in
       let is : turns_in trial blank (one.schedule ++ two.schedule) ≡ end =
       turns_in_append trial blank one.schedule two.schedule in
       let back : Inv game s o end = swapped game o s end (swapped_pair s o pair) two.inv in
       record {
         schedule = one.schedule ++ two.schedule;
-        still = ap (λ (p : Picture). can_move_in trial p s) is
-            ∙ lost_still s o end pair back
-            (record { step = step; phase = two.holds.phase; last = two.holds.last; edge = two.holds.edge });
+        still = ap (λ (p : Picture). can_move_in trial p s) is ∙ lost_still s o end pair back two.holds;
         still_too = ap (λ (p : Picture). can_move_in trial p o) is ∙ two.still;
-        moves = ap (λ (p : Picture). p.moves) is
-            ∙ all_made s o step end pair two.inv two.holds two.still;
+        moves = ap (λ (p : Picture). p.moves) is ∙ all_made s o end pair two.inv two.holds two.still;
       }
 
   worst_after : (s o : ℕ) → Pair s o → 2 ≤ distance game.search o → HasRun s o (IsAlone o) blank → IsWorst s o
   worst_after s o pair far one =
       let middle : Picture = turns_in trial blank one.schedule in
-      let gone : IsLost (at_turn game s o middle pair one.inv) =
-      gone_by s o middle pair one.inv one.holds far one.still in
-      worst_of s o gone.step pair one (second_run s o gone.step middle pair one.inv
-      (record { phase = gone.phase; last = gone.last; edge = gone.edge }))
+      worst_of s o pair one
+      (second_run s o middle pair one.inv (gone_by s o middle pair one.inv one.holds far one.still))
 
   worst_by : (s o : ℕ) → Pair s o → Inv game s o blank → 2 ≤ distance game.search o → IsWorst s o
   worst_by s o pair first far = worst_after s o pair far (first_run s o pair first)
