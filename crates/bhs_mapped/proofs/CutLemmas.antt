@@ -8,7 +8,7 @@ use Rattle.bhs_net.specs.Network.{Network, IsPortLabelled, Leads, nodes_of, degr
 use Rattle.bhs_net.specs.Search.{IsCutIn}
 use Rattle.bhs_net.proofs.Walks as walks
 use Rattle.bhs_model.specs.declared.commands.Command.{Command}
-use Rattle.bhs_model.specs.declared.commands.Command.TheVariants.{Enter, Look, Write, Depart, Accuse, Leave, Bad}
+use Rattle.bhs_model.specs.declared.commands.Command.TheVariants.{Enter, Depart, Accuse, Leave}
 use Rattle.bhs_model.specs.declared.events.Event.TheVariants.{Tell, Deliver, Close}
 use Rattle.bhs_model.specs.declared.setups.Setup.{Setup}
 use Rattle.bhs_model.specs.Setups.{world_of}
@@ -60,24 +60,16 @@ module _ (net : Network) (setup : Setup) (held : Held) (naps : ℕ) (minds : Min
       → IsInsideAt (position_after trial.world position command)
   moved position Enter inside = near_home
   moved position Leave inside = tt
-  moved position Look inside = inside
-  moved position (Write expect put) inside = inside
-  moved position Bad inside = inside
   moved (At node came) (Depart port) inside =
       by_cases (nat_lt port (degree_of net node)) (IsInsideAt (position_after trial.world (At node came) (Depart port)))
       (λ yes. subst IsInsideAt (sym (cond-true _ (Bound node port) (At node came) yes))
       (inside, ltb-true port (degree_of net node) yes))
       (λ none. subst IsInsideAt (sym (cond-false _ (Bound node port) (At node came) none)) inside)
-  moved Before (Depart port) inside = inside
-  moved (Bound node way) (Depart port) inside = inside
-  moved After (Depart port) inside = inside
   moved (At node came) (Accuse port) inside =
       by_cases (nat_lt port (degree_of net node)) (IsInsideAt (position_after trial.world (At node came) (Accuse port)))
       (λ yes. subst IsInsideAt (sym (cond-true _ After (At node came) yes)) tt)
       (λ none. subst IsInsideAt (sym (cond-false _ After (At node came) none)) inside)
-  moved Before (Accuse port) inside = inside
-  moved (Bound node way) (Accuse port) inside = inside
-  moved After (Accuse port) inside = inside
+  moved position command inside = inside
 
   changed_inside : (position : ℕ → Position) (agent : ℕ) (place : Position)
       → ((k : ℕ) → IsInsideAt (position k)) → IsInsideAt place → (k : ℕ) → IsInsideAt (changed position agent place k)

@@ -62,12 +62,7 @@ without_ports seen.Ends = Ends
 
 same_phase : (route : Route) (phase : Phase) → without_ports (with_ports route phase) ≡ phase
 same_phase route Begins = refl
-same_phase route (GoesOut step) = refl
-same_phase route (Leaves step) = refl
-same_phase route (ComesBack step) = refl
-same_phase route (Returns step) = refl
-same_phase route Writes = refl
-same_phase route Ends = refl
+same_phase route phase = refl
 
 abbrev seen_as : Guide → Memory → Seen
 seen_as guide m =
@@ -76,12 +71,7 @@ seen_as guide m =
 does_as : (n : ℕ) (guide : Guide) (m : Memory) (phase : Phase) → does_in n guide m phase
     ≡ does_by n (way_to guide m.side (m.mine + 1)) (seen_as guide m) (with_ports (way_of guide m) phase)
 does_as n guide m Begins = refl
-does_as n guide m (GoesOut step) = refl
-does_as n guide m (Leaves step) = refl
-does_as n guide m (ComesBack step) = refl
-does_as n guide m (Returns step) = refl
-does_as n guide m Writes = refl
-does_as n guide m Ends = refl
+does_as n guide m phase = refl
 
 module _ (n : ℕ) (guide : Guide) where
   abbrev held : (agent : ℕ) → History → Memory

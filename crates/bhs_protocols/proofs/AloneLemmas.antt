@@ -20,7 +20,7 @@ use Rattle.bhs_referee.specs.Findings.{accused_by}
 use Rattle.bhs_referee.specs.Verdicts.{passes, accuses, is_over_dark, is_right, is_silent, is_unfinished, is_unreached}
 use Rattle.bhs_referee.specs.Verdicts.{first_unreached, guess_or_solved, is_hole_accused}
 use Rattle.bhs_explore.specs.declared.minds.Step.{Step}
-use Rattle.bhs_explore.specs.declared.minds.Step.TheVariants.{Says, Sleeps, Stops, Fails}
+use Rattle.bhs_explore.specs.declared.minds.Step.TheVariants.{Says, Sleeps}
 use Rattle.bhs_explore.specs.Minds.{Minds}
 use Rattle.bhs_explore.specs.Schedules.{Trial, Makes, Wakes, Rests, deed_at, is_move, under, verdict, IsAtRest}
 use Rattle.bhs_explore.proofs.Turns.{verdict_is}
@@ -35,12 +35,9 @@ use Rattle.bhs_protocols.proofs.LastWordLemmas.{accused_write}
 unsolved_by : (a b c d : Bool) (first : Option ℕ) → (b ≡ false → d ≡ true) → (first ≡ None → ⊥) →
     (if a then Wrong else (if b then Silent else (if c then Unfinished
     else (if d then guess_or_solved first else Solved)))) ≡ Solved → ⊥
-unsolved_by true b c d first accused some h = cc
-unsolved_by false true c d first accused some h = cc
-unsolved_by false false true d first accused some h = cc
 unsolved_by false false false true None accused some h = some refl
-unsolved_by false false false true (Some node) accused some h = cc
 unsolved_by false false false false first accused some h = absurd (true≢false (sym (accused refl)))
+unsolved_by a b c d first accused some h = cc
 
 find_some : (test : ℕ → Bool) (start count node : ℕ) → start ≤ node → node < start + count → test node ≡ true
     → find test (range_with_len start count) ≡ None → ⊥
@@ -159,12 +156,7 @@ module _ (world : World) (naps : ℕ) (minds : Minds) where
       → IsHonest place accused → IsNext (position_after some_world place command)
       (accused_by (Some (answer_at some_world shown place command)) command place accused)
   next_place Before Enter shown accused near honest = inl (refl, honest)
-  next_place Before Look shown accused near honest = inl (tt, honest)
-  next_place Before (Write expect put) shown accused near honest = inl (tt, honest)
-  next_place Before (Depart port) shown accused near honest = inl (tt, honest)
-  next_place Before (Accuse port) shown accused near honest = inl (tt, honest)
   next_place Before Leave shown accused near honest = inl (tt, tt)
-  next_place Before Bad shown accused near honest = inl (tt, honest)
   next_place (At node came) Enter shown accused near honest = inl (refl, honest)
   next_place (At node came) Look shown accused near honest = inl (near, honest)
   next_place (At node came) (Write expect put) shown accused near honest =
@@ -194,6 +186,7 @@ module _ (world : World) (naps : ℕ) (minds : Minds) where
   next_place (At node came) Bad shown accused near honest = inl (near, honest)
   next_place (Bound node port) command shown accused near honest = absurd near
   next_place After command shown accused near honest = absurd near
+  next_place Before command shown accused near honest = inl (tt, honest)
 
   -- ---- a turn while nobody has arrived anywhere: it makes the same of all worlds
 
@@ -248,16 +241,13 @@ module _ (world : World) (naps : ℕ) (minds : Minds) where
     by_step Before Sleeps at talking honest it = by_cases (nat_lt naps (picture.woken 0)) (Next picture 0)
         (λ yes. stays 0 (λ hole. it hole ∙ cond-true _ _ _ yes))
         (λ none. wakes (λ hole. it hole ∙ cond-false _ _ _ none))
-    by_step Before Stops at talking honest it = stays 0 it
-    by_step Before Fails at talking honest it = stays 0 it
     by_step (At node came) (Says command) at talking honest it = says (At node came) command at talking honest it
     by_step (At node came) Sleeps at talking honest it = by_cases (nat_lt naps (picture.woken 0)) (Next picture 0)
         (λ yes. stays 0 (λ hole. it hole ∙ cond-true _ _ _ yes))
         (λ none. wakes (λ hole. it hole ∙ cond-false _ _ _ none))
-    by_step (At node came) Stops at talking honest it = stays 0 it
-    by_step (At node came) Fails at talking honest it = stays 0 it
     by_step (Bound node port) step at talking honest it = absurd talking
     by_step After step at talking honest it = absurd talking
+    by_step place step at talking honest it = stays 0 it
 
     by_place : (place : Position) → picture.position 0 ≡ place → IsNear place → IsHonest place (picture.accused 0)
         → Next picture 0

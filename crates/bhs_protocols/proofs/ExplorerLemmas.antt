@@ -97,14 +97,9 @@ module _ (game : Game) where
   few_paces : (s : ℕ) (m : Memory) (phase : Phase) (position : Position) (accused : Option (ℕ × ℕ))
       → IsPlaced game s m phase position accused →
       (paces (all game s m) phase ≤ 2 * (trip (all game s m) phase + ended phase) + 1) × (ended phase ≤ 1)
-  few_paces s m Begins position accused placed = (omega arith, omega arith)
-  few_paces s m (GoesOut step port) position accused placed = (omega arith, omega arith)
-  few_paces s m (Leaves step) position accused placed = (omega arith, omega arith)
-  few_paces s m (ComesBack step port) position accused placed = (omega arith, omega arith)
   few_paces s m (Returns step) position accused placed =
       let few : step ≤ all game s m = placed.1 in (omega (arith, few), omega arith)
-  few_paces s m Writes position accused placed = (omega arith, omega arith)
-  few_paces s m Ends position accused placed = (omega arith, omega arith)
+  few_paces s m phase position accused placed = (omega arith, omega arith)
 
   pub spent_in : (s o : ℕ) (picture : Picture) → Pair s o → Inv game s o picture →
       (spent game s (mem game picture s) ≤ most_moves game s)
@@ -129,14 +124,9 @@ module _ (game : Game) where
   -- ---- no agent fails, and none sleeps
 
   steady_by : (way : Way) (m : Memory) (phase : Phase) → is_steady (does_by n way m phase) ≡ true
-  steady_by way m Begins = refl
   steady_by way m (GoesOut step port) =
       steady_if (step + 1 == way.steps && is_one_left n m) (Says (Accuse port)) (Says (Depart port)) refl refl
-  steady_by way m (Leaves step) = refl
-  steady_by way m (ComesBack step port) = refl
-  steady_by way m (Returns step) = refl
-  steady_by way m Writes = refl
-  steady_by way m Ends = refl
+  steady_by way m phase = refl
 
   steady : (agent : ℕ) (past : History) → is_steady (trial.minds agent past) ≡ true
   steady agent past =

@@ -1,5 +1,5 @@
 -- The search by halves: turns of an agent on a link, and what it reads where it arrives.
-use Rattle.std.proofs.Common.{ℕ, zero, suc, ◌+◌, ◌-◌, ◌*◌, ◌<◌, ◌≤◌, ◌≡◌, Bool, true, false, not, ◌==◌, Option, Some}
+use Rattle.std.proofs.Common.{ℕ, zero, suc, ◌+◌, ◌-◌, ◌*◌, ◌<◌, ◌≤◌, ◌≡◌, Bool, true, not, ◌==◌, Option, Some}
 use Rattle.std.proofs.Common.{None, List, refl, sym, ap, ◌∙◌, subst, inl, inr, arith}
 use Rattle.std.specs.Prelude.{◌≢◌, bytes_eq}
 use Rattle.std.proofs.lemmas.Bool.{true≢false, eq-eqb, cond-true, cond-false, eqb-true}

@@ -14,9 +14,8 @@ use Rattle.bhs_explore.specs.Schedules.{Trial}
 use Rattle.bhs_protocols.specs.Pictures.{turn_in}
 use Rattle.bhs_protocols.specs.declared.halves.Memory.{Memory}
 use Rattle.bhs_protocols.specs.declared.halves.Phase.{Phase}
-use Rattle.bhs_protocols.specs.declared.halves.Phase.TheVariants.{Begins, GoesOut, Leaves, Tries, Turns, Returns}
-use Rattle.bhs_protocols.specs.declared.halves.Phase.TheVariants.{Writes, GoesHome, NearsHome, Follows, Passes, Tells}
-use Rattle.bhs_protocols.specs.declared.halves.Phase.TheVariants.{ComesHome, NearsBack, Ends}
+use Rattle.bhs_protocols.specs.declared.halves.Phase.TheVariants.{Begins, GoesOut, Leaves, GoesHome, NearsHome, Follows}
+use Rattle.bhs_protocols.specs.declared.halves.Phase.TheVariants.{Passes, Tells, ComesHome}
 use Rattle.bhs_protocols.specs.Shuttle.{other_in, text_by}
 use Rattle.bhs_protocols.specs.Halving.{rounds, walks_at}
 use Rattle.bhs_protocols.specs.Halves.{own_in, left_by, does_in, after_in}
@@ -79,53 +78,21 @@ module _ {game : Game} (on : Turn game) where
       (placed.0, placed.1, (λ h. absurd (not_done done h (placed.2 h))), placed.3, placed.4)
   told_more done mark (Leaves steps) placed =
       (placed.0, (λ h. absurd (not_done done h (placed.1 h))), placed.2, placed.3)
-  told_more done mark Tries placed = placed
-  told_more done mark (Turns port) placed = placed
-  told_more done mark Returns placed = placed
-  told_more done mark (Writes port) placed = placed
   told_more done mark (GoesHome steps port) placed =
       absurd (not_done done placed.0.reached placed.0.unmarked)
   told_more done mark (NearsHome steps) placed = absurd (not_done done placed.0.reached placed.0.unmarked)
   told_more done mark (Follows steps port) placed = absurd (not_done done placed.0.reached placed.0.unmarked)
   told_more done mark (Passes steps) placed = absurd (not_done done placed.0.reached placed.0.unmarked)
   told_more done mark (Tells steps port) placed = absurd (not_done done placed.0.reached placed.0.unmarked)
-  told_more done mark (ComesHome steps port) placed = placed
-  told_more done mark (NearsBack steps) placed = placed
-  told_more done mark Ends placed = placed
+  told_more done mark phase placed = placed
 
   spent_small : (phase : Phase) → spent phase ≤ 2
   spent_small Begins = omega arith
-  spent_small (GoesOut steps port) = omega arith
-  spent_small (Leaves steps) = omega arith
-  spent_small Tries = omega arith
-  spent_small (Turns port) = omega arith
-  spent_small Returns = omega arith
-  spent_small (Writes port) = omega arith
-  spent_small (GoesHome steps port) = omega arith
-  spent_small (NearsHome steps) = omega arith
-  spent_small (Follows steps port) = omega arith
-  spent_small (Passes steps) = omega arith
-  spent_small (Tells steps port) = omega arith
-  spent_small (ComesHome steps port) = omega arith
-  spent_small (NearsBack steps) = omega arith
-  spent_small Ends = omega arith
+  spent_small phase = omega arith
 
   ways_small : (amount mine : ℕ) (phase : Phase) → ways_due amount mine phase ≤ amount
   ways_small amount mine Begins = omega arith
-  ways_small amount mine (GoesOut steps port) = omega arith
-  ways_small amount mine (Leaves steps) = omega arith
-  ways_small amount mine Tries = omega arith
-  ways_small amount mine (Turns port) = omega arith
-  ways_small amount mine Returns = omega arith
-  ways_small amount mine (Writes port) = omega arith
-  ways_small amount mine (GoesHome steps port) = omega arith
-  ways_small amount mine (NearsHome steps) = omega arith
-  ways_small amount mine (Follows steps port) = omega arith
-  ways_small amount mine (Passes steps) = omega arith
-  ways_small amount mine (Tells steps port) = omega arith
-  ways_small amount mine (ComesHome steps port) = omega arith
-  ways_small amount mine (NearsBack steps) = omega arith
-  ways_small amount mine Ends = omega arith
+  ways_small amount mine phase = omega arith
 
   mark_told : (mark k : ℕ) → k ≢ O.mine → mark_at O.mine mark k ≡ mark_at O.mine w k
   mark_told mark k other = by_cases (nat_lt k O.mine) (mark_at O.mine mark k ≡ mark_at O.mine w k)

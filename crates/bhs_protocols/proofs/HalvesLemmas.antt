@@ -11,9 +11,7 @@ use Rattle.bhs_explore.specs.Schedules.{Trial}
 use Rattle.bhs_protocols.specs.Pictures.{Picture, blank, can_move_in, turn_in}
 use Rattle.bhs_protocols.specs.declared.halves.Memory.{Memory}
 use Rattle.bhs_protocols.specs.declared.halves.Phase.{Phase}
-use Rattle.bhs_protocols.specs.declared.halves.Phase.TheVariants.{Begins, GoesOut, Leaves, Tries, Turns, Returns}
-use Rattle.bhs_protocols.specs.declared.halves.Phase.TheVariants.{Writes, GoesHome, NearsHome, Follows, Passes, Tells}
-use Rattle.bhs_protocols.specs.declared.halves.Phase.TheVariants.{ComesHome, NearsBack, Ends}
+use Rattle.bhs_protocols.specs.declared.halves.Phase.TheVariants.{GoesOut, Tells}
 use Rattle.bhs_protocols.specs.Shuttle.{text_by}
 use Rattle.bhs_protocols.specs.Halving.{rounds, walks_at, most_moves}
 use Rattle.bhs_protocols.specs.Halves.{left_by, is_done, does_in, after_in, halves_trial}
@@ -40,22 +38,10 @@ module _ (game : Game) where
   -- ---- no program fails, and none sleeps
 
   steady : (m : Memory) (phase : Phase) → is_steady (does_in n m phase) ≡ true
-  steady m Begins = refl
   steady m (GoesOut steps port) = steady_if (is_done m steps) _ (Says (Depart port))
       (steady_if (left_by n m.mine m.theirs == 1) (Says (Accuse port)) (Says (Depart (1 - port))) refl refl) refl
-  steady m (Leaves steps) = refl
-  steady m Tries = refl
-  steady m (Turns port) = refl
-  steady m Returns = refl
-  steady m (Writes port) = refl
-  steady m (GoesHome steps port) = refl
-  steady m (NearsHome steps) = refl
-  steady m (Follows steps port) = refl
-  steady m (Passes steps) = refl
   steady m (Tells steps port) = steady_if (left_by n m.mine steps == 1) (Says (Accuse port)) _ refl refl
-  steady m (ComesHome steps port) = refl
-  steady m (NearsBack steps) = refl
-  steady m Ends = refl
+  steady m phase = refl
 
   -- ---- before anything has happened
 

@@ -1,5 +1,5 @@
 -- What whiteboards show in a search by halves.
-use Rattle.std.proofs.Common.{ℕ, ◌<◌, ◌≡◌, true, false, ◌∙◌, arith}
+use Rattle.std.proofs.Common.{ℕ, ◌<◌, ◌≡◌, ◌∙◌, arith}
 use Rattle.std.specs.Prelude.{◌≢◌}
 use Rattle.std.proofs.lemmas.Bool.{lt-ltb, le-ltb, eq-eqb, ne_eqb, cond-true, cond-false}
 use Rattle.bhs_protocols.specs.Shuttle.{text_by}

@@ -15,9 +15,8 @@ use Rattle.bhs_explore.specs.Schedules.{Trial}
 use Rattle.bhs_protocols.specs.Pictures.{turn_in}
 use Rattle.bhs_protocols.specs.declared.halves.Memory.{Memory}
 use Rattle.bhs_protocols.specs.declared.halves.Phase.{Phase}
-use Rattle.bhs_protocols.specs.declared.halves.Phase.TheVariants.{Begins, GoesOut, Leaves, Tries, Turns, Returns}
-use Rattle.bhs_protocols.specs.declared.halves.Phase.TheVariants.{Writes, GoesHome, NearsHome, Follows, Passes, Tells}
-use Rattle.bhs_protocols.specs.declared.halves.Phase.TheVariants.{ComesHome, NearsBack, Ends}
+use Rattle.bhs_protocols.specs.declared.halves.Phase.TheVariants.{GoesOut, Writes, Follows, Passes, Tells, ComesHome}
+use Rattle.bhs_protocols.specs.declared.halves.Phase.TheVariants.{NearsBack, Ends}
 use Rattle.bhs_protocols.specs.Shuttle.{other_in, text_by}
 use Rattle.bhs_protocols.specs.Halving.{rounds, walks_at}
 use Rattle.bhs_protocols.specs.Halves.{own_in, does_in, after_in}
@@ -126,32 +125,16 @@ module _ {game : Game} (on : Turn game) where
   pub same_bytes : (xs ys : List ℕ) → bytes_eq xs ys ≡ true → xs ≡ ys
   same_bytes xs ys h = (bytes_eq-Decides xs ys).0 h
 
+  miss_small : (b : Bool) → miss b ≤ 1
+  miss_small true = omega arith
+  miss_small false = omega arith
+
   pub stale_small : (phase : Phase) (shown : ℕ → List ℕ) → stale game o O phase shown ≤ 1
-  stale_small Begins shown = omega arith
-  stale_small (GoesOut steps port) shown = omega arith
-  stale_small (Leaves steps) shown = omega arith
-  stale_small Tries shown = omega arith
-  stale_small (Turns port) shown = omega arith
-  stale_small Returns shown = omega arith
   stale_small (Writes port) shown =
-      small (bytes_eq (shown (ways.node o O.mine)) (text_by o O.own O.other))
-    where
-      small : (b : Bool) → miss b ≤ 1
-      small true = omega arith
-      small false = omega arith
-  stale_small (GoesHome steps port) shown = omega arith
-  stale_small (NearsHome steps) shown = omega arith
-  stale_small (Follows steps port) shown = omega arith
-  stale_small (Passes steps) shown = omega arith
+      miss_small (bytes_eq (shown (ways.node o O.mine)) (text_by o O.own O.other))
   stale_small (Tells steps port) shown =
-      small (bytes_eq (shown (ways.node (opposite o) steps)) (text_by o O.own O.other))
-    where
-      small : (b : Bool) → miss b ≤ 1
-      small true = omega arith
-      small false = omega arith
-  stale_small (ComesHome steps port) shown = omega arith
-  stale_small (NearsBack steps) shown = omega arith
-  stale_small Ends shown = omega arith
+      miss_small (bytes_eq (shown (ways.node (opposite o) steps)) (text_by o O.own O.other))
+  stale_small phase shown = omega arith
 
   -- ---- it writes that the next node is safe
 
@@ -159,15 +142,6 @@ module _ {game : Game} (on : Turn game) where
   far_more : M.mine + 1 < distance game s → (phase : Phase)
       → IsPlaced game o O M.mine w phase (picture.position o) (picture.accused o)
       → IsPlaced game o O (M.mine + 1) w phase (picture.position o) (picture.accused o)
-  far_more next Begins placed = placed
-  far_more next (GoesOut steps port) placed = placed
-  far_more next (Leaves steps) placed = placed
-  far_more next Tries placed = placed
-  far_more next (Turns port) placed = placed
-  far_more next Returns placed = placed
-  far_more next (Writes port) placed = placed
-  far_more next (GoesHome steps port) placed = placed
-  far_more next (NearsHome steps) placed = placed
   far_more next (Follows steps port) placed =
       let few : steps < M.mine = placed.1 in (placed.0, omega (arith, few), placed.2, placed.3, placed.4)
   far_more next (Passes steps) placed =
@@ -185,6 +159,7 @@ module _ {game : Game} (on : Turn game) where
       let safe_too : O.mine < distance game o = far_safe on in
       let sum : distance game s + distance game o ≡ n = distances on in
       absurd (omega (arith, all, safe_too, sum, next))
+  far_more next phase placed = placed
 
   mark_more : (mark k : ℕ) → k ≢ M.mine → mark_at (M.mine + 1) 0 k ≡ mark_at M.mine mark k
   mark_more mark k other = by_cases (nat_lt k M.mine) (mark_at (M.mine + 1) 0 k ≡ mark_at M.mine mark k)

@@ -82,23 +82,11 @@ IsHonest position accused = (accused ≡ None) ⊎ (position ≡ After)
 pub accused_write : (reply : Reply) (expect put : List ℕ) (place : Position) (before : Option (ℕ × ℕ))
     → accused_by (Some reply) (Write expect put) place before ≡ before
 accused_write (replies.Here ports came board) expect put place before = refl
-accused_write replies.Written expect put place before = refl
-accused_write (replies.Changed board) expect put place before = refl
-accused_write replies.Gone expect put place before = refl
-accused_write replies.Noted expect put place before = refl
-accused_write replies.Bye expect put place before = refl
-accused_write replies.Over expect put place before = refl
-accused_write (replies.No why) expect put place before = refl
+accused_write reply expect put place before = refl
 
 accused_depart : (reply : Reply) (port : ℕ) (place : Position) → accused_by (Some reply) (Depart port) place None ≡ None
 accused_depart (replies.Here ports came board) port place = refl
-accused_depart replies.Written port place = refl
-accused_depart (replies.Changed board) port place = refl
-accused_depart replies.Gone port place = refl
-accused_depart replies.Noted port place = refl
-accused_depart replies.Bye port place = refl
-accused_depart replies.Over port place = refl
-accused_depart (replies.No why) port place = refl
+accused_depart reply port place = refl
 
 told_honest : (world : World) (place : Position) (command : Command) (shown : ℕ → List ℕ) →
     IsHonest (position_after world place command)
@@ -232,9 +220,7 @@ accused_delivered world picture other k (Bound start port) = by_cases (doomed wo
     (world.net.far start port).0 (world.net.far start port).1) yes))
     (λ none. ap (λ (p : Picture). p.accused k) (cond-false _ picture (arrived_in world picture other
     (world.net.far start port).0 (world.net.far start port).1) none))
-accused_delivered world picture other k Before = refl
-accused_delivered world picture other k (At place came) = refl
-accused_delivered world picture other k After = refl
+accused_delivered world picture other k position = refl
 
 own_honest : (trial : Trial) (picture : Picture) (k : ℕ) (it : Deed) → IsOwn k it → picture.accused k ≡ None
     → IsHonestIn k (done_in trial picture k it)

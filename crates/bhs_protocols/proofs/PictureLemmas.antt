@@ -14,8 +14,7 @@ use Rattle.bhs_model.specs.Standings.{standing_at}
 use Rattle.bhs_model.specs.Worlds.{World, doomed}
 use Rattle.bhs_model.specs.Runs.{Position, Before, At, Bound, After, State, changed, glance, position_after, is_doomed}
 use Rattle.bhs_model.specs.Runs.{is_bound, heard, told, arrives, arrived, delivered, next, run, reply}
-use Rattle.bhs_model.specs.Runs.{last_writes_after}
-use Rattle.bhs_model.specs.Runs.{sight_at}
+use Rattle.bhs_model.specs.Runs.{last_writes_after, sight_at}
 use Rattle.bhs_model.proofs.StepLemmas.{by_cases, changed_same, next_heard, next_unheard, next_arrived}
 use Rattle.bhs_model.proofs.StepLemmas.{arrival_by_past, answered_by_past}
 use Rattle.bhs_model.specs.declared.replies.Why.TheVariants.{Port}
@@ -23,7 +22,7 @@ use Rattle.bhs_model.proofs.LegalLemmas.{IsLegal, KnowsPorts, all_run, either}
 use Rattle.bhs_referee.specs.Findings.{Findings, accused_by, moves_by, reached_by, found_after, findings}
 use Rattle.bhs_explore.specs.Minds.{Heard, History, hearing}
 use Rattle.bhs_explore.specs.declared.minds.Step.{Step}
-use Rattle.bhs_explore.specs.declared.minds.Step.TheVariants.{Says, Sleeps, Stops, Fails}
+use Rattle.bhs_explore.specs.declared.minds.Step.TheVariants.{Sleeps}
 use Rattle.bhs_model.specs.Draws.{Held}
 use Rattle.bhs_explore.specs.Schedules.{Trial, Scene, opening, state_of, position_of, Deed, Makes, Wakes, Rests, deed}
 use Rattle.bhs_explore.specs.Schedules.{deed_at, is_move, can_move}
@@ -42,13 +41,6 @@ answer_is : (world : World) (state : State) (view : View) (position : Position) 
     answer world.board (standing_at position) (ports view) command (glance world state position command)
     ≡ answer_at world (λ node. text world.board (state.last_write node)) position command
 answer_is world state view Before Enter room knows hears = refl
-answer_is world state view Before Look room knows hears = cc
-answer_is world state view Before (Write expect put) room knows hears = cc
-answer_is world state view Before (Depart port) room knows hears = cc
-answer_is world state view Before (Accuse port) room knows hears = cc
-answer_is world state view Before Leave room knows hears = cc
-answer_is world state view Before Bad room knows hears = cc
-answer_is world state view (At node came) Enter room knows hears = cc
 answer_is world state view (At node came) Look room knows hears = refl
 answer_is world state view (At node came) (Write expect put) room knows hears = refl
 answer_is world state view (At node came) (Depart port) room knows hears =
@@ -57,20 +49,13 @@ answer_is world state view (At node came) (Accuse port) room knows hears =
     ap (λ (n : ℕ). if nat_lt port n then Noted else No Port) knows
 answer_is world state view (At node came) Leave room knows hears = refl
 answer_is world state view (At node came) Bad room knows hears = refl
-answer_is world state view (Bound node way) Enter room knows hears = cc
 answer_is world state view (Bound node way) Look room knows hears = refl
 answer_is world state view (Bound node way) (Write expect put) room knows hears = refl
 answer_is world state view (Bound node way) (Depart port) room knows hears = refl
 answer_is world state view (Bound node way) (Accuse port) room knows hears = refl
 answer_is world state view (Bound node way) Leave room knows hears = refl
 answer_is world state view (Bound node way) Bad room knows hears = refl
-answer_is world state view After Enter room knows hears = cc
-answer_is world state view After Look room knows hears = cc
-answer_is world state view After (Write expect put) room knows hears = cc
-answer_is world state view After (Depart port) room knows hears = cc
-answer_is world state view After (Accuse port) room knows hears = cc
-answer_is world state view After Leave room knows hears = cc
-answer_is world state view After Bad room knows hears = cc
+answer_is world state view position command room knows hears = cc
 
 -- ---- what is kept of it
 
@@ -88,15 +73,7 @@ shown_is : (world : World) (state : State) (view : View) (position : Position) (
     (Told view command (glance world state position command)) node)
     ≡ shown_after world.board (λ k. text world.board (state.last_write k)) position command node
 shown_is world state view (At there came) (Write expect put) node = text_if world.board (node == there) _ _
-shown_is world state view (At there came) Enter node = refl
-shown_is world state view (At there came) Look node = refl
-shown_is world state view (At there came) (Depart port) node = refl
-shown_is world state view (At there came) (Accuse port) node = refl
-shown_is world state view (At there came) Leave node = refl
-shown_is world state view (At there came) Bad node = refl
-shown_is world state view Before command node = refl
-shown_is world state view (Bound start way) command node = refl
-shown_is world state view After command node = refl
+shown_is world state view position command node = refl
 
 shown_to_is : (world : World) (state : State) (faces : Option ℕ)
     → shown_to world state faces ≡ shown_in (λ k. text world.board (state.last_write k)) faces
@@ -225,21 +202,13 @@ apt_at : (held : Held) (naps : ℕ) (position : Position) (woken : ℕ) (step : 
     → IsApt position (deed_at held naps position woken step agent)
 apt_at held naps (Bound node port) woken step agent =
     either (IsApt (Bound node port)) (held node port) Rests (Makes (Deliver agent)) tt tt
-apt_at held naps After woken step agent = tt
-apt_at held naps Before woken (Says command) agent = tt
 apt_at held naps Before woken Sleeps agent = either (IsApt Before) (nat_lt naps woken) Rests Wakes tt tt
-apt_at held naps Before woken Stops agent = tt
-apt_at held naps Before woken Fails agent = tt
-apt_at held naps (At node came) woken (Says command) agent = tt
 apt_at held naps (At node came) woken Sleeps agent = either (IsApt (At node came)) (nat_lt naps woken) Rests Wakes tt tt
-apt_at held naps (At node came) woken Stops agent = tt
-apt_at held naps (At node came) woken Fails agent = tt
+apt_at held naps position woken step agent = tt
 
 apt_rests : (position : Position) → IsApt position Rests
 apt_rests Before = tt
-apt_rests (At node came) = tt
-apt_rests (Bound node port) = tt
-apt_rests After = tt
+apt_rests position = tt
 
 apt_deed : (trial : Trial) (scene : Scene) (agent : ℕ)
     → IsApt (position_of trial scene agent) (deed trial scene agent)
@@ -466,9 +435,7 @@ open_next world state (Deliver agent) no_close is_open =
   where
     open_delivered : (position : Position) → (delivered world state agent position).closed ≡ false
     open_delivered (Bound node port) = is_open
-    open_delivered Before = is_open
-    open_delivered (At node came) = is_open
-    open_delivered After = is_open
+    open_delivered position = is_open
 open_next world state Close no_close is_open = absurd (no_close refl)
 
 open_done : (trial : Trial) (scene : Scene) (agent : ℕ) (it : Deed) → IsOwn agent it

@@ -14,7 +14,6 @@ use Rattle.bhs_protocols.specs.Rings.{Ways, IsSearch}
 use Rattle.bhs_protocols.specs.declared.shuttle.Memory.{Memory}
 use Rattle.bhs_protocols.specs.declared.shuttle.Phase.{Phase}
 use Rattle.bhs_protocols.specs.declared.shuttle.Phase.TheVariants.{Begins, GoesOut, Leaves, ComesBack, Returns, Writes}
-use Rattle.bhs_protocols.specs.declared.shuttle.Phase.TheVariants.{Ends}
 use Rattle.bhs_protocols.specs.Shuttle.{other_in, is_one_left, does_in, came_back, after_in, shuttle, round_trips}
 use Rattle.bhs_protocols.specs.Shuttle.{commands_on}
 use Rattle.bhs_protocols.specs.Laws.{ShuttleSolves}
@@ -34,7 +33,6 @@ way_on ways side k = record {
 -- an agent is at its last safe node if one step more is at the next node
 does_as : (n : ℕ) (ways : Ways) (m : Memory) (phase : Phase)
     → does_in n m phase ≡ does_by n (way_on ways m.side (m.mine + 1)) m phase
-does_as n ways m Begins = refl
 does_as n ways m (GoesOut steps port) =
     λ i. if one_more steps m.mine i && is_one_left n m then Says (Accuse port) else Says (Depart port)
   where
@@ -46,11 +44,7 @@ does_as n ways m (GoesOut steps port) =
         | inr it ↦ h.0 ∙ sym it.0
       ]
     ]
-does_as n ways m (Leaves steps) = refl
-does_as n ways m (ComesBack steps port) = refl
-does_as n ways m (Returns steps) = refl
-does_as n ways m Writes = refl
-does_as n ways m Ends = refl
+does_as n ways m phase = refl
 
 module _ {world : World} {n right left : ℕ} {ways : Ways} (search : IsSearch world n right left ways) where
   pub are_ways : (side k : ℕ) → side < 2 → k < n → IsWay world.net (ways.node side) k (way_on ways side k)

@@ -7,7 +7,7 @@ use Rattle.std.specs.List.{list_any, range_with_len}
 use Rattle.std.proofs.lemmas.Bool.{true≢false, eq-eqb, ne_eqb, cond-true, cond-false, eqb-true}
 use Rattle.std.proofs.lemmas.Bool.Decides.{eqb_tells}
 use Rattle.bhs_model.specs.declared.commands.Command.{Command}
-use Rattle.bhs_model.specs.declared.commands.Command.TheVariants.{Enter, Look, Write, Depart, Accuse, Leave, Bad}
+use Rattle.bhs_model.specs.declared.commands.Command.TheVariants.{Enter, Look, Write, Depart, Accuse, Bad}
 use Rattle.bhs_model.specs.declared.events.Event.TheVariants.{Tell, Deliver, Close}
 use Rattle.bhs_model.specs.Worlds.{World, doomed}
 use Rattle.bhs_model.specs.Runs.{Position, Before, At, Bound, After, changed, position_after}
@@ -123,34 +123,21 @@ module _ (n : ℕ) (three : 3 ≤ n) (terms : Terms) (minds : Minds) (hole : ℕ
     told_inside : (place : Position) (command : Command) → IsInside place
         → IsInside (position_after small.world place command)
     told_inside Before Enter inside = omega (arith, three)
-    told_inside Before Look inside = tt
-    told_inside Before (Write expect put) inside = tt
-    told_inside Before (Depart port) inside = tt
-    told_inside Before (Accuse port) inside = tt
-    told_inside Before Leave inside = tt
-    told_inside Before Bad inside = tt
     told_inside (At node came) Enter inside = omega (arith, three)
     told_inside (At node came) Look inside = inside
     told_inside (At node came) (Write expect put) inside = inside
     told_inside (At node came) (Depart port) inside =
         either IsInside (nat_lt port 2) (Bound node port) (At node came) inside inside
     told_inside (At node came) (Accuse port) inside = either IsInside (nat_lt port 2) After (At node came) tt inside
-    told_inside (At node came) Leave inside = tt
     told_inside (At node came) Bad inside = inside
     told_inside (Bound node way) Enter inside = omega (arith, three)
     told_inside (Bound node way) Look inside = inside
     told_inside (Bound node way) (Write expect put) inside = inside
     told_inside (Bound node way) (Depart port) inside = inside
     told_inside (Bound node way) (Accuse port) inside = inside
-    told_inside (Bound node way) Leave inside = tt
     told_inside (Bound node way) Bad inside = inside
     told_inside After Enter inside = omega (arith, three)
-    told_inside After Look inside = tt
-    told_inside After (Write expect put) inside = tt
-    told_inside After (Depart port) inside = tt
-    told_inside After (Accuse port) inside = tt
-    told_inside After Leave inside = tt
-    told_inside After Bad inside = tt
+    told_inside place command inside = tt
 
     changed_inside : (position : ℕ → Position) (agent : ℕ) (place : Position) → ((k : ℕ) → IsInside (position k))
         → IsInside place → (k : ℕ) → IsInside (changed position agent place k)
