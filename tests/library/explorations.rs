@@ -103,17 +103,27 @@ pub fn drawn(alloc: Global, scout: Scout, hunt: Option<Hunt>) -> Result<Drawn, F
     Ok(explorer.draw(&mut team, draws(hunt))?)
 }
 
-/// A team of two agents that write at the home base. If agent 0 is the first, it goes on as `Scout::Solves` does; agent 1
-/// stops in any case, and so does who comes second.
+/// A team of agents that write at the home base. If agent 0 is the first, or is patient, it goes on as `Scout::Solves`
+/// does, or else it leaves, as all others do in any case. A memory is a place of `stages`: how far an agent is, and 10
+/// more for those others.
 #[derive(Drop)]
 pub struct Rivals {
     pub alloc: Global,
+    pub stages: Vec<u32>,
+    pub is_patient: bool,
 }
 
 impl Rivals {
-    // Agent 1 holds what agent 0 would hold, and 10 more.
-    fn mind(&self, memory: u32) -> Result<Mind, TeamFault> {
-        let step = match memory {
+    fn new(alloc: Global, is_patient: bool) -> Rivals {
+        Rivals {
+            alloc,
+            stages: Vec::new(alloc),
+            is_patient,
+        }
+    }
+
+    fn mind(&mut self, stage: u32) -> Result<Mind, TeamFault> {
+        let step = match stage {
             1 | 11 => Step::Says(Command::Write {
                 expect: Text::empty(),
                 put: Text::new(self.alloc, "here").map_err(|_| TeamFault)?,
@@ -121,9 +131,21 @@ impl Rivals {
             0 | 10 => Step::Says(Command::Enter),
             2 => Step::Says(Command::Depart { port: 0 }),
             4 => Step::Says(Command::Accuse { port: 1 }),
+            7 | 12 | 17 => Step::Says(Command::Leave),
             _ => Step::Stops,
         };
-        Ok(Mind { memory, step })
+        let known = self.stages.iter().position(|other| *other == stage);
+        let memory = match known {
+            Some(place) => place,
+            None => self.stages.len(),
+        };
+        if known.is_none() {
+            self.stages.push(stage).map_err(|_| TeamFault)?;
+        }
+        Ok(Mind {
+            memory: memory as u32,
+            step,
+        })
     }
 }
 
@@ -131,27 +153,44 @@ impl Team for Rivals {
     ghost answers = { λ old exchange new. Unit {0} };
 
     fn begin(&mut self, agent: u16) -> Result<Mind, TeamFault> {
-        self.mind(u32::from(agent) * 10)
+        self.mind(u32::from(agent.min(1)) * 10)
     }
 
     fn next(&mut self, before: u32, latest: Latest, _shown: &str) -> Result<Mind, TeamFault> {
-        let after = match latest {
-            Latest::Heard(Mark::Changed { .. }) => 5,
-            _ => before % 10 + 1,
+        let Some(stage) = self.stages.get(before as usize).copied() else {
+            return Err(TeamFault);
         };
-        self.mind(before / 10 * 10 + after)
+        let after = match latest {
+            Latest::Heard(Mark::Changed { .. }) if !self.is_patient => 7,
+            _ => stage % 10 + 1,
+        };
+        self.mind(stage / 10 * 10 + after)
     }
 }
 
 #[test]
 fn agents_that_write_at_one_node_are_tried_in_both_orders(rt: HostRuntime) -> Result<(), Fail> {
     let alloc = rt.alloc();
-    let mut team = Rivals { alloc };
+    let mut team = Rivals::new(alloc, false);
     let world = World::new(alloc, network(alloc)?, setup(alloc)?)?;
     let mut explorer = Explorer::new(alloc, world, Vec::new(alloc), 2, &mut team)?;
     match explorer.explore(&mut team, 100)?.found {
         Found::Fails { .. } => Ok(()),
         _ => Err(Fail::from("the order in which agent 1 writes first was left out")),
+    }
+}
+
+#[test]
+fn agents_that_stand_alike_need_not_be_the_first(rt: HostRuntime) -> Result<(), Fail> {
+    let alloc = rt.alloc();
+    let mut team = Rivals::new(alloc, true);
+    let mut setup = setup(alloc)?;
+    setup.agents = 3;
+    let world = World::new(alloc, network(alloc)?, setup)?;
+    let mut explorer = Explorer::new(alloc, world, Vec::new(alloc), 2, &mut team)?;
+    match explorer.explore(&mut team, 1_000)?.found {
+        Found::Solves(_) => Ok(()),
+        _ => Err(Fail::from("a schedule of three agents does not solve")),
     }
 }
 

@@ -18,6 +18,7 @@ pub mod Still
 pub mod Apart
 pub mod Alone
 pub mod Uses
+pub mod Orders
 pub mod RowSteps
 pub mod RowVerdicts
 pub mod Closing

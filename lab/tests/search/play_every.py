@@ -13,7 +13,7 @@ from lab.commands.mutants import FOLDER
 from lab.play.matches import STUCK
 from lab.play.teams import Game
 from lab.rules.fixtures import Fixture
-from lab.search.asking import Found
+from lab.search.asking import Found, asked
 from lab.search.explore import End, explored
 from lab.search.following import follow
 from lab.search.machines import Machines
@@ -22,6 +22,15 @@ from lab.tests.search.exploring import InExplore
 from lab.tests.playing import AGENTS, FAULTY, KNOWN_MAP, MAP, RING, program
 
 THEOREM = "every schedule solves (a theorem about programs that are functions of what they hold, as they answered here)"
+# a program that asks nothing, and tells now and then how far it is
+LONG = '''#!/usr/bin/env python3
+import time
+for states in (262144, 524288):
+    print(f'{{"visited":{states},"depth":37}}', flush=True)
+    time.sleep(0.3)
+print('{"found":"solves"}')
+print('{"states":600000}')
+'''
 # how many drawn machines are compared
 DRAWN = 60
 ODD = FAULTY + '''
@@ -197,7 +206,7 @@ class Exploring(InExplore):
         self.assertEqual(status, 1, self.said)
         table = self.said.partition("network matches states moves lost seconds\n")[2].split("\n")
         self.assertEqual([row.split()[:5] for row in table[:2]],
-                         [["ring:3", "2", "116", "4", "1"], ["ring:4", "3", "693", "9", "1"]])
+                         [["ring:3", "2", "78", "4", "1"], ["ring:4", "3", "394", "9", "1"]])
         self.assertNotIn("torus", "".join(table))
 
     def test_other_sample_agents(self) -> None:
@@ -298,18 +307,18 @@ class Exploring(InExplore):
         self.assertRegex(told.call_args.args[0], r"^the program works for \d+ s and takes \d+ MB$")
 
     def test_it_is_told_how_far_a_long_search_is(self) -> None:
-        game, fixture = self.game("--network", "ring:40", "--hole", "20", "--agent", RING.words)
-        told = mock.Mock()
+        _, fixture = self.game("--network", "ring:3", "--hole", "1", "--agent", RING.words)
+        long = self.folder / "long"
+        long.write_text(LONG, encoding="utf-8")
+        long.chmod(0o755)
+        told, machines = mock.Mock(), mock.Mock()
         with mock.patch("lab.search.asking.PAUSE", 0.01):
-            answered = self.answered(fixture, game.agents, said=told)
-        far = re.compile(r" MB: ([\d,]+) states, [\d,]+ a second, ([1-9]\d*) turns on the path$")
-        all_told = [at for call in told.call_args_list if (at := far.search(call.args[0]))]
-        found, depths = [int(at[1].replace(",", "")) for at in all_told], [int(at[2]) for at in all_told]
-        # a path grows and shrinks
-        self.assertNotEqual(depths, sorted(depths))
-        self.assertGreater(len(set(found)), 1)
-        self.assertEqual(found, sorted(found))
-        self.assertLessEqual(found[-1], answered.counts["states"])
+            answered = asked(str(long), fixture, machines, 1_000_000, lambda count: None, told)
+        self.assertEqual(answered.counts["states"], 600_000)
+        all_told = [call.args[0] for call in told.call_args_list]
+        for states in ("262,144", "524,288"):
+            far = re.compile(rf" MB: {states} states, [\d,]+ a second, 37 turns on the path$")
+            self.assertTrue(any(map(far.search, all_told)), states)
 
     def test_what_has_no_name_is_told_by_name(self) -> None:
         self.command("--network", "ring:3", "--hole", 1, *self.odd("sorts"))
