@@ -77,6 +77,8 @@ REFUSALS = {
     "ended": Ended, "spent": Spent, "away": Away, "line": BadLine, "port": NoSuchPort, "long": TooLong,
     "full": NoRoom, "late": NoRoom, "memory": NoRoom,
 }
+# made once: to make one takes longer than to spell a command
+ENCODER = json.JSONEncoder(ensure_ascii=False)
 # how often a client tries to enter again while there is no room, and how many seconds it waits before
 TRIES, FIRST_PAUSE, LONGEST_PAUSE = 20, 0.05, 2.0
 
@@ -202,7 +204,7 @@ class Agent:
         self._ask({"do": "leave"})
 
     def _ask(self, command: Dict[str, Any]) -> Dict[str, Any]:
-        self._lines.send(json.dumps(command, ensure_ascii=False))
+        self._lines.send(ENCODER.encode(command))
         return self._answer()
 
     def _answer(self) -> Dict[str, Any]:

@@ -25,7 +25,7 @@ from importlib.machinery import SourceFileLoader
 from types import CellType, CodeType, FunctionType, ModuleType
 from typing import Any, Callable, Dict, List, Sequence, Set, Tuple
 
-from lab.play import outside
+from lab.play import kept_lines, outside
 from lab.play.imports import files_behind
 from lab.play.own_modules import OwnModules
 from lab.rules.model import Setup
@@ -127,7 +127,10 @@ def folder_of(path: pathlib.Path, _here: str) -> str:
 def loaded_anew(path: pathlib.Path, modules: OwnModules) -> Tuple[ModuleType, ModuleType]:
     """The module in a file, and the client that it imports, among the modules of one agent."""
     modules.begin([folder_of(path, os.getcwd()), str(AGENTS)], [CLIENT])
-    return modules.kept.get(module_name(path)) or executed(path), importlib.import_module("client")
+    module, client = modules.kept.get(module_name(path)) or executed(path), importlib.import_module("client")
+    if client.__file__ == CLIENT:
+        kept_lines.use_in(client)
+    return module, client
 
 
 def script_of(words: str, setup: Setup) -> Script:

@@ -68,13 +68,10 @@ class Player:
 
     def hear(self, line: str) -> None:
         """Tells the agent a line, and lets it go on."""
-        self._take(line)
-        self._is_over = self._is_over or line in LAST_LINES
-        self.go_on()
-
-    def _take(self, line: str) -> None:
         self.line, self.latest = None, line
         self._heard.append(line)
+        self._is_over = self._is_over or line in LAST_LINES
+        self.go_on()
 
     def go_on(self) -> None:
         """Lets the program begin, wake, or read what it heard."""
@@ -99,18 +96,15 @@ class Player:
         self._is_closed = True
 
     def receive(self) -> str:
-        if not self._heard and not (self.ahead and self._has_taken()):
+        if not self._heard:
+            ahead = self.ahead
+            if ahead and ahead[0] not in NEVER_AHEAD and (self.latest == DEPARTED) == (self.line is None):
+                # it is for an agent that waits as this one does: a way that was gone before is gone again in one turn
+                self._team.turns += 1
+                self.line, self.latest = None, ahead.popleft()
+                return self.latest
             self._wait(WAITS if self.line is not None else TRAVELS)
         return self._heard.popleft()
-
-    def _has_taken(self) -> bool:
-        """Takes the next of the lines ahead, if it is one for an agent that waits as this one does. So a way that was
-        gone before is gone again in one turn."""
-        if self.ahead[0] in NEVER_AHEAD or (self.latest == DEPARTED) != (self.line is None):
-            return False
-        self._team.turns += 1
-        self._take(self.ahead.popleft())
-        return True
 
     def sleep(self, _seconds: float) -> None:
         self._wait(SLEEPS)
