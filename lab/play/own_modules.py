@@ -17,6 +17,8 @@ FOLDERS: Set[str] = set()
 RANDOM = "random"
 # what of the module `random` belongs to one generator
 OF_ONE = [name for name, value in vars(random).items() if getattr(value, "__self__", None) is random._inst]
+# an object's identity as a number. Python tells the audit hook of each `id`, which costs more than to ask for this
+IDENTITY = object.__hash__
 # for each set of files that all agents share: the modules that no agent owns, by their identities
 FOREIGN: Dict[Tuple[str, ...], Dict[int, ModuleType]] = {}
 FOREIGN_TO: Set[str] = set()
@@ -48,18 +50,18 @@ def own_names(folders: Collection[str], shared: Collection[str] = ()) -> List[st
     if len(loaded) == len(before) and all(map(operator.is_, loaded, before)):
         return []
     foreign = FOREIGN.setdefault(tuple(shared), {})
-    unknown = set(map(id, loaded)).difference(foreign)
+    unknown = set(map(IDENTITY, loaded)).difference(foreign)
     if not unknown:
         ALL_FOREIGN[tuple(shared)] = loaded
         return []
     tops, others = set(), {}
-    for name, module in [(name, it) for name, it in list(sys.modules.items()) if id(it) in unknown]:
+    for name, module in [(name, it) for name, it in list(sys.modules.items()) if IDENTITY(it) in unknown]:
         if "." in name or name == "lab":
-            others[id(module)] = module
+            others[IDENTITY(module)] = module
         elif is_beside(module, folders) and getattr(module, "__file__", None) not in shared:
             tops.add(name)
         elif FOREIGN_TO.issuperset(folders) and (not is_beside(module, FOREIGN_TO) or folders is FOLDERS):
-            foreign[id(module)] = module
+            foreign[IDENTITY(module)] = module
     if not tops and folders is FOLDERS:
         # what is in a package that stands in none of the folders
         foreign.update(others)

@@ -1,5 +1,6 @@
 """Names of code: code that is loaded anew for each agent has the same name if it does the same."""
 import hashlib
+import marshal
 import types
 from typing import Any, Dict, Iterator, List, Set, Tuple
 
@@ -14,6 +15,16 @@ NUMBERS: Dict[Tuple[str, int, str, str], int] = {}
 def digest_of(value: Any, size: int = 16) -> str:
     """A short text that equal names have, and no others."""
     return hashlib.blake2b(repr(value).encode("utf-8", "backslashreplace"), digest_size=size).hexdigest()
+
+
+def bytes_of(value: Any) -> bytes:
+    """Bytes that equal names have, and no others. Names are tuples, texts, numbers and the like; what else a name might
+    have, such as a text of a type of its own, is spelled."""
+    try:
+        # of this version, bytes say nothing of which parts are one object
+        return b"m" + marshal.dumps(value, 2)
+    except ValueError:
+        return b"r" + repr(value).encode("utf-8", "backslashreplace")
 
 
 def code_name(code: types.CodeType) -> Name:

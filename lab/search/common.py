@@ -25,10 +25,13 @@ class Common(NamedTuple):
     modules: Dict[str, types.ModuleType]
     known: Known
     standing: List[Standing]
+    # where all that stands still in them lies, and what stood there
+    views: List[memoryview]
+    said: bytes
 
     def is_as_before(self) -> bool:
         """Whether nothing in them has changed."""
-        return all(it.is_as_before() for it in self.standing)
+        return b"".join(self.views) == self.said
 
 
 def common_of(words: str, knows: Knows) -> Optional[Common]:
@@ -59,4 +62,7 @@ def loaded_once(path: pathlib.Path, knows: Knows) -> Optional[Common]:
     except (Exception, SystemExit):
         # a program that loads them is told of this, or its history stands for what it holds
         return None
-    return Common(own, known, standing) if is_still and notes.reaches is None else None
+    if not is_still or notes.reaches is not None:
+        return None
+    return Common(own, known, standing, [view for it in standing for view in it.views], b"".join(
+        it.said for it in standing))

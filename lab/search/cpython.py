@@ -14,8 +14,8 @@ from typing import Any, Callable, Dict, List, NamedTuple, Tuple
 from lab.search.unnamed import Unnamed
 
 WORD, NUMBER = 8, 4
-# of a frame object its frame; of that, how high its stack is, and its slots
-FRAME, TOP, SLOTS = 24, 64, 72
+# of a frame object its frame; of that, the variables of its module, its code, how high its stack is, and its slots
+FRAME, GLOBALS, CODE, TOP, SLOTS = 24, 8, 32, 64, 72
 # of a set: how many slots are or were in use, the last slot, the table, and where `pop` looks next
 FILL, MASK, TABLE, FINGER = 16, 32, 40, 56
 # of a list how many items it has
@@ -174,8 +174,9 @@ def result_of(link: Any) -> Any:
     return ctypes.cast(ctypes.c_void_p.from_address(id(link) + RESULT).value or 0, ctypes.py_object).value
 
 
-def slots_of(frame: types.FrameType) -> List[Any]:
-    """The variables of a frame, and what lies on its stack."""
+def held_by_frame(frame: types.FrameType) -> Tuple[int, int, List[int], List[Any]]:
+    """The identities of a frame's code and of the variables of its module; the identities of its variables and of what
+    lies on its stack, 0 of one without a value; and these values."""
     said = fault()
     if said:
         raise Unnamed(said)
@@ -186,12 +187,12 @@ def slots_of(frame: types.FrameType) -> List[Any]:
     if top < 0:
         raise Unnamed(f"the stack of {frame.f_code.co_qualname}, which waits inside a function that is not in Python",
                       instead="call the agent in a loop of your own")
+    code, variables = words[CODE // WORD], words[GLOBALS // WORD]
     address.value += SLOTS
-    has_value: List[int] = words[:top]
-    if 0 in has_value:
-        return [objects[place] if word else NOTHING for place, word in enumerate(has_value)]
-    found: List[Any] = objects[:top]
-    return found
+    places: List[int] = words[:top]
+    values: List[Any] = ([objects[it] if place else NOTHING for it, place in enumerate(places)] if 0 in places
+                         else objects[:top])
+    return code, variables, places, values
 
 
 @functools.lru_cache(maxsize=None)
@@ -214,8 +215,10 @@ def frames_are_right() -> bool:
     at = word_at(id(frame) + FRAME)
     top = ctypes.c_int.from_address(at + TOP).value
     values = (ctypes.py_object * 3).from_address(at + SLOTS)
+    code, variables = (ctypes.c_size_t.from_address(at + it).value for it in (CODE, GLOBALS))
     # two parameters, the variable of the loop, the iterator, and what is given away lies on the stack no more
-    return top in (4, 5) and list(values) == [7, "x", 1]
+    return (top in (4, 5) and list(values) == [7, "x", 1]
+            and (code, variables) == (id(frame.f_code), id(frame.f_globals)))
 
 
 def sets_are_right() -> bool:

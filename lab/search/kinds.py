@@ -32,7 +32,8 @@ class Names(Protocol):
     """Names the parts of a value."""
 
     def name(self, value: Any) -> Name: ...
-    def names(self, values: Iterable[Tuple[Any, Any]]) -> Iterator[Name]: ...
+    def each(self, values: Iterable[Any]) -> List[Name]: ...
+    def names(self, values: Iterable[Tuple[Any, Any]]) -> Iterable[Name]: ...
     def frame(self, frame: types.FrameType) -> Name: ...
     def globals(self, variables: Dict[str, Any]) -> Name: ...
     def is_waiting(self, frame: types.FrameType) -> bool: ...
@@ -56,10 +57,11 @@ OF_CLASS = (types.WrapperDescriptorType, types.MethodDescriptorType, types.Class
             types.GetSetDescriptorType, types.MemberDescriptorType)
 BUILT_IN = (types.BuiltinFunctionType, types.MethodWrapperType, *OF_CLASS)
 # iterators that tell by `__reduce__` what they still give
-ITERATORS: Set[type] = {type(iter(it)) for it in ([], (), range(0), "", "é", b"", bytearray())}
-ITERATORS |= {type(reversed([])), type(iter(range(2 ** 70))), type(iter(int, 1)), enumerate, zip, map, filter, reversed,
+ITERATORS: Set[type] = {type(iter(it)) for it in ([], (), "", "é", b"", bytearray())}
+ITERATORS |= {type(reversed([])), type(iter(int, 1)), enumerate, zip, map, filter, reversed,
               itertools.count, itertools.repeat, itertools.chain, itertools.product, itertools.permutations,
               itertools.combinations}
+OF_RANGES: Set[type] = {type(iter(range(0))), type(iter(range(2 ** 70)))}
 VIEWS: Set[type] = {type(EMPTY.keys()), type(EMPTY.values()), type(EMPTY.items())}
 OF_DICTS: Set[type] = {type(iter(EMPTY)), *(type(iter(it)) for it in (EMPTY.keys(), EMPTY.values(), EMPTY.items()))}
 
@@ -142,6 +144,12 @@ def held_name(namer: Names, value: Any) -> Name:
 def reduced_name(namer: Names, value: Any) -> Name:
     """What tells by itself of what it may be made again."""
     return (type(value).__name__, *map(namer.name, value.__reduce__()[1:]))
+
+
+def iterator_of_range_name(namer: Names, value: Any) -> Name:
+    """An iterator over a range goes on by the range and its place in it."""
+    _, (over,), reached = value.__reduce__()
+    return (type(value).__name__, *namer.each((over.start, over.stop, over.step, reached)))
 
 
 def date_name(namer: Names, value: Any) -> Name:
@@ -231,9 +239,9 @@ def wrapped_name(namer: Names, value: Any) -> Name:
 
 # how a value of exactly this type is named
 NAMES: Dict[type, Naming] = {
-    list: lambda namer, it: ("list", *map(namer.name, it)),
+    list: lambda namer, it: ("list", *namer.each(it)),
     dict: dict_names,
-    collections.deque: lambda namer, it: ("deque", it.maxlen, *map(namer.name, it)),
+    collections.deque: lambda namer, it: ("deque", it.maxlen, *namer.each(it)),
     collections.OrderedDict: lambda namer, it: ("OrderedDict", *namer.names(it.items()),
                                                 *namer.names(vars(it).items())),
     collections.defaultdict: lambda namer, it: ("defaultdict", namer.name(it.default_factory),
@@ -278,7 +286,8 @@ NAMES: Dict[type, Naming] = {
     decimal.Context: context_name,
     io.StringIO: stream_name, io.BytesIO: stream_name, logging.Logger: logger_name, logging.RootLogger: logger_name,
 }
-for _kinds, _naming in ((ITERATORS, reduced_name), (OF_DICTS, iterator_of_dict_name), (VIEWS, held_name),
+for _kinds, _naming in ((ITERATORS, reduced_name), (OF_RANGES, iterator_of_range_name),
+                        (OF_DICTS, iterator_of_dict_name), (VIEWS, held_name),
                         ((operator.itemgetter, operator.attrgetter, operator.methodcaller), reduced_name),
                         (BUILT_IN, built_in_name)):
     NAMES.update({_kind: _naming for _kind in _kinds})
@@ -290,8 +299,8 @@ BASES: Dict[type, Naming] = {
     complex: lambda namer, it: complex_name(complex.__complex__(it)),
     str: lambda namer, it: str.__str__(it),
     bytes: lambda namer, it: bytes.__getitem__(it, slice(None)),
-    tuple: lambda namer, it: ("tuple", *map(namer.name, tuple.__iter__(it))),
-    list: lambda namer, it: ("list", *map(namer.name, list.__iter__(it))),
+    tuple: lambda namer, it: ("tuple", *namer.each(tuple.__iter__(it))),
+    list: lambda namer, it: ("list", *namer.each(list.__iter__(it))),
     dict: dict_names,
     set: lambda namer, it: ("set", *table_name(namer, it)),
     frozenset: lambda namer, it: ("frozenset", *table_name(namer, it)),
@@ -299,7 +308,7 @@ BASES: Dict[type, Naming] = {
     collections.defaultdict: lambda namer, it: ("factory", namer.name(
         vars(collections.defaultdict)["default_factory"].__get__(it))),
     collections.deque: lambda namer, it: ("deque", vars(collections.deque)["maxlen"].__get__(it),
-                                          *map(namer.name, collections.deque.__iter__(it))),
+                                          *namer.each(collections.deque.__iter__(it))),
     _random.Random: lambda namer, it: ("random", state_name(_random.Random.getstate(it))),
 }
 
@@ -343,15 +352,18 @@ def plan_of(kind: type) -> Plan:
 
 def parts_name(namer: Names, plan: Plan, value: Any) -> Name:
     """The attributes of an object, as they lie in it, and what it is as a tuple, a text or the like."""
+    attributes, slots, bases = plan
     found: List[Name] = []
-    for attributes in plan.attributes:
-        found += namer.names(attributes.__get__(value).items())
-    for it, slot in plan.slots:
+    for held in attributes:
+        found += namer.names(held.__get__(value).items())
+    for it, slot in slots:
         try:
             found.append((it, namer.name(slot.__get__(value))))
         except AttributeError:
             found.append((it,))
-    return (*found, *(names(namer, value) for names in plan.bases))
+    for names in bases:
+        found.append(names(namer, value))
+    return tuple(found)
 
 
 def is_abstract(kind: type, part: Any) -> bool:

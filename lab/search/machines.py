@@ -14,7 +14,7 @@ is played on beside the first for some steps, and a difference is told: see `Bes
 import collections
 import contextlib
 import json
-from typing import Any, ContextManager, Dict, Iterator, List, Optional, OrderedDict, Set, Tuple
+from typing import Any, ContextManager, Dict, List, Optional, OrderedDict, Set, Tuple
 
 from lab.play.outside import watch
 from lab.play.players import WAKES, Player
@@ -73,8 +73,7 @@ class Machines:
         self.asked = 0
         self.names: List[bytes] = []
         self.ways: List[Way] = []
-        # of each memory the ways by which programs have come there last, the shortest, and how long it is
-        self._into: List[List[Way]] = []
+        # of each memory the way by which programs have come there last on the shortest one, and how long that is
         self._short: List[Way] = []
         self._length: List[int] = []
         self._seats = Seats(fixture, agents, seconds)
@@ -246,18 +245,16 @@ class Machines:
         return self._seats.begun(-1 - way[0]), all_news[::-1]
 
     def _left_before(self, memory: int) -> Optional[Tuple[Seated, List[str]]]:
-        """The nearest program that is left before a memory, and what it is to be told to come there."""
-        left, into, alone = self._left.programs, self._into, self._alone
-        behind: Dict[int, Way] = {memory: (-1, "")}
-        nearest = [memory]
-        for at in nearest:
-            if at in left:
-                one = self._left.take(at)
-                return (one, list(news_behind(behind, at))) if one else None
-            for before, news in into[at]:
-                if before not in behind and before >= 0 and before not in alone:
-                    behind[before] = at, news
-                    nearest.append(before)
+        """The nearest program that is left on the shortest way to a memory, and what it is to be told to come there.
+        Others may be nearer, but to look for them takes longer than to play on."""
+        left, short, alone = self._left.programs, self._short, self._alone
+        all_news: List[str] = []
+        while memory >= 0 and memory not in alone:
+            if memory in left:
+                one = self._left.take(memory)
+                return (one, all_news[::-1]) if one else None
+            memory, news = short[memory]
+            all_news.append(news)
         return None
 
     def _number(self, one: Seated, way: Way) -> int:
@@ -270,14 +267,12 @@ class Machines:
             number = self._numbers[name] = len(self.ways)
             self.ways.append(way)
             self._short.append(way)
-            self._into.append([way])
             self._length.append(self._length_of(way))
             self.steps.append(one.step())
             self.names.append(name)
             if one.is_alone:
                 self._alone.add(number)
         else:
-            self._into[number].append(way)
             self._shorten(number, way)
             if self.beside.takes(number, one, way):
                 return number
@@ -291,10 +286,3 @@ class Machines:
         """Takes a way to a memory if it is shorter than those known. What is played again then takes it."""
         if self._length_of(way) < self._length[number]:
             self._short[number], self._length[number] = way, self._length_of(way)
-
-
-def news_behind(behind: Dict[int, Way], memory: int) -> Iterator[str]:
-    """What is told from a memory on, up to the one behind which there is nothing."""
-    while behind[memory][0] >= 0:
-        memory, news = behind[memory]
-        yield news

@@ -6,11 +6,11 @@ import operator
 import sys
 import types
 from importlib.machinery import ModuleSpec, SourceFileLoader
-from typing import Any, Dict, Iterable, Iterator, List, NamedTuple, Optional, Protocol, Set, Tuple
+from typing import Any, Dict, Iterable, Iterator, List, NamedTuple, Optional, Protocol, Tuple
 
-from lab.search.codes import Name, code_name, variables_of
-from lab.search.cpython import (NOTHING, Place, dict_of, function_places, has_attributes, is_made_in_python, size_place,
-                                slots_of, version_place, views_of)
+from lab.search.codes import CODES, Name, code_name, digest_of, variables_of
+from lab.search.cpython import (Place, dict_of, function_places, has_attributes, held_by_frame, is_made_in_python,
+                                size_place, version_place, views_of)
 from lab.search.kinds import (NAMES, Plan, complex_name, exception_name, is_abstract, number_name, parts_name,
                               plan_of)
 from lab.search.live import may_be_read
@@ -22,7 +22,9 @@ from lab.search.unnamed import Unnamed, an, instead_of
 OF_CLASSES = {"__dict__", "__weakref__", "__module__"}
 # what a class says of itself
 SAYS = {"__doc__", "__annotations__"}
-OF_NOTHING = ("nothing",)
+OF_NOTHING, OF_KEY = ("nothing",), ("key",)
+# what is named by itself, wherever it stands
+PLAIN = frozenset((str, type(None), bytes, int, bool, float, complex, tuple))
 
 
 class Knows(Protocol):
@@ -49,8 +51,8 @@ class Namer:
         self._seen: Dict[int, int] = {}
         # keeps what is named, so that no other value gets its identity
         self._kept: List[Any] = []
-        self._waiting: Set[int] = set()
-        # names of modules that others have too, by the identity of their variables: they stand as long as this namer
+        self._waiting: List[types.FrameType] = []
+        # names of modules by the identity of their variables, once they were met: they stand as long as this namer
         self._others: Dict[int, Name] = {}
 
     def name(self, value: Any) -> Name:
@@ -65,31 +67,61 @@ class Namer:
             return complex_name(value)
         if kind is tuple:
             if len(value) < LONG:
-                return ("tuple", *map(self.name, value))
-            return self._known.shared.plain.name_of(value) or ("tuple", *map(self.name, value))
+                return ("tuple", *self.each(value))
+            return self._known.shared.plain.name_of(value) or ("tuple", *self.each(value))
         # asked for once: the audit hook is told of it
-        place = id(value)
-        if place in self._labels:
-            return ("known", self._labels[place])
-        if place in self._seen:
-            return ("again", self._seen[place])
-        if value is NOTHING:
-            return OF_NOTHING
-        if value is Ellipsis or value is NotImplemented:
-            return ("constant", repr(value))
+        return self._at(id(value), kind, value)
+
+    def _at(self, place: int, kind: type, value: Any) -> Name:
+        """Names a value that is not plain, of this identity and type."""
+        label = self._labels.get(place)
+        if label is not None:
+            return ("known", label)
+        seen = self._seen.get(place)
+        if seen is not None:
+            return ("again", seen)
+        return self._new(place, kind, value)
+
+    def _new(self, place: int, kind: type, value: Any) -> Name:
+        """Names a value that is met for the first time."""
         self._seen[place] = len(self._seen)
         self._kept.append(value)
-        if (kind is dict or kind is frozenset) and len(value) >= LONG:
-            found = self._known.shared.plain.name_of(value)
-            if found is not None:
-                return found
         names = NAMES.get(kind)
         if names is not None:
+            if (kind is dict or kind is frozenset) and len(value) >= LONG:
+                found = self._known.shared.plain.name_of(value)
+                if found is not None:
+                    return found
             return names(self, value)
+        plan = self._plan(kind)
+        if plan is not None:
+            return ("object", plan.label, parts_name(self, plan.plan, value))
+        if value is Ellipsis or value is NotImplemented:
+            return ("constant", repr(value))
         return self.alias(value) if is_alias(value) else self._other(kind, value)
 
-    def names(self, values: Iterable[Tuple[Any, Any]]) -> Iterator[Name]:
-        return ((self.name(key), self.name(value)) for key, value in values)
+    def each(self, values: Iterable[Any]) -> List[Name]:
+        """Names values in their order. Texts and numbers, of which most are, take no call."""
+        found: List[Name] = []
+        for value in values:
+            kind = type(value)
+            if kind is str or value is None or kind is int and value.bit_length() < MOST_BITS:
+                found.append(value)
+            else:
+                found.append(self.name(value))
+        return found
+
+    def names(self, values: Iterable[Tuple[Any, Any]]) -> List[Name]:
+        """Names pairs in their order, as `each` does."""
+        found: List[Name] = []
+        for key, value in values:
+            if type(key) is not str:
+                key = self.name(key)
+            kind = type(value)
+            if not (kind is str or value is None or kind is int and value.bit_length() < MOST_BITS):
+                value = self.name(value)
+            found.append((key, value))
+        return found
 
     def alias(self, value: Any) -> Name:
         """What `typing` makes, which all programs have together."""
@@ -100,25 +132,39 @@ class Namer:
     # frames
 
     def frames(self, frames: List[types.FrameType]) -> Iterator[Name]:
-        self._waiting.update(map(id, frames))
+        self._waiting = frames
         return map(self.frame, frames)
 
     def is_waiting(self, frame: types.FrameType) -> bool:
         """Whether a frame is one of those that the program waits in."""
-        return id(frame) in self._waiting
+        return any(it is frame for it in self._waiting)
 
     def frame(self, frame: types.FrameType) -> Name:
         """A frame: its place in its code, its variables, its stack, and the variables of its module."""
-        code, named, key = frame.f_code, [], self._known.key
-        for place, value in enumerate(slots_of(frame)):
-            try:
-                is_key = type(value) is str and value == key and is_read_no_more(frame, place)
-                named.append(("key",) if is_key else self.name(value))
-            except Unnamed as what:
-                names = variables_of(code)
-                raise what.at(f"the variable {names[place]} of {code.co_qualname}" if place < len(names) else
-                              f"an unfinished expression of {code.co_qualname}")
-        return (code_name(code), frame.f_lasti, self.globals(frame.f_globals), *named)
+        code, variables, places, values = held_by_frame(frame)
+        key, labels, seen = self._known.key, self._labels, self._seen
+        named: List[Name] = []
+        try:
+            for place, value in zip(places, values):
+                kind = type(value)
+                if kind is str:
+                    is_key = value == key and is_read_no_more(frame, len(named))
+                    named.append(OF_KEY if is_key else value)
+                elif value is None or kind is int and value.bit_length() < MOST_BITS:
+                    named.append(value)
+                elif not place:
+                    named.append(OF_NOTHING)
+                elif place in seen:
+                    named.append(("again", seen[place]))
+                elif place in labels:
+                    named.append(("known", labels[place]))
+                else:
+                    named.append(self.name(value) if kind in PLAIN else self._new(place, kind, value))
+        except Unnamed as what:
+            raise what.at(slot_of(frame.f_code, len(named)))
+        known = CODES.get(code)
+        return (known[1] if known is not None else code_name(frame.f_code), frame.f_lasti,
+                self._others.get(variables) or self.globals(frame.f_globals), *named)
 
     # modules
 
@@ -135,6 +181,7 @@ class Namer:
         if not is_own and loaded is not None and vars(loaded) is variables:
             found = self._others[place] = self.module_of(loaded)
             return found
+        self._others[place] = ("module again", len(self._seen))
         self._seen[place] = len(self._seen)
         self._kept.append(variables)
         if self._known.draws_by(variables):
@@ -166,9 +213,6 @@ class Namer:
 
     def _other(self, kind: type, value: Any) -> Name:
         """What is of no type that is named here: a class, a module, or an object of a class in Python."""
-        plan = self._plan(kind)
-        if plan is not None and not isinstance(value, BaseException):
-            return ("object", self.name(kind), parts_name(self, plan, value))
         if isinstance(value, type):
             return self.kind(value)
         if isinstance(value, types.ModuleType):
@@ -179,18 +223,17 @@ class Namer:
             raise Unnamed(an(kind), not is_still(kind.__module__), instead_of(kind))
         return ("object", self.name(kind), self._parts(kind, value))
 
-    def _plan(self, kind: type) -> Optional[Plan]:
+    def _plan(self, kind: type) -> "Optional[KeptPlan]":
         """How objects of a class that stands still are named, if one was named before and the class has not changed."""
         found = self._known.plans.get(id(kind))
         is_as_before = found is not None and found.mro is kind.__mro__ and b"".join(found.views) == found.says
-        return found.plan if found is not None and is_as_before else None
+        return found if is_as_before else None
 
     def _parts(self, kind: type, value: Any) -> Name:
-        plan = self._plan(kind)
-        if plan is None:
-            plan = plan_of(kind)
-            if id(kind) in self._labels:
-                self._known.plans[id(kind)] = kept_plan(kind, plan)
+        plan = plan_of(kind)
+        label = self._labels.get(id(kind))
+        if label is not None and not issubclass(kind, BaseException):
+            self._known.plans[id(kind)] = kept_plan(kind, plan, ("known", label))
         return parts_name(self, plan, value)
 
     def kind(self, value: type) -> Name:
@@ -205,7 +248,7 @@ class Namer:
                   and not is_abstract(value, part)))
 
     def function(self, value: types.FunctionType) -> Name:
-        """A function. One of a module that programs share is named once, and again if it has changed."""
+        """A function. One of a module that programs share is named once, shortly, and again if it has changed."""
         if type(self) is not Namer:
             return self._function_by_parts(value)
         found = self._known.shared.functions.get(id(value))
@@ -213,7 +256,7 @@ class Namer:
             return found.name
         if self._known.is_own(value.__globals__) or not is_simple(value):
             return self._function_by_parts(value)
-        name = Namer(self._known.apart())._function_by_parts(value)
+        name = "function", digest_of(Namer(self._known.apart())._function_by_parts(value))
         self._known.shared.functions[id(value)] = shared_function(value, name)
         return name
 
@@ -246,20 +289,28 @@ def is_read_no_more(frame: types.FrameType, place: int) -> bool:
     return place < len(names) and not may_be_read(frame.f_code, frame.f_lasti, names[place])
 
 
+def slot_of(code: types.CodeType, place: int) -> str:
+    """How a variable of a frame is called, or what lies on its stack."""
+    names = variables_of(code)
+    return (f"the variable {names[place]} of {code.co_qualname}" if place < len(names) else
+            f"an unfinished expression of {code.co_qualname}")
+
+
 class KeptPlan(NamedTuple):
-    """How objects of a class are named, with the classes of which that follows, where their versions lie, and what they
-    were."""
+    """How objects of a class are named, with the classes of which that follows, where their versions lie, what they
+    were, and the name of the class."""
 
     mro: Tuple[type, ...]
     views: List[memoryview]
     says: bytes
     plan: Plan
+    label: Name
 
 
-def kept_plan(kind: type, plan: Plan) -> KeptPlan:
-    """The plan of a class, as its classes are now."""
+def kept_plan(kind: type, plan: Plan, label: Name) -> KeptPlan:
+    """The plan of a class of this name, as its classes are now."""
     views = views_of([version_place(dict_of(it)) for it in kind.__mro__ if is_made_in_python(it)])
-    return KeptPlan(kind.__mro__, views, b"".join(views), plan)
+    return KeptPlan(kind.__mro__, views, b"".join(views), plan, label)
 
 
 class SharedFunction(NamedTuple):

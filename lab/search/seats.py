@@ -16,6 +16,7 @@ from lab.play.teams import INSIDE, AgentWords
 from lab.rules.fixtures import Fixture
 from lab.rules.model import LAST, OVER as TOLD_OVER, command_of, denial, spelled, text_of
 from lab.search.caches import Caches
+from lab.search.codes import bytes_of
 from lab.search.common import ONE_OF, Common, common_of
 from lab.search.live import may_tell_itself
 from lab.search.memories import memory_of, own_modules
@@ -240,8 +241,8 @@ class Seats:
         else:
             held = self._held(one) or ("since", way)
         state = DONE if one.has_ended or step.does == FAIL else player.state
-        name = (self._agents[player.number].words, step, state, held)
-        return hashlib.blake2b(repr(name).encode("utf-8", "backslashreplace"), digest_size=24).digest()
+        name = (self._agents[player.number].words, *step, state, held)
+        return hashlib.blake2b(bytes_of(name), digest_size=24).digest()
 
     def _held(self, one: Seated) -> Any:
         """What the frames of a program hold, or None if that has no name."""
@@ -251,7 +252,9 @@ class Seats:
             reaches = notes_of(player._thread).reaches
             if reaches:
                 raise Unnamed(reaches, True, "keep what is to be known later in a variable")
-            more = {it: value for it, value in vars(player).items() if it not in self._parts}
+            all_parts = vars(player)
+            more = {} if all_parts.keys() == self._parts else {
+                it: value for it, value in all_parts.items() if it not in self._parts}
             own = [it for name, it in player.modules.own().items() if name != "random"]
             held = memory_of(player._thread, known, more, own)
             return ("holds", self._apart(player), held, tuple(player._heard), player._is_over, player._is_closed)

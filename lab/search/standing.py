@@ -2,7 +2,6 @@
 noted at which places of memory a change would be seen."""
 import collections
 import copy
-import ctypes
 import dataclasses
 import logging
 import re
@@ -46,15 +45,16 @@ class Standing:
         self.labels: Dict[int, str] = {}
         # why nothing has a name of a program that has this module
         self.fault: Optional[Unnamed] = None
-        self._views: List[memoryview] = []
-        self._said = b""
+        # where all that a change would change lies, and what stood there
+        self.views: List[memoryview] = []
+        self.said = b""
 
     def watch(self, places: List[Place]) -> None:
-        self._views = views_of([version_place(self.variables), *places])
-        self._said = self._version + b"".join(self._views[1:])
+        self.views = views_of([version_place(self.variables), *places])
+        self.said = self._version + b"".join(self.views[1:])
 
     def is_as_before(self) -> bool:
-        return b"".join(self._views) == self._said
+        return b"".join(self.views) == self.said
 
 
 class Known:
@@ -83,7 +83,8 @@ class Known:
     def _draw_by(self, drawing: Any) -> None:
         """Takes the agent's own module `random`."""
         self._random, self._random_version, self._inst = vars(drawing), version_of(vars(drawing)), drawing._inst
-        self._numbers_at_start = self._numbers()
+        [self._numbers] = views_of([(id(drawing._inst) + NUMBERS, SIZE)])
+        self._numbers_at_start = bytes(self._numbers)
         self.labels[id(drawing._inst)] = "random"
         self.kept.append(drawing)
 
@@ -133,18 +134,15 @@ class Known:
     def drawn(self) -> Name:
         """What the agent's own module `random` draws next."""
         more = vars(self._inst)
-        numbers, gauss = self._numbers(), more.get("gauss_next")
+        numbers, gauss = bytes(self._numbers), more.get("gauss_next")
         if len(more) > 1 or gauss is not None and type(gauss) is not float:
             raise Unnamed("attributes of its module random", instead="keep them in variables of your own")
         return ("at the start" if numbers == self._numbers_at_start else digest_of(numbers), repr(gauss))
 
     def has_not_drawn(self) -> bool:
         """Whether nothing was drawn by the agent's own module `random`, nor changed in it."""
-        return len(vars(self._inst)) <= 1 and self._numbers() == self._numbers_at_start and (
+        return len(vars(self._inst)) <= 1 and bytes(self._numbers) == self._numbers_at_start and (
             version_of(self._random) == self._random_version)
-
-    def _numbers(self) -> bytes:
-        return ctypes.string_at(id(self._inst) + NUMBERS, SIZE)
 
     def standing(self, variables: Dict[str, Any]) -> Standing:
         """What stands still in a module of the agent's own, named anew if it has changed."""
@@ -236,6 +234,9 @@ class StillNamer(Namer):
         if place not in self._seen:
             self.labels[place] = f"{self._label}/{len(self.labels)}"
         return super().name(value)
+
+    def frame(self, frame: types.FrameType) -> Name:
+        raise Moves
 
     def globals(self, variables: Dict[str, Any]) -> Name:
         """The module of a function: another one than the agent's own stands still."""

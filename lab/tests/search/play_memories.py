@@ -6,7 +6,7 @@ from typing import Any, Dict, NamedTuple
 from unittest import main as run_tests, mock
 
 from lab.rules import networks
-from lab.search import explore, naming
+from lab.search import explore, seats
 from lab.tests.search.exploring import InExplore
 from lab.tests.playing import KNOWN_MAP, RING
 
@@ -178,6 +178,11 @@ def texts(agent, key):
 '''
 
 
+def without(name: Any, text: str) -> Any:
+    """A name in which a text is empty."""
+    return tuple(without(it, text) for it in name) if isinstance(name, tuple) else "" if name == text else name
+
+
 class Memories(InExplore):
     def explored(self, text: str, *words: object) -> int:
         (self.folder / "hides.py").write_text(text, encoding="utf-8")
@@ -305,10 +310,9 @@ class Memories(InExplore):
     def test_a_merge_that_is_none_is_told(self) -> None:
         (self.folder / "hides.py").write_text(TEXT.format(lines="", hides="b", finds="h", good="x"), encoding="utf-8")
         file = f"{self.folder}/hides.py"
-        # a name that leaves texts of one letter out
-        found = naming.Namer.name
-        with mock.patch.object(naming.Namer, "name",
-                               lambda namer, it: "" if it == "x" else found(namer, it)):
+        # a name that leaves a text of one letter out
+        found = seats.bytes_of
+        with mock.patch.object(seats, "bytes_of", lambda name: found(without(name, "x"))):
             status = self.command("--network", "ring:3", "--hole", 1, "--agent", f"{file}:writer", "--agent",
                                   f"{file}:reader")
         self.assertEqual(status, 2, self.said)

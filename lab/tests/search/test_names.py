@@ -1,4 +1,5 @@
 """What programs hold has a name that tells it from all others, or none: each type that can keep one bit."""
+import sys
 import types
 import unittest
 import warnings
@@ -8,6 +9,7 @@ from unittest import mock
 from lab.play.own_modules import random_from
 from lab.search import naming, plain
 from lab.search.caches import Caches
+from lab.search.codes import bytes_of
 from lab.search.naming import Namer
 from lab.search.pasts import NoFunction
 from lab.search.standing import Known
@@ -83,6 +85,32 @@ class Names(unittest.TestCase):
                     self.assertIsNotNone(found)
                     self.assertEqual(found, Program(ALL[name], b).name())
 
+    def test_a_module_is_told_from_a_copy_of_its_variables(self) -> None:
+        """Also where these are met before the module, as in a variable of a frame."""
+        names = []
+        for is_copy in (False, True):
+            program = Program(Hides("b"), "")
+            variables, namer = program.variables, Namer(program.known)
+            # which leads to modules that have no name
+            del variables["__builtins__"]
+            names.append((namer.name(dict(variables) if is_copy else variables), namer.globals(variables)))
+        self.assertNotEqual(*names)
+
+    def test_objects_are_named_once_and_again_alike(self) -> None:
+        for lines in ("class C:\n    pass", "class C(Exception):\n    pass",
+                      "import typing\nclass C(typing.NamedTuple):\n    one: int = 1"):
+            with self.subTest(lines):
+                program = Program(Hides("C()", lines), "")
+                self.assertIsNotNone(program.name())
+                self.assertEqual(program.name(), program.name())
+
+    def test_an_unfinished_generator_has_its_variables_without_a_value(self) -> None:
+        lines = ("def make(b):\n    def waits():\n        if b:\n            one = 1\n        yield 2\n        one = 3\n"
+                 "    it = waits()\n    next(it)\n    return it")
+        without, with_bit = both(Hides("make(b)", lines))
+        self.assertIsNotNone(without)
+        self.assertNotEqual(without, with_bit)
+
     def test_long_plain_values_are_named_once_and_as_others_are(self) -> None:
         changes = {3: "c", 4: (5, 6.5), 5: None, 6: True}
         values: List[Any] = [(1, "a", None, (2.0, b"b"), True), frozenset("abcd"), frozenset(((1, 2), 3, 4, "x")),
@@ -118,6 +146,29 @@ class Names(unittest.TestCase):
                 self.assertIsNotNone(Namer(program.known)._plan(kind))
                 exec(changes, program.variables)
                 self.assertIsNone(Namer(program.known)._plan(kind))
+
+
+class Bytes(unittest.TestCase):
+    def test_names_have_the_same_bytes_if_they_are_equal_and_else_others(self) -> None:
+        names: List[Any] = [1, True, "1", b"1", (1,), ((1,),), ("1",), (), None, "", b"", 2 ** 40, -1, "\ud800", "é",
+                            ("a", "b"), ("ab",), ("a", ("b",))]
+        for one in names:
+            for other in names:
+                with self.subTest(one=one, other=other):
+                    is_same = type(one) is type(other) and one == other
+                    self.assertEqual(bytes_of((one, 7)) == bytes_of((other, 7)), is_same)
+
+    def test_it_is_not_told_which_parts_are_one_object(self) -> None:
+        text, number = "".join(("lo", "ng")), int("123456789")
+        part = (text, number)
+        self.assertEqual(bytes_of((part, part, text)),
+                         bytes_of((("".join(("l", "ong")), int("123456789")), part, sys.intern("long"))))
+
+    def test_what_is_no_plain_part_of_a_name_is_spelled(self) -> None:
+        class Text(str):
+            pass
+        self.assertEqual(bytes_of((Text("a"), 1)), bytes_of((Text("a"), 1)))
+        self.assertNotEqual(bytes_of((Text("a"), 1)), bytes_of((Text("b"), 1)))
 
 
 if __name__ == "__main__":
