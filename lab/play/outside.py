@@ -41,7 +41,9 @@ class Notes:
 
 def notes_of(thread: Any) -> Notes:
     """The notes of a program, which is a greenlet."""
-    found: Notes = vars(thread).setdefault("notes", Notes())
+    found: Optional[Notes] = vars(thread).get("notes")
+    if found is None:
+        found = vars(thread)["notes"] = Notes()
     return found
 
 

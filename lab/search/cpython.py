@@ -69,9 +69,13 @@ def number_at(address: int) -> int:
     return ctypes.c_ssize_t.from_address(address).value
 
 
+# all memory, of which parts are taken
+EVERYWHERE = memoryview((ctypes.c_char * sys.maxsize).from_address(0)).cast("B")
+
+
 def views_of(places: List[Place]) -> List[memoryview]:
     """Places of memory, by their addresses and sizes, to be read as often as one likes."""
-    return [memoryview((ctypes.c_char * size).from_address(address)).cast("B") for address, size in places]
+    return [EVERYWHERE[address:address + size] for address, size in places]
 
 
 def version_of(variables: Dict[Any, Any]) -> int:

@@ -21,10 +21,10 @@ import re
 import struct
 import threading
 import types
-from typing import Any, Callable, Dict, Iterable, Iterator, List, NamedTuple, Protocol, Set, Tuple
+from typing import Any, Callable, Dict, Iterable, List, NamedTuple, Protocol, Set, Tuple
 
 from lab.search.codes import Name, code_name, digest_of
-from lab.search.cpython import (NOTHING, Taken, dict_of, entries_of, is_made_in_python, reached_by, table_of)
+from lab.search.cpython import Taken, dict_of, entries_of, is_made_in_python, reached_by, table_of
 from lab.search.unnamed import Unnamed, an, instead_of
 
 
@@ -376,5 +376,5 @@ def is_abstract(kind: type, part: Any) -> bool:
     return True
 
 
-__all__ = ["BASES", "BUILT_IN", "CACHE", "GETTER", "NAMES", "NOTHING", "Names", "Plan", "complex_name",
-           "exception_name", "has_address_as_hash", "is_abstract", "number_name", "parts_name", "plan_of"]
+__all__ = ["BASES", "BUILT_IN", "CACHE", "GETTER", "NAMES", "Names", "Plan", "complex_name", "exception_name",
+           "has_address_as_hash", "is_abstract", "number_name", "parts_name", "plan_of"]

@@ -207,8 +207,9 @@ class Machines:
         return self._seats.name(one, way)
 
     def leave(self, memory: int, one: Seated) -> None:
-        """Leaves a program where it waits. One that was played alone ends, and what it has changed is put back."""
-        if self._seats.is_stale(one):
+        """Leaves a program where it waits, unless nothing more comes of it. One that was played alone ends, and what it
+        has changed is put back."""
+        if self._seats.is_stale(one) or one.is_over() and memory not in self._alone:
             one.player.stop()
         elif memory in self._alone:
             one.player.stop()

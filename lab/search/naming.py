@@ -6,7 +6,7 @@ import operator
 import sys
 import types
 from importlib.machinery import ModuleSpec, SourceFileLoader
-from typing import Any, Dict, Iterable, Iterator, List, NamedTuple, Optional, Protocol, Tuple
+from typing import Any, Callable, Dict, Iterable, Iterator, List, NamedTuple, Optional, Protocol, Tuple
 
 from lab.search.codes import CODES, Name, code_name, digest_of, variables_of
 from lab.search.cpython import (Place, dict_of, function_places, has_attributes, held_by_frame, is_made_in_python,
@@ -95,7 +95,8 @@ class Namer:
             return names(self, value)
         plan = self._plan(kind)
         if plan is not None:
-            return ("object", plan.label, parts_name(self, plan.plan, value))
+            return ("object", plan.label, parts_name(self, plan.plan, value) if plan.held is None else
+                    tuple(self.names(plan.held(value).items())))
         if value is Ellipsis or value is NotImplemented:
             return ("constant", repr(value))
         return self.alias(value) if is_alias(value) else self._other(kind, value)
@@ -298,19 +299,21 @@ def slot_of(code: types.CodeType, place: int) -> str:
 
 class KeptPlan(NamedTuple):
     """How objects of a class are named, with the classes of which that follows, where their versions lie, what they
-    were, and the name of the class."""
+    were, and the name of the class; and what gives the attributes of objects that have nothing else."""
 
     mro: Tuple[type, ...]
     views: List[memoryview]
     says: bytes
     plan: Plan
     label: Name
+    held: Optional[Callable[[Any], Dict[str, Any]]]
 
 
 def kept_plan(kind: type, plan: Plan, label: Name) -> KeptPlan:
     """The plan of a class of this name, as its classes are now."""
     views = views_of([version_place(dict_of(it)) for it in kind.__mro__ if is_made_in_python(it)])
-    return KeptPlan(kind.__mro__, views, b"".join(views), plan, label)
+    held = plan.attributes[0].__get__ if plan.attributes and not plan.slots and not plan.bases else None
+    return KeptPlan(kind.__mro__, views, b"".join(views), plan, label, held)
 
 
 class SharedFunction(NamedTuple):

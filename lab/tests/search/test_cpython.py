@@ -7,9 +7,10 @@ from lab.search import cpython
 from lab.support.built import TOP
 
 # each place, and the check that finds a wrong one
-PLACES = {"SLOTS": "frames", "TOP": "frames", "CODE": "frames", "GLOBALS": "frames", "FINGER": "sets", "FILL": "sets", "TABLE": "sets", "USABLE": "dicts",
-          "ENTRIES": "dicts", "REACHED": "dicts", "ITERATED": "dicts", "VERSION": "dicts", "ATTRIBUTES": "functions",
-          "NAME_OF_CLASS": "classes", "CELL": "cells", "RESULT": "caches"}
+PLACES = {"SLOTS": "frames", "TOP": "frames", "CODE": "frames", "GLOBALS": "frames", "FINGER": "sets", "FILL": "sets",
+          "TABLE": "sets", "USABLE": "dicts", "ENTRIES": "dicts", "REACHED": "dicts", "ITERATED": "dicts",
+          "VERSION": "dicts", "ATTRIBUTES": "functions", "NAME_OF_CLASS": "classes", "CELL": "cells",
+          "RESULT": "caches"}
 WRONG = """
 import sys
 from lab.search import cpython

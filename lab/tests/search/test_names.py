@@ -105,8 +105,8 @@ class Names(unittest.TestCase):
                 self.assertEqual(program.name(), program.name())
 
     def test_an_unfinished_generator_has_its_variables_without_a_value(self) -> None:
-        lines = ("def make(b):\n    def waits():\n        if b:\n            one = 1\n        yield 2\n        one = 3\n"
-                 "    it = waits()\n    next(it)\n    return it")
+        lines = ("def make(b):\n    def waits():\n        if b:\n            one = 1\n        yield 2\n"
+                 "        one = 3\n    it = waits()\n    next(it)\n    return it")
         without, with_bit = both(Hides("make(b)", lines))
         self.assertIsNotNone(without)
         self.assertNotEqual(without, with_bit)
