@@ -192,7 +192,8 @@ class Agent:
     def depart(self, port: int) -> Here:
         """Leaves by this port, and waits until the agent arrives. An agent that is destroyed waits until the close."""
         self._ask({"do": "depart", "port": port})
-        return self._here(self._answer())
+        line = self._lines.receive()
+        return self._here(answer_in(line))
 
     def accuse(self, port: int) -> None:
         """Says that the link at this port leads to a black hole, or is dark. The agent ends, and is not told whether it
@@ -205,20 +206,23 @@ class Agent:
 
     def _ask(self, command: Dict[str, Any]) -> Dict[str, Any]:
         self._lines.send(ENCODER.encode(command))
-        return self._answer()
-
-    def _answer(self) -> Dict[str, Any]:
-        answer = json.loads(self._lines.receive())
-        why = answer.get("no")
-        if why is not None:
-            raise REFUSALS.get(why, Refused)(why)
-        if answer["ok"] == "over":
-            raise MatchOver("the match is over")
-        return answer
+        line = self._lines.receive()
+        return answer_in(line)
 
     @staticmethod
     def _here(answer: Dict[str, Any]) -> Here:
         return Here(answer["ports"], answer["from"], answer["board"])
+
+
+def answer_in(line: str) -> Dict[str, Any]:
+    """The answer in a line of the server, if it does not refuse."""
+    answer: Dict[str, Any] = json.loads(line)
+    why = answer.get("no")
+    if why is not None:
+        raise REFUSALS.get(why, Refused)(why)
+    if answer["ok"] == "over":
+        raise MatchOver("the match is over")
+    return answer
 
 
 def play(usage: str, search: Callable[..., None], numbers: int) -> None:

@@ -90,12 +90,15 @@ class OwnModules:
         self._files: Collection[str] = ()
         self._shared: Dict[str, ModuleType] = {}
         self._path: List[str] = []
+        # where imports look while the agent runs, and what that was made of: where they look else, of how many folders
+        self._ahead: List[str] = []
+        self._seen: Tuple[List[str], int] = ([], -1)
         self._count = 0
         self._depth = 0
 
     def begin(self, folders: Sequence[str], files: Collection[str] = ()) -> None:
         """From now on modules in these folders are the agent's own, but for these files, which all agents share."""
-        self._folders, self._files = list(folders), files
+        self._folders, self._files, self._seen = list(folders), files, ([], -1)
         FOLDERS.update(folders)
         self._shared.update({name: sys.modules.pop(name) for name in own_names(FOLDERS, files)})
         self._own = {**self.kept, RANDOM: self.random}
@@ -131,7 +134,13 @@ class OwnModules:
 
     def _put(self, modules: Dict[str, ModuleType]) -> None:
         """Puts modules in their places, and has imports look beside the agent first."""
-        self._shared.update({name: sys.modules[name] for name in modules if name in sys.modules})
-        sys.modules.update(modules)
-        sys.path[:] = [*self._folders, *(it for it in sys.path if it not in FOLDERS)]
-        self._count = len(sys.modules)
+        loaded = sys.modules
+        for name, module in modules.items():
+            if name in loaded:
+                self._shared[name] = loaded[name]
+            loaded[name] = module
+        seen = sys.path[:], len(FOLDERS)
+        if seen != self._seen:
+            self._seen, self._ahead = seen, [*self._folders, *(it for it in sys.path if it not in FOLDERS)]
+        sys.path[:] = self._ahead
+        self._count = len(loaded)

@@ -155,7 +155,10 @@ class Seats:
 
     def has_changed(self) -> bool:
         """Whether something has changed in modules that programs have in common."""
-        return any(common is not None and not common.is_as_before() for common in self._common.values())
+        for common in self._common.values():
+            if common is not None and not common.is_as_before():
+                return True
+        return False
 
     def part(self) -> None:
         """From now on each program that begins has modules of its own."""

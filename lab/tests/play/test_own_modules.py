@@ -1,10 +1,13 @@
 """Each agent inside the lab has a `random` of its own, and leaves nothing behind."""
 import gc
 import random
+import sys
 import unittest
 import weakref
+from unittest import mock
 
-from lab.play.own_modules import random_from
+from lab.play import own_modules
+from lab.play.own_modules import OwnModules, random_from
 
 
 class Randoms(unittest.TestCase):
@@ -30,3 +33,24 @@ class Randoms(unittest.TestCase):
         del made
         gc.collect()
         self.assertIsNone(held())
+
+
+class Paths(unittest.TestCase):
+    def test_imports_look_beside_the_agent_first_wherever_else_they_look(self) -> None:
+        with mock.patch.object(sys, "path", ["/other"]), mock.patch.object(own_modules, "FOLDERS", set()):
+            modules = OwnModules(0)
+            for number in range(2):
+                with modules:
+                    if not number:
+                        modules.begin(["/agent"])
+                    self.assertEqual(sys.path, ["/agent", "/other"])
+                self.assertEqual(sys.path, ["/other"])
+            sys.path.append("/more")
+            with modules:
+                self.assertEqual(sys.path, ["/agent", "/other", "/more"])
+            # the folder of another agent
+            with OwnModules(1) as others:
+                others.begin(["/more"])
+            with modules:
+                self.assertEqual(sys.path, ["/agent", "/other"])
+            self.assertEqual(sys.path, ["/other", "/more"])
