@@ -17,7 +17,7 @@ import json
 from typing import Any, ContextManager, Dict, List, Optional, OrderedDict, Set, Tuple
 
 from lab.play.outside import watch
-from lab.play.players import WAKES, Player
+from lab.play.players import DONE, WAKES, Player
 from lab.play.teams import INSIDE, AgentWords
 from lab.rules.fixtures import Fixture
 from lab.rules.model import Object, command_of, spelled, text_of
@@ -207,9 +207,9 @@ class Machines:
         return self._seats.name(one, way)
 
     def leave(self, memory: int, one: Seated) -> None:
-        """Leaves a program where it waits, unless nothing more comes of it. One that was played alone ends, and what it
-        has changed is put back."""
-        if self._seats.is_stale(one) or one.is_over() and memory not in self._alone:
+        """Leaves a program where it waits, if it has not ended. One that was played alone ends, and what it has changed
+        is put back."""
+        if self._seats.is_stale(one) or one.player.state == DONE and memory not in self._alone:
             one.player.stop()
         elif memory in self._alone:
             one.player.stop()
