@@ -77,8 +77,6 @@ REFUSALS = {
     "ended": Ended, "spent": Spent, "away": Away, "line": BadLine, "port": NoSuchPort, "long": TooLong,
     "full": NoRoom, "late": NoRoom, "memory": NoRoom,
 }
-# made once: to make one takes longer than to spell a command
-ENCODER = json.JSONEncoder(ensure_ascii=False)
 # how often a client tries to enter again while there is no room, and how many seconds it waits before
 TRIES, FIRST_PAUSE, LONGEST_PAUSE = 20, 0.05, 2.0
 
@@ -205,7 +203,7 @@ class Agent:
         self._ask({"do": "leave"})
 
     def _ask(self, command: Dict[str, Any]) -> Dict[str, Any]:
-        self._lines.send(ENCODER.encode(command))
+        self._lines.send(line_of(command))
         line = self._lines.receive()
         return answer_in(line)
 
@@ -214,9 +212,19 @@ class Agent:
         return Here(answer["ports"], answer["from"], answer["board"])
 
 
+def line_of(command: Dict[str, Any]) -> str:
+    """The line of a command."""
+    return json.dumps(command, ensure_ascii=False)
+
+
+def said_in(line: str) -> Any:
+    """What a line of the server says."""
+    return json.loads(line)
+
+
 def answer_in(line: str) -> Dict[str, Any]:
     """The answer in a line of the server, if it does not refuse."""
-    answer: Dict[str, Any] = json.loads(line)
+    answer: Dict[str, Any] = said_in(line)
     why = answer.get("no")
     if why is not None:
         raise REFUSALS.get(why, Refused)(why)

@@ -21,34 +21,34 @@ class KeptLines(unittest.TestCase):
         for _ in range(2):
             for command in COMMANDS:
                 with self.subTest(command):
-                    self.assertEqual(kept_lines.ENCODER.encode(command), json.dumps(command, ensure_ascii=False))
+                    self.assertEqual(kept_lines.line_of(command), json.dumps(command, ensure_ascii=False))
 
     def test_lines_are_read_as_json_does(self) -> None:
         for _ in range(2):
             for command in COMMANDS:
                 line = json.dumps(command)
                 with self.subTest(line):
-                    self.assertEqual(repr(kept_lines.loads(line)), repr(json.loads(line)))
+                    self.assertEqual(repr(kept_lines.said_in(line)), repr(json.loads(line)))
         for line in ("", "{", '{"a": 1} x'):
             for _ in range(2):
-                self.assertRaises(json.JSONDecodeError, kept_lines.loads, line)
+                self.assertRaises(json.JSONDecodeError, kept_lines.said_in, line)
 
     def test_who_changes_what_it_read_changes_it_for_itself(self) -> None:
         for line in ('{"ok": "here", "board": "a"}', '{"ok": ["here"]}'):
             for _ in range(3):
                 with self.subTest(line):
-                    read = kept_lines.loads(line)
+                    read = kept_lines.said_in(line)
                     self.assertEqual(read, json.loads(line))
                     read["ok"] = read["more"] = "changed"
-                    read = kept_lines.loads(line)
+                    read = kept_lines.said_in(line)
                     if isinstance(read["ok"], list):
                         read["ok"].append("changed")
 
     def test_too_many_lines_are_not_kept(self) -> None:
         with mock.patch.object(kept_lines, "MOST", 3):
             for number in range(9):
-                self.assertEqual(kept_lines.loads(f'{{"a": {number}}}'), {"a": number})
-                self.assertEqual(kept_lines.ENCODER.encode({"a": number}), f'{{"a": {number}}}')
+                self.assertEqual(kept_lines.said_in(f'{{"a": {number}}}'), {"a": number})
+                self.assertEqual(kept_lines.line_of({"a": number}), f'{{"a": {number}}}')
                 self.assertLessEqual(max(len(kept_lines.READ), len(kept_lines.SPELLED)), 3)
 
 
