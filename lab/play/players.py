@@ -4,6 +4,7 @@ A player runs until it waits for the answer to its line, for its arrival, or to 
 is the line that it sent, or None if its input has ended.
 """
 import signal
+import sys
 import threading
 from collections import deque
 from typing import Any, Deque, Dict, List, Mapping, Optional, Sequence
@@ -46,6 +47,8 @@ class Player:
         # the line that it was told last, and those ahead of it on a way that it goes once more
         self.latest = ""
         self.ahead = NOTHING_AHEAD
+        # while it waits, the exception that it handles
+        self.handled: Optional[BaseException] = None
         # those that the script loads for this agent alone
         self.modules = OwnModules(number)
         self._team = team
@@ -110,8 +113,11 @@ class Player:
         self._wait(SLEEPS)
 
     def _wait(self, state: str) -> None:
-        self.state = state
-        self._thread.parent.switch()
+        self.state, self.handled = state, sys.exception()
+        try:
+            self._thread.parent.switch()
+        finally:
+            self.handled = None
 
     def _run(self, script: Script, key: str) -> None:
         try:

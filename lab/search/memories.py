@@ -9,17 +9,17 @@ Only what is listed has a name: types all of whose state is read (lab/search/kin
 program's history stands for its memory.
 """
 import functools
-import gc
 import os
 import types
-from typing import Any, Callable, Dict, List, Mapping, Tuple
+from typing import Any, Callable, Dict, List, Mapping, Optional, Tuple
 
 from lab.search.naming import Namer
 from lab.search.standing import Known
 from lab.search.unnamed import Unnamed
 
 
-def memory_of(thread: Any, known: Known, more: Mapping[str, Any], modules: List[types.ModuleType]) -> Tuple[Any, ...]:
+def memory_of(thread: Any, handled: Optional[BaseException], known: Known, more: Mapping[str, Any],
+              modules: List[types.ModuleType]) -> Tuple[Any, ...]:
     """What the program of a greenlet holds that waits: its frames, the exception that it handles, `more`, its own
     modules, and what it draws next. Frames of the lab's own modules are left out."""
     known.look()
@@ -29,9 +29,10 @@ def memory_of(thread: Any, known: Known, more: Mapping[str, Any], modules: List[
             frames.append(frame)
         frame = frame.f_back
     try:
-        handled = [it for it in gc.get_referents(thread) if isinstance(it, BaseException)]
         own = [namer.globals(vars(it)) for it in modules]
-        found = (*namer.frames(frames), *map(namer.name, handled), *own, *namer.names(more.items()), known.drawn())
+        # exceptions around the one that is handled lie on stacks of frames: only generators keep one elsewhere, and who
+        # waits inside a generator has no name
+        found = (*namer.frames(frames), namer.name(handled), *own, *namer.names(more.items()), known.drawn())
     except RecursionError:
         raise Unnamed("something that leads too deep", instead="hold it in lists that lead less deep") from None
     known.shared.check()

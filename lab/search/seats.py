@@ -259,7 +259,7 @@ class Seats:
             more = {} if all_parts.keys() == self._parts else {
                 it: value for it, value in all_parts.items() if it not in self._parts}
             own = [it for name, it in player.modules.own().items() if name != "random"]
-            held = memory_of(player._thread, known, more, own)
+            held = memory_of(player._thread, player.handled, known, more, own)
             return ("holds", self._apart(player), held, tuple(player._heard), player._is_over, player._is_closed)
         except Unnamed as what:
             one.is_alone = what.is_shared

@@ -1,11 +1,13 @@
 """`explore` merges histories by what a program holds. Agents that hide one bit in something have it named, or told: no
 schedule that fails is left out. Each hides in another type, module or place whether a whiteboard said something."""
-import unittest
 import pathlib
 import re
+import textwrap
+import unittest
 from typing import Any, Dict, NamedTuple
 from unittest import main as run_tests, mock
 
+from lab.play.players import Team
 from lab.rules import networks
 from lab.search import explore, seats
 from lab.tests.search.exploring import InExplore
@@ -104,9 +106,120 @@ def reader(agent, key):
     seen = {finds}
     agent.accuse(1 if seen == {good!r} else 0)
 '''
+# what an agent does that keeps the bit in an exception alone: it raises `X` in the end if there is a bit, and else `Y`
+HANDLED: Dict[str, str] = {
+    "an except without a name": """
+        try:
+            raise X if b else Y
+        except Exception:
+            del b
+            agent.depart(1)
+            raise
+        """,
+    "what it was made of": """
+        try:
+            try:
+                raise Z(b)
+            except Z:
+                del b
+                agent.depart(1)
+                raise
+        except Z as it:
+            raise X if it.args[0] else Y
+        """,
+    "what it came from": """
+        try:
+            try:
+                raise Z from (X() if b else Y())
+            except Z:
+                del b
+                agent.depart(1)
+                raise
+        except Z as it:
+            raise it.__cause__
+        """,
+    "a finally": """
+        try:
+            raise X if b else Y
+        finally:
+            del b
+            agent.depart(1)
+        """,
+    "the one around another": """
+        try:
+            raise X if b else Y
+        except Exception:
+            del b
+            try:
+                raise Z
+            except Z as it:
+                it.__context__ = None
+                agent.depart(1)
+            raise
+        """,
+    "the one around a call": """
+        try:
+            raise X if b else Y
+        except Exception:
+            del b
+            handles_another(agent)
+            raise
+        """,
+    "a with": """
+        raises = [X if b else Y]
+        del b
+        with Departs(agent):
+            raise raises.pop()
+        """,
+    "a generator that waits": """
+        raises = [X if b else Y]
+        del b
+        for _ in handles(agent, raises):
+            pass
+        """,
+    "a generator that is left": """
+        raises = [X if b else Y]
+        del b
+        left = handles(None, raises)
+        next(left)
+        agent.depart(1)
+        next(left)
+        """,
+    "the one around a generator": """
+        try:
+            raise X if b else Y
+        except Exception:
+            del b
+            for _ in handles(agent, [Z]):
+                break
+            raise
+        """,
+}
+# those that wait in C: they have no name, and their history stands
+IN_C = {"a with", "a generator that waits", "the one around a generator"}
 HANDLES = '''
 class X(Exception): pass
 class Y(Exception): pass
+class Z(Exception): pass
+class Departs:
+    def __init__(self, agent): self.agent = agent
+    def __enter__(self): pass
+    def __exit__(self, *_): self.agent.depart(1)
+def handles_another(agent):
+    try:
+        raise Z
+    except Z as it:
+        it.__context__ = None
+        agent.depart(1)
+def handles(agent, raises):
+    try:
+        raise raises.pop()
+    except Exception as it:
+        it.__context__ = None
+        del it
+        if agent: agent.depart(1)
+        yield
+        raise
 def writer(agent, key):
     agent.enter(key)
     agent.write('', 'x')
@@ -114,16 +227,11 @@ def writer(agent, key):
 def reader(agent, key):
     b = agent.enter(key).board
     try:
-        try:
-            raise X if b else Y
-        except Exception:
-            del b
-            agent.depart(1)
-            raise
+{handles}
     except X:
-        agent.accuse(0)
+        agent.accuse({good})
     except Y:
-        agent.accuse(1)
+        agent.accuse(1 - {good})
 '''
 ROLES = '''
 import random
@@ -200,11 +308,16 @@ class Memories(InExplore):
                     self.assertEqual(status, 1, self.said)
                     self.assertIn("a schedule fails", self.said)
 
-    # names leave such an exception out: explore finds that out and claims nothing, where it should name it
-    @unittest.expectedFailure
     def test_the_exception_that_is_handled(self) -> None:
         file = f"{self.folder}/hides.py"
-        self.assertEqual(self.explored(HANDLES, "--agent", f"{file}:writer", "--agent", f"{file}:reader"), 1, self.said)
+        for name, handles in HANDLED.items():
+            for good in (0, 1):
+                with self.subTest(name, good=good):
+                    text = HANDLES.format(handles=textwrap.indent(textwrap.dedent(handles), 8 * " "), good=good)
+                    status = self.explored(text, "--agent", f"{file}:writer", "--agent", f"{file}:reader")
+                    self.assertEqual(status, 1, self.said)
+                    self.assertIn("a schedule fails", self.said)
+                    self.assertEqual("history stands" in self.said, name in IN_C, self.said)
 
     def test_roles(self) -> None:
         for name in ("by_key", "by_key_later", "by_random", "by_number"):
@@ -320,6 +433,43 @@ class Memories(InExplore):
                                   f"{file}:reader")
         self.assertEqual(status, 2, self.said)
         self.assertIn("came to one memory in two ways, and goes on in two", self.said)
+
+
+def handles(_lines: Any, _key: str, sleep: Any) -> None:
+    sleep(1)
+    try:
+        raise KeyError("own")
+    except KeyError:
+        sleep(1)
+        sleep(1)
+    sleep(1)
+
+
+class Handled(unittest.TestCase):
+    """The exception that an agent handles while it waits."""
+
+    def setUp(self) -> None:
+        self.team = Team(["k0"], {0: handles})
+        [self.player] = self.team.players
+        self.addCleanup(self.team.stop)
+
+    def go_on(self) -> str:
+        """What the agent handles when it waits next. It begins or goes on while the lab handles another exception."""
+        try:
+            raise OSError
+        except OSError:
+            self.player.go_on()
+        return repr(self.player.handled)
+
+    def test_what_the_lab_handles_is_none_of_the_agent(self) -> None:
+        own = "KeyError('own')"
+        self.assertEqual([self.go_on() for _ in range(5)], ["None", own, own, "None", "None"])
+
+    def test_a_program_that_is_ended_handles_nothing(self) -> None:
+        self.go_on()
+        self.assertEqual(self.go_on(), "KeyError('own')")
+        self.team.stop()
+        self.assertIsNone(self.player.handled)
 
 
 if __name__ == "__main__":
