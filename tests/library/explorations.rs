@@ -181,17 +181,44 @@ fn agents_that_write_at_one_node_are_tried_in_both_orders(rt: HostRuntime) -> Re
 }
 
 #[test]
-fn agents_that_stand_alike_need_not_be_the_first(rt: HostRuntime) -> Result<(), Fail> {
+fn states_with_two_agents_exchanged_are_one(rt: HostRuntime) -> Result<(), Fail> {
     let alloc = rt.alloc();
     let mut team = Rivals::new(alloc, true);
     let mut setup = setup(alloc)?;
     setup.agents = 3;
     let world = World::new(alloc, network(alloc)?, setup)?;
     let mut explorer = Explorer::new(alloc, world, Vec::new(alloc), 2, &mut team)?;
-    match explorer.explore(&mut team, 1_000)?.found {
+    let explored = explorer.explore(&mut team, 1_000)?;
+    assert_eq!(rt; explored.states, 21);
+    match explored.found {
         Found::Solves(_) => Ok(()),
         _ => Err(Fail::from("a schedule of three agents does not solve")),
     }
+}
+
+#[test]
+fn what_agents_spend_goes_with_them(rt: HostRuntime) -> Result<(), Fail> {
+    let alloc = rt.alloc();
+    for agents in 2u16..5 {
+        for quota in 2u16..4 {
+            let mut team = Rivals::new(alloc, true);
+            let mut setup = setup(alloc)?;
+            (setup.agents, setup.quota) = (agents, quota);
+            let world = World::new(alloc, network(alloc)?, setup)?;
+            let mut explorer = Explorer::new(alloc, world, Vec::new(alloc), 2, &mut team)?;
+            match explorer.explore(&mut team, 10_000)?.found {
+                Found::Solves(bounds) => {
+                    assert_eq!(rt; (quota, bounds.commands.len()), (3, usize::from(agents)));
+                    assert_eq!(rt; (bounds.commands[0], bounds.commands[1]), (3, 1));
+                }
+                Found::Exceeds { agent, commands } => {
+                    assert_eq!(rt; (quota, agent, commands), (2, 0, 3));
+                }
+                _ => return Err(Fail::from("a schedule does not solve")),
+            }
+        }
+    }
+    Ok(())
 }
 
 #[test]

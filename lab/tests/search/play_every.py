@@ -206,7 +206,7 @@ class Exploring(InExplore):
         self.assertEqual(status, 1, self.said)
         table = self.said.partition("network matches states moves lost seconds\n")[2].split("\n")
         self.assertEqual([row.split()[:5] for row in table[:2]],
-                         [["ring:3", "2", "78", "4", "1"], ["ring:4", "3", "394", "9", "1"]])
+                         [["ring:3", "2", "57", "4", "1"], ["ring:4", "3", "246", "9", "1"]])
         self.assertNotIn("torus", "".join(table))
 
     def test_other_sample_agents(self) -> None:
@@ -229,7 +229,7 @@ class Exploring(InExplore):
 
     def test_what_goes_on_for_ever(self) -> None:
         match = ["--network", "ring:3", "--hole", 1]
-        for names, fair in ((["enters_again"], "and it is not fair"), (["enters_again", "knows"], "and it is not fair"),
+        for names, fair in ((["enters_again"], "and it is not fair"), (["enters_again", "knows"], "and it is fair"),
                             (["knows", "enters_again"], "and it is fair")):
             with self.subTest(names):
                 agents = [word for name in names for word in self.odd(name)]

@@ -424,7 +424,7 @@ class Memories(InExplore):
         self.assertEqual(len(set(asked.values())), 1, asked)
 
     def test_a_merge_that_is_none_is_told(self) -> None:
-        (self.folder / "hides.py").write_text(TEXT.format(lines="", hides="b", finds="h", good="x"), encoding="utf-8")
+        (self.folder / "hides.py").write_text(TEXT.format(lines="", hides="b", finds="h", good=""), encoding="utf-8")
         file = f"{self.folder}/hides.py"
         # a name that leaves a text of one letter out
         found = seats.bytes_of
