@@ -3,11 +3,12 @@
 A player runs until it waits for the answer to its line, for its arrival, or to be woken. `state` says which, and `line`
 is the line that it sent, or None if its input has ended.
 """
+import operator
 import signal
 import sys
 import threading
 from collections import deque
-from typing import Any, Deque, Dict, List, Mapping, Optional, Sequence
+from typing import Any, Callable, Deque, Dict, List, Mapping, Optional, Sequence
 
 from lab.play.agent_files import Script
 from lab.play.bounds import LIMIT
@@ -25,7 +26,9 @@ LAST_LINES = DENIALS | {spelled(reply) for reply in LAST}
 DEPARTED, WAKES = spelled(GONE), "wakes"
 # what is never taken from lines ahead
 NEVER_AHEAD = LAST_LINES | {WAKES}
-NOTHING_AHEAD: Deque[str] = deque()
+# of a player what the lab plays its program by: it stays as it is
+STAYS = ("number", "modules", "_team", "_heard", "_thread")
+CHANGED = "has changed {} of its lines, by which the lab plays it"
 
 # how many times longer an agent may sleep than compute: a machine with other work lets it wait too
 LONGER = 20
@@ -38,17 +41,24 @@ class TooSlow(Exception):
 class Player:
     """One agent's program. It has `send` and `receive`, by which the client asks, and `sleep`."""
 
+    # what the lab finds if a program takes such a part away
+    state, errors, latest = WAITS, "", ""
+    line: Optional[bytes] = None
+    fault: Optional[str] = None
+    ahead: Optional[Deque[str]] = None
+    handled: Optional[BaseException] = None
+    _is_over = _is_closed = False
+
     def __init__(self, team: "Team", number: int, key: str, script: Script) -> None:
         self.number = number
         self.state = WAITS
-        self.line: Optional[bytes] = None
-        self.fault: Optional[str] = None
+        self.line = self.fault = None
         self.errors = ""
         # the line that it was told last, and those ahead of it on a way that it goes once more
         self.latest = ""
-        self.ahead = NOTHING_AHEAD
+        self.ahead = None
         # while it waits, the exception that it handles
-        self.handled: Optional[BaseException] = None
+        self.handled = None
         # those that the script loads for this agent alone
         self.modules = OwnModules(number)
         self._team = team
@@ -79,15 +89,32 @@ class Player:
     def go_on(self) -> None:
         """Lets the program begin, wake, or read what it heard."""
         self._team.turns += 1
-        with self.modules:
-            self._thread.switch()
+        changed = self._turn(self._thread.switch)
+        if changed is not None:
+            self.stop()
+            # whatever else it comes to
+            self.fault = CHANGED.format(changed)
 
     def stop(self, fault: Optional[str] = None) -> None:
         """Ends the program."""
         self.fault = self.fault or fault
         self.state = DONE
+        self._turn(self._thread.throw)
+
+    def _turn(self, begins: Callable[[], Any]) -> Optional[str]:
+        """Lets the program run until it waits or ends. What it has changed of what the lab plays it by is put back, and
+        told."""
+        parts, kind = vars(self), type(self)
+        before = [*map(parts.get, STAYS)]
         with self.modules:
-            self._thread.throw()
+            begins()
+        if type(self) is kind and vars(self) is parts and all(map(operator.is_, before, map(parts.get, STAYS))):
+            return None
+        changed = [it for it, part in zip(STAYS, before) if parts.get(it) is not part]
+        object.__setattr__(self, "__class__", kind)
+        self.__dict__ = parts
+        parts.update(zip(STAYS, before))
+        return changed[0] if changed else "the class or the dict"
 
     def send(self, line: str) -> None:
         if self._is_closed:
@@ -100,13 +127,14 @@ class Player:
 
     def receive(self) -> str:
         if not self._heard:
-            ahead = self.ahead
-            if ahead and ahead[0] not in NEVER_AHEAD and (self.latest == DEPARTED) == (self.line is None):
-                # it is for an agent that waits as this one does: a way that was gone before is gone again in one turn
+            ahead, state = self.ahead, WAITS if self.line is not None else TRAVELS
+            if ahead and ahead[0] not in NEVER_AHEAD and (self.latest == DEPARTED) == (state == TRAVELS):
+                # it is for an agent that waits as this one does: a way that was gone before is gone again in one turn.
+                # All that the program can read is as if it had waited
                 self._team.turns += 1
-                self.line, self.latest = None, ahead.popleft()
+                self.state, self.handled, self.line, self.latest = state, None, None, ahead.popleft()
                 return self.latest
-            self._wait(WAITS if self.line is not None else TRAVELS)
+            self._wait(state)
         return self._heard.popleft()
 
     def sleep(self, _seconds: float) -> None:

@@ -4,7 +4,11 @@ import marshal
 import types
 from typing import Any, Dict, Iterator, List, Set, Tuple
 
+from lab.search.unnamed import Unnamed, an
+
 Name = Any
+# of these types are constants of code, besides code and tuples
+CONSTANTS = frozenset((str, bytes, int, float, complex, bool, type(None), type(...)))
 # the names of code, and of its variables, by its identity; the code is kept, so that no other code gets that
 CODES: Dict[int, Tuple[types.CodeType, Name]] = {}
 VARIABLES: Dict[int, Tuple[str, ...]] = {}
@@ -32,8 +36,8 @@ def code_name(code: types.CodeType) -> Name:
     found = CODES.get(id(code))
     if found is None:
         parts = (code.co_code, code.co_names, code.co_varnames, code.co_freevars, code.co_cellvars, code.co_flags,
-                 code.co_exceptiontable, code.co_argcount, code.co_kwonlyargcount, code.co_posonlyargcount,
-                 tuple(map(constant_name, code.co_consts)))
+                 code.co_exceptiontable, code.co_linetable, code.co_stacksize, code.co_name, code.co_argcount,
+                 code.co_kwonlyargcount, code.co_posonlyargcount, tuple(map(constant_name, code.co_consts)))
         name = code.co_filename, code.co_firstlineno, code.co_qualname, digest_of(parts, 12)
         # a number says the same in this process, and is shorter
         found = CODES[id(code)] = code, (NUMBERS.setdefault(name, len(NUMBERS)),)
@@ -48,6 +52,8 @@ def constant_name(value: Any) -> Name:
         return ("tuple", *map(constant_name, value))
     if isinstance(value, frozenset):
         return ("frozenset", *sorted(map(repr, map(constant_name, value))))
+    if type(value) not in CONSTANTS:
+        raise Unnamed(f"code with {an(type(value))} as a constant", instead="leave code as it is")
     return (type(value).__name__, hex(value) if type(value) is int else repr(value))
 
 

@@ -14,8 +14,10 @@ from typing import Any, Callable, Dict, List, NamedTuple, Tuple
 from lab.search.unnamed import Unnamed
 
 WORD, NUMBER = 8, 4
-# of a frame object its frame; of that, the variables of its module, its code, how high its stack is, and its slots
-FRAME, GLOBALS, CODE, TOP, SLOTS = 24, 8, 32, 64, 72
+# of a frame object its frame, behind which lie by what it is traced, its line, and what of it is traced; of that, the
+# variables of its module, a dict of its own if it was asked for, its code, how high its stack is, and its slots
+FRAME, GLOBALS, LOCALS, CODE, TOP, SLOTS = 24, 8, 24, 32, 64, 72
+TRACED_BY, TRACED, LINES_ALONE = 8, 20, 1
 # of a set: how many slots are or were in use, the last slot, the table, and where `pop` looks next
 FILL, MASK, TABLE, FINGER = 16, 32, 40, 56
 # of a list how many items it has
@@ -30,6 +32,10 @@ PARTS_OF_FUNCTION, DOING_PARTS, ATTRIBUTES = (16, 104), (16, 80), 88
 CELL, NAME_OF_CLASS, ENDS_OBJECTS, BASES_OF_CLASS = 16, 24, 48, 336
 # of a link of a bounded cache its result
 RESULT = 48
+# of a property its name, and whether its documentation is that of its function
+NAME_OF_PROPERTY, HAS_ITS_DOCUMENTATION = 48, 56
+# of what gives an attribute of an object its entry in a table; of that, where in the object the attribute lies
+ENTRY, OFFSET = 40, 16
 Place = Tuple[int, int]
 
 
@@ -178,25 +184,50 @@ def result_of(link: Any) -> Any:
     return ctypes.cast(ctypes.c_void_p.from_address(id(link) + RESULT).value or 0, ctypes.py_object).value
 
 
+def object_at(place: int) -> Any:
+    """The object that a place of memory leads to, or None."""
+    address, words, _, objects = READER.parts
+    address.value = place
+    return objects[0] if words[0] else None
+
+
+def more_of_property(value: property) -> Tuple[Any, bool]:
+    """What a property is called in faults, and whether it has its documentation from its function."""
+    return object_at(id(value) + NAME_OF_PROPERTY), number_at(id(value) + HAS_ITS_DOCUMENTATION) % 2 ** 32 != 0
+
+
+def is_empty(slot: Any, value: Any) -> bool:
+    """Whether nothing lies where an object has an attribute, of which Python says that it is None."""
+    return word_at(id(value) + number_at(word_at(id(slot) + ENTRY) + OFFSET)) == 0
+
+
 def held_by_frame(frame: types.FrameType) -> Tuple[int, int, List[int], List[Any]]:
-    """The identities of a frame's code and of the variables of its module; the identities of its variables and of what
-    lies on its stack, 0 of one without a value; and these values."""
+    """The identities of a frame's code and of the variables of its module; the identities of its variables, of what
+    lies on its stack and of its dict, if `locals` has made one, 0 of one without a value; and these values."""
     said = fault()
     if said:
         raise Unnamed(said)
     address, words, numbers, objects = READER.parts
     address.value = id(frame) + FRAME
+    if words[TRACED_BY // WORD] or numbers[TRACED // NUMBER] & 0xffff != LINES_ALONE:
+        raise traced(frame)
     address.value = words[0]
     top = numbers[TOP // NUMBER]
     if top < 0:
         raise Unnamed(f"the stack of {frame.f_code.co_qualname}, which waits inside a function that is not in Python",
                       instead="call the agent in a loop of your own")
-    code, variables = words[CODE // WORD], words[GLOBALS // WORD]
+    code, variables, own = words[CODE // WORD], words[GLOBALS // WORD], words[LOCALS // WORD]
+    more = [] if not own or own == variables else [objects[LOCALS // WORD]]
     address.value += SLOTS
     places: List[int] = words[:top]
     values: List[Any] = ([objects[it] if place else NOTHING for it, place in enumerate(places)] if 0 in places
                          else objects[:top])
-    return code, variables, places, values
+    return (code, variables, [*places, own], values + more) if more else (code, variables, places, values)
+
+
+def traced(frame: types.FrameType) -> Unnamed:
+    """What is said of a frame that something is told of."""
+    return Unnamed(f"a frame of {frame.f_code.co_qualname} that is traced", instead="leave frames as they are")
 
 
 @functools.lru_cache(maxsize=None)
@@ -222,7 +253,19 @@ def frames_are_right() -> bool:
     code, variables = (ctypes.c_size_t.from_address(at + it).value for it in (CODE, GLOBALS))
     # two parameters, the variable of the loop, the iterator, and what is given away lies on the stack no more
     return (top in (4, 5) and list(values) == [7, "x", 1]
-            and (code, variables) == (id(frame.f_code), id(frame.f_globals)))
+            and (code, variables) == (id(frame.f_code), id(frame.f_globals)) and traces_are_right(frame))
+
+
+def traces_are_right(frame: Any) -> bool:
+    """Whether it is seen that a frame has a dict, and of what it is traced."""
+    at, own = id(frame) + FRAME, word_at(word_at(id(frame) + FRAME) + LOCALS)
+    found = []
+    for name, value in (("f_trace", None), ("f_trace", dict), ("f_trace_lines", False), ("f_trace_opcodes", True)):
+        setattr(frame, name, value)
+        found.append((word_at(at + TRACED_BY), number_at(at + TRACED) % 2 ** 16))
+    return not own and object_at(word_at(at) + LOCALS) is None and (
+        found == [(0, 1), (id(dict), 1), (id(dict), 0), (id(dict), 256)]) and (
+        id(frame.f_locals) == word_at(word_at(at) + LOCALS))
 
 
 def sets_are_right() -> bool:
@@ -305,7 +348,22 @@ def caches_are_right() -> bool:
     return [result_of(link) for link in table.values()] == ["result 7"]
 
 
+def properties_are_right() -> bool:
+    def one(_it: Any) -> None:
+        """One."""
+    plain, named = property(one, doc="One."), property(one)
+    named.__set_name__(dict, "one")  # type: ignore[attr-defined]
+    return more_of_property(plain) == (None, False) and more_of_property(named) == ("one", True)
+
+
+def attributes_are_right() -> bool:
+    one, slot = OSError(1, "x"), vars(OSError)["filename"]
+    was_empty = is_empty(slot, one)
+    one.filename = None
+    return was_empty and not is_empty(slot, one) and not is_empty(vars(OSError)["errno"], one)
+
+
 CHECKS: Dict[str, Callable[[], bool]] = {
     "frames": frames_are_right, "sets": sets_are_right, "dicts": dicts_are_right, "lists": lists_are_right,
     "functions": functions_are_right, "classes": classes_are_right, "cells": cells_are_right,
-    "caches": caches_are_right}
+    "caches": caches_are_right, "properties": properties_are_right, "attributes": attributes_are_right}

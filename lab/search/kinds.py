@@ -19,12 +19,14 @@ import operator
 import random
 import re
 import struct
+import sys
 import threading
 import types
 from typing import Any, Callable, Dict, Iterable, List, NamedTuple, Protocol, Set, Tuple
 
 from lab.search.codes import Name, code_name, digest_of
-from lab.search.cpython import Taken, dict_of, entries_of, is_made_in_python, reached_by, table_of
+from lab.search.cpython import (Taken, dict_of, entries_of, is_empty, is_made_in_python, more_of_property, reached_by,
+                                table_of, traced)
 from lab.search.unnamed import Unnamed, an, instead_of
 
 
@@ -37,6 +39,7 @@ class Names(Protocol):
     def frame(self, frame: types.FrameType) -> Name: ...
     def globals(self, variables: Dict[str, Any]) -> Name: ...
     def is_waiting(self, frame: types.FrameType) -> bool: ...
+    def met(self, value: Any) -> Name: ...
     def function(self, value: types.FunctionType) -> Name: ...
     def cell(self, value: Any) -> Name: ...
     def kind(self, value: type) -> Name: ...
@@ -182,7 +185,16 @@ def built_in_name(namer: Names, value: Any) -> Name:
         of = ("of", value.__objclass__.__module__, value.__objclass__.__qualname__)
     else:
         of = namer.name(own)
-    return ("built in", value.__qualname__, of)
+    return ("built in", value.__qualname__, of, namer.name(getattr(value, "__module__", None)))
+
+
+def is_of_lab(frame: types.FrameType) -> bool:
+    """Whether a frame is one of the lab's modules, and of none that only says so."""
+    module = frame.f_globals.get("__name__")
+    if type(module) is not str or not module.startswith("lab."):
+        return False
+    loaded = sys.modules.get(module)
+    return loaded is not None and vars(loaded) is frame.f_globals
 
 
 def traceback_name(namer: Names, value: types.TracebackType) -> Name:
@@ -191,15 +203,22 @@ def traceback_name(namer: Names, value: types.TracebackType) -> Name:
     at: Any = value
     while at is not None:
         frame = at.tb_frame
-        is_lab = str(frame.f_globals.get("__name__", "")).startswith("lab.")
-        held = () if is_lab or namer.is_waiting(frame) else tuple(namer.names(dict(frame.f_locals).items()))
+        if frame.f_trace is not None or not frame.f_trace_lines or frame.f_trace_opcodes:
+            raise traced(frame)
+        held = () if is_of_lab(frame) or namer.is_waiting(frame) else tuple(namer.names(dict(frame.f_locals).items()))
         found.append((code_name(frame.f_code), at.tb_lasti, at.tb_lineno, held))
         at = at.tb_next
+        again = None if at is None else namer.met(at)
+        if again is not None:
+            found.append(again)
+            break
     return ("traceback", *found)
 
 
 def cache_name(namer: Names, value: Any) -> Name:
     """A cache of a function, by what it caches if that is more than a function of the arguments."""
+    if getattr(getattr(value, "cache_parameters", None), "__globals__", None) is not vars(functools):
+        raise Unnamed("a cache with parameters of its own", instead="leave attributes of caches as they are")
     extra = {it: part for it, part in vars(value).items() if it not in ("__wrapped__", "cache_parameters")}
     return ("cache", namer.name(value.__wrapped__), tuple(namer.names(extra.items())),
             value.cache_parameters()["maxsize"], namer.told(value))
@@ -233,7 +252,9 @@ OF_LOGGER = frozenset(vars(logging.Logger("one"))) | {"manager", "parent"}
 
 def wrapped_name(namer: Names, value: Any) -> Name:
     """A static method or one of a class, which may have attributes."""
-    extra = {it: part for it, part in vars(value).items() if it not in functools.WRAPPER_ASSIGNMENTS}
+    function = value.__func__
+    extra = {it: part for it, part in vars(value).items()
+             if it not in functools.WRAPPER_ASSIGNMENTS or part is not getattr(function, it, vars(value))}
     return (type(value).__name__, namer.name(value.__func__), *namer.names(extra.items()))
 
 
@@ -266,7 +287,8 @@ NAMES: Dict[type, Naming] = {
     GETTER: lambda namer, it: ("part", *it.__reduce__()[1], it.__doc__),
     staticmethod: wrapped_name,
     classmethod: wrapped_name,
-    property: lambda namer, it: ("property", *map(namer.name, (it.fget, it.fset, it.fdel, it.__doc__))),
+    property: lambda namer, it: ("property", *map(namer.name, (it.fget, it.fset, it.fdel, it.__doc__,
+                                                               *more_of_property(it)))),
     functools.partial: partial_name,
     CACHE: cache_name,
     array.array: lambda namer, it: ("array", it.typecode, it.tobytes()),
@@ -277,7 +299,8 @@ NAMES: Dict[type, Naming] = {
     functools.cached_property: lambda namer, it: ("cached property", *namer.names(vars(it).items())),
     RLOCK: lambda namer, it: ("lock", HELD.findall(repr(it))),
     _thread.LockType: lambda namer, it: ("lock", it.locked()),
-    types.GenericAlias: lambda namer, it: ("alias", namer.name(it.__origin__), namer.name(it.__args__)),
+    types.GenericAlias: lambda namer, it: ("alias", namer.name(it.__origin__), namer.name(it.__args__),
+                                            it.__unpacked__),
     types.UnionType: lambda namer, it: ("union", namer.name(it.__args__)),
     type(iter(set())): iterator_of_set_name,
     datetime.date: date_name, datetime.time: date_name, datetime.datetime: date_name, datetime.timedelta: date_name,
@@ -326,6 +349,29 @@ def arguments_name(namer: Names, value: BaseException) -> Name:
     return namer.name(vars(BaseException)["args"].__get__(value))
 
 
+def written_name(_: Names, value: OSError) -> Name:
+    """How much was written before a fault, if that is known."""
+    try:
+        return ("written", vars(OSError)["characters_written"].__get__(value))
+    except AttributeError:
+        return ("written",)
+
+
+# what exceptions of a class that is not in Python have besides their attributes and what each exception has, by what
+# gives it; and what is named elsewhere
+GIVEN_BY: Dict[str, Naming] = {"args": arguments_name, "characters_written": written_name}
+NAMED_ELSEWHERE = {"__dict__", "__traceback__", "__context__", "__cause__"}
+
+
+def of_exceptions(base: type) -> List[Naming]:
+    """What names all that exceptions have by a class that is not in Python."""
+    found = [it for it, part in dict_of(base).items() if type(part) is types.GetSetDescriptorType]
+    unknown = [it for it in found if it not in GIVEN_BY and it not in NAMED_ELSEWHERE]
+    if unknown:
+        raise Unnamed(f"{an(base)} with {unknown[0]}", instead=instead_of(base))
+    return [GIVEN_BY[it] for it in found if it in GIVEN_BY]
+
+
 def plan_of(kind: type) -> Plan:
     """How objects of a class in Python are named, by descriptors that no class overrides."""
     attributes: List[Any] = []
@@ -343,7 +389,7 @@ def plan_of(kind: type) -> Plan:
         if base in BASES:
             bases.append(BASES[base])
         elif issubclass(base, BaseException):
-            bases.append(arguments_name)
+            bases += of_exceptions(base)
         else:
             raise Unnamed(f"{an(kind)}, of a subclass of {base.__module__}.{base.__qualname__}",
                           instead=instead_of(base))
@@ -358,9 +404,11 @@ def parts_name(namer: Names, plan: Plan, value: Any) -> Name:
         found += namer.names(held.__get__(value).items())
     for it, slot in slots:
         try:
-            found.append((it, namer.name(slot.__get__(value))))
+            part = slot.__get__(value)
         except AttributeError:
             found.append((it,))
+            continue
+        found.append((it,) if part is None and is_empty(slot, value) else (it, namer.name(part)))
     for names in bases:
         found.append(names(namer, value))
     return tuple(found)
@@ -377,4 +425,4 @@ def is_abstract(kind: type, part: Any) -> bool:
 
 
 __all__ = ["BASES", "BUILT_IN", "CACHE", "GETTER", "NAMES", "Names", "Plan", "complex_name", "exception_name",
-           "has_address_as_hash", "is_abstract", "number_name", "parts_name", "plan_of"]
+           "has_address_as_hash", "is_abstract", "is_of_lab", "number_name", "parts_name", "plan_of"]

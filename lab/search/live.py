@@ -14,7 +14,8 @@ ENDS = {"RETURN_VALUE", "RAISE_VARARGS", "RERAISE", "JUMP_FORWARD", "JUMP_BACKWA
 # by which an agent may tell itself from others of the same words but for its key
 TELLS = READS_ALL | {"random", "_inst", "_lines", "__import__", "import_module", "importlib", "modules", "getattr",
                      "attrgetter", "methodcaller", "__dict__", "__getattribute__", "getpid", "inspect", "gc",
-                     "get_objects", "ctypes", "sys", "runpy", "pickle", "id"}
+                     "get_objects", "ctypes", "sys", "runpy", "pickle", "id", "__self__", "__getstate__", "__reduce__",
+                     "__reduce_ex__"}
 
 
 @functools.lru_cache(maxsize=None)
@@ -65,6 +66,7 @@ def may_tell_itself(variables: Dict[str, Any]) -> bool:
 
 @functools.lru_cache(maxsize=None)
 def tells(code: types.CodeType) -> bool:
-    """Whether code has one of these names, also in a text by which `format` takes attributes."""
-    texts: Iterable[str] = (it for it in code.co_consts if isinstance(it, str))
+    """Whether code has one of these names, also in a text by which `format` takes attributes, or where `match` does."""
+    constants = (it for one in code.co_consts for it in (one if isinstance(one, tuple) else (one,)))
+    texts: Iterable[str] = (it for it in constants if isinstance(it, str))
     return not TELLS.isdisjoint(code.co_names) or any("_lines" in it or "._" in it for it in texts)

@@ -13,6 +13,7 @@ import os
 import types
 from typing import Any, Callable, Dict, List, Mapping, Optional, Tuple
 
+from lab.search.kinds import is_of_lab
 from lab.search.naming import Namer
 from lab.search.standing import Known
 from lab.search.unnamed import Unnamed
@@ -25,7 +26,7 @@ def memory_of(thread: Any, handled: Optional[BaseException], known: Known, more:
     known.look()
     namer, frames, frame = Namer(known), [], thread.gr_frame
     while frame is not None:
-        if not frame.f_globals.get("__name__", "").startswith("lab."):
+        if not is_of_lab(frame):
             frames.append(frame)
         frame = frame.f_back
     try:

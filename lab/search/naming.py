@@ -101,6 +101,15 @@ class Namer:
             return ("constant", repr(value))
         return self.alias(value) if is_alias(value) else self._other(kind, value)
 
+    def met(self, value: Any) -> Name:
+        """The name of an object that was met before, or None: then it is met now, and whoever asks names it."""
+        seen = self._seen.get(id(value))
+        if seen is not None:
+            return ("again", seen)
+        self._seen[id(value)] = len(self._seen)
+        self._kept.append(value)
+        return None
+
     def each(self, values: Iterable[Any]) -> List[Name]:
         """Names values in their order. Texts and numbers, of which most are, take no call."""
         found: List[Name] = []
@@ -344,7 +353,7 @@ def is_given(name: str, value: Any) -> bool:
         holds_given(value))
 
 
-SPEC = vars(ModuleSpec("one", None)).keys() | {"_uninitialized_submodules"}
+SPEC = vars(ModuleSpec("one", None)).keys() | {"_uninitialized_submodules", "_initializing"}
 
 
 def holds_given(value: Any) -> bool:

@@ -3,6 +3,7 @@ hold then."""
 import collections
 import hashlib
 import json
+import operator
 import pathlib
 from typing import Any, Deque, Dict, List, Mapping, NamedTuple, Optional, Sequence, Tuple
 
@@ -10,14 +11,15 @@ from lab.play import programs
 from lab.play.agent_files import AGENTS, CLIENT
 from lab.play.matches import STUCK
 from lab.play.outside import notes_of
-from lab.play.players import (DEPARTED, DONE, NOTHING_AHEAD, SLEEPS, TRAVELS, WAITS, WAKES, Player,
-                              Team)
+from lab.play.own_modules import OwnModules
+from lab.play.players import DEPARTED, DONE, SLEEPS, TRAVELS, WAITS, WAKES, Player, Team
 from lab.play.teams import INSIDE, AgentWords
 from lab.rules.fixtures import Fixture
 from lab.rules.model import LAST, OVER as TOLD_OVER, command_of, denial, spelled, text_of
 from lab.search.caches import Caches
 from lab.search.codes import bytes_of
 from lab.search.common import ONE_OF, Common, common_of
+from lab.search.cpython import NOTHING
 from lab.search.live import may_tell_itself
 from lab.search.memories import memory_of, own_modules
 from lab.search.pasts import EARLY, NoFunction
@@ -33,6 +35,12 @@ BLIND = ENDS | {DEPARTED}
 # how a memory was met first: from which memory, or from the start of which agent, and by what
 Way = Tuple[int, str]
 EMPTY: Mapping[int, str] = {}
+# what of a player a program can read later that is named besides, or that is given anew before it goes on: see `Player`
+NAMED = frozenset(("number", "state", "line", "latest", "ahead", "handled", "modules", "_team", "_heard",
+                   "_thread"))
+# what a program finds there otherwise, unless it has put something there
+FRESH = {"fault": None, "errors": "", "_is_over": False, "_is_closed": False}
+PARTS = NAMED | FRESH.keys()
 
 
 class Step(NamedTuple):
@@ -84,7 +92,7 @@ class Seated:
             return Step(STOP)
         if player.line is None:
             return Step(SAYS, LEAVE) if self.has_entered else Step(STOP)
-        if not player.line.strip() or b"\n" in player.line:
+        if type(player.line) is not bytes or not player.line.strip() or b"\n" in player.line:
             raise NoFunction(f"agent {player.number} sends {player.line!r}, which is no line")
         return Step(SAYS, player.line)
 
@@ -95,14 +103,16 @@ class Seats:
     def __init__(self, fixture: Fixture, agents: List[AgentWords], seconds: float) -> None:
         self.unnamed: Dict[str, int] = collections.Counter()
         self.shared = Shared(CLIENT)
+        for kind in (Player, Team, OwnModules):
+            self.shared.watch_class(kind)
         self._fixture, self._agents, self._caches = fixture, agents, Caches()
         inside = [agent for agent in agents if agent.kind == INSIDE]
         self._scripts = {agent.words: agent.script(fixture.setup) for agent in inside}
         self._team, self._outside = Team(fixture.keys, {}, seconds), programs.Team(fixture, {}, seconds)
         folders = {str(folder_of(agent.words)) for agent in inside if agent.function is None}
         self._is_own = own_modules(sorted({str(AGENTS), *folders}), CLIENT)
-        # the parts of a player that are the lab's
-        self._parts = frozenset[str]()
+        # how many attributes the lab has given to what it plays a program by
+        self._count = 0
         # by the words of an agent and the names of its modules, whether it is one machine for each number
         self._is_apart: Dict[Tuple[str, ...], bool] = {}
         # by the words of an agent, the modules that its programs have in common, if they may
@@ -120,9 +130,9 @@ class Seats:
         words, key = self._agents[agent].words, self._fixture.keys[agent]
         if self._agents[agent].kind == INSIDE:
             player: Any = Player(self._team, agent, key, self._scripts[words])
-            self._parts = self._parts or frozenset(vars(player))
+            self._count = self._count or attributes_of(player)
             one = Seated(player)
-            one.known = self._known_of(one, words, {id(player): "lines"})
+            one.known = self._known_of(one, words, {id(player): "lines", id(player._heard): "heard"})
             one.known.key, one.known.own = key, player.modules.own
             player.go_on()
         else:
@@ -175,7 +185,7 @@ class Seats:
         while ahead:
             self.tell(one, ahead.popleft(), ahead)
 
-    def tell(self, one: Seated, news: str, ahead: Deque[str] = NOTHING_AHEAD) -> None:
+    def tell(self, one: Seated, news: str, ahead: Optional[Deque[str]] = None) -> None:
         """Tells a program a line, or wakes it. It may take lines that are ahead."""
         player = one.player
         if player.state == DONE or one.is_denied:
@@ -192,9 +202,9 @@ class Seats:
         if news == DEPARTED and player.state == WAITS and player.line is not None:
             raise NoFunction(EARLY.format(player.number))
 
-    def _heard(self, one: Seated, news: str, ahead: Deque[str]) -> str:
+    def _heard(self, one: Seated, news: str, ahead: Optional[Deque[str]]) -> str:
         """Has a program hear a line or wake; gives what it was told last."""
-        player = one.player
+        player, before = one.player, tuple(ahead or ())
         if isinstance(player, Player):
             player.latest, player.ahead = news, ahead
         if news == WAKES:
@@ -203,8 +213,9 @@ class Seats:
             one.has_entered = True
             player.hear(news)
         if isinstance(player, Player):
-            news, player.ahead = player.latest, NOTHING_AHEAD
-        return news
+            player.ahead = None
+        taken = len(before) - len(ahead or ())
+        return before[taken - 1] if taken > 0 else news
 
     def _wake(self, player: Any) -> None:
         """Wakes an agent that sees nothing: what it does then depends on nothing that happens. It wakes as often as it
@@ -255,12 +266,11 @@ class Seats:
             reaches = notes_of(player._thread).reaches
             if reaches:
                 raise Unnamed(reaches, True, "keep what is to be known later in a variable")
-            all_parts = vars(player)
-            more = {} if all_parts.keys() == self._parts else {
-                it: value for it, value in all_parts.items() if it not in self._parts}
+            if attributes_of(player) != self._count:
+                raise Unnamed("attributes of what the lab plays it by", True, "keep them in variables of your own")
             own = [it for name, it in player.modules.own().items() if name != "random"]
-            held = memory_of(player._thread, player.handled, known, more, own)
-            return ("holds", self._apart(player), held, tuple(player._heard), player._is_over, player._is_closed)
+            return ("holds", self._apart(player),
+                    memory_of(player._thread, player.handled, known, put_into(player), own))
         except Unnamed as what:
             one.is_alone = what.is_shared
             self.unnamed[str(what)] += 1
@@ -274,6 +284,31 @@ class Seats:
             variables = [vars(it) for name, it in own.items() if name != "random"]
             self._is_apart[key] = not variables or any(map(may_tell_itself, variables))
         return player.number if self._is_apart[key] else None
+
+
+def attributes_of(player: Player) -> int:
+    """How many attributes that have which the lab plays a program by. The notes of a program begin when it does."""
+    of_thread = vars(player._thread)
+    return len(vars(player._team)) + len(vars(player.modules)) + len(of_thread) - ("notes" in of_thread)
+
+
+def put_into(player: Player) -> Dict[str, Any]:
+    """What a program can find in its player that does not stand there otherwise, and is not named besides."""
+    parts, found = vars(player), dict[str, Any]()
+    if player._heard:
+        found["_heard"] = tuple(player._heard)
+    if player.state == SLEEPS and parts.get("line", NOTHING) is not None:
+        # it sends no line now, and may read later what it would have sent
+        found["line"] = parts.get("line", NOTHING)
+    if parts.keys() == PARTS and all(map(operator.is_, map(parts.get, FRESH), FRESH.values())):
+        return found
+    for name, value in parts.items():
+        if name not in NAMED and value is not FRESH.get(name, parts):
+            found[name] = value
+    for name in FRESH:
+        if name not in parts:
+            found[name] = NOTHING
+    return found
 
 
 def folder_of(words: str) -> pathlib.Path:

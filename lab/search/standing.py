@@ -4,6 +4,7 @@ import collections
 import copy
 import dataclasses
 import logging
+import random
 import re
 import sys
 import types
@@ -135,14 +136,14 @@ class Known:
         """What the agent's own module `random` draws next."""
         more = vars(self._inst)
         numbers, gauss = bytes(self._numbers), more.get("gauss_next")
-        if len(more) > 1 or gauss is not None and type(gauss) is not float:
+        if len(more) > 1 or gauss is not None and type(gauss) is not float or type(self._inst) is not random.Random:
             raise Unnamed("attributes of its module random", instead="keep them in variables of your own")
         return ("at the start" if numbers == self._numbers_at_start else digest_of(numbers), repr(gauss))
 
     def has_not_drawn(self) -> bool:
         """Whether nothing was drawn by the agent's own module `random`, nor changed in it."""
         return len(vars(self._inst)) <= 1 and bytes(self._numbers) == self._numbers_at_start and (
-            version_of(self._random) == self._random_version)
+            version_of(self._random) == self._random_version) and type(self._inst) is random.Random
 
     def standing(self, variables: Dict[str, Any]) -> Standing:
         """What stands still in a module of the agent's own, named anew if it has changed."""

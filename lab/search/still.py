@@ -47,6 +47,10 @@ BY_ITSELF = {"re._cache", "hashlib.__builtin_constructor_cache", "sys.modules", 
              "logging.root._cache", "logging.Logger.manager.loggerDict", "logging.root.manager.loggerDict"}
 # what Python notes of warnings and of the last expression of a console
 NOTED = {"__warningregistry__", "_"}
+# what can be changed in a function
+OF_FUNCTIONS = ("__code__", "__defaults__", "__kwdefaults__", "__doc__", "__name__", "__qualname__", "__module__")
+# the module of the lab by which programs talk
+PLAYERS = "lab.play.players"
 # how deep containers of a module are looked into
 DEPTH = 3
 Parts = Dict[str, Tuple[Any, ...]]
@@ -90,7 +94,7 @@ class Shared:
             raise Unnamed(f"the module {name}, which may keep what nobody sees", True,
                           "take what is needed by itself, by `from .. import ..`")
         self._watch(name, module, variables)
-        if not name.startswith("lab."):
+        if not name.startswith("lab.") or name == PLAYERS:
             self._parts[name] = module, parts_of(module)
 
     def watch_class(self, kind: type) -> None:
@@ -209,8 +213,11 @@ def inside_of(value: Any, module: str) -> Iterator[Tuple[str, Any]]:
     elif kind is set:
         yield from ((str(it), it) for it in value)
     elif kind is types.FunctionType:
-        yield from ((it, getattr(value, it)) for it in ("__code__", "__defaults__", "__kwdefaults__", "__doc__"))
+        yield from ((it, getattr(value, it)) for it in OF_FUNCTIONS)
+        yield from value.__annotations__.items()
         yield from vars(value).items()
+    elif kind is types.BuiltinFunctionType:
+        yield "__module__", value.__module__
     elif isinstance(value, type) and value.__module__.partition(".")[0] == module.partition(".")[0]:
         yield from ((it, part) for it, part in dict_of(value).items() if it not in ("__abstractmethods__",))
         yield from registered_at(value)

@@ -18,7 +18,10 @@ from lab.search.unnamed import Unnamed
 
 # by which code may reach any module, whatever it imports
 REACH_ANY = {"eval", "exec", "__import__", "import_module", "modules", "__builtins__", "__loader__", "__spec__",
-             "__subclasses__", "f_globals", "f_builtins", "get_objects", "get_referents", "get_referrers"}
+             "__subclasses__", "__globals__", "f_globals", "f_builtins", "get_objects", "get_referents",
+             "get_referrers"}
+# by which it may see how much room values take, of which their names say nothing
+SEES_ROOM = {"__sizeof__", "__alloc__"}
 # of dunder names these say nothing of state
 PLAIN_DUNDERS = {"__name__", "__doc__", "__version__", "__file__", "__all__"}
 
@@ -79,7 +82,7 @@ def uses_in(text: bytes) -> Uses:
                 uses.add(Use(name, bound[name], attributes))
         if isinstance(node, ast.Name) and node.id in REACH_ANY:
             reaches.add(node.id)
-        elif isinstance(node, ast.Attribute) and node.attr in REACH_ANY:
+        elif isinstance(node, ast.Attribute) and node.attr in REACH_ANY | SEES_ROOM:
             reaches.add(node.attr)
         elif isinstance(node, ast.ImportFrom):
             reaches |= {it.name for it in node.names} & REACH_ANY
@@ -142,6 +145,9 @@ def check(variables: Dict[str, Any], own: Mapping[str, types.ModuleType]) -> Lis
         return []
     uses = uses_in(found[1])
     for name in sorted(uses.reaches):
+        if name in SEES_ROOM:
+            raise Unnamed(f"the module {module} has {name}, by which it may see how much room values take",
+                          instead="do without it")
         raise Unnamed(f"the module {module} has {name}, by which it may reach any module", True,
                       "import by its name what is needed")
     for name in sorted(uses.loggers):

@@ -87,6 +87,29 @@ FUNCTIONS: Dict[str, Hides] = {
                                       "    def p(self): pass"),
     "a coroutine": Hides("fn(b)", "async def fn(b): pass"), "an asynchronous generator": Hides(
         "fn(b)", "async def fn(b):\n    yield b"),
+    "the name of a static method": Hides("setattr(vars(C)['f'], '__name__', b)", "class C:\n    @staticmethod\n"
+                                         "    def f(): pass"),
+    "what a method of a class is about": Hides("setattr(vars(C)['f'], '__doc__', b)", "class C:\n    @classmethod\n"
+                                               "    def f(cls): pass"),
+    "the name of a property": Hides("vars(C)['p'].__set_name__(C, 'p' + b)", "class C:\n    @property\n"
+                                    "    def p(self): pass"),
+    "whose documentation a property has": Hides("property(fn) if b else property(fn, doc='one')", "def fn(it): 'one'"),
+    "parameters of a cache": Hides("setattr(fn, 'cache_parameters', lambda: {'maxsize': None, 'typed': False, 1: b})",
+                                   "import functools\n@functools.lru_cache(None)\ndef fn(it): return it"),
+    "a frame that is traced": Hides("make(gen(), b)", f"def gen(): yield 1\n{after('it.gi_frame.f_trace = print')}"),
+    "lines that are not traced": Hides("make(gen(), b)", "def gen(): yield 1\n" + after(
+        "it.gi_frame.f_trace_lines = False")),
+    "opcodes that are traced": Hides("make(gen(), b)", "def gen(): yield 1\n" + after(
+        "it.gi_frame.f_trace_opcodes = True")),
+    "locals of a frame": Hides("make(gen(), b)", f"def gen(): yield 1\n{after('it.gi_frame.f_locals[1] = 2')}"),
+    "the lines of code": Hides("setattr(fn, '__code__', fn.__code__.replace(co_linetable=b.encode()))",
+                               "def fn(): pass"),
+    "the room of code": Hides("setattr(fn, '__code__', fn.__code__.replace(co_stacksize=50 + len(b)))",
+                              "def fn(): pass"),
+    "a constant of code": Hides("setattr(fn, '__code__', fn.__code__.replace(co_consts=(None, C(b))))",
+                                "def fn(): pass\nclass C:\n    def __init__(self, b): self.b = b\n"
+                                "    def __repr__(self): return 'C'"),
+    "the module of a method": Hides("make([].append, b)", after("it.__module__ = 'x'")),
     "a cell": Hides("types.CellType(b)", "import types"), "itemgetter": Hides("operator.itemgetter(len(b))",
                                                                                 "import operator"),
     "attrgetter": Hides("operator.attrgetter('x' + b)", "import operator"),
@@ -124,6 +147,23 @@ CLASSES: Dict[str, Hides] = {
     "the context of an exception": Hides("make(ValueError(), b)", after("it.__context__ = KeyError()")),
     "a group of exceptions": Hides("ExceptionGroup('x', [ValueError(b)])"),
     "an end of a generator": Hides("StopIteration(b)"), "a fault of a file": Hides("OSError(len(b), 'x')"),
+    "how much was written": Hides("make(OSError(1, 'y'), b)", after("it.characters_written = 5")),
+    "a file without a name": Hides("make(OSError(1, 'y'), b)", after("it.filename = None")),
+    "a fault of a text without a reason": Hides("make(fault(), b)", "def fault():\n"
+        "    it = UnicodeTranslateError('ab', 0, 1, 'z')\n    del it.reason\n    return it\n"
+        + after("it.reason = None")),
+    "an import without a name": Hides("make(ImportError(), b)", after("it.name = None")),
+    "the value of an end": Hides("make(StopIteration(), b)", after("it.value = 5")),
+    "the code of an exit": Hides("make(SystemExit(), b)", after("it.code = 5")),
+    "how a fault of the syntax is shown": Hides("make(SyntaxError(), b)", after("it.print_file_and_line = 5")),
+    "what has no attribute": Hides("AttributeError('y', name='x', obj=b)"),
+    "which name is not found": Hides("NameError('y', name=b)"),
+    "whether a context is shown": Hides("make(ValueError(), b)", after("it.__suppress_context__ = True")),
+    "where a traceback goes on": Hides("chain(b)", "import types\ndef chain(b):\n    one, two = trace(), trace()\n"
+        "    return types.TracebackType(one if b else two, one.tb_frame, 0, 1), one, two\ndef trace():\n    try:\n"
+        "        raise ValueError\n    except ValueError as it:\n        return it.__traceback__\n"),
+    "a frame of a traceback": Hides("make(trace(), b)", "def trace():\n    try:\n        raise ValueError\n"
+        "    except ValueError as it:\n        return it\n" + after("it.__traceback__.tb_frame.f_trace = print")),
     "a fault of a text": Hides("UnicodeDecodeError('utf-8', b'xy', len(b), 2, 'x')"),
     "a traceback": Hides("trace(b)", "def trace(b):\n    try:\n        raise ValueError\n    except ValueError as it:\n"
                          "        return it"),
@@ -142,6 +182,7 @@ CLASSES: Dict[str, Hides] = {
     "a protocol": Hides("setattr(P, 'memo', b)", "from typing import Protocol\nclass P(Protocol): pass"),
     "a type variable": Hides("setattr(T, 'memo', b)", "from typing import TypeVar\nT = TypeVar('T')"),
     "NewType": Hides("setattr(T, 'memo', b)", "from typing import NewType\nT = NewType('T', int)"),
+    "an alias that is unpacked": Hides("next(iter(tuple[int])) if b else tuple[int]"),
     "an alias of types": Hides("list[int] if b else list[str]"), "a union of types": Hides("int | str if b else int | "
                                                                                            "bytes"),
     "registered classes": Hides("b and A.register(int)", "import abc\nclass A(abc.ABC): pass"),

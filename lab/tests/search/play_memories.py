@@ -20,6 +20,7 @@ class Hides(NamedTuple):
     lines: str
     hides: str
     finds: str
+    waits: str = "agent.depart(1)"
 
 
 HIDDEN: Dict[str, Hides] = {
@@ -79,6 +80,37 @@ HIDDEN: Dict[str, Hides] = {
     "a closure": Hides("def make():\n    v = ''\n    def put(x):\n        nonlocal v\n        v = x\n    def get(): "
                        "return v\n    return put, get\nPUT, GET = make()", "PUT(b)", "GET()"),
     "a table of a module": Hides("T = {'a': ''}", "T.__setitem__('a', b)", "T['a']"),
+    "what of the agent's lines the lab has": Hides("", "setattr(agent._lines, 'errors', b)", "agent._lines.errors"),
+    "what of the agent's lines is taken away": Hides("", "b and delattr(agent._lines, 'errors')",
+                                                     "'' if 'errors' in vars(agent._lines) else 'x'"),
+    "whether a fault is taken away": Hides("", "b and delattr(agent._lines, 'fault')",
+                                           "'' if 'fault' in vars(agent._lines) else 'x'"),
+    "whether the agent's lines are closed": Hides(
+        "class C:\n    def __init__(self, b): self.b = b\n    def __repr__(self): return 'C'\n"
+        "    def __bool__(self): return False", "setattr(agent._lines, '_is_closed', C(b))",
+        "agent._lines._is_closed.b"),
+    "a line that is not sent": Hides("", "setattr(agent._lines, 'line', b.encode())", "h",
+                                     "agent._lines.sleep(1)\n    h = agent._lines.line.decode()\n    agent.depart(1)"),
+    "what was heard": Hides("import collections", "agent._lines._heard if b else collections.deque()",
+                            "(agent._lines._heard.append(1), 'x' if h else '', agent._lines._heard.clear())[1]"),
+    "the class of the agent's lines": Hides("", "setattr(type(agent._lines), 'memo', b)", "agent._lines.memo"),
+    "the agent's team": Hides("", "setattr(agent._lines._team, 'memo', b)", "agent._lines._team.memo"),
+    "the agent's greenlet": Hides("", "setattr(agent._lines._thread, 'memo', b)", "agent._lines._thread.memo"),
+    "the class of numbers that are drawn": Hides(
+        "import random\nL = random.random.__self__",
+        "setattr(L, '__class__', type('X', (type(L),), {'memo': b}))", "L.memo"),
+    "locals": Hides("", "locals().__setitem__('zz', b)", "locals()['zz']"),
+    "the body of a class": Hides("", "[b]", "C.kept", "class C:\n        kept = h.pop()\n        agent.depart(1)"),
+    "a frame that is traced": Hides(
+        "def put(b):\n    try:\n        raise KeyError\n    except KeyError as it:\n"
+        "        it.__traceback__.tb_frame.f_trace = b\n        del b\n        return it", "put(b)",
+        "h.__traceback__.tb_frame.f_trace"),
+    "a module that seems to be the lab's": Hides("__name__ = 'lab.zz'", "b", "h"),
+    "a module without a name": Hides("__name__ = 5", "b", "h"),
+    "the variables of a shared function": Hides("", "setattr(agent.enter.__func__.__globals__['sys'], 'zz', b)",
+                                                "agent.enter.__func__.__globals__['sys'].zz"),
+    "the room of a list": Hides("def room(b):\n    it = [0]\n    if b:\n        it = []\n        it.append(0)\n"
+                                "    return it", "room(b)", "'x' if h.__sizeof__() != [0].__sizeof__() else ''"),
     "an attribute of a class": Hides("class Bot:\n    memo = ''", "setattr(Bot, 'memo', b)", "Bot.memo"),
 }
 TEXT = '''{lines}
@@ -102,7 +134,7 @@ def reader(agent, key):
     b = agent.enter(key).board
     h = {hides}
     del b
-    agent.depart(1)
+    {waits}
     seen = {finds}
     agent.accuse(1 if seen == {good!r} else 0)
 '''
@@ -298,11 +330,11 @@ class Memories(InExplore):
         return self.command("--network", "ring:3", "--hole", 1, *words)
 
     def test_what_hides_a_bit_is_named_or_told(self) -> None:
-        for name, (lines, hides, finds) in HIDDEN.items():
+        for name, (lines, hides, finds, waits) in HIDDEN.items():
             for good in ("", "x"):
                 with self.subTest(name, good=good):
                     text = TEXT.format(lines=lines.replace("{folder}", str(self.folder)), hides=hides, finds=finds,
-                                       good=good)
+                                       waits=waits, good=good)
                     file = f"{self.folder}/hides.py"
                     status = self.explored(text, "--agent", f"{file}:writer", "--agent", f"{file}:reader")
                     self.assertEqual(status, 1, self.said)
@@ -323,6 +355,17 @@ class Memories(InExplore):
         for name in ("by_key", "by_key_later", "by_random", "by_number"):
             with self.subTest(name):
                 status = self.explored(ROLES, "--agents", 2, "--agent", f"{self.folder}/hides.py:{name}")
+                self.assertEqual(status, 1, self.said)
+
+    def test_roles_by_the_number(self) -> None:
+        """Agents that come to their number in other ways than by the name of their lines."""
+        for finds in ("lines = sleep.__self__", "[lines] = agent.__getstate__().values()",
+                      "[lines] = agent.__reduce_ex__(2)[2].values()", "[lines] = agent.look.__self__.__dict__.values()",
+                      "match agent:\n        case object(_lines=lines): pass"):
+            with self.subTest(finds):
+                text = f"def search(agent, key, sleep):\n    agent.enter(key)\n    agent.depart(1)\n    {finds}\n" \
+                    "    agent.accuse(1 - lines.number)\n"
+                status = self.explored(text, "--agents", 2, "--agent", f"{self.folder}/hides.py", "--check", 0)
                 self.assertEqual(status, 1, self.said)
 
     def test_lines_after_the_end_and_before_the_arrival(self) -> None:
@@ -356,7 +399,7 @@ class Memories(InExplore):
 
     def test_what_all_share_and_no_name_has_is_told_in_the_end(self) -> None:
         text = TEXT.format(lines="import json", hides="setattr(json.JSONDecoder, 'memo', b)",
-                           finds="json.JSONDecoder.memo", good="x")
+                           finds="json.JSONDecoder.memo", waits="pass", good="x")
         file = f"{self.folder}/hides.py"
         status = self.explored(text, "--agent", f"{file}:writer", "--agent", f"{file}:writer", "--agent",
                                f"{file}:reader_alone")
@@ -383,8 +426,20 @@ class Memories(InExplore):
             self.assertEqual(self.command(*words), 1, self.said)
         self.assertIn("no schedule fails by the program, and one by the Python model's search", self.said)
 
+    def test_what_is_changed_in_functions_that_all_share_is_told_in_the_end(self) -> None:
+        for what, name in (("json.dumps.__annotations__", "json.dumps"),
+                           ("vars(agent._lines.send.__func__)", "lab.play.players.Player.send"),
+                           ("vars(agent.enter.__func__)", "client.Agent.enter")):
+            with self.subTest(what):
+                text = TEXT.format(lines="import json", hides=f"{what}.update(memo=b)", finds=f"{what}['memo']",
+                                   waits="agent.depart(1)", good="")
+                file = f"{self.folder}/hides.py"
+                status = self.explored(text, "--agent", f"{file}:writer", "--agent", f"{file}:reader", "--check", 0)
+                self.assertEqual(status, 2, self.said)
+                self.assertIn(f"changes {name}, which all programs of this process share", self.said)
+
     def test_what_has_no_name_is_told_with_its_variable(self) -> None:
-        text = TEXT.format(lines="import sqlite3", hides="b", finds="h", good="x")
+        text = TEXT.format(lines="import sqlite3", hides="b", finds="h", waits="agent.depart(1)", good="x")
         file = f"{self.folder}/hides.py"
         self.explored(text, "--agent", f"{file}:writer", "--agent", f"{file}:reader")
         self.assertIn("the module lab_agent_hides uses sqlite3, which may keep what nobody sees. Instead, do without",
@@ -400,6 +455,50 @@ class Memories(InExplore):
                 assert found is not None, self.said
                 self.assertEqual(found[1], found[2])
                 self.assertGreater(int(found[1]), 20)
+
+    def test_programs_with_a_module_beside_them_share_memories(self) -> None:
+        """As many states as the program that stands in one file."""
+        ring, found = pathlib.Path(RING.words.split()[0]), set()
+        (self.folder / "helper.py").write_text(ring.read_text(encoding="utf-8"), encoding="utf-8")
+        (self.folder / "own.py").write_text("from helper import search\n", encoding="utf-8")
+        for words in (RING.words, f"{self.folder}/own.py {{nodes}}"):
+            self.assertEqual(self.command("--network", "ring:5", "--hole", 2, "--agent", words), 0, self.said)
+            self.assertNotIn("history stands", self.said)
+            found.add(re.findall(r"^\d+ states", self.said, re.MULTILINE)[0])
+        self.assertEqual(len(found), 1, found)
+
+    def test_who_changes_what_the_lab_plays_it_by_fails(self) -> None:
+        file = f"{self.folder}/hides.py"
+        parts = dict.fromkeys(("number", "modules", "_team", "_heard", "_thread"), ("'x'", "None", "True"))
+        parts |= {"__dict__": ("{}", "dict(vars(agent._lines))",),
+                  "__class__": ("type('X', (type(agent._lines),), {'memo': b})",)}
+        for part, values in parts.items():
+            for value in values:
+                with self.subTest(part, value=value):
+                    text = TEXT.format(lines="", hides=f"setattr(agent._lines, {part!r}, {value})", finds="''", good="",
+                                       waits="agent.depart(1)")
+                    status = self.explored(text, "--agent", f"{file}:writer", "--agent", f"{file}:reader")
+                    self.assertEqual(status, 1, self.said)
+                    said = "the class or the dict" if "__" in part else part
+                    self.assertIn(f"agent 1: has changed {said} of its lines, by which the lab plays it", self.said)
+
+    def test_an_agent_was_told_what_the_lab_has_told_it(self) -> None:
+        """It goes on, though it says itself that it was told of the end."""
+        text = "def good(agent, key):\n    agent.enter(key)\n    agent.accuse(0)\ndef wrong(agent, key):\n" \
+            "    agent.enter(key)\n    agent._lines.latest = '{\"ok\":\"over\"}'\n    agent.accuse(1)\n"
+        file = f"{self.folder}/hides.py"
+        self.assertEqual(self.explored(text, "--agent", f"{file}:good", "--agent", f"{file}:wrong"), 1, self.said)
+        self.assertIn("it comes to: home 0 holes [1], wrong", self.said)
+
+    def test_a_line_that_is_no_text(self) -> None:
+        for value in ("5", "b''", "[]"):
+            with self.subTest(value):
+                text = TEXT.format(lines="", hides=f"setattr(agent._lines, 'line', {value})", finds="''", good="",
+                                   waits="agent._lines.receive()")
+                file = f"{self.folder}/hides.py"
+                status = self.explored(text, "--agent", f"{file}:writer", "--agent", f"{file}:reader")
+                self.assertEqual(status, 2, self.said)
+                self.assertIn(f"agent 1 sends {value}, which is no line", self.said)
 
     def test_what_students_import_is_no_reason_to_tell_histories_apart(self) -> None:
         """As many questions as without the imports; of a module that may keep state it is told, and what it costs."""
@@ -424,7 +523,8 @@ class Memories(InExplore):
         self.assertEqual(len(set(asked.values())), 1, asked)
 
     def test_a_merge_that_is_none_is_told(self) -> None:
-        (self.folder / "hides.py").write_text(TEXT.format(lines="", hides="b", finds="h", good=""), encoding="utf-8")
+        text = TEXT.format(lines="", hides="b", finds="h", waits="agent.depart(1)", good="")
+        (self.folder / "hides.py").write_text(text, encoding="utf-8")
         file = f"{self.folder}/hides.py"
         # a name that leaves a text of one letter out
         found = seats.bytes_of
