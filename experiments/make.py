@@ -204,14 +204,14 @@ def thirds_row(nodes: int, drawn: Mapping[Tuple[str, str], str], hunted: Mapping
             f"{counted.moves() / bound(nodes):.2f}", f"{counted.moves() / halves:.2f}"]
 
 
-RINGS_EXPLORED = (3, 4, 5, 6, 7, 8, 9, 16, 24, 27, 32, 48)
+RINGS_EXPLORED = (3, 4, 5, 6, 7, 8, 9, 16, 24, 27, 32, 48, 64)
 NETWORKS_EXPLORED = ("ring:8", "ring:16", "hypercube:3", "hypercube:4", "hypercube:5", "torus:3x3", "torus:4x4",
                      "torus:5x5", "torus:6x6", "random:16:deg3:seed1", "random:32:deg3:seed1")
 # more commands and more states than a match of these has
 WIDE = ("--quota", "65535", "--states", "1000000000")
 EXPLORED = [
     *(Search("explore", f"ring:{nodes}", RING, 2, WIDE) for nodes in RINGS_EXPLORED),
-    *(Search("explore", f"ring:{nodes}", RING3, 2, ("--board", "48", *WIDE)) for nodes in (8, 16, 27, 32)),
+    *(Search("explore", f"ring:{nodes}", RING3, 2, ("--board", "48", *WIDE)) for nodes in (8, 16, 27, 32, 48, 64)),
     *(Search("explore", network, KNOWN_MAP, 2, WIDE) for network in NETWORKS_EXPLORED),
 ]
 EXPLORED_HEAD = ("network", "agents", "states", "most moves", "most lost", "seconds")
