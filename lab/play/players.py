@@ -26,7 +26,7 @@ LAST_LINES = DENIALS | {spelled(reply) for reply in LAST}
 DEPARTED, WAKES = spelled(GONE), "wakes"
 # what is never taken from lines ahead
 NEVER_AHEAD = LAST_LINES | {WAKES}
-# of a player what the lab plays its program by: it stays as it is
+# the parts of a player by which the lab plays its program: the program may not set them
 STAYS = ("number", "modules", "_team", "_heard", "_thread")
 CHANGED = "has changed {} of its lines, by which the lab plays it"
 
@@ -41,7 +41,7 @@ class TooSlow(Exception):
 class Player:
     """One agent's program. It has `send` and `receive`, by which the client asks, and `sleep`."""
 
-    # what the lab finds if a program takes such a part away
+    # the lab finds these values if a program deletes such a part
     state, errors, latest = WAITS, "", ""
     line: Optional[bytes] = None
     fault: Optional[str] = None
@@ -92,7 +92,7 @@ class Player:
         changed = self._turn(self._thread.switch)
         if changed is not None:
             self.stop()
-            # whatever else it comes to
+            # this fault takes the place of any other
             self.fault = CHANGED.format(changed)
 
     def stop(self, fault: Optional[str] = None) -> None:
@@ -102,8 +102,8 @@ class Player:
         self._turn(self._thread.throw)
 
     def _turn(self, begins: Callable[[], Any]) -> Optional[str]:
-        """Lets the program run until it waits or ends. What it has changed of what the lab plays it by is put back, and
-        told."""
+        """Lets the program run until it waits or ends. If it has set a part that it may not set, puts the part back and
+        answers which."""
         parts, kind = vars(self), type(self)
         before = [*map(parts.get, STAYS)]
         with self.modules:

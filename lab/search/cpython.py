@@ -197,7 +197,7 @@ def more_of_property(value: property) -> Tuple[Any, bool]:
 
 
 def is_empty(slot: Any, value: Any) -> bool:
-    """Whether nothing lies where an object has an attribute, of which Python says that it is None."""
+    """Whether an attribute that Python reads as None is not set."""
     return word_at(id(value) + number_at(word_at(id(slot) + ENTRY) + OFFSET)) == 0
 
 
@@ -226,7 +226,7 @@ def held_by_frame(frame: types.FrameType) -> Tuple[int, int, List[int], List[Any
 
 
 def traced(frame: types.FrameType) -> Unnamed:
-    """What is said of a frame that something is told of."""
+    """The fault of a frame that is traced."""
     return Unnamed(f"a frame of {frame.f_code.co_qualname} that is traced", instead="leave frames as they are")
 
 

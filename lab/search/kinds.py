@@ -189,7 +189,7 @@ def built_in_name(namer: Names, value: Any) -> Name:
 
 
 def is_of_lab(frame: types.FrameType) -> bool:
-    """Whether a frame is one of the lab's modules, and of none that only says so."""
+    """Whether a frame runs code of the lab. A program's own module does not count, even if its name begins so."""
     module = frame.f_globals.get("__name__")
     if type(module) is not str or not module.startswith("lab."):
         return False
@@ -357,14 +357,13 @@ def written_name(_: Names, value: OSError) -> Name:
         return ("written",)
 
 
-# what exceptions of a class that is not in Python have besides their attributes and what each exception has, by what
-# gives it; and what is named elsewhere
+# how to name what built-in exceptions compute, by its name; and what of it is named elsewhere
 GIVEN_BY: Dict[str, Naming] = {"args": arguments_name, "characters_written": written_name}
 NAMED_ELSEWHERE = {"__dict__", "__traceback__", "__context__", "__cause__"}
 
 
 def of_exceptions(base: type) -> List[Naming]:
-    """What names all that exceptions have by a class that is not in Python."""
+    """The functions that name what a built-in class adds to its exceptions."""
     found = [it for it, part in dict_of(base).items() if type(part) is types.GetSetDescriptorType]
     unknown = [it for it in found if it not in GIVEN_BY and it not in NAMED_ELSEWHERE]
     if unknown:

@@ -66,7 +66,7 @@ def may_tell_itself(variables: Dict[str, Any]) -> bool:
 
 @functools.lru_cache(maxsize=None)
 def tells(code: types.CodeType) -> bool:
-    """Whether code has one of these names, also in a text by which `format` takes attributes, or where `match` does."""
+    """Whether code has one of these names, also in a text for `format` or in a pattern of `match`."""
     constants = (it for one in code.co_consts for it in (one if isinstance(one, tuple) else (one,)))
     texts: Iterable[str] = (it for it in constants if isinstance(it, str))
     return not TELLS.isdisjoint(code.co_names) or any("_lines" in it or "._" in it for it in texts)

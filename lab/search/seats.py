@@ -35,10 +35,10 @@ BLIND = ENDS | {DEPARTED}
 # how a memory was met first: from which memory, or from the start of which agent, and by what
 Way = Tuple[int, str]
 EMPTY: Mapping[int, str] = {}
-# what of a player a program can read later that is named besides, or that is given anew before it goes on: see `Player`
+# the parts of a player that are named elsewhere, or that the lab sets anew before the program goes on: see `Player`
 NAMED = frozenset(("number", "state", "line", "latest", "ahead", "handled", "modules", "_team", "_heard",
                    "_thread"))
-# what a program finds there otherwise, unless it has put something there
+# the other parts, with the values that they have unless the program has set them
 FRESH = {"fault": None, "errors": "", "_is_over": False, "_is_closed": False}
 PARTS = NAMED | FRESH.keys()
 
@@ -111,7 +111,7 @@ class Seats:
         self._team, self._outside = Team(fixture.keys, {}, seconds), programs.Team(fixture, {}, seconds)
         folders = {str(folder_of(agent.words)) for agent in inside if agent.function is None}
         self._is_own = own_modules(sorted({str(AGENTS), *folders}), CLIENT)
-        # how many attributes the lab has given to what it plays a program by
+        # how many attributes the objects have at the start by which the lab plays a program
         self._count = 0
         # by the words of an agent and the names of its modules, whether it is one machine for each number
         self._is_apart: Dict[Tuple[str, ...], bool] = {}
@@ -287,13 +287,14 @@ class Seats:
 
 
 def attributes_of(player: Player) -> int:
-    """How many attributes that have which the lab plays a program by. The notes of a program begin when it does."""
+    """How many attributes the objects have by which the lab plays a program. The notes of its thread do not count,
+    since they are made when it begins."""
     of_thread = vars(player._thread)
     return len(vars(player._team)) + len(vars(player.modules)) + len(of_thread) - ("notes" in of_thread)
 
 
 def put_into(player: Player) -> Dict[str, Any]:
-    """What a program can find in its player that does not stand there otherwise, and is not named besides."""
+    """The parts of a player that differ from those of a fresh one, except what is named elsewhere."""
     parts, found = vars(player), dict[str, Any]()
     if player._heard:
         found["_heard"] = tuple(player._heard)

@@ -20,7 +20,7 @@ from lab.search.unnamed import Unnamed
 REACH_ANY = {"eval", "exec", "__import__", "import_module", "modules", "__builtins__", "__loader__", "__spec__",
              "__subclasses__", "__globals__", "f_globals", "f_builtins", "get_objects", "get_referents",
              "get_referrers"}
-# by which it may see how much room values take, of which their names say nothing
+# by which code reads the sizes of values, which are not named
 SEES_ROOM = {"__sizeof__", "__alloc__"}
 # of dunder names these say nothing of state
 PLAIN_DUNDERS = {"__name__", "__doc__", "__version__", "__file__", "__all__"}
