@@ -1,7 +1,7 @@
 """Measures how fast the program tries every schedule of a match, apart from the host that plays the agents.
 
     ./arena --help            # builds the program, if it is not built yet
-    /usr/bin/python3 -m bench.explore [--states N] NETWORK=AGENT ..
+    /usr/bin/python3 -m bench.explore [--max-states N] NETWORK=AGENT ..
 
 Each network is named as for the lab, such as ring:16, and AGENT names an agent of examples/agents, such as ring. Two
 agents play, and each node but the home base is the black hole in turn. First the lab answers the program's questions,
@@ -20,11 +20,11 @@ import time
 from typing import List, NamedTuple, Tuple
 from unittest import mock
 
-from lab.__main__ import parser
-from lab.commands.words import games_of
-from lab.rules.fixtures import Fixture, write_tournament
-from lab.search import asking
-from lab.search.machines import Machines
+from arena_lab.__main__ import parser
+from arena_lab.commands.words import games_of
+from arena_lab.rules.fixtures import Fixture, write_tournament
+from arena_lab.search import program_search
+from arena_lab.search.machines import Machines
 
 TOP = pathlib.Path(__file__).resolve().parents[1]
 PROGRAM = os.environ.get("ARENA", str(TOP / "arena"))
@@ -65,7 +65,8 @@ def alone(fixture: Fixture, answers: Answers, states: int) -> Tuple[float, float
         write_tournament(fixture, folder)
         (folder / "answers").write_bytes(b"".join(answers.lines))
         with (folder / "answers").open("rb") as lines:
-            words = [PROGRAM, "explore", "tournament.toml", "0", "--states", str(states), "--naps", str(fixture.naps)]
+            words = [PROGRAM, "explore", "tournament.toml", "0", "--max-states", str(states), "--spurious-wakeups",
+                     str(fixture.naps)]
             return watched(subprocess.Popen(words, cwd=name, stdin=lines, stdout=subprocess.DEVNULL))
 
 
@@ -94,12 +95,13 @@ def processor_seconds() -> float:
 
 def tried(fixture: Fixture, machines: Machines, states: int) -> Taken:
     """What one match takes, all schedules of which solve it."""
-    answers, started, before, plain = Answers(), time.monotonic(), processor_seconds(), asking.Run.answer
-    with mock.patch.object(asking.Run, "answer", lambda run, question: answers.noted(plain(run, question))):
-        answered = asking.asked(PROGRAM, fixture, machines, states, lambda count: None)
+    answers, started, before, plain = Answers(), time.monotonic(), processor_seconds(), program_search.ProgramRun.answer
+    with mock.patch.object(program_search.ProgramRun, "answer", lambda run, question: answers.noted(plain(run,
+                                                                                                          question))):
+        answered = program_search.asked(PROGRAM, fixture, machines, states, lambda count: None)
     whole, processor = time.monotonic() - started, processor_seconds() - before
     found = answered.found
-    if found is None or found["found"] != asking.SOLVES:
+    if found is None or found["found"] != program_search.SOLVES:
         raise SystemExit(f"{PROGRAM} does not say that every schedule solves it: {found}")
     return Taken(answered.counts["states"], found["moves"], whole, processor, *alone(fixture, answers, states))
 
@@ -126,7 +128,7 @@ def measured(network: str, agent: str, states: int) -> List[Taken]:
 
 def main() -> None:
     given = argparse.ArgumentParser(description=(__doc__ or "").partition("\n")[0])
-    given.add_argument("--states", type=int, default=1_000_000_000, help="the most states of a match (1000000000)")
+    given.add_argument("--max-states", type=int, default=1_000_000_000, help="the most states of a match (1000000000)")
     given.add_argument("matches", nargs="+", metavar="NETWORK=AGENT")
     words = given.parse_args()
     print("| network | agent | most moves | states | whole, s | program, s | states a second | memory, MB |")

@@ -36,7 +36,7 @@ import time
 from typing import Callable, Dict, Iterable, List, NamedTuple, Optional, Sequence, Tuple
 
 from experiments import spin
-from lab.support import built
+from arena_lab.support import built
 
 TOP = pathlib.Path(__file__).resolve().parent.parent
 PAGE = TOP / "bench" / "FIGURES.md"
@@ -188,7 +188,8 @@ SPIN_NOTE = """\
 All schedules of two agents of `examples/agents/ring.py`, each black hole in turn, in seconds of one processor. SPIN
 searches two models that were written by hand, in `experiments/models`. Its start, with room for a table of states,
 takes some 0.1 s. A merged model has fewer states, since steps that nobody can know of are one with the step before.
-`lab explore` plays the program as it is, and `arena explore` alone reads its answers from a file. All find the same
+`./arena-lab explore` plays the program as it is, and `arena explore` alone reads its answers from a file. All find the
+same
 moves.
 """
 
@@ -226,7 +227,7 @@ BENCHMARKS: Dict[str, Benchmark] = {
                          without_other),
     "replays": Benchmark("Replays", lambda at: of_python("bench.replays", str(at.program)), replays_text),
     "serve": Benchmark("The server's speed", lambda at: of_python("bench.serve"), serve_text),
-    "lab": Benchmark("The lab", lambda at: [DEBIANS_PYTHON, "-m", "lab", "speed", "--program", str(at.program)],
+    "lab": Benchmark("The lab", lambda at: [DEBIANS_PYTHON, "-m", "arena_lab", "speed", "--program", str(at.program)],
                      lab_text),
     "explore": Benchmark("Every schedule", lambda at: [DEBIANS_PYTHON, "-m", "bench.explore", *EXPLORED],
                          noted_text(EXPLORE_NOTE)),

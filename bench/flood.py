@@ -25,7 +25,7 @@ from typing import Any, Dict, List, NamedTuple, Tuple
 
 from bench.inputs import ring
 from bench.servers import MAX_SESSIONS, Failed, free_port, prepare, started, words
-from lab.play.agent_files import client_module
+from arena_lab.play.agent_files import client_module
 
 client = client_module()
 search = importlib.import_module("ring").search

@@ -21,8 +21,8 @@ import time
 from collections import Counter
 from typing import Dict, Iterator, List
 
-from lab.rules.engines import program_at
-from lab.tests.hall.halls import Served, play
+from arena_lab.rules.engines import program_at
+from arena_lab.tests.hall.halls import Served, play
 
 SEED, FLOODS, EVERY = 5, 8, 0.5
 # tests of processes that are killed take workers for gone earlier

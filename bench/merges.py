@@ -1,4 +1,4 @@
-"""Measures what it costs `lab explore` to check that agents are the machines for which it takes them.
+"""Measures what it costs `./arena-lab explore` to check that agents are the machines for which it takes them.
 
     ./arena --help            # builds the program, if it is not built yet
     /usr/bin/python3 -m bench.merges [--times N] [--hole V] NETWORK=AGENT ..
@@ -16,13 +16,13 @@ from typing import List, NamedTuple, Tuple
 from unittest import mock
 
 from bench.explore import PROGRAM, words_of
-from lab.__main__ import parser
-from lab.commands.words import games_of
-from lab.play.teams import Game
-from lab.search import asking
-from lab.search.beside import MERGES
-from lab.search.following import follow
-from lab.search.machines import Machines
+from arena_lab.__main__ import parser
+from arena_lab.commands.words import games_of
+from arena_lab.play.teams import Game
+from arena_lab.search import program_search
+from arena_lab.search.merge_checks import MERGES
+from arena_lab.search.sampled_runs import follow
+from arena_lab.search.machines import Machines
 
 SCHEDULES, STATES = 20, 1_000_000_000
 HEAD = ("network", "agent", "questions", "merges", "checked", "answers, s", "with checks, s", "more",
@@ -48,16 +48,16 @@ def machines_of(game: Game, merges: int) -> Machines:
 
 def asked(game: Game) -> Questions:
     """What the program asks while it searches all matches."""
-    found, plain, machines = [], asking.Run.answer, machines_of(game, 0)
+    found, plain, machines = [], program_search.ProgramRun.answer, machines_of(game, 0)
 
-    def noted(run: asking.Run, question: bytes) -> bytes:
+    def noted(run: program_search.ProgramRun, question: bytes) -> bytes:
         found[-1].append(question)
         return plain(run, question)
     try:
         for fixture in game.fixtures():
             found.append([])
-            with mock.patch.object(asking.Run, "answer", noted):
-                asking.asked(PROGRAM, fixture, machines, STATES, lambda count: None)
+            with mock.patch.object(program_search.ProgramRun, "answer", noted):
+                program_search.asked(PROGRAM, fixture, machines, STATES, lambda count: None)
         return found
     finally:
         machines.stop()
@@ -69,7 +69,7 @@ def answered(game: Game, questions: Questions, merges: int) -> Taken:
     try:
         began = time.process_time()
         for of_match in questions:
-            run = asking.Run(machines)
+            run = program_search.ProgramRun(machines)
             for question in of_match:
                 run.answer(question)
         ended = time.process_time()

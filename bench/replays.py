@@ -33,7 +33,7 @@ from typing import Any, Callable, Dict, Iterator, List, NamedTuple, Optional, Se
 
 from bench.compare import compared
 from bench.inputs import MAX_AGENTS, MAX_BOARD, MAX_QUOTA, Run, median_run, run, torus_links
-from lab.rules.model import spelled
+from arena_lab.rules.model import spelled
 
 TOP = pathlib.Path(__file__).resolve().parent.parent
 PROGRAM = TOP / "crates" / "bhs_main" / "out" / "bhs_main"

@@ -22,7 +22,7 @@ microseconds. A line is printed when its load is done.
 At last the peak memory of new servers is printed with 1024 sessions open (--open) that have entered and looked once,
 and whether the rate of looks is what is wanted: one by one at least half of the echo's, many at once at least a fifth.
 The exit status is 1 if something could not be measured; it says nothing of the figures. ARENA in the environment
-names another program than ./arena, as ARENA="python3 -m lab". It takes about two minutes.
+names another program than ./arena, as ARENA="./arena-lab". It takes about two minutes.
 """
 import argparse
 import contextlib

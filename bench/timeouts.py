@@ -10,7 +10,8 @@ agent steps to the next node and comes back, node after node; the other waits be
 come back in time, it takes the node ahead for the black hole, visits all others, and accuses it from behind. Such a
 team needs about three moves a node, and honest agents need some log n times as many. With --traps hasty teams play too,
 which accuse at once, and each team also plays a match without a black hole, in which nobody arrives at that node and at
-the next (`lab tournament --traps`). As many contests are played in one as a tournament of 64 matches has room for. The
+the next (`./arena-lab tournament --traps`). As many contests are played in one as a tournament of 64 matches has room
+for. The
 program is ./arena, or what ARENA names.
 """
 import argparse
@@ -25,8 +26,8 @@ from typing import Callable, Counter, Dict, List, NamedTuple, Sequence
 
 from bench.inputs import ring
 from bench.servers import MAX_SESSIONS, Failed, free_port, prepare, started, words
-from lab.play.agent_files import client_module
-from lab.rules import networks
+from arena_lab.play.agent_files import client_module
+from arena_lab.rules import networks
 
 client = client_module()
 search = importlib.import_module("ring").search

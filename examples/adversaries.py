@@ -1,4 +1,4 @@
-"""Schedulers for `python3 -m lab run --scheduler`: adversaries that one writes oneself.
+"""Schedulers for `./arena-lab run --scheduler`: adversaries that one writes oneself.
 
 Each is a function of a seed that gives a function of what may happen next and of how the match stands.
 """

@@ -13,9 +13,10 @@ a contest whose results count asks for that.
 
 With --kill the agents of the team green are killed in the middle of their search, and the other teams must solve
 theirs. Files go to a temporary folder; --keep has the replays of the matches written to a folder, --pages also a page
-of each and a list of them (python3 -m lab pages). With --watch a browser shows the contest while it goes on (python3 -m
-lab watch); turns are slower then, and the page stays until you press Enter. ARENA in the environment names another
-server, as ARENA="python3 -m lab" for one in Python, which needs neither a build nor the toolchain.
+of each and a list of them (./arena-lab pages). With --watch a browser shows the contest while it goes on (
+./arena-lab watch); turns are slower then, and the page stays until you press Enter. ARENA in the environment names
+another
+server, as ARENA="./arena-lab" for one in Python, which needs neither a build nor the toolchain.
 """
 import argparse
 import contextlib
@@ -34,8 +35,8 @@ from typing import Dict, Iterator, List
 TOP = pathlib.Path(__file__).resolve().parent.parent
 sys.path.insert(0, str(TOP))
 
-from lab.support import built  # noqa: E402
-from lab.support.ports import free_port  # noqa: E402
+from arena_lab.support import built  # noqa: E402
+from arena_lab.support.ports import free_port  # noqa: E402
 
 AGENTS = TOP / "examples" / "agents"
 RELEASED_RING = TOP / "bin" / "ring"
@@ -149,7 +150,7 @@ def outcomes(table: str) -> Dict[str, str]:
 def write_pages(command: List[str], replays: str, folder: pathlib.Path) -> None:
     """Writes a page of each match and one that lists them, by the program that served them, if that is one."""
     program = ["--program", command[0]] if len(command) == 1 else []
-    tool = [DEBIANS_PYTHON, "-m", "lab", "pages", TOURNAMENT, replays, "--out", str(folder.resolve()), *program]
+    tool = [DEBIANS_PYTHON, "-m", "arena_lab", "pages", TOURNAMENT, replays, "--out", str(folder.resolve()), *program]
     subprocess.run(tool, cwd=TOP, check=True)
 
 
@@ -158,7 +159,8 @@ def watched(replays: str, pause: int) -> Iterator[None]:
     """Shows the contest in a browser while it goes on, and until Enter is pressed."""
     port = free_port()
     words = [TOURNAMENT, replays, "--port", port, "--turns", TURNS, "--pause", pause]
-    with subprocess.Popen([DEBIANS_PYTHON, "-m", "lab", "watch", *map(str, words)], cwd=TOP, stdout=subprocess.PIPE,
+    with subprocess.Popen([DEBIANS_PYTHON, "-m", "arena_lab", "watch", *map(str, words)], cwd=TOP,
+                          stdout=subprocess.PIPE,
                           text=True) as child:
         try:
             line = child.stdout.readline()

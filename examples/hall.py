@@ -3,7 +3,8 @@
 
     python3 examples/hall.py [--demo-seconds N] [--port N] [--no-browser]
 
-Starts `lab hall` on examples/hall/course.toml in a temporary folder, opens its page in a browser, and has the teams
+Starts `./arena-lab hall` on examples/hall/course.toml in a temporary folder, opens its page in a browser, and has the
+teams
 play until Enter is pressed, or for N seconds. Then all of it ends, and the standings are printed. It says by which
 token one logs in as a team, and by which password as the teacher.
 
@@ -32,7 +33,7 @@ from typing import Dict, List, NamedTuple, Optional
 TOP = pathlib.Path(__file__).resolve().parent.parent
 sys.path.insert(0, str(TOP))
 
-from lab.support.ports import free_port  # noqa: E402
+from arena_lab.support.ports import free_port  # noqa: E402
 
 AGENTS, PRACTISE = TOP / "examples" / "agents", TOP / "examples" / "hall" / "practise.py"
 COURSE = TOP / "examples" / "hall" / "course.toml"
@@ -68,7 +69,8 @@ class Demo:
         self._is_over = threading.Event()
         course = shutil.copy2(COURSE, folder)
         program = ["--program", os.environ["ARENA"]] if "ARENA" in os.environ else []
-        self._hall = subprocess.Popen([DEBIANS_PYTHON, "-m", "lab", "hall", str(course), "--port", str(port), *program],
+        self._hall = subprocess.Popen([DEBIANS_PYTHON, "-m", "arena_lab", "hall", str(course), "--port", str(port),
+                                       *program],
                                       cwd=TOP, stdout=subprocess.DEVNULL)
         self._teams: List[threading.Thread] = []
 

@@ -5,10 +5,10 @@ hole must be at the node that
 
 prints. Then
 
-    python3 -m lab run --network ring:16 --hole 14 --agent "examples/agents/ring3.py {nodes}" \\
+    ./arena-lab run --network ring:16 --hole 14 --agent "examples/agents/ring3.py {nodes}" \\
         --scheduler experiments/adversary.py:worst_case --keep out/worst
 
-plays the worst case, and `python3 -m lab replay out/worst` makes a page of it. An agent waits on its link into a node
+plays the worst case, and `./arena-lab replay out/worst` makes a page of it. An agent waits on its link into a node
 that nobody has reached until it is its turn, and never enters the black hole. All else happens at once, the right
 agent's steps before the left one's.
 """

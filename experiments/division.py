@@ -27,7 +27,7 @@ from typing import Callable, List, NamedTuple, Optional, Tuple
 import numpy as np
 
 from experiments.turns import Run, played
-from lab.play.agent_files import AGENTS, loaded
+from arena_lab.play.agent_files import AGENTS, loaded
 
 ring3 = loaded(AGENTS / "ring3.py")
 

@@ -35,11 +35,11 @@ from typing import Callable, Dict, List, Mapping, NamedTuple, Sequence, Tuple
 
 from experiments.division import Table, bound, of_ring, of_ring3, ring3
 from experiments.turns import played
-from lab.sweep import grid, report, tables
-from lab.__main__ import main as lab
-from lab.commands.words import add_engine, add_workers, program_of
-from lab.rules.engines import name_of
-from lab.support.built import TOP
+from arena_lab.sweep import grid, report, tables
+from arena_lab.__main__ import main as lab
+from arena_lab.commands.words import add_engine, add_workers, program_of
+from arena_lab.rules.engines import name_of
+from arena_lab.support.built import TOP
 
 EXPERIMENTS = TOP / "experiments"
 DOCUMENT = TOP / "docs" / "EXPERIMENTS.md"
@@ -83,10 +83,10 @@ def said_by(words: Sequence[str], asked: Asked) -> str:
 def shown(words: Sequence[str]) -> str:
     """A command of the lab as one types it."""
     quoted = [f'"{word}"' if " " in word else word for word in words]
-    return f"python3 -m lab {' '.join(quoted)}"
+    return f"./arena-lab {' '.join(quoted)}"
 
 
-def groups_of_sweep(name: str, asked: Asked) -> Tuple[List[report.Group], List[str]]:
+def groups_of_sweep(name: str, asked: Asked) -> Tuple[List[report.RunGroup], List[str]]:
     """The groups of a sweep, which is played now, and its command."""
     words = ["sweep", f"experiments/{name}.toml", "--out", str(asked.out / name)]
     said_by([*words, "--workers", str(asked.workers)], asked)
@@ -102,7 +102,7 @@ def of_sweep(name: str) -> Callable[[Asked], Made]:
     return make
 
 
-def rows_of(groups: Sequence[report.Group], hunted: Mapping[str, int] = {}) -> List[Cells]:
+def rows_of(groups: Sequence[report.RunGroup], hunted: Mapping[str, int] = {}) -> List[Cells]:
     """A row for each network, with the most moves that were hunted on it, if that was done."""
     schedulers = list(dict.fromkeys(group.name[2] for group in groups))
     bound = grid_bound(groups)
@@ -114,13 +114,13 @@ def rows_of(groups: Sequence[report.Group], hunted: Mapping[str, int] = {}) -> L
     return [head, *(row_of([group for group in groups if group.name[0] == name], hunted) for name in networks)]
 
 
-def grid_bound(groups: Sequence[report.Group]) -> str:
+def grid_bound(groups: Sequence[report.RunGroup]) -> str:
     """The name of the bound, which the groups have as a number."""
     return next((name for name, bound in grid.BOUNDS.items()
                  if all(group.bound == bound(group.nodes) for group in groups)), "bound")
 
 
-def row_of(groups: Sequence[report.Group], hunted: Mapping[str, int]) -> Cells:
+def row_of(groups: Sequence[report.RunGroup], hunted: Mapping[str, int]) -> Cells:
     network = groups[0].name[0]
     most = max([int(group.worst["moves"]) for group in groups] + [hunted.get(network, 0)])
     bound = groups[0].bound or 1
@@ -154,7 +154,7 @@ class Search(NamedTuple):
 def hunts(runs: int = 0, agent: str = "") -> List[Search]:
     """The hunts for most moves, as their file says, or with another number of schedules, or by another search."""
     found = tomllib.loads((EXPERIMENTS / "hunts.toml").read_text(encoding="utf-8"))
-    more = ("--for", "moves", "--seed", str(found["seed"]), "--runs", str(runs or found["runs"]))
+    more = ("--objective", "moves", "--seed", str(found["seed"]), "--runs", str(runs or found["runs"]))
     return [Search("hunt", network, agent or found["agent"], found["agents"], more) for network in found["networks"]]
 
 
@@ -208,7 +208,7 @@ RINGS_EXPLORED = (3, 4, 5, 6, 7, 8, 9, 16, 24, 27, 32, 48, 64)
 NETWORKS_EXPLORED = ("ring:8", "ring:16", "hypercube:3", "hypercube:4", "hypercube:5", "torus:3x3", "torus:4x4",
                      "torus:5x5", "torus:6x6", "random:16:deg3:seed1", "random:32:deg3:seed1")
 # more commands and more states than a match of these has
-WIDE = ("--quota", "65535", "--states", "1000000000")
+WIDE = ("--quota", "65535", "--max-states", "1000000000")
 EXPLORED = [
     *(Search("explore", f"ring:{nodes}", RING, 2, WIDE) for nodes in RINGS_EXPLORED),
     *(Search("explore", f"ring:{nodes}", RING3, 2, ("--board", "48", *WIDE)) for nodes in (8, 16, 27, 32, 48, 64)),

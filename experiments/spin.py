@@ -1,4 +1,4 @@
-"""Runs the model checker SPIN on models of the sample search of rings, to compare it with `lab explore`.
+"""Runs the model checker SPIN on models of the sample search of rings, to compare it with `./arena-lab explore`.
 
 SPIN (G. J. Holzmann, "The Model Checker SPIN", 1997) makes a program of a model, which searches all states of one match
 after another: each node but the home base is the black hole in turn. `models/ring_natural.pml` is the search as one

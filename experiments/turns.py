@@ -5,7 +5,7 @@ from typing import Any, Dict, List, NamedTuple, Sequence, Set, Tuple
 
 from greenlet import greenlet
 
-from lab.play.agent_files import AGENTS, loaded
+from arena_lab.play.agent_files import AGENTS, loaded
 
 client = loaded(AGENTS / "client.py")
 

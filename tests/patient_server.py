@@ -8,9 +8,9 @@ turn waits, so the matches are closed. The milliseconds of a pause are not kept.
 import sys
 import threading
 
-from lab.play import server
-from lab.__main__ import main
-from lab.rules.model import Object
+from arena_lab.play import server
+from arena_lab.__main__ import main
+from arena_lab.rules.model import Object
 
 is_over = threading.Event()
 games = []

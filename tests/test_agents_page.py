@@ -4,10 +4,10 @@ import re
 import unittest
 from typing import List, Tuple
 
-from lab.play.kits import KITS
-from lab.rules.fixtures import fixture_of
-from lab.rules.model import Setup, judge
-from lab.rules.rehearsal import Rehearsal, Said
+from arena_lab.play.kits import KITS
+from arena_lab.rules.fixtures import fixture_of
+from arena_lab.rules.model import Setup, judge
+from arena_lab.rules.rehearsal import Rehearsal, Said
 from tests import TOP
 
 PAGE = (TOP / "docs" / "AGENTS.md").read_text(encoding="utf-8")

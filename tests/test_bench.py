@@ -11,9 +11,9 @@ from bench import compare
 from bench import inputs
 from bench import rehearse
 from examples import contest
-from lab.play.server import table
-from lab.rules import chacha8
-from lab.rules.model import Verdict
+from arena_lab.play.server import table
+from arena_lab.rules import chacha8
+from arena_lab.rules.model import Verdict
 
 
 class Inputs(unittest.TestCase):

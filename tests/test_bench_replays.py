@@ -9,7 +9,7 @@ from typing import Iterator
 
 from bench import inputs
 from bench import replays
-from lab.rules.model import judge, played
+from arena_lab.rules.model import judge, played
 
 
 class LargeReplays(unittest.TestCase):

@@ -7,7 +7,7 @@ import tempfile
 import unittest
 from unittest import mock
 
-from lab.rules.model import played
+from arena_lab.rules.model import played
 from tools.hostile import bent_replays
 
 REPLAY = b'{"nodes":3}\n{"agent":0,"do":"look","reply":{"no":"away"}}\n{"do":"close","reply":null}\n{"end":2}\n'

@@ -4,7 +4,7 @@ import re
 import unittest
 from typing import Iterator, Tuple
 
-from lab.rules.model import played
+from arena_lab.rules.model import played
 from tests import TOP
 from tools.prove.prover import below, libraries_of
 
@@ -13,7 +13,7 @@ TRACES = ("## One line of a client", "## A tournament, from its file")
 ROW = re.compile(r"\| .*?\| (`[^|]+`) \| `(bhs_[\w/.]+)` \|")
 LINK = re.compile(r"\]\(([^)#\s]+)\)")
 # a path from the top of the repository that has an ending, or leads into tools/
-PATH = re.compile(r"(?<![\w./])((?:bench|docs|examples|experiments|lab|tests)/[\w/.-]*\.\w+|tools/[\w/.-]*\w)")
+PATH = re.compile(r"(?<![\w./])((?:bench|docs|examples|experiments|arena_lab|tests)/[\w/.-]*\.\w+|tools/[\w/.-]*\w)")
 # what is made, not kept, and what the changelog says of the past
 MADE = ("tests/out/", "CHANGELOG.md")
 THEOREMS = "bhs_theorems"
@@ -21,7 +21,7 @@ NAMED = re.compile(rf"`{THEOREMS}::(\w+)::(\w+)`")
 
 
 def documents() -> Iterator[pathlib.Path]:
-    for pattern in ("*.md", "docs/*.md", "lab/*.md", "examples/*.md", "bench/*.md", "tools/*.md"):
+    for pattern in ("*.md", "docs/*.md", "arena_lab/*.md", "examples/*.md", "bench/*.md", "tools/*.md"):
         yield from sorted(TOP.glob(pattern))
 
 

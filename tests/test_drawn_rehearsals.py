@@ -3,7 +3,7 @@ import collections
 import unittest
 from typing import Counter
 
-from lab.rules.model import Match, Setup
+from arena_lab.rules.model import Match, Setup
 from tools.play.drawn_rehearsals import Ready, Rehearsal, drawn
 
 TRIANGLE = [(0, 0, 1, 0), (1, 1, 2, 0), (2, 1, 0, 1)]

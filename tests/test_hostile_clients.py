@@ -9,13 +9,13 @@ import tempfile
 import unittest
 from unittest import mock
 
-from lab.rules.model import Match, Setup
+from arena_lab.rules.model import Match, Setup
 from tools.hostile import hostile_clients
 from tools.hostile.hostile_attacks import ATTACKS, Sizes, Wrong, has_heard, hear, hear_end, wait_for_lines
 from tools.hostile.hostile_clients import (LEAST_SESSIONS, Ending, check_end, check_memory, check_replays,
                                            check_table, match_of)
 
-STAND_IN = f"{sys.executable} -m lab"
+STAND_IN = f"{sys.executable} -m arena_lab"
 SMALL = Sizes(LEAST_SESSIONS, turns=180, between_bytes=0.02, between_steps=0.02, still=0.1, flood=2**17)
 CHECKS = 7
 

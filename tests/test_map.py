@@ -7,9 +7,9 @@ from typing import Iterator, List, NamedTuple, Set
 from tests import TOP
 
 PATH = re.compile(r"`([\w./-]+)`")
-KEPT = ("crates/", "docs/", "lab/", "tests/", "tools/", "examples/")
+KEPT = ("crates/", "docs/", "arena_lab/", "tests/", "tools/", "examples/")
 CRATES = ("crates/*/src/**/*.rt", "crates/*/specs/**/*.antt")
-OWN = ("lab/**/*.py",)
+OWN = ("arena_lab/**/*.py",)
 ROWS = ("tests/program/*.rows",)
 
 
@@ -22,10 +22,11 @@ class Example(NamedTuple):
 # by the second column of the table
 EXAMPLES = {
     "`recover`": Example(r"\b[Rr]ecover(ed)?\b|print_recovered", [*CRATES, *ROWS, "tools/hostile/commands.py"]),
-    "`--gather`": Example(r"\bgather\b", [*CRATES, *ROWS, "lab/commands/*.py"]),
-    "`lost`": Example(r"\blost\b", ["crates/bhs_standings/s*/**/*.*t", "lab/play/server.py", "lab/pages/[st]*.py"]),
-    "`events`": Example(r'"events"', ["lab/play/*.py", "lab/sweep/*.py"]),
-    "`endure`": Example(r"commands\.endure|lab endure", [*OWN, "*.md", "docs/*.md", "lab/*.md"]),
+    "`--gather`": Example(r"\bgather\b", [*CRATES, *ROWS, "arena_lab/commands/*.py"]),
+    "`lost`": Example(r"\blost\b", ["crates/bhs_standings/s*/**/*.*t", "arena_lab/play/server.py",
+                                    "arena_lab/pages/[st]*.py"]),
+    "`events`": Example(r'"events"', ["arena_lab/play/*.py", "arena_lab/sweep/*.py"]),
+    "`endure`": Example(r"commands\.endure|arena-lab endure", [*OWN, "*.md", "docs/*.md", "arena_lab/*.md"]),
     "`slow-links`": Example(r"slow-links|SlowLinks", [*CRATES, *ROWS, *OWN]),
 }
 
@@ -41,7 +42,7 @@ def files_with(pattern: str, globs: List[str]) -> Iterator[str]:
     for glob in globs:
         for path in sorted(TOP.glob(glob)):
             name = str(path.relative_to(TOP))
-            if not name.startswith("lab/tests/") and re.search(pattern, path.read_text(encoding="utf-8")):
+            if not name.startswith("arena_lab/tests/") and re.search(pattern, path.read_text(encoding="utf-8")):
                 yield name
 
 

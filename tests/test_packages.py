@@ -16,8 +16,9 @@ import unittest
 import zipfile
 from typing import Dict, List
 
-from lab import INSTALLED
-from lab.__main__ import COMMANDS, parser
+from arena_lab import INSTALLED
+from arena_lab.__main__ import COMMANDS, parser
+from arena_lab.commands.spellings import SPELLINGS
 from tests import TOP
 from tests.test_gate import module
 
@@ -27,7 +28,8 @@ PROJECT = (TOP / "pyproject.toml").read_bytes()
 READABLE, RUNNABLE = wheel.READABLE, wheel.RUNNABLE
 RELEASED = {
     "README.md": "read\n", "CHANGELOG.md": "changes\n", "docs/PROOFS.md": "claims\n",
-    "lab/support/built.py": "built = 1\n", "lab/README.md": "# The lab\n", "examples/agents/ring.py": "agent\n",
+    "arena_lab/support/built.py": "built = 1\n", "arena_lab/README.md": "# The lab\n",
+    "examples/agents/ring.py": "agent\n",
     "examples/contest.py": "contest\n",
     "BUILD": "arena 1.2.3, proved\n", "PROVED.txt": "proved\n", "VERSION": "1.2.3\n", "tools/version.py": "",
     "SHA256SUMS": "sums\n",
@@ -116,13 +118,14 @@ class Manuals(unittest.TestCase):
         completion = manual.completion(list(found.values()))
         for name, command in commands.items():
             one = found[f"{INSTALLED} {name}"]
-            options = {option for action in command._actions for option in action.option_strings if option[1] == "-"}
+            options = {option for action in command._actions for option in action.option_strings
+                       if option[1] == "-" and option not in SPELLINGS}
             self.assertEqual(set(one.options()), options, name)
             case = re.search(rf'^        {name}\) options="(.*)" ;;$', completion, re.M)
             self.assertEqual(set(case[1].split()), options, name)
             for option in options:
                 self.assertIn(option.replace("-", "\\-"), pages[f"{INSTALLED}-{name}.1"])
-            self.assertNotIn("python3 \\-m lab", pages[f"{INSTALLED}-{name}.1"])
+            self.assertNotIn("./arena\\-lab", pages[f"{INSTALLED}-{name}.1"])
 
     def test_bash_completes(self) -> None:
         with tempfile.TemporaryDirectory() as name:
@@ -152,11 +155,12 @@ class Wheels(unittest.TestCase):
         with zipfile.ZipFile(io.BytesIO(self.packed())) as archive:
             self.assertEqual(archive.namelist(), [
                 "arena_lab-1.2.3.data/data/share/man/man1/arena.1", "arena_lab-1.2.3.dist-info/METADATA",
-                "arena_lab-1.2.3.dist-info/WHEEL", "arena_lab-1.2.3.dist-info/entry_points.txt", "lab/README.md",
-                "lab/docs/PROOFS.md", "lab/examples/agents/ring.py", "lab/examples/contest.py", "lab/program/BUILD",
-                "lab/program/PROVED.txt", "lab/program/arena", "lab/support/built.py",
+                "arena_lab-1.2.3.dist-info/WHEEL", "arena_lab-1.2.3.dist-info/entry_points.txt", "arena_lab/README.md",
+                "arena_lab/docs/PROOFS.md", "arena_lab/examples/agents/ring.py",
+                "arena_lab/examples/contest.py", "arena_lab/program/BUILD",
+                "arena_lab/program/PROVED.txt", "arena_lab/program/arena", "arena_lab/support/built.py",
                 "arena_lab-1.2.3.dist-info/RECORD"])
-            self.assertEqual(archive.getinfo("lab/program/arena").external_attr >> 16, 0o100755)
+            self.assertEqual(archive.getinfo("arena_lab/program/arena").external_attr >> 16, 0o100755)
             told = archive.read("arena_lab-1.2.3.dist-info/METADATA").decode()
             for line in ("Name: arena-lab", "Version: 1.2.3", "Requires-Python: >=3.11", "Requires-Dist: greenlet",
                          'Requires-Dist: hypothesis; extra == "hunt"', "Provides-Extra: sweep"):

@@ -3,7 +3,7 @@ import random
 import unittest
 from typing import List, Sequence, Set
 
-from lab.rules.model import PRESENT, Match, Place, Setup
+from arena_lab.rules.model import PRESENT, Match, Place, Setup
 from tools.play import program_contests
 from tools.play.program_contests import ADAPTIVE, OBLIVIOUS, SIDES, Rule, Side, made_by, words_of
 

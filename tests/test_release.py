@@ -10,7 +10,7 @@ import unittest
 import unittest.mock
 from typing import Dict, Tuple
 
-from lab.support import built
+from arena_lab.support import built
 from tests import TOP
 from tests.test_built import write
 from tests.test_gate import module
@@ -22,7 +22,8 @@ NAME = "arena-1.2.3-x86_64-linux"
 FILES = {
     "VERSION": "1.2.3\n", "README.md": "read\n", "CHANGELOG.md": "changes\n", "CONTRIBUTING.md": "how\n",
     "arena": "#!/bin/sh\n", "docs/PROOFS.md": "claims\n", "examples/contest.py": "print('played')\n",
-    "examples/agents/ring.c": "int main(void) { return 0; }\n", "lab/support/built.py": "", "lab/tests/test.py": "",
+    "examples/agents/ring.c": "int main(void) { return 0; }\n", "arena_lab/support/built.py": "",
+    "arena_lab/tests/test.py": "",
     "pyproject.toml": (TOP / "pyproject.toml").read_text(),
     "tools/version.py": "", "tools/build": "", "crates.txt": "bhs_main:\n", "crates/bhs_main/src/main.rt": "main\n",
     ".gitignore": "out/\n",
@@ -86,7 +87,7 @@ class Releases(Repositories):
         found = self.unpacked(NAME)
         self.assertEqual(sorted(found), sorted([
             "BUILD", "CHANGELOG.md", "PROVED.txt", "README.md", "SHA256SUMS", "VERSION", "arena", "bin/arena",
-            "bin/ring", "docs/PROOFS.md", "examples/agents/ring.c", "examples/contest.py", "lab/support/built.py",
+            "bin/ring", "docs/PROOFS.md", "examples/agents/ring.c", "examples/contest.py", "arena_lab/support/built.py",
             "tools/version.py"]))
         runnable = {path for path, (_, mode) in found.items() if mode == 0o755}
         self.assertEqual(runnable, {"arena", "bin/arena", "bin/ring"})

@@ -14,7 +14,7 @@ from bench import serve
 from bench.serve import Bench, Figures, Load, load_of
 from bench.servers import Failed, started
 
-STAND_IN = f"{sys.executable} -m lab"
+STAND_IN = f"{sys.executable} -m arena_lab"
 
 
 class Plans(unittest.TestCase):

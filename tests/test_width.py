@@ -5,7 +5,7 @@ from typing import Iterator, List, Tuple
 
 TOP = pathlib.Path(__file__).resolve().parents[1]
 WIDTH = 120
-FOLDERS = ("bench", "crates", "docs", "examples", "experiments", "lab", "tests", "tools")
+FOLDERS = ("bench", "crates", "docs", "examples", "experiments", "arena_lab", "tests", "tools")
 CODE = {".rt", ".antt", ".rs", ".py"}
 # how lines of a document begin that cannot be broken
 WHOLE = ("|", "![", "    ")

@@ -15,7 +15,7 @@ from typing import Optional
 TOP = pathlib.Path(__file__).resolve().parent.parent
 sys.path.insert(0, str(TOP))
 
-from lab.support import built  # noqa: E402
+from arena_lab.support import built  # noqa: E402
 
 KIT = pathlib.Path("/opt/rattle")
 # what a release says of itself

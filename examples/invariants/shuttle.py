@@ -1,13 +1,13 @@
 """What holds of `examples/agents/shuttle.py` at each time, as `Inv` in crates/bhs_protocols/proofs/ExplorerState.antt.
 
-    python3 -m lab invariant examples/invariants/shuttle.py --network ring:3..5 \
+    ./arena-lab invariant examples/invariants/shuttle.py --network ring:3..5 \
         --agent "examples/agents/shuttle.py {nodes} 0" --agent "examples/agents/shuttle.py {nodes} 1"
 """
 from typing import NamedTuple, Tuple
 
 from shuttle import numbers_in, text_of
 
-from lab.search.pictures import After, At, Before, Bound, Bounds, Item, Picture, World, held_after
+from arena_lab.search.configurations import After, At, Before, Bound, Bounds, Item, Configuration, World, held_after
 
 BEGINS, GOES_OUT, LEAVES, COMES_BACK, RETURNS, WRITES, ENDS = range(7)
 
@@ -46,7 +46,7 @@ def after(memory: Memory, item: Item) -> Memory:
     return memory
 
 
-def memories(picture: Picture) -> Tuple[Memory, Memory]:
+def memories(picture: Configuration) -> Tuple[Memory, Memory]:
     """What both agents hold."""
     one, other = (held_after(Memory(side), after, picture.history[side]) for side in (0, 1))
     return one, other
@@ -66,7 +66,7 @@ def distance(world: World, side: int) -> int:
     return next(steps for steps in range(world.nodes) if end_of(world, side, steps)[0] in world.holes)
 
 
-def is_placed(world: World, picture: Picture, memory: Memory) -> bool:
+def is_placed(world: World, picture: Configuration, memory: Memory) -> bool:
     """Where an agent is and what it has accused, by what it is about."""
     side, mine, phase, steps = memory.side, memory.mine, memory.phase, memory.steps
     position, accused = picture.position[side], picture.accused[side]
@@ -89,7 +89,7 @@ def comes_home(memory: Memory) -> bool:
     return memory.phase in (COMES_BACK, RETURNS, WRITES)
 
 
-def is_fit(world: World, picture: Picture, memory: Memory) -> bool:
+def is_fit(world: World, picture: Configuration, memory: Memory) -> bool:
     """What holds of one agent."""
     come = memory.mine + comes_home(memory)
     is_known = all(end_of(world, memory.side, steps)[0] in picture.reached for steps in range(1, come + 1))
@@ -110,7 +110,7 @@ def spent(memory: Memory) -> int:
     return memory.mine * (memory.mine + 1) + trip(memory)
 
 
-def holds(world: World, picture: Picture) -> bool:
+def holds(world: World, picture: Configuration) -> bool:
     one, other = memories(picture)
     return (is_fit(world, picture, one) and is_fit(world, picture, other)
             and one.theirs <= other.mine and other.theirs <= one.mine
@@ -137,7 +137,7 @@ def bounds(world: World) -> Bounds:
     return Bounds(moves=sum(squares) - 1, lost=1, commands=commands, turns=sum(commands) + sum(squares) + 2)
 
 
-def left(world: World, picture: Picture) -> int:
+def left(world: World, picture: Configuration) -> int:
     most = bounds(world).turns
     assert most is not None
     return most - sum(map(progress, memories(picture)))

@@ -1,9 +1,9 @@
 """What holds of `examples/agents/triangle.py` at each time, as `Inv` of crates/bhs_triangle says it.
 
-    python3 -m lab invariant examples/invariants/triangle.py --network ring:3 --agent "examples/agents/triangle.py 0" \
+    ./arena-lab invariant examples/invariants/triangle.py --network ring:3 --agent "examples/agents/triangle.py 0" \
         --agent "examples/agents/triangle.py 1"
 """
-from lab.search.pictures import After, At, Before, Bound, Bounds, Picture, Position, World
+from arena_lab.search.configurations import After, At, Before, Bound, Bounds, Configuration, Position, World
 
 # what an agent has made of its six turns is how much has happened to it
 TURNS = 6
@@ -16,7 +16,7 @@ def place(world: World, side: int, turns: int) -> Position:
             At(world.home, side), After()][turns]
 
 
-def is_fit(world: World, picture: Picture, side: int) -> bool:
+def is_fit(world: World, picture: Configuration, side: int) -> bool:
     """What holds of one agent."""
     turns = len(picture.history[side])
     is_lost = world.doomed(world.home, side)
@@ -36,12 +36,12 @@ def moves(turns: int) -> int:
     return [0, 0, 1, 1, 2, 2, 2][turns]
 
 
-def holds(world: World, picture: Picture) -> bool:
+def holds(world: World, picture: Configuration) -> bool:
     return (all(is_fit(world, picture, side) for side in (0, 1))
             and picture.moves == sum(moves(len(picture.history[side])) for side in (0, 1)))
 
 
-def left(world: World, picture: Picture) -> int:
+def left(world: World, picture: Configuration) -> int:
     return 8 - sum(map(len, picture.history))
 
 

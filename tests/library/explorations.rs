@@ -1,9 +1,9 @@
-//! Explorations of the triangle: what all schedules come to, rounds, and drawn schedules.
+//! Explorations of the triangle: what all schedules come to, cycles, and drawn schedules.
 
 use super::triangle::{network, setup};
 use bhs_explore::{
-    Drawn, Draws, ExploreFault, Explored, Explorer, Found, Hunt, Latest, Mind, Scheduler, Step,
-    Team, TeamFault,
+    ExploreFault, Explored, Explorer, Finding, Latest, Objective, SampleRequest, SampleResult,
+    Scheduler, Step, Team, TeamAnswer, TeamFault,
 };
 use bhs_model::{Command, Mark, Text};
 use bhs_world::World;
@@ -46,8 +46,8 @@ fn step_of(scout: Scout, memory: u32) -> Step {
     }
 }
 
-fn mind_of(scout: Scout, memory: u32) -> Mind {
-    Mind {
+fn mind_of(scout: Scout, memory: u32) -> TeamAnswer {
+    TeamAnswer {
         memory,
         step: step_of(scout, memory),
     }
@@ -56,11 +56,11 @@ fn mind_of(scout: Scout, memory: u32) -> Mind {
 impl Team for Pair {
     ghost answers = { λ old exchange new. Unit {0} };
 
-    fn begin(&mut self, agent: u16) -> Result<Mind, TeamFault> {
+    fn begin(&mut self, agent: u16) -> Result<TeamAnswer, TeamFault> {
         Ok(mind_of(self.scout, u32::from(agent)))
     }
 
-    fn next(&mut self, before: u32, latest: Latest, _shown: &str) -> Result<Mind, TeamFault> {
+    fn next(&mut self, before: u32, latest: Latest, _shown: &str) -> Result<TeamAnswer, TeamFault> {
         let after = match (before, latest) {
             (0, _) => 2,
             (2, Latest::Heard(Mark::Gone)) => 3,
@@ -87,8 +87,8 @@ pub fn explored(alloc: Global, scout: Scout) -> Result<Explored, Fail> {
 }
 
 /// Four schedules of this seed.
-pub fn draws(hunt: Option<Hunt>) -> Draws {
-    Draws {
+pub fn draws(hunt: Option<Objective>) -> SampleRequest {
+    SampleRequest {
         schedules: 4,
         seed: 5,
         scheduler: Scheduler::Fair,
@@ -97,7 +97,7 @@ pub fn draws(hunt: Option<Hunt>) -> Draws {
     }
 }
 
-pub fn drawn(alloc: Global, scout: Scout, hunt: Option<Hunt>) -> Result<Drawn, Fail> {
+pub fn drawn(alloc: Global, scout: Scout, hunt: Option<Objective>) -> Result<SampleResult, Fail> {
     let mut team = Pair { scout };
     let mut explorer = explorer(alloc, &mut team)?;
     Ok(explorer.draw(&mut team, draws(hunt))?)
@@ -122,7 +122,7 @@ impl Rivals {
         }
     }
 
-    fn mind(&mut self, stage: u32) -> Result<Mind, TeamFault> {
+    fn answer_of(&mut self, stage: u32) -> Result<TeamAnswer, TeamFault> {
         let step = match stage {
             1 | 11 => Step::Says(Command::Write {
                 expect: Text::empty(),
@@ -142,7 +142,7 @@ impl Rivals {
         if known.is_none() {
             self.stages.push(stage).map_err(|_| TeamFault)?;
         }
-        Ok(Mind {
+        Ok(TeamAnswer {
             memory: memory as u32,
             step,
         })
@@ -152,11 +152,11 @@ impl Rivals {
 impl Team for Rivals {
     ghost answers = { λ old exchange new. Unit {0} };
 
-    fn begin(&mut self, agent: u16) -> Result<Mind, TeamFault> {
-        self.mind(u32::from(agent.min(1)) * 10)
+    fn begin(&mut self, agent: u16) -> Result<TeamAnswer, TeamFault> {
+        self.answer_of(u32::from(agent.min(1)) * 10)
     }
 
-    fn next(&mut self, before: u32, latest: Latest, _shown: &str) -> Result<Mind, TeamFault> {
+    fn next(&mut self, before: u32, latest: Latest, _shown: &str) -> Result<TeamAnswer, TeamFault> {
         let Some(stage) = self.stages.get(before as usize).copied() else {
             return Err(TeamFault);
         };
@@ -164,7 +164,7 @@ impl Team for Rivals {
             Latest::Heard(Mark::Changed { .. }) if !self.is_patient => 7,
             _ => stage % 10 + 1,
         };
-        self.mind(stage / 10 * 10 + after)
+        self.answer_of(stage / 10 * 10 + after)
     }
 }
 
@@ -175,7 +175,7 @@ fn agents_that_write_at_one_node_are_tried_in_both_orders(rt: HostRuntime) -> Re
     let world = World::new(alloc, network(alloc)?, setup(alloc)?)?;
     let mut explorer = Explorer::new(alloc, world, Vec::new(alloc), 2, &mut team)?;
     match explorer.explore(&mut team, 100)?.found {
-        Found::Fails { .. } => Ok(()),
+        Finding::Fails { .. } => Ok(()),
         _ => Err(Fail::from("the order in which agent 1 writes first was left out")),
     }
 }
@@ -191,7 +191,7 @@ fn states_with_two_agents_exchanged_are_one(rt: HostRuntime) -> Result<(), Fail>
     let explored = explorer.explore(&mut team, 1_000)?;
     assert_eq!(rt; explored.states, 21);
     match explored.found {
-        Found::Solves(_) => Ok(()),
+        Finding::Solves(_) => Ok(()),
         _ => Err(Fail::from("a schedule of three agents does not solve")),
     }
 }
@@ -207,11 +207,11 @@ fn what_agents_spend_goes_with_them(rt: HostRuntime) -> Result<(), Fail> {
             let world = World::new(alloc, network(alloc)?, setup)?;
             let mut explorer = Explorer::new(alloc, world, Vec::new(alloc), 2, &mut team)?;
             match explorer.explore(&mut team, 10_000)?.found {
-                Found::Solves(bounds) => {
+                Finding::Solves(bounds) => {
                     assert_eq!(rt; (quota, bounds.commands.len()), (3, usize::from(agents)));
                     assert_eq!(rt; (bounds.commands[0], bounds.commands[1]), (3, 1));
                 }
-                Found::Exceeds { agent, commands } => {
+                Finding::Exceeds { agent, commands } => {
                     assert_eq!(rt; (quota, agent, commands), (2, 0, 3));
                 }
                 _ => return Err(Fail::from("a schedule does not solve")),
@@ -229,9 +229,9 @@ fn every_schedule_solves(rt: HostRuntime) -> Result<(), Fail> {
         (4, 6, 5)
     );
     match explored.found {
-        Found::Solves(bounds) => {
+        Finding::Solves(bounds) => {
             assert_eq!(rt;
-                (bounds.moves, bounds.lost, bounds.turns, bounds.naps),
+                (bounds.moves, bounds.lost, bounds.turns, bounds.wakeups),
                 (1, 0, 4, 2)
             );
             assert_eq!(rt; bounds.commands.as_slice(), [2, 0].as_slice());
@@ -253,7 +253,7 @@ fn visits_lead_to_the_same(rt: HostRuntime) -> Result<(), Fail> {
     assert!(rt; explorer.visit(&mut team, 100, 100)?);
     assert_eq!(rt; explorer.visited().depth, 0);
     match explorer.explore(&mut team, 100)?.found {
-        Found::Solves(bounds) => {
+        Finding::Solves(bounds) => {
             assert_eq!(rt; bounds.turns, 4);
             Ok(())
         }
@@ -276,26 +276,26 @@ fn a_search_of_few_states_ends(rt: HostRuntime) -> Result<(), Fail> {
 #[test]
 fn a_round_without_counted_commands_goes_on_for_ever(rt: HostRuntime) -> Result<(), Fail> {
     match explored(rt.alloc(), Scout::EntersAgain)?.found {
-        Found::Endless {
+        Finding::Endless {
             schedule,
-            round,
+            cycle,
             is_fair,
         } => {
             assert_eq!(rt;
-                (schedule.as_slice(), round.as_slice()),
+                (schedule.as_slice(), cycle.as_slice()),
                 ([0].as_slice(), [0].as_slice())
             );
             assert!(rt; is_fair);
             Ok(())
         }
-        _ => Err(Fail::from("no round was found")),
+        _ => Err(Fail::from("no cycle was found")),
     }
 }
 
 #[test]
 fn a_round_of_looks_spends_the_quota(rt: HostRuntime) -> Result<(), Fail> {
     match explored(rt.alloc(), Scout::LooksAgain)?.found {
-        Found::Exceeds { agent, commands } => {
+        Finding::Exceeds { agent, commands } => {
             assert_eq!(rt; (agent, commands), (0, 11));
             Ok(())
         }
@@ -305,13 +305,13 @@ fn a_round_of_looks_spends_the_quota(rt: HostRuntime) -> Result<(), Fail> {
 
 #[test]
 fn drawn_schedules_are_counted(rt: HostRuntime) -> Result<(), Fail> {
-    for hunt in [None, Some(Hunt::Moves), Some(Hunt::Lost)] {
+    for hunt in [None, Some(Objective::Moves), Some(Objective::Lost)] {
         let drawn = drawn(rt.alloc(), Scout::Solves, hunt)?;
         assert_eq!(rt; (drawn.solved, drawn.failed, drawn.turns), (4, 0, 16));
         assert_eq!(rt; drawn.moves.as_slice(), [(1, 4)].as_slice());
         assert_eq!(rt; drawn.lost.as_slice(), [(0, 4)].as_slice());
         match drawn.found {
-            Found::Comes { verdict, schedule } => {
+            Finding::Comes { verdict, schedule } => {
                 assert_eq!(rt; (verdict.moves, verdict.lost), (1, 0));
                 assert_eq!(rt; schedule.as_slice(), [0, 0, 0, 0].as_slice());
             }
@@ -326,7 +326,7 @@ fn a_departure_is_a_turn_of_the_schedule_that_fails(rt: HostRuntime) -> Result<(
     let explored = explored(rt.alloc(), Scout::IsLost)?;
     assert_eq!(rt; (explored.states, explored.longest), (2, 3));
     match explored.found {
-        Found::Fails { verdict, schedule } => {
+        Finding::Fails { verdict, schedule } => {
             assert_eq!(rt; (verdict.moves, verdict.lost), (1, 1));
             assert_eq!(rt; schedule.as_slice(), [0, 0].as_slice());
             Ok(())
@@ -338,7 +338,7 @@ fn a_departure_is_a_turn_of_the_schedule_that_fails(rt: HostRuntime) -> Result<(
 #[test]
 fn a_round_of_moves_spends_the_quota(rt: HostRuntime) -> Result<(), Fail> {
     match explored(rt.alloc(), Scout::Shuttles)?.found {
-        Found::Exceeds { agent, commands } => {
+        Finding::Exceeds { agent, commands } => {
             assert_eq!(rt; (agent, commands), (0, 11));
             Ok(())
         }

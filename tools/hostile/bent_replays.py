@@ -24,7 +24,7 @@ import sys
 import tempfile
 from typing import Callable, Counter, Iterator, List, NamedTuple, Optional, Sequence, Tuple
 
-from lab.rules.model import PRESENT, Match, Object
+from arena_lab.rules.model import PRESENT, Match, Object
 from tools.play.drawn_rehearsals import ready_by_chance
 
 TOP = pathlib.Path(__file__).resolve().parents[2]

@@ -37,8 +37,8 @@ PART, WHOLE_OF_PART = "examples/first0.jsonl.part", "examples/first0.jsonl"
 # a contest of one match by its tournament and its prefix, and the files of that match
 CONTEST = ["examples/appeal.toml", "--replay", "examples/appeal"]
 OF_CONTEST = ["examples/appeal0.jsonl", "examples/appeal0.jsonl.part"]
-TRIES = ["explore", "examples/version1.toml", "0", "--states", "10000000", "--naps", "2"]
-DRAWS = ["--draws", "20", "--seed", "5", "--by", "slow-agents", "--hunt", "moves"]
+TRIES = ["explore", "examples/version1.toml", "0", "--max-states", "10000000", "--spurious-wakeups", "2"]
+DRAWS = ["--draws", "20", "--seed", "5", "--scheduler", "slow-agents", "--objective", "moves"]
 # each order of the program with each of its options, but `serve`, for which the tools have runs of their own:
 # tests/test_commands.py compares
 COMMANDS = [

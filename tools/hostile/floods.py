@@ -22,7 +22,7 @@ import threading
 import time
 from typing import Any, Deque, Dict, List
 
-from lab.support.ports import free_port
+from arena_lab.support.ports import free_port
 
 # agents import their client as it stands beside them
 sys.path.insert(0, str(pathlib.Path(__file__).resolve().parents[2] / "examples" / "agents"))

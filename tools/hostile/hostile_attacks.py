@@ -15,7 +15,7 @@ from typing import Callable, Dict, List, NamedTuple, Optional, Sequence
 
 from bench.inputs import MAX_AGENTS, MAX_BOARD, MIB, key
 from bench.servers import MAX_SESSIONS
-from lab.rules.model import spelled
+from arena_lab.rules.model import spelled
 from tools.hostile.session_lines import (BYE, DEPART, HERE, LEAVE, LOOK, LOOKS, NO_ENTER, NO_KEY, NO_LATE, NO_LINE,
                                          NO_TAKEN, WRITTEN)
 

@@ -23,7 +23,7 @@ exit status is 1 if one of these fails:
 - The agents of clients that vanished have left their match.
 - The table is that of the verdicts on the replays.
 
-ARENA in the environment names another program than ./arena: ARENA="python3 -m lab" tries it without the build. A run
+ARENA in the environment names another program than ./arena: ARENA="./arena-lab" tries it without the build. A run
 takes half a minute, and with --quick a third of that: its matches and its attacks are shorter.
 """
 import argparse
@@ -39,8 +39,8 @@ from typing import Callable, Iterator, List, NamedTuple, Optional, Sequence
 from bench.inputs import MAX_AGENTS, MAX_BOARD, MAX_QUOTA, MIB, key, peak_of_child, peak_so_far, ring, tournament
 from bench.servers import MAX_SESSIONS, Failed, free_port, prepare, started, words
 from examples.agents.client import Agent, Lines, Refused
-from lab.play.server import table
-from lab.rules.model import ENDED, Match, judge, played, spelled
+from arena_lab.play.server import table
+from arena_lab.rules.model import ENDED, Match, judge, played, spelled
 from tools.hostile.hostile_attacks import (ATTACKS, HOST, HOSTILE, LATER, PATIENCE, POLITE, PROMPT, STRANGER, Attack,
                                            Siege, Sizes, Wrong, hear)
 from tools.hostile.session_lines import DEPART, GONE, HERE, OVER

@@ -28,10 +28,10 @@ import tempfile
 import time
 from typing import Any, Dict, List, Sequence
 
-from lab.sweep import tables
+from arena_lab.sweep import tables
 
 TOP = pathlib.Path(__file__).resolve().parents[2]
-AGENTS, MUTANT = TOP / "examples" / "agents", TOP / "lab" / "mutants" / "reads_once.py"
+AGENTS, MUTANT = TOP / "examples" / "agents", TOP / "arena_lab" / "mutants" / "reads_once.py"
 HEAD = """title = "A hostile course"
 networks = ["ring:24", "ring:48", "ring:64"]
 holes = 2
@@ -172,7 +172,7 @@ class Grading:
         (folder / "secret").write_text("a secret of this course\n")
 
     def words(self, course: str, out: str, workers: int) -> List[str]:
-        return [sys.executable, "-m", "lab", "grade", str(self.folder / course), "--out", str(self.folder / out),
+        return [sys.executable, "-m", "arena_lab", "grade", str(self.folder / course), "--out", str(self.folder / out),
                 "--secret", str(self.folder / "secret"), "--workers", str(workers), *self.engine]
 
     def graded(self, course: str, out: str, workers: int) -> float:

@@ -21,9 +21,9 @@ import time
 from collections import Counter
 from typing import Any, Dict, List
 
-from lab.rules.model import judge, played
-from lab.tests.hall import halls
-from lab.tests.hall.halls import Served, play
+from arena_lab.rules.model import judge, played
+from arena_lab.tests.hall import halls
+from arena_lab.tests.hall.halls import Served, play
 
 ENDED = ("over", "lost", "cancelled")
 NAMES = ("web", "keeper", "scheduler", "worker 0", "worker 1")

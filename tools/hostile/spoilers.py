@@ -22,7 +22,7 @@ import threading
 import time
 from typing import Callable, Iterator, List, Optional, Sequence, Tuple
 
-from lab.support.ports import free_port
+from arena_lab.support.ports import free_port
 from tools.hostile.cases import Cases, Wrong
 from tools.hostile.session_lines import HERE, LOOK, NO_FULL, NO_LATE, NO_MEMORY, NO_SPENT, NO_TWICE, OVER
 

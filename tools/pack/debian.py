@@ -16,14 +16,14 @@ DOCUMENTED = ("README.md", "CHANGELOG.md", "docs/")
 LINKS = {
     "usr/bin/arena": "../lib/arena/arena",
     DOCUMENTS + "examples": "../../../lib/arena/examples",
-    DOCUMENTS + "lab": "../../../lib/arena/lab",
+    DOCUMENTS + "arena_lab": "../../../lib/arena/arena_lab",
     "usr/share/bash-completion/completions/arena-lab": "arena",
 }
 LAB = f"""#!/usr/bin/python3
 import sys
 
 sys.path.insert(0, "/{HOME.rstrip('/')}")
-from lab.start import lab
+from arena_lab.start import lab
 
 sys.exit(lab())
 """
@@ -48,7 +48,7 @@ Description: contest server for black hole search by mobile agents
 CLAIMS = {True: "what it tells agents is proved: /usr/share/doc/arena/PROVED.txt says by what.",
           False: "this build of it is not proved. Do not publish it."}
 # the hall as a service, which the teacher enables once there is a course
-SERVICE, SYSTEM = "lab/hall/arena-hall.service", "usr/lib/systemd/system/arena-hall.service"
+SERVICE, SYSTEM = "arena_lab/hall/arena-hall.service", "usr/lib/systemd/system/arena-hall.service"
 POSTINST = """#!/bin/sh
 set -e
 if [ -d /run/systemd/system ]; then

@@ -53,8 +53,8 @@ def part_of(text: str, heading: str) -> str:
 
 def of_lab() -> List[Help]:
     """The help texts of the lab and of each of its commands."""
-    from lab import INSTALLED
-    from lab.__main__ import COMMANDS, parser
+    from arena_lab import INSTALLED
+    from arena_lab.__main__ import COMMANDS, parser
     before = os.environ.get("COLUMNS")
     os.environ["COLUMNS"] = str(WIDTH)
     try:

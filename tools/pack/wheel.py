@@ -11,7 +11,7 @@ from typing import Dict, List, NamedTuple, Tuple
 RUNNABLE, READABLE = 0o755, 0o644
 NAME = "arena_lab"
 # where the program, and what is said of it, stand in the package, and what stands beside the lab there
-PROGRAM, BESIDE = "lab/program/", ("examples/", "experiments/", "docs/")
+PROGRAM, BESIDE = "arena_lab/program/", ("examples/", "experiments/", "docs/")
 
 
 class File(NamedTuple):
@@ -36,8 +36,8 @@ def tag_of(glibc: str) -> str:
 
 def files_of(released: Files, extra: Files) -> Files:
     """The files of the package: those of the lab, the program with what is said of it, examples and documents."""
-    found = {path: file for path, file in released.items() if path.startswith("lab/")}
-    found.update({f"lab/{path}": file for path, file in released.items() if path.startswith(BESIDE)})
+    found = {path: file for path, file in released.items() if path.startswith("arena_lab/")}
+    found.update({f"arena_lab/{path}": file for path, file in released.items() if path.startswith(BESIDE)})
     for path in ("bin/arena", "BUILD", "PROVED.txt", "UNPROVED.txt"):
         if path in released:
             found[PROGRAM + path.rpartition("/")[2]] = released[path]
@@ -55,13 +55,13 @@ def metadata(project: bytes, version: str, readme: str) -> str:
     return "\n".join([*lines, "Description-Content-Type: text/markdown", "", readme])
 
 
-ENTRY_POINTS = "[console_scripts]\narena = lab.start:arena\narena-lab = lab.start:lab\n"
+ENTRY_POINTS = "[console_scripts]\narena = arena_lab.start:arena\narena-lab = arena_lab.start:lab\n"
 
 
 def packed(files: Files, project: bytes, version: str, glibc: str, seconds: int) -> bytes:
     """The wheel."""
     info = f"{NAME}-{version}.dist-info"
-    readme = files["lab/README.md"].text.decode() if "lab/README.md" in files else ""
+    readme = files["arena_lab/README.md"].text.decode() if "arena_lab/README.md" in files else ""
     whole = {**files, f"{info}/METADATA": File(metadata(project, version, readme).encode(), READABLE),
              f"{info}/WHEEL": File(f"Wheel-Version: 1.0\nGenerator: arena\nRoot-Is-Purelib: false\n"
                                    f"Tag: py3-none-{tag_of(glibc)}\n".encode(), READABLE),

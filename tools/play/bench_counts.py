@@ -4,7 +4,7 @@ Run: python3 -m tools.play.bench_counts N
 """
 import sys
 
-from lab.rules.chacha8 import block
+from arena_lab.rules.chacha8 import block
 
 SIDE, AGENTS, QUOTA, EVENTS_OF_A_MATCH = 16, 16, 1000, 28_000
 

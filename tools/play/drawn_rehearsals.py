@@ -5,7 +5,7 @@ import collections
 import random
 from typing import Counter, Deque, Dict, List, NamedTuple, Optional, Sequence, Tuple
 
-from lab.rules.model import AWAY, BAD, BYE, NOTED, OVER, Match, Object, Place, Setup, command_of, spelled
+from arena_lab.rules.model import AWAY, BAD, BYE, NOTED, OVER, Match, Object, Place, Setup, command_of, spelled
 
 CONNECTIONS = 256
 MAX_LINE = 65_536

@@ -176,7 +176,7 @@ def fails_at_once(stage: Stage) -> None:
 
 @case("an agent that sleeps and has not entered has failed under a drawn schedule")
 def asleep(stage: Stage) -> None:
-    told = explored(stage, [SOLVER, sleeps], "--draws", 2, "--naps", 0)
+    told = explored(stage, [SOLVER, sleeps], "--draws", 2, "--spurious-wakeups", 0)
     want(told.found.get("failure") == "asleep", told)
 
 
@@ -206,9 +206,9 @@ def writes_and_solves(history: List[str]) -> Step:
 @case("a hunt for lost agents tells a schedule under which one is lost, and a hunt for moves one with the most")
 def hunts(stage: Stage) -> None:
     team = [writes_and_solves, walks_or_is_lost]
-    lost = explored(stage, team, "--draws", 200, "--hunt", "lost")
+    lost = explored(stage, team, "--draws", 200, "--objective", "lost")
     want(lost.found["found"] == "comes" and lost.found["lost"] == 1, lost)
-    moves = explored(stage, team, "--draws", 200, "--hunt", "moves")
+    moves = explored(stage, team, "--draws", 200, "--objective", "moves")
     want(moves.found["found"] == "comes" and moves.found["moves"] == moves.counts["moves"][-1][0] > 5, moves)
 
 
@@ -248,13 +248,13 @@ def counted_of(stage: Stage, number: int, *words: object) -> List[int]:
 @case("every second schedule of a hunt is the one that is drawn without it")
 def every_second(stage: Stage) -> None:
     for number in range(0, 24, 2):
-        hunted, drawn = (counted_of(stage, number, *words) for words in (("--hunt", "moves"), ()))
+        hunted, drawn = (counted_of(stage, number, *words) for words in (("--objective", "moves"), ()))
         want(hunted == drawn, number, hunted, drawn)
 
 
 @case("each schedule starves another agent")
 def starved(stage: Stage) -> None:
-    told = explored(stage, RACE, "--draws", 2, "--by", "starved")
+    told = explored(stage, RACE, "--draws", 2, "--scheduler", "starved")
     want(told.counts["solved"] == told.counts["failed"] == 1, told)
 
 
@@ -267,7 +267,7 @@ def walks_once(agent: int, history: List[str]) -> Step:
 @case("of two agents on links the one arrives first that departed last")
 def last_departed(stage: Stage) -> None:
     for seed in range(8):
-        schedule = explored(stage, [as_agent(0, walks_once), as_agent(1, walks_once)], "--draws", 1, "--by",
+        schedule = explored(stage, [as_agent(0, walks_once), as_agent(1, walks_once)], "--draws", 1, "--scheduler",
                             "last-departed", "--seed", seed).found["schedule"]
         # an agent's second turn departs, and its third arrives
         turns = [[at for at, other in enumerate(schedule) if other == agent] for agent in (0, 1)]
@@ -298,16 +298,17 @@ def sleeps_and_writes(history: List[str]) -> Step:
 
 @case("sleepers wake seldom beside slow agents, in some schedules ten times as seldom as in others")
 def sleepers_wake_seldom(stage: Stage) -> None:
-    told = explored(stage, [looks_and_solves, sleeps_and_writes], "--draws", 2_000, "--by", "slow-agents", "--naps", 10)
+    told = explored(stage, [looks_and_solves, sleeps_and_writes], "--draws", 2_000, "--scheduler", "slow-agents",
+                    "--spurious-wakeups", 10)
     # with weight 10 in all schedules it would be some 420 of them, with weight 1 some 60
     want(150 < told.counts["failed"] < 320, told.counts)
 
 
 # Limits and lines.
 
-@case("a search stops at --states")
+@case("a search stops at --max-states")
 def states(stage: Stage) -> None:
-    told = explored(stage, [SOLVER, stops], "--states", 2)
+    told = explored(stage, [SOLVER, stops], "--max-states", 2)
     want((told.status, told.fault) == (REFUSED_TEXT, "host: states"), told)
 
 
@@ -351,7 +352,7 @@ def looks_again(history: List[str]) -> Step:
 @case("a round that may go on for ever is fair unless an agent that can move has no turn in it")
 def rounds(stage: Stage) -> None:
     for other, is_fair in ((stops, True), (as_agent(1, solves), False), (sleeps, True)):
-        told = explored(stage, [as_agent(0, enters_again), other], "--naps", 0, keeps=1)
+        told = explored(stage, [as_agent(0, enters_again), other], "--spurious-wakeups", 0, keeps=1)
         want([told.found.get(it) for it in ("found", "round", "fair")] == ["endless", [0], is_fair], told)
         want(told.status == FAILING, told)
 
@@ -388,7 +389,7 @@ def walks_and_writes(history: List[str]) -> Step:
 
 @case("solves is said of agents that nap so often, and its commands and turns are theirs")
 def naps(stage: Stage) -> None:
-    told = [explored(stage, [walks_and_writes, functools.partial(waits, 9)], "--naps", count).found
+    told = [explored(stage, [walks_and_writes, functools.partial(waits, 9)], "--spurious-wakeups", count).found
             for count in range(10)]
     for count, found in enumerate(told[:9]):
         want(found["found"] == "solves" and found["naps"] == count, count, found)

@@ -14,7 +14,7 @@ import tarfile
 import tempfile
 from typing import Callable, Dict, List, Sequence
 
-from lab.support.built import SAID, NoProgram
+from arena_lab.support.built import SAID, NoProgram
 from tools import version
 from tools.prove import unproved
 

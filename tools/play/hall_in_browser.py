@@ -16,9 +16,9 @@ from typing import Any, List
 from selenium import webdriver
 from selenium.webdriver.support.ui import WebDriverWait
 
-from lab.rules.engines import TOP
-from lab.tests.hall import halls
-from lab.tests.hall.test_hall import zipped
+from arena_lab.rules.engines import TOP
+from arena_lab.tests.hall import halls
+from arena_lab.tests.hall.test_hall import zipped
 from tools.play.watch_in_browser import browser
 
 SECONDS = 60

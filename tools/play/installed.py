@@ -21,7 +21,7 @@ from typing import Callable, Dict, Iterator, List, Sequence
 TOP = pathlib.Path(__file__).resolve().parents[2]
 DEBIANS_PYTHON = "/usr/bin/python3"
 EXTRAS = "hunt,page,sweep"
-RING, WRONG = "examples/agents/ring.py {nodes}", "lab/mutants/reads_once.py {nodes}"
+RING, WRONG = "examples/agents/ring.py {nodes}", "arena_lab/mutants/reads_once.py {nodes}"
 # commands of the lab's tutorial, and what each says
 TUTORIAL = (
     (["run", "--agent", RING, "--runs", "20"], 0, "20 schedules: solved 20; failed 0"),

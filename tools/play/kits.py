@@ -11,8 +11,8 @@ import sys
 import tempfile
 from typing import List
 
-from lab.play.kits import KITS
-from lab.tests.play.kits_played import Played
+from arena_lab.play.kits import KITS
+from arena_lab.tests.play.kits_played import Played
 from tools.play.packages import install
 
 # Debian's crates that the kit in Rust needs on a machine which reaches no other

@@ -2,7 +2,8 @@
 
     python3 -m tools.play.lab_tests PROGRAM
 
-Installs packages that are missing by apt-get. The tests are those of lab/tests/ROOM/play_*.py, as many files at a time
+Installs packages that are missing by apt-get. The tests are those of arena_lab/tests/ROOM/play_*.py, as many files at a
+time
 as there are processors, since most tests wait. What a file's tests print comes once they have ended. The last line
 reads `N passed, M failed`, and the exit status is 1 if one failed.
 """
@@ -50,7 +51,7 @@ def counts_of(name: str, variables: Dict[str, str]) -> Counts:
     """Runs the tests of a file, prints what they said, and gives how many passed and failed. A file that has no tests,
     or whose tests end the process, counts as one that failed."""
     begun = time.monotonic()
-    ran = subprocess.run([DEBIANS_PYTHON, "-c", TESTS, f"lab.tests.{name}"], cwd=TOP, env=variables, text=True,
+    ran = subprocess.run([DEBIANS_PYTHON, "-c", TESTS, f"arena_lab.tests.{name}"], cwd=TOP, env=variables, text=True,
                          errors="replace", stdout=subprocess.PIPE, stderr=subprocess.STDOUT)
     said, _, last = ran.stdout.rstrip("\n").rpartition("\n")
     found = COUNTS.fullmatch(last)
@@ -66,7 +67,7 @@ def main() -> int:
     program = str(pathlib.Path(sys.argv[1]).resolve())
     install(PACKAGES)
     variables = {**os.environ, "ARENA_PROGRAM": program}
-    names = sorted(f"{path.parent.name}.{path.stem}" for path in (TOP / "lab" / "tests").glob("*/play_*.py"))
+    names = sorted(f"{path.parent.name}.{path.stem}" for path in (TOP / "arena_lab" / "tests").glob("*/play_*.py"))
     with concurrent.futures.ThreadPoolExecutor(len(os.sched_getaffinity(0))) as pool:
         found = list(pool.map(lambda name: counts_of(name, variables), names))
     passed, failed = map(sum, zip(*found))

@@ -1,4 +1,4 @@
-"""Plays a match as a person does, on the page of `lab play`, in headless Chromium and by the keyboard alone.
+"""Plays a match as a person does, on the page of `./arena-lab play`, in headless Chromium and by the keyboard alone.
 
     /usr/bin/python3 -m tools.play.play_in_browser [FOLDER]
 
@@ -98,7 +98,7 @@ def main() -> int:
     port = free_port()
     url = f"http://127.0.0.1:{port}"
     words = ["play", "--network", "ring:4", "--hole", "1", "--seed", "1", "--page", "--port", str(port)]
-    server = subprocess.Popen([sys.executable, "-m", "lab", *words], cwd=TOP, stdout=subprocess.PIPE, text=True)
+    server = subprocess.Popen([sys.executable, "-m", "arena_lab", *words], cwd=TOP, stdout=subprocess.PIPE, text=True)
     assert server.stdout is not None
     server.stdout.readline()
     page = browser()

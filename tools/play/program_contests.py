@@ -14,9 +14,9 @@ import threading
 from typing import Callable, Iterator, List, NamedTuple, Optional, Sequence, Set, Tuple
 
 from examples.contest import free_port
-from lab.play.server import table
-from lab.rules.chacha8 import word
-from lab.rules.model import AWAY, OVER, Match, Object, Place, begun, judge, objects_of, spelled
+from arena_lab.play.server import table
+from arena_lab.rules.chacha8 import word
+from arena_lab.rules.model import AWAY, OVER, Match, Object, Place, begun, judge, objects_of, spelled
 from tools.play.program_cases import case
 from tools.play.program_rows import PATIENCE, Run, Stage, Wrong, expect
 

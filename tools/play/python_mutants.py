@@ -17,7 +17,7 @@ from typing import List, NamedTuple
 
 TOP = pathlib.Path(__file__).resolve().parents[2]
 DEBIANS_PYTHON = "/usr/bin/python3"
-FOLDERS = ("lab", "examples", "tests", "tools", "bench", "experiments", "docs")
+FOLDERS = ("arena_lab", "examples", "tests", "tools", "bench", "experiments", "docs")
 # a loop without an end is a mistake that was found
 SECONDS = 300
 
@@ -31,44 +31,49 @@ class Mutant(NamedTuple):
     tests: str
 
 
-MODEL, MATCHES = "lab.tests.rules.test_model", "lab.tests.play.test_schedulers"
-GRADE, SWEEP = "lab.tests.course.test_grade", "lab.tests.sweep.test_sweep"
+MODEL, MATCHES = "arena_lab.tests.rules.test_model", "arena_lab.tests.play.test_schedulers"
+GRADE, SWEEP = "arena_lab.tests.course.test_grade", "arena_lab.tests.sweep.test_sweep"
 MUTANTS = (
-    Mutant("lab/rules/model.py", '("solved", "guess", "unfinished",', '("solved", "unfinished", "guess",', MODEL),
-    Mutant("lab/rules/model.py", '"silent", "wrong")', '"wrong", "silent")', MODEL),
-    Mutant("lab/rules/model.py", "verdict.moves, verdict.lost, team", "verdict.lost, verdict.moves, team", MODEL),
-    Mutant("lab/rules/model.py", 'return f"guess {left[0]}"', 'return f"guess {left[-1]}"', MODEL),
-    Mutant("lab/rules/model.py", "agent.standing == PRESENT for agent", "agent.standing == AWAY for agent", MODEL),
-    Mutant("lab/rules/model.py", "if not accused or not named", "if not named", MODEL),
-    Mutant("lab/play/server.py", "enumerate(ranked, 1)", "enumerate(ranked)", "tests.test_bench"),
-    Mutant("lab/play/server.py", "sorted(rows, key=lambda row: rank(row[1], row[0]))", "list(rows)",
+    Mutant("arena_lab/rules/model.py", '("solved", "guess", "unfinished",', '("solved", "unfinished", "guess",', MODEL),
+    Mutant("arena_lab/rules/model.py", '"silent", "wrong")', '"wrong", "silent")', MODEL),
+    Mutant("arena_lab/rules/model.py", "verdict.moves, verdict.lost, team", "verdict.lost, verdict.moves, team", MODEL),
+    Mutant("arena_lab/rules/model.py", 'return f"guess {left[0]}"', 'return f"guess {left[-1]}"', MODEL),
+    Mutant("arena_lab/rules/model.py", "agent.standing == PRESENT for agent", "agent.standing == AWAY for agent",
+           MODEL),
+    Mutant("arena_lab/rules/model.py", "if not accused or not named", "if not named", MODEL),
+    Mutant("arena_lab/play/server.py", "enumerate(ranked, 1)", "enumerate(ranked)", "tests.test_bench"),
+    Mutant("arena_lab/play/server.py", "sorted(rows, key=lambda row: rank(row[1], row[0]))", "list(rows)",
            "tests.test_bench"),
-    Mutant("lab/pages/screen.py", "return (len(RANKS),)", "return (-1,)", "lab.tests.pages.test_screen"),
-    Mutant("lab/pages/contest_pages.py", "(len(RANKS), 0, 0, shown.team)", "(0, 0, 0, shown.team)",
-           "lab.tests.pages.play_contest_pages"),
-    Mutant("lab/play/schedulers.py", "paces.setdefault((agent.node, agent.port), chance.choice(PACES))",
+    Mutant("arena_lab/pages/screen.py", "return (len(RANKS),)", "return (-1,)", "arena_lab.tests.pages.test_screen"),
+    Mutant("arena_lab/pages/contest_pages.py", "(len(RANKS), 0, 0, shown.team)", "(0, 0, 0, shown.team)",
+           "arena_lab.tests.pages.play_contest_pages"),
+    Mutant("arena_lab/play/schedulers.py", "paces.setdefault((agent.node, agent.port), chance.choice(PACES))",
            "chance.choice(PACES)", MATCHES),
-    Mutant("lab/play/schedulers.py", "if choice.do != ARRIVE:\n            return 1",
+    Mutant("arena_lab/play/schedulers.py", "if choice.do != ARRIVE:\n            return 1",
            "if choice.do == ARRIVE:\n            return 1", MATCHES),
-    Mutant("lab/rules/networks.py", "not {(one, two), (two, one)} & set(pairs)", "(one, two) not in pairs",
-           "lab.tests.rules.test_networks"),
-    Mutant("lab/rules/networks.py", "for v in path[:-1] + path[1:]:", "for v in path[:-1]:",
-           "lab.tests.rules.test_networks"),
-    Mutant("lab/course/league.py", "return -self.solved, self.moves, self.lost", "return -self.solved, self.lost, "
+    Mutant("arena_lab/rules/networks.py", "not {(one, two), (two, one)} & set(pairs)", "(one, two) not in pairs",
+           "arena_lab.tests.rules.test_networks"),
+    Mutant("arena_lab/rules/networks.py", "for v in path[:-1] + path[1:]:", "for v in path[:-1]:",
+           "arena_lab.tests.rules.test_networks"),
+    Mutant("arena_lab/course/league.py", "return -self.solved, self.moves, self.lost",
+           "return -self.solved, self.lost, "
            "self.moves", GRADE),
-    Mutant("lab/course/league.py", "return -self.solved, self.moves, self.lost", "return -self.solved, self.moves",
+    Mutant("arena_lab/course/league.py", "return -self.solved, self.moves, self.lost",
+           "return -self.solved, self.moves",
            GRADE),
-    Mutant("lab/course/league.py", 'sum(int(row["lost"]) for row in solved)', 'sum(int(row["lost"]) for row in own)',
+    Mutant("arena_lab/course/league.py", 'sum(int(row["lost"]) for row in solved)',
+           'sum(int(row["lost"]) for row in own)',
            GRADE),
-    Mutant("lab/course/league.py", "place=1 + ranks.index(standing.rank())", "place=ranks.index(standing.rank())",
+    Mutant("arena_lab/course/league.py", "place=1 + ranks.index(standing.rank())", "place=ranks.index(standing.rank())",
            GRADE),
-    Mutant("lab/sweep/statistic.py", "/ math.sqrt(count)", "/ count", SWEEP),
-    Mutant("lab/sweep/statistic.py", "method=\"inclusive\"", "method=\"exclusive\"", SWEEP),
-    Mutant("lab/sweep/report.py", "max(rows, key=lambda row: int(row[\"moves\"]))", "max(rows, key=lambda row: "
+    Mutant("arena_lab/sweep/statistic.py", "/ math.sqrt(count)", "/ count", SWEEP),
+    Mutant("arena_lab/sweep/statistic.py", "method=\"inclusive\"", "method=\"exclusive\"", SWEEP),
+    Mutant("arena_lab/sweep/report.py", "max(rows, key=lambda row: int(row[\"moves\"]))", "max(rows, key=lambda row: "
            "row[\"moves\"])", SWEEP),
-    Mutant("lab/sweep/report.py", 'row["outcome"] == "solved" and not row["fault"]', 'row["outcome"] == "solved"',
+    Mutant("arena_lab/sweep/report.py", 'row["outcome"] == "solved" and not row["fault"]', 'row["outcome"] == "solved"',
            SWEEP),
-    Mutant("lab/sweep/tables.py", "or cells[columns.index(COLUMNS[CHECK])] != check_of(cells, columns)", "", SWEEP),
+    Mutant("arena_lab/sweep/tables.py", "or cells[columns.index(COLUMNS[CHECK])] != check_of(cells, columns)", "",
+           SWEEP),
 )
 
 

@@ -15,10 +15,10 @@ from selenium import webdriver
 from selenium.webdriver.common.keys import Keys
 
 from bench import replays
-from lab.rules.engines import asked, program_at
-from lab.rules.model import Match, Setup
-from lab.rules.networks import hypercube
-from lab.tests.playing import MAP, RING, fixture, played, ring_fixture
+from arena_lab.rules.engines import asked, program_at
+from arena_lab.rules.model import Match, Setup
+from arena_lab.rules.networks import hypercube
+from arena_lab.tests.playing import MAP, RING, fixture, played, ring_fixture
 
 TOP = pathlib.Path(__file__).resolve().parents[2]
 WIDE, PHONE = (1200, 1000), (390, 844)
@@ -132,7 +132,7 @@ def page_of(browser: Browser, name: str, replay: str, *words: str) -> pathlib.Pa
     source = browser.folder / f"{name}.jsonl"
     source.write_text(replay, encoding="utf-8", newline="\n")
     page = browser.folder / f"{name}.html"
-    tool = [sys.executable, "-m", "lab", "page", str(source), "--out", str(page), *words]
+    tool = [sys.executable, "-m", "arena_lab", "page", str(source), "--out", str(page), *words]
     subprocess.run(tool, cwd=TOP, check=True)
     return page
 
@@ -236,7 +236,7 @@ def largest(browser: Browser) -> None:
 def course(browser: Browser) -> None:
     """The league table of the example course and pages of its teams, all links of which lead to files."""
     out = browser.folder / "course"
-    words = [sys.executable, "-m", "lab", "grade", "examples/course/course.toml", "--out", str(out)]
+    words = [sys.executable, "-m", "arena_lab", "grade", "examples/course/course.toml", "--out", str(out)]
     subprocess.run(words, cwd=TOP, check=True, stdout=subprocess.DEVNULL)
     for name in ("league", "team-cedar", "team-amber"):
         for view, size, dark in (("light", WIDE, False), ("dark", WIDE, True), ("phone", PHONE, False)):
@@ -252,7 +252,7 @@ def refused(browser: Browser) -> None:
     """A replay that is cut is refused with the line and the status of `arena judge`, and no page is written."""
     source = browser.folder / "cut.jsonl"
     source.write_text("".join(line + "\n" for line in dark_replay().split("\n")[:-2]), encoding="utf-8")
-    tool = [sys.executable, "-m", "lab", "page", str(source)]
+    tool = [sys.executable, "-m", "arena_lab", "page", str(source)]
     ran = subprocess.run(tool, cwd=TOP, stderr=subprocess.PIPE, text=True)
     is_said = ran.stderr.startswith(f"{source}: end: ")
     right = ran.returncode == 3 and is_said and not source.with_suffix(".html").exists()

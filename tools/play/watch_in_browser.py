@@ -2,7 +2,8 @@
 
     /usr/bin/python3 -m tools.play.watch_in_browser PROGRAM [FOLDER]
 
-Starts the server PROGRAM and `lab watch` on examples/contest.toml, plays the sample agents, and compares the standings
+Starts the server PROGRAM and `./arena-lab watch` on examples/contest.toml, plays the sample agents, and compares the
+standings
 with the server's table. Opens a page of a match once all are over, plays it to its end, and finds no error in the
 console. Screenshots go to the folder. tools/play/test_pages.sh installs what it needs.
 """
@@ -63,7 +64,8 @@ def main() -> int:
         server = subprocess.Popen(list(map(str, serves)), cwd=TOP, stdout=subprocess.PIPE, text=True)
         assert server.stdout is not None
         server.stdout.readline()
-        watches = [sys.executable, "-m", "lab", "watch", contest.TOURNAMENT, str(folder / "m"), "--port", str(web),
+        watches = [sys.executable, "-m", "arena_lab", "watch", contest.TOURNAMENT, str(folder / "m"), "--port",
+                   str(web),
                    "--turns", "20000", "--pause", "2"]
         watch = subprocess.Popen(watches, cwd=TOP, stdout=subprocess.PIPE, text=True)
         assert watch.stdout is not None

@@ -5,13 +5,13 @@ use Rattle.bhs_agent.specs.declared.standings.Standing.{Standing}
 use Rattle.bhs_agent.specs.declared.standings.Standing.TheVariants.{Outside, Present, Away, Ended}
 
 -- where an agent is, how many commands it has used of its quota, and whether it is lost
-pub record Course : Type 0 where
+pub record AgentState : Type 0 where
   pub position : Position
   pub used : ℕ
   pub lost : Bool
 
 -- an agent at first
-abbrev pub newcomer : Course
+abbrev pub newcomer : AgentState
 newcomer = record { position = Before; used = 0; lost = false }
 
 -- the position that a standing tells

@@ -17,9 +17,9 @@ pub struct Agent {
 }
 
 impl Model for Agent {
-    ghost use Rattle.bhs_agent.specs.Agents.{Course, position_of};
+    ghost use Rattle.bhs_agent.specs.Agents.{AgentState, position_of};
 
-    ghost Value = { Course };
+    ghost Value = { AgentState };
 
     ghost view = { λ agent. record { position = position_of agent.standing; used = agent.used; lost = agent.lost } };
 }

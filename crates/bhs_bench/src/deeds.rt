@@ -6,7 +6,7 @@ const AGENTS: u16 = 16;
 
 /// What is done next.
 #[derive(Clone, Copy)]
-pub enum Deed {
+pub enum BenchStep {
     /// An agent looks.
     Look { agent: u16 },
     /// An agent writes over what it sees.
@@ -20,16 +20,16 @@ pub enum Deed {
 }
 
 /// What a word picks: of sixteen words two look, two write, five depart, one accuses, and six draw.
-pub fn deed_of(word: u32) -> Deed {
+pub fn deed_of(word: u32) -> BenchStep {
     let agent = (word / 16 % u32::from(AGENTS)) as u16;
     match word % 16 {
-        0 | 1 => Deed::Look { agent },
-        2 | 3 => Deed::Write { agent },
-        4..=8 => Deed::Depart {
+        0 | 1 => BenchStep::Look { agent },
+        2 | 3 => BenchStep::Write { agent },
+        4..=8 => BenchStep::Depart {
             agent,
             port: (word / 256 % u32::from(PORTS)) as u16,
         },
-        9 => Deed::Accuse { agent },
-        _ => Deed::Draw { word: word / 16 },
+        9 => BenchStep::Accuse { agent },
+        _ => BenchStep::Draw { word: word / 16 },
     }
 }

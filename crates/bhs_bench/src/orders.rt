@@ -24,7 +24,7 @@ lines; and it prints these replies as those of a rehearsed connection. A line sa
 
 /// What the program is to do.
 #[derive(Clone, Copy)]
-pub enum Order {
+pub enum BenchOrder {
     /// Shows the usage.
     Help,
     /// Plays this number of events; `is_timed` says whether the time is printed.
@@ -36,9 +36,9 @@ pub enum Order {
 }
 
 /// The order that the words after the program's name give, if they give one.
-pub fn order_of(words: &[String]) -> Option<Order> {
+pub fn order_of(words: &[String]) -> Option<BenchOrder> {
     match words {
-        [help] if help.as_str() == "--help" => Some(Order::Help),
+        [help] if help.as_str() == "--help" => Some(BenchOrder::Help),
         [deed, number] => order_to(deed.as_str(), number.as_str(), false),
         [deed, number, time] if time.as_str() == "time" => order_to(
             deed.as_str(),
@@ -49,18 +49,18 @@ pub fn order_of(words: &[String]) -> Option<Order> {
     }
 }
 
-fn order_to(deed: &str, number: &str, is_timed: bool) -> Option<Order> {
+fn order_to(deed: &str, number: &str, is_timed: bool) -> Option<BenchOrder> {
     let number = number_of(number)?;
     match deed {
-        "step" => Some(Order::Step {
+        "step" => Some(BenchOrder::Step {
             events: number,
             is_timed,
         }),
-        "submit" => Some(Order::Submit {
+        "submit" => Some(BenchOrder::Submit {
             rounds: number,
             is_timed,
         }),
-        "stages" => Some(Order::Stages {
+        "stages" => Some(BenchOrder::Stages {
             rounds: number,
             is_timed,
         }),

@@ -1,7 +1,7 @@
 //! What is printed.
 
 use crate::faults::BenchFault;
-use crate::stages::{EACH_ROUND, Stage};
+use crate::stages::{BenchMatch, EACH_ROUND};
 use crate::submitting::{Measured, Sharing};
 use crate::workload::Counts;
 use bhs_stream::send;
@@ -81,15 +81,15 @@ pub fn print_run<W: Write>(
 pub fn print_stage<W: Write>(
     alloc: Global,
     writer: &mut W,
-    stage: Stage,
+    stage: BenchMatch,
     rounds: u64,
     time: Option<Duration>,
 ) -> Result<(), BenchFault> {
     let what = match stage {
-        Stage::Reading => "read lines",
-        Stage::Playing => "played events",
-        Stage::Writing => "written lines",
-        Stage::Printing => "printed lines",
+        BenchMatch::Reading => "read lines",
+        BenchMatch::Playing => "played events",
+        BenchMatch::Writing => "written lines",
+        BenchMatch::Printing => "printed lines",
     };
     let number = rounds.saturating_mul(EACH_ROUND);
     let text = format!(in alloc; "{what} {number}")?;

@@ -1,7 +1,7 @@
 //! Carrying out the benchmark that the command line names.
 
 use crate::faults::BenchFault;
-use crate::orders::{Order, USAGE, order_of};
+use crate::orders::{BenchOrder, USAGE, order_of};
 use crate::report::{print_counts, print_run, print_stage, print_time};
 use crate::stages::{STAGES, lasted};
 use crate::submitting::{Measured, RUNS, run_once};
@@ -38,10 +38,14 @@ pub fn run<R: Threads + Wait + Clock + Sync, W: Write, E: Write>(
     errors: &mut E,
 ) -> u8 {
     let done = match order_of(words) {
-        Some(Order::Help) => show(writer),
-        Some(Order::Step { events, is_timed }) => step(alloc, rt, writer, events, is_timed),
-        Some(Order::Submit { rounds, is_timed }) => submit(alloc, rt, writer, rounds, is_timed),
-        Some(Order::Stages { rounds, is_timed }) => stages(alloc, rt, writer, rounds, is_timed),
+        Some(BenchOrder::Help) => show(writer),
+        Some(BenchOrder::Step { events, is_timed }) => step(alloc, rt, writer, events, is_timed),
+        Some(BenchOrder::Submit { rounds, is_timed }) => submit(
+            alloc, rt, writer, rounds, is_timed,
+        ),
+        Some(BenchOrder::Stages { rounds, is_timed }) => stages(
+            alloc, rt, writer, rounds, is_timed,
+        ),
         None => {
             let _ = send(errors, USAGE.as_bytes());
             return REFUSED_WORDS;

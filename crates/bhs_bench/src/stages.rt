@@ -11,7 +11,7 @@ use std::time::{Clock, Duration, Instant};
 
 /// What is done with a line.
 #[derive(Clone, Copy)]
-pub enum Stage {
+pub enum BenchMatch {
     /// The line is read.
     Reading,
     /// What it says is played.
@@ -23,11 +23,11 @@ pub enum Stage {
 }
 
 /// The stages, in their order.
-pub const STAGES: [Stage; 4] = [
-    Stage::Reading,
-    Stage::Playing,
-    Stage::Writing,
-    Stage::Printing,
+pub const STAGES: [BenchMatch; 4] = [
+    BenchMatch::Reading,
+    BenchMatch::Playing,
+    BenchMatch::Writing,
+    BenchMatch::Printing,
 ];
 
 // The lines that are read in a round. A reader remembers none of them: they have texts, or spaces that make them
@@ -54,15 +54,15 @@ pub const EACH_ROUND: u64 = 4;
 pub fn lasted<C: Clock>(
     alloc: Global,
     clock: &C,
-    stage: Stage,
+    stage: BenchMatch,
     rounds: u64,
 ) -> Result<Duration, BenchFault> {
     let begin = Instant::now(clock).map_err(|_| BenchFault::Clock)?;
     match stage {
-        Stage::Reading => read(alloc, rounds)?,
-        Stage::Playing => play_rounds(alloc, rounds)?,
-        Stage::Writing => write(alloc, rounds)?,
-        Stage::Printing => print(alloc, rounds)?,
+        BenchMatch::Reading => read(alloc, rounds)?,
+        BenchMatch::Playing => play_rounds(alloc, rounds)?,
+        BenchMatch::Writing => write(alloc, rounds)?,
+        BenchMatch::Printing => print(alloc, rounds)?,
     }
     begin.elapsed(clock).map_err(|_| BenchFault::Clock)
 }

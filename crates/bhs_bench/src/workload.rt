@@ -2,7 +2,7 @@
 
 ghost use Rattle.std.specs.Prelude.{◌≡◌, OnOk};
 
-use crate::deeds::{Deed, deed_of};
+use crate::deeds::{BenchStep, deed_of};
 use crate::faults::BenchFault;
 use crate::torus::{PORTS, setup, torus};
 use bhs_deal::{Dealer, Held, draw};
@@ -118,18 +118,24 @@ impl Workload {
         self.game.apply(Event::Tell { agent, command });
     }
 
-    fn perform(&mut self, alloc: Global, deed: Deed) -> Result<(), Memory> {
+    fn perform(&mut self, alloc: Global, deed: BenchStep) -> Result<(), Memory> {
         match deed {
-            Deed::Look { agent } => self.apply_command(agent, Command::Look),
-            Deed::Write { agent } => {
+            BenchStep::Look { agent } => self.apply_command(agent, Command::Look),
+            BenchStep::Write { agent } => {
                 let expect = self.game.seen(agent)?;
                 let word = self.words.next();
                 let put = Text::new(alloc, format!(in alloc; "{word}")?.as_str())?;
                 self.apply_command(agent, Command::Write { expect, put });
             }
-            Deed::Depart { agent, port } => self.apply_command(agent, Command::Depart { port }),
-            Deed::Accuse { agent } => self.apply_command(agent, Command::Accuse { port: PORTS }),
-            Deed::Draw { word } => {
+            BenchStep::Depart { agent, port } => self.apply_command(
+                agent,
+                Command::Depart { port },
+            ),
+            BenchStep::Accuse { agent } => self.apply_command(
+                agent,
+                Command::Accuse { port: PORTS },
+            ),
+            BenchStep::Draw { word } => {
                 draw(&mut self.game, &self.held, word);
             }
         }

@@ -9,7 +9,7 @@ use Rattle.clap.specs.declared.parser.matches.Found.{Found}
 use Rattle.clap.proofs.WalkLemmas.{first_value-rows, raw_values-rows}
 use Rattle.bhs_command_line.specs.Arguments.{text_in, texts_in}
 use Rattle.bhs_command_line.specs.CommandLine.{entries_in, entry_in}
-use Rattle.bhs_command_line.specs.declared.orders.Entry.{Entry}
+use Rattle.bhs_command_line.specs.declared.orders.TableEntry.{TableEntry}
 
 -- the text of what is borrowed, or none
 unwrapped : (o : Option (Bor Text)) (d : Bor Text) → d.now ≡ []
@@ -26,42 +26,45 @@ text_found found id o name d is none same =
     (is ∙ first_value-rows found id)
 
 -- what is read of the words so far, in front of what the others say
-abbrev pub joined : List Entry → Option (List Entry) → Option (List Entry)
+abbrev pub joined : List TableEntry → Option (List TableEntry) → Option (List TableEntry)
 joined done rest = option_map (λ entries. done ++ entries) rest
 
 abbrev pub texts_from : (place : ℕ) → List (Bor Text) → List Text
 texts_from place words = map (λ word. word.now) (drop place words)
 
 -- one more entry, or none
-abbrev pub then_entry : Option Entry → Option (List Entry) → Option (List Entry)
+abbrev pub then_entry : Option TableEntry → Option (List TableEntry) → Option (List TableEntry)
 then_entry found rest = option_and_then (λ entry. option_map (λ entries. entry ∷ entries) rest) found
 
-module _ (words : List (Bor Text)) (place : ℕ) (d : Bor Text) (within : place < length words) (found : Option Entry)
+module _ (words : List (Bor Text)) (place : ℕ) (d : Bor Text) (within : place < length words)
+    (found : Option TableEntry)
     (is : found ≡ entry_in (get_or words place d).now) where
   next_entry : entries_in (texts_from place words) ≡ then_entry found (entries_in (texts_from (place + 1) words))
   next_entry =
       ap (λ (rest : List (Bor Text)). entries_in (map (λ one. one.now) rest)) (drop_more words place d within)
-      ∙ ap (λ (one : Option Entry). then_entry one (entries_in (texts_from (place + 1) words))) (sym is)
+      ∙ ap (λ (one : Option TableEntry). then_entry one (entries_in (texts_from (place + 1) words))) (sym is)
 
-  module _ (done : List Entry) (so_far : joined done (entries_in (texts_from place words)) ≡ entries_in
+  module _ (done : List TableEntry) (so_far : joined done (entries_in (texts_from place words)) ≡ entries_in
       (texts_from 0 words)) where
     -- a word that is no entry
-    pub no_entry : found ≡ None → (let none : Option (List Entry) = None in none ≡ entries_in (texts_from 0 words))
+    pub no_entry : found ≡ None → (let none : Option (List TableEntry) = None in none ≡ entries_in (texts_from 0 words))
     no_entry none =
-        sym (ap (λ (one : Option Entry). joined done (then_entry one (entries_in (texts_from (place + 1) words)))) none)
+        sym (ap (λ (one : Option TableEntry). joined done (then_entry one (entries_in (texts_from
+        (place + 1) words)))) none)
         ∙ (sym (ap (joined done) next_entry) ∙ so_far)
 
-    pushed : (entry : Entry) (rest : Option (List Entry)) → joined (done ++ entry ∷ []) rest ≡ joined done
+    pushed : (entry : TableEntry) (rest : Option (List TableEntry)) → joined (done ++ entry ∷ []) rest ≡ joined done
         (option_map (λ entries. entry ∷ entries) rest)
     pushed entry None = refl
     pushed entry (Some entries) = ap Some (append_assoc done (entry ∷ []) entries)
 
     -- a word that is one
-    pub one_entry : (entry : Entry) → found ≡ Some entry
+    pub one_entry : (entry : TableEntry) → found ≡ Some entry
         → joined (done ++ entry ∷ []) (entries_in (texts_from (place + 1) words)) ≡ entries_in (texts_from 0 words)
     one_entry entry some =
         pushed entry (entries_in (texts_from (place + 1) words))
-        ∙ (sym (ap (λ (one : Option Entry). joined done (then_entry one (entries_in (texts_from (place + 1) words))))
+        ∙ (sym (ap (λ (one : Option TableEntry). joined done (then_entry one (entries_in (texts_from
+        (place + 1) words))))
         some)
         ∙ (sym (ap (joined done) next_entry) ∙ so_far))
 

@@ -21,7 +21,7 @@ use Rattle.bhs_command_line.specs.declared.orders.Order.TheVariants.{Check, Expl
 use Rattle.bhs_command_line.specs.declared.orders.Order.TheVariants.{RehearseInteractively, Serve, Table, Twin}
 use Rattle.bhs_command_line.specs.declared.orders.Order.TheVariants.{ContestTable, RecoverContest}
 use Rattle.bhs_command_line.specs.declared.orders.Order.TheVariants as order
-use Rattle.bhs_command_line.specs.declared.orders.Entry.{Entry}
+use Rattle.bhs_command_line.specs.declared.orders.TableEntry.{TableEntry}
 use Rattle.bhs_command_line.specs.declared.orders.Exploration.{Exploration}
 use Rattle.bhs_command_line.specs.declared.orders.Hosting.{Hosting}
 use Rattle.bhs_command_line.proofs.NumberLemmas.{hosting_plain}
@@ -353,7 +353,7 @@ says_gives words (ContestTable tournament prefix) (plain, also, is) =
     here words _ _ is (contest_tabled tournament prefix plain also)
 says_gives words (Table entries) (word, plain, says, is) =
     let found = table_found word plain in
-    here words _ _ is (found.0, found.1 ∙ ap (λ (o : Option (List Entry)). option_map Table o) says)
+    here words _ _ is (found.0, found.1 ∙ ap (λ (o : Option (List TableEntry)). option_map Table o) says)
 says_gives words (Explain replay agent) (word, plain, also, says, is) =
     let found = explain_found replay word plain also in
     here words _ _ is (found.0, found.1 ∙ ap (λ (o : Option ℕ). option_map (Explain replay) o) says)

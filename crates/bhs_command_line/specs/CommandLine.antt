@@ -21,7 +21,7 @@ use Rattle.bhs_command_line.specs.declared.orders.Order.TheVariants.{Explore, Re
 use Rattle.bhs_command_line.specs.declared.orders.Order.TheVariants.{ContestTable, RecoverContest}
 use Rattle.bhs_command_line.specs.declared.orders.Order.TheVariants as variants
 use Rattle.bhs_command_line.specs.declared.orders.Appeal.{Appeal}
-use Rattle.bhs_command_line.specs.declared.orders.Entry.{Entry}
+use Rattle.bhs_command_line.specs.declared.orders.TableEntry.{TableEntry}
 use Rattle.bhs_command_line.specs.declared.Parsed.{Parsed}
 use Rattle.bhs_command_line.specs.declared.Parsed.TheVariants.{Ordered, Shown, Refused}
 
@@ -80,13 +80,13 @@ abbrev pub is_equals : ℕ → Bool
 is_equals byte = byte == 61
 
 -- the team and the name of its replay that a word TEAM=REPLAY says; it is split at its first `=`
-abbrev pub entry_in : Text → Option Entry
+abbrev pub entry_in : Text → Option TableEntry
 entry_in word =
     if nat_lt (position_or_len is_equals word) (length word) && is_team (before_first is_equals word)
     then Some (record { team = before_first is_equals word; replay = after_first is_equals word }) else None
 
 -- the entries that words say; None if one of them says none
-abbrev pub entries_in : List Text → Option (List Entry)
+abbrev pub entries_in : List Text → Option (List TableEntry)
 entries_in [] = Some []
 entries_in (word ∷ words) =
     option_and_then (λ entry. option_map (λ entries. entry ∷ entries) (entries_in words)) (entry_in word)

@@ -6,24 +6,25 @@ use Rattle.bhs_command_line.specs.Arguments.{NumberOption, behind, command, may_
 use Rattle.bhs_command_line.specs.Arguments.{number_within, numbered, text_in}
 use Rattle.bhs_command_line.specs.declared.orders.Drawing.{Drawing}
 use Rattle.bhs_command_line.specs.declared.orders.Exploration.{Exploration}
-use Rattle.bhs_command_line.specs.declared.orders.Hunt.{Hunt}
-use Rattle.bhs_command_line.specs.declared.orders.Hunt.TheVariants as hunts
+use Rattle.bhs_command_line.specs.declared.orders.Objective.{Objective}
+use Rattle.bhs_command_line.specs.declared.orders.Objective.TheVariants as hunts
 use Rattle.bhs_command_line.specs.declared.orders.Scheduler.{Scheduler}
 use Rattle.bhs_command_line.specs.declared.orders.Scheduler.TheVariants as schedulers
 
 -- at most how many states are visited
 abbrev pub states_option : NumberOption
-states_option = record { name = codes "states"; least = 1; most = 4294967295; default = codes "10000000" }
+states_option = record { name = codes "max-states"; least = 1; most = 4294967295; default = codes "10000000" }
 
--- how often agents may nap
-abbrev pub naps_option : NumberOption
-naps_option = record { name = codes "naps"; least = 0; most = 65535; default = codes "2" }
+-- how many spurious wake-ups an agent may have
+abbrev pub wakeups_option : NumberOption
+wakeups_option = record { name = codes "spurious-wakeups"; least = 0; most = 65535; default = codes "2" }
 
 abbrev pub explore : Shape
 explore = command (codes "explore") (must_have (codes "tournament") ∷ must_have (codes "match")
-    ∷ numbered states_option ∷ numbered naps_option
+    ∷ numbered states_option ∷ numbered wakeups_option
     ∷ behind (codes "draws") (may_have (codes "draws")) ∷ behind (codes "seed") (may_have (codes "seed"))
-    ∷ behind (codes "by") (may_have (codes "by")) ∷ behind (codes "hunt") (may_have (codes "hunt")) ∷ [])
+    ∷ behind (codes "scheduler") (may_have (codes "scheduler"))
+    ∷ behind (codes "objective") (may_have (codes "objective")) ∷ [])
 
 -- whose turn it is in a drawn schedule, by its name
 abbrev pub scheduler_in : Text → Option Scheduler
@@ -35,7 +36,7 @@ scheduler_in word =
     else (if bytes_eq word (codes "slow-links") then Some schedulers.SlowLinks else None))))
 
 -- what is hunted for among drawn schedules, by its name
-abbrev pub hunt_in : Text → Option Hunt
+abbrev pub hunt_in : Text → Option Objective
 hunt_in word =
     if bytes_eq word (codes "moves") then Some hunts.Moves
     else (if bytes_eq word (codes "lost") then Some hunts.Lost else None)
@@ -49,12 +50,13 @@ abbrev pub scheduler_by : Option Text → Option Scheduler
 scheduler_by (Some word) = scheduler_in word
 scheduler_by None = Some schedulers.Fair
 
-abbrev pub hunted_in : Option Text → Option (Option Hunt)
+abbrev pub hunted_in : Option Text → Option (Option Objective)
 hunted_in (Some word) = option_map Some (hunt_in word)
 hunted_in None = Some None
 
 -- what is drawn by these, if all are there
-abbrev pub drawing_of : (schedules seed : Option ℕ) → Option Scheduler → (hunt : Option (Option Hunt)) → Option Drawing
+abbrev pub drawing_of : (schedules seed : Option ℕ) → Option Scheduler → (hunt : Option (Option Objective))
+    → Option Drawing
 drawing_of (Some schedules) (Some seed) (Some scheduler) (Some hunt) =
     Some (record { schedules = schedules; seed = seed; scheduler = scheduler; hunt = hunt })
 drawing_of _ _ _ _ = None
@@ -68,27 +70,27 @@ drawing_in (Some draws) seed scheduler hunt =
 drawing_in None seed scheduler hunt = None
 
 -- an exploration by these, if all are there
-abbrev pub exploration_of : (game states naps : Option ℕ) → (drawing : Option (Option Drawing)) → Option Exploration
-exploration_of (Some game) (Some states) (Some naps) (Some drawing) =
-    Some (record { game = game; states = states; naps = naps; drawing = drawing })
+abbrev pub exploration_of : (game states wakeups : Option ℕ) → (drawing : Option (Option Drawing)) → Option Exploration
+exploration_of (Some game) (Some states) (Some wakeups) (Some drawing) =
+    Some (record { game = game; states = states; wakeups = wakeups; drawing = drawing })
 exploration_of _ _ _ _ = None
 
 -- the exploration that the words of `explore` say
-abbrev pub exploration_in : (game states naps : Text) → (drawing : Option (Option Drawing)) → Option Exploration
-exploration_in game states naps drawing =
-    exploration_of (number_in game) (number_of states_option states) (number_of naps_option naps) drawing
+abbrev pub exploration_in : (game states wakeups : Text) → (drawing : Option (Option Drawing)) → Option Exploration
+exploration_in game states wakeups drawing =
+    exploration_of (number_in game) (number_of states_option states) (number_of wakeups_option wakeups) drawing
 
 -- the same where the optional words are not given
 abbrev pub plain_exploration_in : (game : Text) → Option Exploration
-plain_exploration_in game = exploration_in game states_option.default naps_option.default (Some None)
+plain_exploration_in game = exploration_in game states_option.default wakeups_option.default (Some None)
 
 -- the schedules that the words of `explore` have drawn
 abbrev pub drawing_by : List Row → Option (Option Drawing)
 drawing_by rows = drawing_in (first_of (codes "draws") rows) (first_of (codes "seed") rows)
-    (first_of (codes "by") rows) (first_of (codes "hunt") rows)
+    (first_of (codes "scheduler") rows) (first_of (codes "objective") rows)
 
 -- the exploration that the words of `explore` say
 abbrev pub exploration_by : List Row → Option Exploration
 exploration_by rows =
-    exploration_in (text_in (codes "match") rows) (text_in states_option.name rows) (text_in naps_option.name rows)
+    exploration_in (text_in (codes "match") rows) (text_in states_option.name rows) (text_in wakeups_option.name rows)
     (drawing_by rows)

@@ -58,9 +58,9 @@ pub(crate) enum Takes {
     /// The name of a scheduler.
     Scheduler,
     /// The name of what is hunted for.
-    Hunt,
+    Objective,
     /// A team and its replay.
-    Entry,
+    TableEntry,
 }
 
 /// The commands, in the order of the help.

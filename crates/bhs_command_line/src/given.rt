@@ -14,7 +14,7 @@ use crate::commands::{
     Argument, REPLAY, TOURNAMENT, Takes, explain, explore, judge, recover, rehearse, serve, table,
     twin,
 };
-use crate::orders::{Appeal, Drawing, Entries, Exploration, Hosting, Hunt, Order, Scheduler};
+use crate::orders::{Appeal, Drawing, Entries, Exploration, Hosting, Objective, Order, Scheduler};
 use crate::words::{entries_in, number_within, text};
 use bhs_text::Text;
 use clap::ArgMatches;
@@ -254,7 +254,7 @@ fn exploration_given(
     let Some(states) = number_given(words, &explore::STATES) else {
         return Ok(None);
     };
-    let Some(naps) = short_given(words, &explore::NAPS) else {
+    let Some(wakeups) = short_given(words, &explore::WAKEUPS) else {
         return Ok(None);
     };
     let Some(drawing) = drawing_given(alloc, words)? else {
@@ -263,7 +263,7 @@ fn exploration_given(
     Ok(Some(Exploration {
         game,
         states,
-        naps,
+        wakeups,
         drawing,
     }))
 }
@@ -278,7 +278,7 @@ fn drawing_given(
     let draws = text_if_any(alloc, words, &explore::DRAWS)?;
     let seed = text_if_any(alloc, words, &explore::SEED)?;
     let scheduler = text_if_any(alloc, words, &explore::SCHEDULER)?;
-    let hunt = text_if_any(alloc, words, &explore::HUNT)?;
+    let hunt = text_if_any(alloc, words, &explore::OBJECTIVE)?;
     Ok(drawing(draws, seed, scheduler, hunt))
 }
 
@@ -359,7 +359,7 @@ pub(crate) fn scheduler_in(word: &str) -> Option<Scheduler>
 }
 
 // What is hunted for, by this word; nothing if there is none.
-fn hunted_in(word: &Option<Text>) -> Option<Option<Hunt>>
+fn hunted_in(word: &Option<Text>) -> Option<Option<Objective>>
     ensures { result ≡ hunted_in word.now }
 {
     match word {
@@ -372,12 +372,12 @@ fn hunted_in(word: &Option<Text>) -> Option<Option<Hunt>>
 }
 
 /// What is hunted for, by its name.
-pub(crate) fn hunt_in(word: &str) -> Option<Hunt>
+pub(crate) fn hunt_in(word: &str) -> Option<Objective>
     ensures { result ≡ hunt_in word.now }
 {
     match word {
-        "moves" => Some(Hunt::Moves),
-        "lost" => Some(Hunt::Lost),
+        "moves" => Some(Objective::Moves),
+        "lost" => Some(Objective::Lost),
         _ => None,
     }
 }

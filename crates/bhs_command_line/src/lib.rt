@@ -21,7 +21,8 @@ use clap::Error;
 use clap::error::ErrorKind;
 use given::order_given;
 pub use orders::{
-    Appeal, Drawing, Entries, Entry, Exploration, Hosting, Hunt, MAX_SESSIONS, Order, Scheduler,
+    Appeal, Drawing, Entries, Exploration, Hosting, MAX_SESSIONS, Objective, Order, Scheduler,
+    TableEntry,
 };
 use std::alloc::{AllocError, Global};
 use std::convert::AsStr;

@@ -130,7 +130,7 @@ pub enum Scheduler {
 
 /// What is hunted for among drawn schedules that do not fail.
 #[derive(Clone, Copy, Debug, PartialEq, Eq)]
-pub enum Hunt {
+pub enum Objective {
     Moves,
     Lost,
 }
@@ -145,7 +145,7 @@ pub struct Drawing {
     /// Whose turn it is.
     pub scheduler: Scheduler,
     /// What is hunted for, if anything.
-    pub hunt: Option<Hunt>,
+    pub hunt: Option<Objective>,
 }
 
 /// Which schedules are tried: those that are drawn, or all.
@@ -156,14 +156,14 @@ pub struct Exploration {
     /// How many states are visited at most, or how many turns a drawn schedule has at most; 1 or more.
     pub states: u32,
     /// How often an agent that sleeps may wake again though nothing has changed in front of it.
-    pub naps: u16,
+    pub wakeups: u16,
     /// The schedules that are drawn; None if all are tried.
     pub drawing: Option<Drawing>,
 }
 
 /// A team of a table, with the name of the replay of its match.
 #[derive(Drop)]
-pub struct Entry {
+pub struct TableEntry {
     pub team: Text,
     pub replay: Text,
 }
@@ -171,31 +171,31 @@ pub struct Entry {
 /// The teams of a table. Contracts see them as a list.
 #[derive(Drop)]
 pub struct Entries {
-    all: Vec<Entry>,
+    all: Vec<TableEntry>,
 }
 
 impl Model for Entries {
     ghost use Rattle.std.specs.Prelude.{List};
-    ghost use Rattle.bhs_command_line.specs.declared.orders.Entry.{Entry};
+    ghost use Rattle.bhs_command_line.specs.declared.orders.TableEntry.{TableEntry};
 
-    ghost Value = { List Entry };
+    ghost Value = { List TableEntry };
 
     ghost view = { λ entries. entries.all.items };
 }
 
 impl Entries {
     /// The entries, in the order of the words.
-    pub fn all(&self) -> &[Entry]
+    pub fn all(&self) -> &[TableEntry]
         ensures { result.now ≡ self.now }
     {
         &self.all
     }
 }
 
-impl From<Vec<Entry>> for Entries {
+impl From<Vec<TableEntry>> for Entries {
     ghost from_gives = { λ all entries. entries ≡ all.items };
 
-    fn from(all: Vec<Entry>) -> Entries {
+    fn from(all: Vec<TableEntry>) -> Entries {
         Entries { all }
     }
 }

@@ -87,8 +87,8 @@ fn is_fit(alloc: Global, takes: Takes, word: &str) -> Result<bool, AllocError> {
         Takes::Text => Ok(true),
         Takes::Number { .. } => Ok(number_by(takes, word).is_some()),
         Takes::Scheduler => Ok(scheduler_in(word).is_some()),
-        Takes::Hunt => Ok(hunt_in(word).is_some()),
-        Takes::Entry => Ok(entry_in(alloc, word)?.is_some()),
+        Takes::Objective => Ok(hunt_in(word).is_some()),
+        Takes::TableEntry => Ok(entry_in(alloc, word)?.is_some()),
     }
 }
 
@@ -119,11 +119,11 @@ fn wanted(alloc: Global, takes: Takes) -> Result<String, AllocError> {
             let names = explore::SCHEDULERS;
             format!(in alloc; "it is none of {names}")
         }
-        Takes::Hunt => {
+        Takes::Objective => {
             let names = explore::HUNTS;
             format!(in alloc; "it is none of {names}")
         }
-        Takes::Entry => String::from_str(
+        Takes::TableEntry => String::from_str(
             alloc,
             "a team is 1 to 16 of a to z, 0 to 9 and -, and = follows it",
         ),

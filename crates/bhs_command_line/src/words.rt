@@ -6,7 +6,7 @@ ghost use Rattle.std.specs.List.{list_all};
 ghost use Rattle.bhs_command_line.specs.Arguments.{number_within};
 ghost use Rattle.bhs_command_line.specs.CommandLine.{entries_in, entry_in};
 
-use crate::orders::{Entries, Entry};
+use crate::orders::{Entries, TableEntry};
 use bhs_text::{Text, is_team};
 use std::alloc::{AllocError, Global};
 
@@ -32,7 +32,7 @@ fn is_digits(word: &str) -> bool
 }
 
 /// The team and the name of its replay that a word `TEAM=REPLAY` says.
-pub(crate) fn entry_in(alloc: Global, word: &str) -> Result<Option<Entry>, AllocError>
+pub(crate) fn entry_in(alloc: Global, word: &str) -> Result<Option<TableEntry>, AllocError>
     ensures { IfOk result (λ entry. entry ≡ entry_in word.now) }
 {
     let Some((team, replay)) = word.split_once('=') else {
@@ -41,7 +41,7 @@ pub(crate) fn entry_in(alloc: Global, word: &str) -> Result<Option<Entry>, Alloc
     if !is_team(team) {
         return Ok(None);
     }
-    Ok(Some(Entry {
+    Ok(Some(TableEntry {
         team: text(alloc, team)?,
         replay: text(alloc, replay)?,
     }))

@@ -7,7 +7,7 @@ use Rattle.rand_chacha.specs.ChaCha.{ChaCha}
 use Rattle.bhs_model.specs.declared.marks.Kept.{Kept}
 use Rattle.bhs_time.specs.TimedLogs.{turn_behind}
 use Rattle.bhs_deal.specs.Dealer.{moved_on, words_of_a_stream}
-use Rattle.bhs_deal.specs.Timeliness.{Course, due_of, is_due, picked_by, delivered_by, or_else, first_delivery}
+use Rattle.bhs_deal.specs.Timeliness.{DeliveryTerms, due_of, is_due, picked_by, delivered_by, or_else, first_delivery}
 use Rattle.bhs_deal.specs.Timeliness.{dues_after}
 use Rattle.bhs_deal.specs.Timeliness.{untimely, at_or_later, untimely_from}
 use Rattle.bhs_deal.specs.declared.timeliness.Untimely.{Untimely}
@@ -15,7 +15,7 @@ use Rattle.bhs_deal.specs.declared.timeliness.Untimely.{Untimely}
 -- ---- the first delivery
 
 -- without dues there is none
-pub none_due : (course : Course) (dues : List (Option ℕ)) (from count : ℕ) →
+pub none_due : (course : DeliveryTerms) (dues : List (Option ℕ)) (from count : ℕ) →
     ((agent : ℕ) → due_of dues agent ≡ None) → first_delivery course dues from count ≡ None
 none_due course dues from zero none = refl
 none_due course dues from (suc count) none =
@@ -23,27 +23,27 @@ none_due course dues from (suc count) none =
     (first_delivery course dues (from + 1) count)) (none (picked_by course from))
     ∙ none_due course dues (from + 1) count none
 
-step_by : (course : Course) (dues : List (Option ℕ)) (from end : ℕ) → from < end →
+step_by : (course : DeliveryTerms) (dues : List (Option ℕ)) (from end : ℕ) → from < end →
     first_delivery course dues from (end - from)
     ≡ or_else (delivered_by course dues from) from (first_delivery course dues (from + 1) (end - (from + 1)))
 step_by course dues from end before =
     let more : end - from ≡ suc (end - (from + 1)) = omega (arith, before) in
     ap (first_delivery course dues from) more
 
-pub delivery_here : (course : Course) (dues : List (Option ℕ)) (from end agent : ℕ) → from < end →
+pub delivery_here : (course : DeliveryTerms) (dues : List (Option ℕ)) (from end agent : ℕ) → from < end →
     delivered_by course dues from ≡ Some agent → first_delivery course dues from (end - from) ≡ Some (agent, from)
 delivery_here course dues from end agent before is =
     step_by course dues from end before
     ∙ ap (λ (found : Option ℕ). or_else found from (first_delivery course dues (from + 1) (end - (from + 1)))) is
 
-pub delivery_later : (course : Course) (dues : List (Option ℕ)) (from end : ℕ) → from < end →
+pub delivery_later : (course : DeliveryTerms) (dues : List (Option ℕ)) (from end : ℕ) → from < end →
     delivered_by course dues from ≡ None →
     first_delivery course dues from (end - from) ≡ first_delivery course dues (from + 1) (end - (from + 1))
 delivery_later course dues from end before none =
     step_by course dues from end before
     ∙ ap (λ (found : Option ℕ). or_else found from (first_delivery course dues (from + 1) (end - (from + 1)))) none
 
-pub over : (course : Course) (dues : List (Option ℕ)) (from end : ℕ) → end ≤ from →
+pub over : (course : DeliveryTerms) (dues : List (Option ℕ)) (from end : ℕ) → end ≤ from →
     first_delivery course dues from (end - from) ≡ None
 over course dues from end past =
     let none : end - from ≡ 0 = omega (arith, past) in ap (first_delivery course dues from) none
@@ -57,7 +57,7 @@ next_at dealer words after turn moved at =
 
 -- ---- a pass over a log
 
-module _ (course : Course) (dues : List (Option ℕ)) (now place : ℕ) (log : List Kept) (sites : List (Option ℕ))
+module _ (course : DeliveryTerms) (dues : List (Option ℕ)) (now place : ℕ) (log : List Kept) (sites : List (Option ℕ))
     (turns : List ℕ) (one : Kept) (within : place < length log) (long : length sites ≡ length log)
     (count : length turns ≡ length log) (is_one : one ≡ get_or log place one) where
   -- what is found from a place on, where the event there has this site

@@ -29,7 +29,7 @@ use Rattle.bhs_match.specs.Matches.{Play, world_in}
 use Rattle.bhs_net.specs.Network.{Network, degree_of}
 use Rattle.bhs_deal.specs.Links.{is_port_of}
 use Rattle.bhs_deal.specs.Scheduling.{words_by, stamps_in}
-use Rattle.bhs_deal.specs.Timeliness.{Course, due_of, is_due, picked_by, delivered_by, or_else, first_delivery}
+use Rattle.bhs_deal.specs.Timeliness.{DeliveryTerms, due_of, is_due, picked_by, delivered_by, or_else, first_delivery}
 use Rattle.bhs_deal.specs.Timeliness.{dues_after}
 use Rattle.bhs_deal.specs.Timeliness.{is_agent, late_in, left_out, untimely, at_or_later, untimely_from, untimely_in}
 use Rattle.bhs_deal.specs.Timeliness.{IsReason, IsUntimelyAt}
@@ -40,10 +40,10 @@ use Rattle.bhs_deal.proofs.WaitingLemmas.{length_dues}
 
 -- ---- the first delivery of some turns
 
-abbrev Due : Course → List (Option ℕ) → (turn : ℕ) → Bool
+abbrev Due : DeliveryTerms → List (Option ℕ) → (turn : ℕ) → Bool
 Due course dues turn = is_due (due_of dues (picked_by course turn)) turn
 
-none_found : (course : Course) (dues : List (Option ℕ)) (from count : ℕ) →
+none_found : (course : DeliveryTerms) (dues : List (Option ℕ)) (from count : ℕ) →
     first_delivery course dues from count ≡ None →
     (turn : ℕ) → from ≤ turn → turn < from + count → Due course dues turn ≡ false
 none_found course dues from zero none turn later before = absurd (omega (arith, later, before))
@@ -66,7 +66,7 @@ none_found course dues from (suc count) none turn later before =
     split false same e = (same, e)
 
 -- what is known of the first
-pub record IsFirstDue (course : Course) (dues : List (Option ℕ)) (from count agent turn : ℕ) : Type 0 where
+pub record IsFirstDue (course : DeliveryTerms) (dues : List (Option ℕ)) (from count agent turn : ℕ) : Type 0 where
   pub later : from ≤ turn
   pub before : turn < from + count
   pub picked : agent ≡ picked_by course turn
@@ -76,7 +76,7 @@ pub record IsFirstDue (course : Course) (dues : List (Option ℕ)) (from count a
 same_pair : (one two : ℕ × ℕ) → ◌≡◌ {A = Option (ℕ × ℕ)} (Some one) (Some two) → one ≡ two
 same_pair one two e = cc
 
-one_found : (course : Course) (dues : List (Option ℕ)) (from count agent turn : ℕ) →
+one_found : (course : DeliveryTerms) (dues : List (Option ℕ)) (from count agent turn : ℕ) →
     first_delivery course dues from count ≡ Some (agent, turn) → IsFirstDue course dues from count agent turn
 one_found course dues from zero agent turn found = absurd (no found)
   where
@@ -123,21 +123,22 @@ one_found course dues from (suc count) agent turn found =
 -- ---- one event
 
 -- what stands against an event at its turn
-abbrev pub Hinders : World → Course → (lost : ℕ → Bool) → TimedState → Event → (turn : ℕ) → Untimely → Type 0
+abbrev pub Hinders : World → DeliveryTerms → (lost : ℕ → Bool) → TimedState → Event → (turn : ℕ) → Untimely → Type 0
 Hinders world course lost timed event turn Early = turn < timed.turn
 Hinders world course lost timed event turn (LeftOut agent at) =
     (at < turn) × IsNext world (held_by course) (schedule_by course) lost timed
     (record { event = Deliver agent; turn = at })
 Hinders world course lost timed event turn Late = (agent : ℕ) × (event ≡ Deliver agent)
 
-abbrev pub Judges : World → Course → (lost : ℕ → Bool) → TimedState → Event → (turn : ℕ) → Option Untimely → Type 0
+abbrev pub Judges : World → DeliveryTerms → (lost : ℕ → Bool) → TimedState → Event → (turn : ℕ) → Option Untimely
+    → Type 0
 Judges world course lost timed event turn None =
     IsNext world (held_by course) (schedule_by course) lost timed (record { event = event; turn = turn })
 Judges world course lost timed event turn (Some why) =
     (IsNext world (held_by course) (schedule_by course) lost timed (record { event = event; turn = turn }) → ⊥)
     × Hinders world course lost timed event turn why
 
-module _ (course : Course) (world : World) (timed : TimedState) (lost : ℕ → Bool) (dues : List (Option ℕ))
+module _ (course : DeliveryTerms) (world : World) (timed : TimedState) (lost : ℕ → Bool) (dues : List (Option ℕ))
     (are : AreDue course lost timed dues) (gone : AllGone world lost timed.state)
     (few : (turn : ℕ) → picked_by course turn < length dues) (unclosed : timed.state.closed ≡ false) where
   abbrev Next : Event → (turn : ℕ) → Type 0
@@ -301,7 +302,8 @@ module _ (course : Course) (world : World) (timed : TimedState) (lost : ℕ → 
 -- ---- event by event
 
 -- the reason against an event, where these events stand before it
-abbrev pub Reason : World → Course → (lost : ℕ → Bool) → TimedState → (before : List Stamped) → Stamped → Untimely →
+abbrev pub Reason : World → DeliveryTerms → (lost : ℕ → Bool) → TimedState → (before : List Stamped) → Stamped
+    → Untimely →
     Type 0
 Reason world course lost timed before one Early = one.turn < turns_passed timed.turn before
 Reason world course lost timed before one (LeftOut agent turn) =
@@ -311,7 +313,7 @@ Reason world course lost timed before one (LeftOut agent turn) =
 Reason world course lost timed before one Late = (agent : ℕ) × (one.event ≡ Deliver agent)
 
 -- the first event that is not the next stands at this place, where the match stood like this before
-pub record IsUntimelyFrom (world : World) (course : Course) (lost : ℕ → Bool) (timed : TimedState)
+pub record IsUntimelyFrom (world : World) (course : DeliveryTerms) (lost : ℕ → Bool) (timed : TimedState)
     (stamps : List Stamped) (place : ℕ) (why : Untimely) : Type 0 where
   pub before : Follows world (held_by course) (schedule_by course) lost timed (take place stamps)
   pub never : Follows world (held_by course) (schedule_by course) lost timed (take (suc place) stamps) → ⊥
@@ -320,14 +322,15 @@ pub record IsUntimelyFrom (world : World) (course : Course) (lost : ℕ → Bool
   pub reason : Reason world course lost timed (take place stamps) one why
 
 -- what a pass from a place on finds
-abbrev pub Finds : World → Course → (lost : ℕ → Bool) → TimedState → List Stamped → (from : ℕ) → Option (ℕ × Untimely)
+abbrev pub Finds : World → DeliveryTerms → (lost : ℕ → Bool) → TimedState → List Stamped → (from : ℕ)
+    → Option (ℕ × Untimely)
     → Type 0
 Finds world course lost timed stamps from None =
     Follows world (held_by course) (schedule_by course) lost timed stamps
 Finds world course lost timed stamps from (Some at) =
     (more : ℕ) × ((at.0 ≡ from + more) × IsUntimelyFrom world course lost timed stamps more at.1)
 
-module _ (world : World) (course : Course) where
+module _ (world : World) (course : DeliveryTerms) where
   finds_here : (lost : ℕ → Bool) (timed : TimedState) (one : Stamped) (others : List Stamped) (from : ℕ)
       (why : Untimely) → Judges world course lost timed one.event one.turn (Some why) →
       Finds world course lost timed (one ∷ others) from (Some (from, why))
@@ -461,12 +464,12 @@ module _ (world : World) (course : Course) where
 
 -- ---- a whole log
 
-none_due : (course : Course) (agents : ℕ) → AreDue course nobody timed_initial (replicate agents None)
+none_due : (course : DeliveryTerms) (agents : ℕ) → AreDue course nobody timed_initial (replicate agents None)
 none_due course zero agent within = absurd (omega (arith, within))
 none_due course (suc agents) zero within = refl
 none_due course (suc agents) (suc agent) within = none_due course agents agent (omega (arith, within))
 
-pub found_lemma : (course : Course) (play : Play) (turns : List ℕ) → course.net ≡ play.net →
+pub found_lemma : (course : DeliveryTerms) (play : Play) (turns : List ℕ) → course.net ≡ play.net →
     course.agents ≡ play.setup.agents → kept (world_in play) (events_of play.log) ≡ events_of play.log →
     length turns ≡ length play.log → 0 < play.setup.agents →
     MatchOption (untimely_in course play turns)

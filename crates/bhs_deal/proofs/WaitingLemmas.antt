@@ -27,23 +27,23 @@ use Rattle.bhs_time.proofs.TimelyLemmas.{away_by_past}
 use Rattle.bhs_time.proofs.TimedLogLemmas.{is_kept, behind}
 use Rattle.bhs_deal.specs.Links.{held_in, is_port_of}
 use Rattle.bhs_deal.specs.Scheduling.{whole_schedule}
-use Rattle.bhs_deal.specs.Timeliness.{Course, due_after, due_of, is_due, picked_by, due_on, dues_after}
+use Rattle.bhs_deal.specs.Timeliness.{DeliveryTerms, due_after, due_of, is_due, picked_by, due_on, dues_after}
 
 -- the links that a course holds, and its schedule
-abbrev pub held_by : Course → Held
+abbrev pub held_by : DeliveryTerms → Held
 held_by course = held_in course.held
 
-abbrev pub schedule_by : Course → Schedule
+abbrev pub schedule_by : DeliveryTerms → Schedule
 schedule_by course = whole_schedule course.dealer course.agents course.law
 
 -- the due of an agent at this position, which departed after this many turns
-abbrev pub due_at : Course → (is_lost : Bool) → (agent departed : ℕ) → Position → Option ℕ
+abbrev pub due_at : DeliveryTerms → (is_lost : Bool) → (agent departed : ℕ) → Position → Option ℕ
 due_at course is_lost agent departed (Bound node port) =
     if is_lost then None else due_on course node port agent departed
 due_at course is_lost agent departed position = None
 
 -- the dues are those of the match
-abbrev pub AreDue : Course → (lost : ℕ → Bool) → TimedState → List (Option ℕ) → Type 0
+abbrev pub AreDue : DeliveryTerms → (lost : ℕ → Bool) → TimedState → List (Option ℕ) → Type 0
 AreDue course lost timed dues = (agent : ℕ) → agent < length dues →
     due_of dues agent ≡ due_at course (lost agent) agent (departed_at (timed.pasts agent)) (timed.state.position agent)
 
@@ -58,7 +58,7 @@ AllGone world lost state = (agent : ℕ) → lost agent ≡ true → may_be_lost
 
 -- ---- whom a turn delivers
 
-module _ (course : Course) (world : World) (timed : TimedState) (lost : ℕ → Bool)
+module _ (course : DeliveryTerms) (world : World) (timed : TimedState) (lost : ℕ → Bool)
     (unclosed : timed.state.closed ≡ false)
   where
     -- whether the match keeps a Deliver of an agent on a link, by what destroys
@@ -184,7 +184,7 @@ module _ (course : Course) (world : World) (timed : TimedState) (lost : ℕ → 
         ∙ ap (λ (due : Option ℕ). is_due due turn) (sym (are who within))
 
 -- and the delivery is that of this agent
-pub kept_delivery : (course : Course) (world : World) (timed : TimedState) (lost : ℕ → Bool) (turn : ℕ) →
+pub kept_delivery : (course : DeliveryTerms) (world : World) (timed : TimedState) (lost : ℕ → Bool) (turn : ℕ) →
     is_kept world timed.state lost (delivery_now (held_by course) (schedule_by course) (record timed { turn = turn }))
     ≡ true →
     (delivery_now (held_by course) (schedule_by course) (record timed { turn = turn })
@@ -211,7 +211,7 @@ kept_delivery course world timed lost turn kept =
 
 -- ---- the dues after an event
 
-pub length_dues : (course : Course) (dues : List (Option ℕ)) (event : Event) (where_said : Option ℕ) (turn : ℕ) →
+pub length_dues : (course : DeliveryTerms) (dues : List (Option ℕ)) (event : Event) (where_said : Option ℕ) (turn : ℕ) →
     length (dues_after course dues event where_said turn) ≡ length dues
 length_dues course dues (Tell agent (Depart port)) (Some node) turn =
     cond_both (is_port_of course.net (node, port)) (slice_set dues agent (due_on course node port agent turn)) dues
@@ -226,7 +226,8 @@ length_dues course dues (Tell agent Bad) where_said turn = refl
 length_dues course dues (Deliver agent) where_said turn = length-set dues agent None
 length_dues course dues Close where_said turn = refl
 
-told_other : (course : Course) (dues : List (Option ℕ)) (agent other : ℕ) (command : Command) (where_said : Option ℕ)
+told_other : (course : DeliveryTerms) (dues : List (Option ℕ)) (agent other : ℕ) (command : Command)
+    (where_said : Option ℕ)
     (turn : ℕ) → (other ≡ agent → ⊥) →
     due_of (dues_after course dues (Tell agent command) where_said turn) other ≡ due_of dues other
 told_other course dues agent other (Depart port) (Some node) turn apart =
@@ -241,7 +242,7 @@ told_other course dues agent other (Write expect put) where_said turn apart = re
 told_other course dues agent other (Accuse port) where_said turn apart = refl
 told_other course dues agent other Bad where_said turn apart = refl
 
-module _ (course : Course) (world : World) (same_net : (node port : ℕ) → is_port_of course.net (node, port)
+module _ (course : DeliveryTerms) (world : World) (same_net : (node port : ℕ) → is_port_of course.net (node, port)
     ≡ nat_lt port (world.net.degree node)) (dues : List (Option ℕ)) (agent turn : ℕ) (within : agent < length dues)
     (past : TimedView) (glance : TimedGlance) (is_lost : Bool) (room : Bool) where
   -- what is known of the agent, which is at this position
@@ -332,7 +333,7 @@ gone_own world Before room command hears_it gone = absurd (false≢true gone)
 gone_own world (At node came) room command hears_it gone = absurd (false≢true gone)
 gone_own world After room command hears_it gone = absurd (false≢true hears_it)
 
-module _ (course : Course) (world : World) (same_net : (node port : ℕ) → is_port_of course.net (node, port)
+module _ (course : DeliveryTerms) (world : World) (same_net : (node port : ℕ) → is_port_of course.net (node, port)
     ≡ nat_lt port (world.net.degree node)) (timed : TimedState) (lost : ℕ → Bool) (dues : List (Option ℕ))
     (stamped : IsStamped timed) (legal : AllLegal world timed.state) (are : AreDue course lost timed dues)
     (gone : AllGone world lost timed.state) (turn : ℕ) where

@@ -25,7 +25,7 @@ use Rattle.bhs_deal.specs.declared.timeliness.Untimely.TheVariants.{Early, LeftO
 
 -- what decides the deliveries of a match: its words, the law of its delays, its held links, its network, and how many
 -- agents it has
-pub record Course : Type 0 where
+pub record DeliveryTerms : Type 0 where
   pub dealer : ChaCha
   pub law : DelayLaw
   pub held : List (ℕ × ℕ)
@@ -33,7 +33,7 @@ pub record Course : Type 0 where
   pub agents : ℕ
 
 -- after how many turns an agent that departed after this many is ready to arrive
-abbrev pub due_after : Course → (agent departed : ℕ) → ℕ
+abbrev pub due_after : DeliveryTerms → (agent departed : ℕ) → ℕ
 due_after course agent departed =
     departed + delay course.law.odds course.law.scales (delay_word course.dealer agent departed)
 
@@ -48,11 +48,11 @@ is_due None turn = false
 is_due (Some due) turn = nat_le due turn
 
 -- the agent that a turn picks
-abbrev pub picked_by : Course → (turn : ℕ) → ℕ
+abbrev pub picked_by : DeliveryTerms → (turn : ℕ) → ℕ
 picked_by course turn = (words_by course.dealer).picks turn % course.agents
 
 -- the agent that a turn delivers, if it delivers one
-abbrev pub delivered_by : Course → List (Option ℕ) → (turn : ℕ) → Option ℕ
+abbrev pub delivered_by : DeliveryTerms → List (Option ℕ) → (turn : ℕ) → Option ℕ
 delivered_by course dues turn =
     if is_due (due_of dues (picked_by course turn)) turn then Some (picked_by course turn) else None
 
@@ -62,18 +62,18 @@ or_else None turn later = later
 or_else (Some agent) turn later = Some (agent, turn)
 
 -- the first of this many turns from one on that delivers an agent, and which
-abbrev pub first_delivery : Course → List (Option ℕ) → (from count : ℕ) → Option (ℕ × ℕ)
+abbrev pub first_delivery : DeliveryTerms → List (Option ℕ) → (from count : ℕ) → Option (ℕ × ℕ)
 first_delivery course dues from zero = None
 first_delivery course dues from (suc count) =
     or_else (delivered_by course dues from) from (first_delivery course dues (from + 1) count)
 
 -- the due of an agent that departs by a port of a node
-abbrev pub due_on : Course → (node port agent turn : ℕ) → Option ℕ
+abbrev pub due_on : DeliveryTerms → (node port agent turn : ℕ) → Option ℕ
 due_on course node port agent turn =
     if held_in course.held node port then None else Some (due_after course agent turn)
 
 -- the dues after an event with this site and turn
-abbrev pub dues_after : Course → List (Option ℕ) → Event → (site : Option ℕ) → (turn : ℕ) → List (Option ℕ)
+abbrev pub dues_after : DeliveryTerms → List (Option ℕ) → Event → (site : Option ℕ) → (turn : ℕ) → List (Option ℕ)
 dues_after course dues (Tell agent (Depart port)) (Some node) turn =
     if is_port_of course.net (node, port) then slice_set dues agent (due_on course node port agent turn) else dues
 dues_after course dues (Tell agent Leave) site turn = slice_set dues agent None
@@ -86,7 +86,7 @@ is_agent None agent = false
 is_agent (Some other) agent = agent == other
 
 -- what is wrong with an event in its own turn
-abbrev pub late_in : Course → List (Option ℕ) → Event → (turn : ℕ) → Option Untimely
+abbrev pub late_in : DeliveryTerms → List (Option ℕ) → Event → (turn : ℕ) → Option Untimely
 late_in course dues (Deliver agent) turn =
     if is_agent (delivered_by course dues turn) agent then None else Some Late
 late_in course dues event turn = None
@@ -97,7 +97,7 @@ left_out None own = own
 left_out (Some found) own = Some (LeftOut found.0 found.1)
 
 -- what is wrong with an event at its turn, if this many turns have passed before it
-abbrev pub untimely : Course → List (Option ℕ) → (now : ℕ) → Event → (turn : ℕ) → Option Untimely
+abbrev pub untimely : DeliveryTerms → List (Option ℕ) → (now : ℕ) → Event → (turn : ℕ) → Option Untimely
 untimely course dues now event turn =
     if nat_lt turn now then Some Early
     else left_out (first_delivery course dues now (turn - now)) (late_in course dues event turn)
@@ -108,7 +108,8 @@ at_or_later place None later = later
 at_or_later place (Some why) later = Some (place, why)
 
 -- the first event that is wrong, with its place, where the first event has this place and this many turns have passed
-abbrev pub untimely_from : Course → List (Option ℕ) → (now place : ℕ) → List Kept → List (Option ℕ) → (turns : List ℕ)
+abbrev pub untimely_from : DeliveryTerms → List (Option ℕ) → (now place : ℕ) → List Kept → List (Option ℕ)
+    → (turns : List ℕ)
     → Option (ℕ × Untimely)
 untimely_from course dues now place (one ∷ log) (site ∷ sites) (turn ∷ turns) =
     at_or_later place (untimely course dues now one.event turn)
@@ -116,7 +117,7 @@ untimely_from course dues now place (one ∷ log) (site ∷ sites) (turn ∷ tur
     sites turns)
 untimely_from course dues now place log sites turns = None
 
-abbrev pub untimely_in : Course → Play → (turns : List ℕ) → Option (ℕ × Untimely)
+abbrev pub untimely_in : DeliveryTerms → Play → (turns : List ℕ) → Option (ℕ × Untimely)
 untimely_in course play turns =
     untimely_from course (replicate play.setup.agents None) 0 0 play.log
     (sites (world_in play) (events_of play.log)) turns

@@ -40,7 +40,7 @@ pub enum Untimely {
 
 // What is fixed of a match whose log is looked through.
 #[derive(Drop)]
-struct Course<'a> {
+struct DeliveryTerms<'a> {
     dealer: &'a Dealer,
     delays: Delays,
     held: &'a Held,
@@ -48,8 +48,8 @@ struct Course<'a> {
     agents: u16,
 }
 
-impl<'a> Model for Course<'a> {
-    ghost use Rattle.bhs_deal.specs.Timeliness.{Course as Terms};
+impl<'a> Model for DeliveryTerms<'a> {
+    ghost use Rattle.bhs_deal.specs.Timeliness.{DeliveryTerms as Terms};
 
     ghost Value = { Terms };
 
@@ -62,7 +62,7 @@ impl<'a> Model for Course<'a> {
     } };
 }
 
-impl Course<'_> {
+impl DeliveryTerms<'_> {
     // After how many turns an agent that departs after this many is ready to arrive.
     fn due_after(&self, agent: u16, departed: u32) -> u64
         ensures { result ≡ due_after self.now agent departed }
@@ -277,7 +277,7 @@ pub fn first_untimely(
         (stamps_in sealed.now.log turns.now) at.0 at.1)) }
 {
     let agents = sealed.setup().agents;
-    let course = Course {
+    let course = DeliveryTerms {
         dealer: schedule.dealer,
         delays: schedule.delays,
         held: schedule.held,

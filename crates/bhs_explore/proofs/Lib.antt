@@ -25,7 +25,7 @@ pub mod Closing
 pub mod Verdicts
 pub mod Schedules
 pub mod Ends
-pub mod ClosedCharts
+pub mod ClosedGraphs
 pub mod Told
 pub mod Repeating
 pub mod Whole

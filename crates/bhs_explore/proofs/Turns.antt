@@ -22,10 +22,11 @@ use Rattle.bhs_world.proofs.GrowthLemmas.{run_from_more, lost_from_more}
 use Rattle.bhs_referee.specs.declared.verdicts.Verdict.{Verdict}
 use Rattle.bhs_referee.specs.Findings.{Findings, nothing_found, reached_by, found_after, found_from, findings}
 use Rattle.bhs_referee.specs.Verdicts.{outcome_of}
-use Rattle.bhs_explore.specs.declared.minds.Step.{Step}
-use Rattle.bhs_explore.specs.declared.minds.Step.TheVariants.{Says, Sleeps, Stops, Fails}
-use Rattle.bhs_explore.specs.Minds.{hearing}
-use Rattle.bhs_explore.specs.Schedules.{Trial, Scene, state_of, position_of, Deed, Makes, Wakes, Rests, deed_at, deed}
+use Rattle.bhs_explore.specs.declared.answers.Step.{Step}
+use Rattle.bhs_explore.specs.declared.answers.Step.TheVariants.{Says, Sleeps, Stops, Fails}
+use Rattle.bhs_explore.specs.Strategies.{hearing}
+use Rattle.bhs_explore.specs.Schedules.{Trial, Scene, state_of, position_of, Action, Makes, Wakes, Rests, action_at}
+use Rattle.bhs_explore.specs.Schedules.{deed}
 use Rattle.bhs_explore.specs.Schedules.{faced, is_same_sight, shown_to, faces_same, done, turn, is_move, can_move}
 use Rattle.bhs_explore.specs.Schedules.{verdict}
 
@@ -78,34 +79,34 @@ verdict_is trial scene =
 
 -- ---- whose deed it is
 
-abbrev pub IsOwn : (agent : ℕ) → Deed → Type 0
+abbrev pub IsOwn : (agent : ℕ) → Action → Type 0
 IsOwn agent (Makes (Tell other command)) = other ≡ agent
 IsOwn agent (Makes (Deliver other)) = other ≡ agent
 IsOwn agent (Makes Close) = ⊥
 IsOwn agent Wakes = Unit {0}
 IsOwn agent Rests = Unit {0}
 
-pub own_at : (held : Held) (naps : ℕ) (position : Position) (woken : ℕ) (step : Step) (agent : ℕ)
-    → IsOwn agent (deed_at held naps position woken step agent)
-own_at held naps (Bound node port) woken step agent =
+pub own_at : (held : Held) (wakeups : ℕ) (position : Position) (woken : ℕ) (step : Step) (agent : ℕ)
+    → IsOwn agent (action_at held wakeups position woken step agent)
+own_at held wakeups (Bound node port) woken step agent =
     either (IsOwn agent) (held node port) Rests (Makes (Deliver agent)) tt refl
-own_at held naps After woken step agent = tt
-own_at held naps Before woken (Says command) agent = refl
-own_at held naps Before woken Sleeps agent = either (IsOwn agent) (nat_lt naps woken) Rests Wakes tt tt
-own_at held naps Before woken Stops agent = tt
-own_at held naps Before woken Fails agent = tt
-own_at held naps (At node came) woken (Says command) agent = refl
-own_at held naps (At node came) woken Sleeps agent = either (IsOwn agent) (nat_lt naps woken) Rests Wakes tt tt
-own_at held naps (At node came) woken Stops agent = tt
-own_at held naps (At node came) woken Fails agent = tt
+own_at held wakeups After woken step agent = tt
+own_at held wakeups Before woken (Says command) agent = refl
+own_at held wakeups Before woken Sleeps agent = either (IsOwn agent) (nat_lt wakeups woken) Rests Wakes tt tt
+own_at held wakeups Before woken Stops agent = tt
+own_at held wakeups Before woken Fails agent = tt
+own_at held wakeups (At node came) woken (Says command) agent = refl
+own_at held wakeups (At node came) woken Sleeps agent = either (IsOwn agent) (nat_lt wakeups woken) Rests Wakes tt tt
+own_at held wakeups (At node came) woken Stops agent = tt
+own_at held wakeups (At node came) woken Fails agent = tt
 
 pub own_deed : (trial : Trial) (scene : Scene) (agent : ℕ) → IsOwn agent (deed trial scene agent)
 own_deed trial scene agent =
     either (IsOwn agent) (nat_lt agent trial.world.agents)
-    (deed_at trial.held trial.naps (position_of trial scene agent) (scene.woken agent)
-    (trial.minds agent (scene.history agent)) agent) Rests
-    (own_at trial.held trial.naps (position_of trial scene agent) (scene.woken agent)
-    (trial.minds agent (scene.history agent)) agent) tt
+    (action_at trial.held trial.wakeups (position_of trial scene agent) (scene.woken agent)
+    (trial.strategies agent (scene.history agent)) agent) Rests
+    (own_at trial.held trial.wakeups (position_of trial scene agent) (scene.woken agent)
+    (trial.strategies agent (scene.history agent)) agent) tt
 
 -- ---- a turn that is no move
 
@@ -153,7 +154,7 @@ unreached world (At node came) before = refl
 unreached world (Bound node port) before = refl
 unreached world After before = refl
 
-still_done : (trial : Trial) (scene : Scene) (agent : ℕ) (deed : Deed) → IsOwn agent deed
+still_done : (trial : Trial) (scene : Scene) (agent : ℕ) (deed : Action) → IsOwn agent deed
     → is_move trial.world (position_of trial scene agent) deed ≡ false
     → IsSame trial scene (done trial scene agent deed)
 still_done trial scene agent Rests own no_move =

@@ -4,9 +4,9 @@ use Rattle.bhs_model.specs.declared.replies.Reply.TheVariants.{Over}
 use Rattle.bhs_model.specs.Runs.{Before, Bound}
 use Rattle.bhs_referee.specs.declared.verdicts.Verdict.{Verdict}
 use Rattle.bhs_referee.specs.declared.verdicts.Outcome.TheVariants.{Solved}
-use Rattle.bhs_explore.specs.declared.minds.Step.{Step}
-use Rattle.bhs_explore.specs.declared.minds.Step.TheVariants as steps
-use Rattle.bhs_explore.specs.Minds.{Heard}
+use Rattle.bhs_explore.specs.declared.answers.Step.{Step}
+use Rattle.bhs_explore.specs.declared.answers.Step.TheVariants as steps
+use Rattle.bhs_explore.specs.Strategies.{Heard}
 use Rattle.bhs_explore.specs.Schedules.{Trial, under, position_of, IsAtRest, verdict}
 
 -- the match is solved, in at most `most_moves` moves, and at most `most_lost` agents are lost
@@ -27,11 +27,11 @@ pub record Fails (trial : Trial) (schedule : List ℕ) : Type 0 where
 
 -- what an agent does next after a schedule
 abbrev pub step_after : Trial → (schedule : List ℕ) → (agent : ℕ) → Step
-step_after trial schedule agent = trial.minds agent ((under trial schedule).history agent)
+step_after trial schedule agent = trial.strategies agent ((under trial schedule).history agent)
 
 -- what it does once it is told that the match is over
 abbrev pub step_when_over : Trial → (schedule : List ℕ) → (agent : ℕ) → Step
-step_when_over trial schedule agent = trial.minds agent (Heard Over ∷ (under trial schedule).history agent)
+step_when_over trial schedule agent = trial.strategies agent (Heard Over ∷ (under trial schedule).history agent)
 
 -- Under each schedule, at each time, no agent has failed. Once nothing more can happen, an agent on a link
 -- does not fail when it is told that the match is over, and an agent that has not entered does not sleep.

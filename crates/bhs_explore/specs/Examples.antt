@@ -5,60 +5,60 @@ use Rattle.bhs_model.specs.declared.commands.Command.TheVariants.{Enter, Write, 
 use Rattle.bhs_model.specs.declared.replies.Reply.TheVariants.{Here, Written, Gone, Bye, Over}
 use Rattle.bhs_model.specs.Examples.{triangle, none_held}
 use Rattle.bhs_referee.specs.declared.verdicts.Outcome.TheVariants.{Solved, Silent}
-use Rattle.bhs_explore.specs.declared.minds.Step.{Step}
-use Rattle.bhs_explore.specs.declared.minds.Step.TheVariants.{Says, Sleeps, Stops, Fails}
-use Rattle.bhs_explore.specs.Minds.{Heard, Woke, Mind, Minds}
+use Rattle.bhs_explore.specs.declared.answers.Step.{Step}
+use Rattle.bhs_explore.specs.declared.answers.Step.TheVariants.{Says, Sleeps, Stops, Fails}
+use Rattle.bhs_explore.specs.Strategies.{Heard, Woke, Strategy, Strategies}
 use Rattle.bhs_explore.specs.Schedules.{Trial, opening, under, can_move, verdict}
-use Rattle.bhs_explore.specs.Machines.{Machines, memory_at, minds_of}
+use Rattle.bhs_explore.specs.Machines.{Machines, memory_at, strategies_of}
 use Rattle.bhs_explore.specs.Everywhere.{step_after, step_when_over}
 use Rattle.bhs_explore.specs.Spending.{used_in}
 use Rattle.bhs_explore.specs.Endings.{moving}
 
 -- enters, goes to node 1, and accuses the link from there to node 2
-abbrev pub scout : Mind
+abbrev pub scout : Strategy
 scout [] = Says Enter
 scout (Heard (Here ports None board) ∷ history) = Says (Depart 0)
 scout (Heard (Here ports (Some label) board) ∷ history) = Says (Accuse 1)
 scout history = Stops
 
 -- enters, goes into the black hole
-abbrev pub victim : Mind
+abbrev pub victim : Strategy
 victim [] = Says Enter
 victim (Heard (Here ports came board) ∷ history) = Says (Depart 1)
 victim history = Stops
 
 -- enters, writes, and leaves
-abbrev pub writer : Mind
+abbrev pub writer : Strategy
 writer [] = Says Enter
 writer (Heard (Here ports came board) ∷ history) = Says (Write [] (codes "a"))
 writer (Heard Written ∷ history) = Says Leave
 writer history = Stops
 
 -- enters, and sleeps again and again
-abbrev pub sleeper : Mind
+abbrev pub sleeper : Strategy
 sleeper [] = Says Enter
 sleeper history = Sleeps
 
 -- enters, leaves, and fails once it has ended
-abbrev pub quitter : Mind
+abbrev pub quitter : Strategy
 quitter [] = Says Enter
 quitter (Heard Bye ∷ history) = Fails
 quitter history = Says Leave
 
 -- enters, goes into the black hole, and fails when it is told that the match is over
-abbrev pub careless : Mind
+abbrev pub careless : Strategy
 careless (Heard Over ∷ history) = Fails
 careless history = victim history
 
 -- sleeps, and never enters
-abbrev pub dreamer : Mind
+abbrev pub dreamer : Strategy
 dreamer history = Sleeps
 
-abbrev pub two : Mind → Mind → Minds
+abbrev pub two : Strategy → Strategy → Strategies
 two one other agent = if agent == 0 then one else other
 
-abbrev pub on_triangle : Mind → Mind → Trial
-on_triangle one other = record { world = triangle; held = none_held; naps = 0; minds = two one other }
+abbrev pub on_triangle : Strategy → Strategy → Trial
+on_triangle one other = record { world = triangle; held = none_held; wakeups = 0; strategies = two one other }
 
 -- of both agents whether they can move once these have had their turns
 abbrev pub moves_left : Trial → (schedule : List ℕ) → Bool × Bool
@@ -91,12 +91,12 @@ ASleeperWakes =
     × (moves_left (on_triangle writer sleeper) (1 ∷ 1 ∷ 0 ∷ 0 ∷ []) ≡ (true, true))
     × (moves_left (on_triangle writer sleeper) (1 ∷ 1 ∷ 0 ∷ 0 ∷ 1 ∷ []) ≡ (true, false))
 
--- a sleeper may nap as often as it is allowed
+-- a sleeper may have all the spurious wake-ups that it is allowed
 abbrev pub ASleeperNaps : Type 0
 ASleeperNaps =
-    (moves_left (record (on_triangle writer sleeper) { naps = 2 }) (1 ∷ 1 ∷ 1 ∷ 1 ∷ []) ≡ (true, false))
-    × (moves_left (record (on_triangle writer sleeper) { naps = 2 }) (1 ∷ 1 ∷ 1 ∷ []) ≡ (true, true))
-    × (moves_left (record (on_triangle writer sleeper) { naps = 2 }) (1 ∷ 1 ∷ 1 ∷ 1 ∷ 0 ∷ 0 ∷ []) ≡ (true, true))
+    (moves_left (record (on_triangle writer sleeper) { wakeups = 2 }) (1 ∷ 1 ∷ 1 ∷ 1 ∷ []) ≡ (true, false))
+    × (moves_left (record (on_triangle writer sleeper) { wakeups = 2 }) (1 ∷ 1 ∷ 1 ∷ []) ≡ (true, true))
+    × (moves_left (record (on_triangle writer sleeper) { wakeups = 2 }) (1 ∷ 1 ∷ 1 ∷ 1 ∷ 0 ∷ 0 ∷ []) ≡ (true, true))
 
 -- what the scout and the victim do by what they hold: it enters, departs, arrives, accuses
 abbrev pub does_as : ℕ → Step
@@ -119,11 +119,11 @@ abbrev pub MachinesPlay : Type 0
 MachinesPlay =
     (memory_at scouts 1 (Woke ∷ Heard Gone ∷ []) ≡ 12)
     × (memory_at scouts 1 (Heard Gone ∷ Woke ∷ []) ≡ 12)
-    × (moves_left (record { world = triangle; held = none_held; naps = 0; minds = minds_of scouts })
+    × (moves_left (record { world = triangle; held = none_held; wakeups = 0; strategies = strategies_of scouts })
     (0 ∷ 1 ∷ 0 ∷ 1 ∷ 0 ∷ 0 ∷ [])
     ≡ (false, false))
-    × (verdict (record { world = triangle; held = none_held; naps = 0; minds = minds_of scouts })
-    (under (record { world = triangle; held = none_held; naps = 0; minds = minds_of scouts })
+    × (verdict (record { world = triangle; held = none_held; wakeups = 0; strategies = strategies_of scouts })
+    (under (record { world = triangle; held = none_held; wakeups = 0; strategies = strategies_of scouts })
     (1 ∷ 1 ∷ 1 ∷ 0 ∷ 0 ∷ 0 ∷ 0 ∷ []))
     ≡ record { outcome = Solved; moves = 2; lost = 1 })
 

@@ -1,4 +1,4 @@
--- What a match becomes that is played by minds under a schedule.
+-- What a match becomes that is played by strategies under a schedule.
 use Rattle.std.specs.Prelude.{ℕ, ◌+◌, Bool, true, false, not, ◌&&◌, Option, Some, None, List, [], ◌∷◌, ◌++◌, ◌≡◌}
 use Rattle.std.specs.Prelude.{if◌then◌else◌, ◌==◌, nat_lt, bytes_eq}
 use Rattle.bhs_model.specs.declared.events.Event.{Event}
@@ -9,17 +9,17 @@ use Rattle.bhs_model.specs.Runs.{Position, Before, At, Bound, After, State, chan
 use Rattle.bhs_model.specs.Draws.{Held}
 use Rattle.bhs_referee.specs.declared.verdicts.Verdict.{Verdict}
 use Rattle.bhs_referee.specs.Rest.{verdict_after}
-use Rattle.bhs_explore.specs.declared.minds.Step.{Step}
-use Rattle.bhs_explore.specs.declared.minds.Step.TheVariants.{Says, Sleeps, Stops, Fails}
-use Rattle.bhs_explore.specs.Minds.{Woke, History, Minds, hearing}
+use Rattle.bhs_explore.specs.declared.answers.Step.{Step}
+use Rattle.bhs_explore.specs.declared.answers.Step.TheVariants.{Says, Sleeps, Stops, Fails}
+use Rattle.bhs_explore.specs.Strategies.{Woke, History, Strategies, hearing}
 
 -- a match that is played, which links are held, how often an agent may wake again though nothing has changed, and how
--- each mind plays
+-- each strategy plays
 pub record Trial : Type 0 where
   pub world : World
   pub held : Held
-  pub naps : ℕ
-  pub minds : Minds
+  pub wakeups : ℕ
+  pub strategies : Strategies
 
 -- how a match stands that is played: the events so far, the history of each agent, and how often each has woken since
 -- the whiteboard in front of it was another one or showed another text
@@ -39,29 +39,29 @@ abbrev pub position_of : Trial → Scene → (agent : ℕ) → Position
 position_of trial scene agent = (state_of trial scene).position agent
 
 -- what an agent may do when it is its turn
-pub data Deed : Type 0 where
-  -- an event of the match: it says what its mind says, or arrives
-  Makes : Event → Deed
+pub data Action : Type 0 where
+  -- an event of the match: it says what its strategy says, or arrives
+  Makes : Event → Action
   -- it wakes
-  Wakes : Deed
+  Wakes : Action
   -- nothing: it has ended or stopped, is held on its link, or has woken often enough and sees what it saw
-  Rests : Deed
+  Rests : Action
 
 -- what an agent at this position does that takes this step next
-abbrev pub deed_at : Held → (naps : ℕ) → Position → (woken : ℕ) → Step → (agent : ℕ) → Deed
-deed_at held naps (Bound node port) woken step agent = if held node port then Rests else Makes (Deliver agent)
-deed_at held naps After woken step agent = Rests
-deed_at held naps position woken (Says command) agent = Makes (Tell agent command)
-deed_at held naps position woken Sleeps agent = if nat_lt naps woken then Rests else Wakes
-deed_at held naps position woken Stops agent = Rests
-deed_at held naps position woken Fails agent = Rests
+abbrev pub action_at : Held → (wakeups : ℕ) → Position → (woken : ℕ) → Step → (agent : ℕ) → Action
+action_at held wakeups (Bound node port) woken step agent = if held node port then Rests else Makes (Deliver agent)
+action_at held wakeups After woken step agent = Rests
+action_at held wakeups position woken (Says command) agent = Makes (Tell agent command)
+action_at held wakeups position woken Sleeps agent = if nat_lt wakeups woken then Rests else Wakes
+action_at held wakeups position woken Stops agent = Rests
+action_at held wakeups position woken Fails agent = Rests
 
 -- what an agent does; a number without an agent does nothing
-abbrev pub deed : Trial → Scene → (agent : ℕ) → Deed
+abbrev pub deed : Trial → Scene → (agent : ℕ) → Action
 deed trial scene agent =
     if nat_lt agent trial.world.agents
-    then deed_at trial.held trial.naps (position_of trial scene agent) (scene.woken agent)
-    (trial.minds agent (scene.history agent)) agent
+    then action_at trial.held trial.wakeups (position_of trial scene agent) (scene.woken agent)
+    (trial.strategies agent (scene.history agent)) agent
     else Rests
 
 -- the node whose whiteboard an agent at this position has in front of it
@@ -89,7 +89,7 @@ faces_same world old new agent =
     is_same_sight before (shown_to world old before) after (shown_to world new after)
 
 -- how the match stands after a deed
-abbrev pub done : Trial → Scene → (agent : ℕ) → Deed → Scene
+abbrev pub done : Trial → Scene → (agent : ℕ) → Action → Scene
 done trial scene agent (Makes event) =
     let events = scene.events ++ event ∷ [] in
     record {
@@ -121,7 +121,7 @@ under trial schedule = turns trial opening schedule
 
 -- whether a deed of an agent at this position changes anything that an agent could know; a Deliver that destroys does
 -- not
-abbrev pub is_move : World → Position → Deed → Bool
+abbrev pub is_move : World → Position → Action → Bool
 is_move world position (Makes (Deliver agent)) = not (is_doomed world position)
 is_move world position (Makes event) = true
 is_move world position Wakes = true

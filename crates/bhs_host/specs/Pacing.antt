@@ -1,7 +1,7 @@
 -- How a match's turns are spread.
 use Rattle.std.specs.Prelude.{ℕ, ◌≡◌, ◌⊎◌, nat_lt, if◌then◌else◌}
-use Rattle.bhs_server.specs.declared.pacing.Step.{Step}
-use Rattle.bhs_server.specs.declared.pacing.Step.TheVariants.{Turn, Close}
+use Rattle.bhs_server.specs.declared.pacing.PaceStep.{PaceStep}
+use Rattle.bhs_server.specs.declared.pacing.PaceStep.TheVariants.{Turn, Close}
 
 -- how many turns are taken, and how many milliseconds pass before each
 pub record Beat : Type 0 where
@@ -9,10 +9,10 @@ pub record Beat : Type 0 where
   pub pause : ℕ
 
 -- what comes after a turn, if a match has this number of turns: a turn, or the close
-abbrev pub step_after : (turns turn : ℕ) → Step
+abbrev pub step_after : (turns turn : ℕ) → PaceStep
 step_after turns turn = if nat_lt turn turns then Turn else Close
 
 -- What may come after a turn: what comes after it by this number of turns; or the close, if the match is called off.
 -- Contracts do not say of which matches that is so, since it is told under a lock.
-abbrev pub MayStep : (turns turn : ℕ) → Step → Type 0
+abbrev pub MayStep : (turns turn : ℕ) → PaceStep → Type 0
 MayStep turns turn step = (step ≡ step_after turns turn) ⊎ (step ≡ Close)

@@ -4,7 +4,7 @@ ghost use Rattle.std.specs.Prelude.{◌≡◌};
 ghost use Rattle.bhs_host.specs.Pacing.{MayStep, step_after};
 
 use crate::progress::Progress;
-use bhs_server::{Pace, Step};
+use bhs_server::{Pace, PaceStep};
 use std::marker::Model;
 use std::sync::Wait;
 use std::time::{Clock, Duration};
@@ -45,11 +45,11 @@ impl<'a, R> Steady<'a, R> {
 impl<R: Wait + Clock> Pace for Steady<'_, R> {
     ghost says = { λ steady game turn step. MayStep steady.turns turn step };
 
-    fn next(&self, game: u32, turn: u32) -> Step {
+    fn next(&self, game: u32, turn: u32) -> PaceStep {
         let step = step_after(self.turns, turn);
         let pause = Duration::from_millis(u64::from(self.pause));
-        if step == Step::Turn && !self.progress.pause(self.rt, game, turn, pause) {
-            return Step::Close;
+        if step == PaceStep::Turn && !self.progress.pause(self.rt, game, turn, pause) {
+            return PaceStep::Close;
         }
         step
     }
@@ -60,12 +60,12 @@ impl<R: Wait + Clock> Pace for Steady<'_, R> {
 }
 
 // What comes after a turn, if a match has this number of turns.
-fn step_after(turns: u32, turn: u32) -> Step
+fn step_after(turns: u32, turn: u32) -> PaceStep
     ensures { result ≡ step_after turns turn }
 {
     if turn < turns {
-        Step::Turn
+        PaceStep::Turn
     } else {
-        Step::Close
+        PaceStep::Close
     }
 }

@@ -8,7 +8,7 @@ use std::time::{Clock, Duration};
 
 // How far a match is.
 #[derive(Clone, Copy)]
-struct Going {
+struct MatchProgress {
     /// How many turns it has taken.
     turns: u32,
     /// Whether it takes no more of them.
@@ -17,12 +17,12 @@ struct Going {
 
 // A match, as those see it who pace and close it.
 #[derive(Drop)]
-struct Stage {
-    going: Mutex<Going>,
+struct PacedMatch {
+    going: Mutex<MatchProgress>,
     changed: Condvar,
 }
 
-impl Stage {
+impl PacedMatch {
     // Has the match take no more turns. Answers whether it might have taken some.
     fn call_off<R: Wait>(&self, rt: &R) -> bool {
         let mut going = self.going.lock(rt);
@@ -37,7 +37,7 @@ impl Stage {
 /// for none of its agents: its dealer closes it as after its last turn.
 #[derive(Drop)]
 pub struct Progress {
-    stages: Vec<Stage>,
+    stages: Vec<PacedMatch>,
 }
 
 impl Progress {
@@ -45,8 +45,8 @@ impl Progress {
     pub fn new(alloc: Global, matches: usize) -> Result<Progress, Memory> {
         let mut stages = Vec::with_capacity(alloc, matches)?;
         for _ in 0..matches {
-            stages.push(Stage {
-                going: Mutex::new(Going {
+            stages.push(PacedMatch {
+                going: Mutex::new(MatchProgress {
                     turns: 0,
                     is_called_off: false,
                 }),

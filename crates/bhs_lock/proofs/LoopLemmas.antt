@@ -19,7 +19,7 @@ use Rattle.bhs_model.specs.Marks.{events_of}
 use Rattle.bhs_lock.proofs.KeptLemmas.{agent_within}
 use Rattle.bhs_lock.specs.Passes.{Passed}
 use Rattle.bhs_lock.specs.declared.model.Receipt.{Receipt}
-use Rattle.bhs_lock.specs.Comparing.{entry_in, Heard, command_by, entry_of, entry_first, heard_from}
+use Rattle.bhs_lock.specs.Comparing.{entry_in, HeardEntry, command_by, entry_of, entry_first, heard_from}
 use Rattle.bhs_lock.specs.Comparing.{receipted}
 use Rattle.bhs_lock.specs.Saying.{AnyOther, IsSaid}
 use Rattle.bhs_lock.specs.Settling.{lesser}
@@ -28,7 +28,7 @@ use Rattle.bhs_lock.proofs.OnePassLemmas.{IsSoFar, counts_on}
 use Rattle.bhs_lock.proofs.PastLogLemmas.{IsEnding, ending_more}
 
 -- the same in the words of the loop
-pub other_at : (passes : List Passed) (place : ℕ) (pass : Passed) (agent index : ℕ) (entry : Heard)
+pub other_at : (passes : List Passed) (place : ℕ) (pass : Passed) (agent index : ℕ) (entry : HeardEntry)
     → place < length passes → pass ≡ get_or passes place pass → pass.agent ≡ agent →
     slice_get (receipted pass.receipts pass.commands) index ≢ Some entry → AnyOther agent index entry passes
 other_at [] place pass agent index entry inside is its apart = absurd (omega (arith, inside))
@@ -41,7 +41,7 @@ other_at (first ∷ passes) zero pass agent index entry inside is its apart =
 other_at (first ∷ passes) (suc place) pass agent index entry inside is its apart =
     inr (other_at passes place pass agent index entry (omega (arith, inside)) is its apart)
 
-first_some : (whole : List Kept) (place : ℕ) (command : Option Command) (mark : Option Mark) (others : List Heard)
+first_some : (whole : List Kept) (place : ℕ) (command : Option Command) (mark : Option Mark) (others : List HeardEntry)
     → length (entry_first whole place command mark others) ≤ length others + 1
 first_some whole place (Some command) mark others = omega arith
 first_some whole place None mark others = omega arith
@@ -122,7 +122,7 @@ untold Close none agent = refl
 
 -- what a pass says at an index
 pub says_at : (given : Passed) (receipts : List Receipt) (commands : List Command) (index : ℕ) (receipt : Receipt)
-    (kept : Command) (entry : Heard) (r : Bool) → receipts ≡ given.receipts → commands ≡ given.commands →
+    (kept : Command) (entry : HeardEntry) (r : Bool) → receipts ≡ given.receipts → commands ≡ given.commands →
     index < length receipts → receipt ≡ get_or receipts index receipt → index < length commands
     → kept ≡ get_or commands index kept → (IsTrue r → entry ≡ entry_in receipt kept)
     × (entry ≡ entry_in receipt kept → IsTrue r) →
@@ -136,9 +136,9 @@ says_at given receipts commands index receipt kept entry r same_receipts same_co
     index receipt refl in_receipts receipt_is)
     (ap (λ (xs : List Command). slice_get xs index) (sym same_commands) ∙ slice_get_read commands (length commands)
     index kept refl in_commands kept_is) in
-    (λ yes. there ∙ sym (ap (λ (e : Heard). Some e) (is.0 yes)), λ same. is.1 (some_same (sym same ∙ there)))
+    (λ yes. there ∙ sym (ap (λ (e : HeardEntry). Some e) (is.0 yes)), λ same. is.1 (some_same (sym same ∙ there)))
   where
-    some_same : {x y : Heard} → Some x ≡ Some y → x ≡ y
+    some_same : {x y : HeardEntry} → Some x ≡ Some y → x ≡ y
     some_same e = cc
 
 receipted_past : (receipts : List Receipt) (commands : List Command) (index : ℕ) → length receipts ≤ index
@@ -150,7 +150,7 @@ receipted_past (receipt ∷ receipts) (command ∷ commands) (suc index) past =
     receipted_past receipts commands index (omega (arith, past))
 
 -- past its receipts it says nothing
-pub says_none : (given : Passed) (receipts : List Receipt) (index : ℕ) (entry : Heard) → receipts ≡ given.receipts
+pub says_none : (given : Passed) (receipts : List Receipt) (index : ℕ) (entry : HeardEntry) → receipts ≡ given.receipts
     → length receipts ≤ index →
     (IsTrue false → slice_get (receipted given.receipts given.commands) index ≡ Some entry)
     × (slice_get (receipted given.receipts given.commands) index ≡ Some entry → IsTrue false)

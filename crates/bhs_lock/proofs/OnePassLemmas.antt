@@ -15,7 +15,7 @@ use Rattle.bhs_model.specs.declared.marks.Kept.{Kept}
 use Rattle.bhs_world.proofs.ListLemmas.{lt_tells}
 use Rattle.bhs_match.specs.Matches.{Play}
 use Rattle.bhs_lock.specs.Passes.{Passed}
-use Rattle.bhs_lock.specs.Comparing.{Heard, command_by, entry_of, entry_first, heard_from, heard_in}
+use Rattle.bhs_lock.specs.Comparing.{HeardEntry, command_by, entry_of, entry_first, heard_from, heard_in}
 use Rattle.bhs_lock.specs.Saying.{AllSay, AnyOther, IsSaid}
 use Rattle.bhs_lock.specs.Settling.{Compared, lesser, has_pass, told_by, told_by_none, without_pass}
 use Rattle.bhs_lock.specs.Settling.{commands_of}
@@ -28,7 +28,7 @@ abbrev pub Counts : (log : List Kept) (heard : List ℕ) (place : ℕ) → Type 
 Counts log heard place = (agent : ℕ) → get_or heard agent 0 ≡ length (heard_from log agent 0 (take place log))
 
 -- what was compared so far agrees
-abbrev pub AgreeSoFar : (heard : List ℕ) → Option (ℕ × ℕ) → List (Compared Heard) → Type 0
+abbrev pub AgreeSoFar : (heard : List ℕ) → Option (ℕ × ℕ) → List (Compared HeardEntry) → Type 0
 AgreeSoFar heard best all = AllByRecursion (λ one. (k : ℕ) → k < get_or heard one.agent 0 → AgreesAt best one k) all
 
 -- the log was looked through so far
@@ -131,9 +131,9 @@ counts_more log heard place one agent command index counts inside is told within
     ]
 
 -- what agrees where one index goes on
-agree_more : (all : List (Compared Heard)) (heard : List ℕ) (agent index : ℕ) (best now : Option (ℕ × ℕ))
+agree_more : (all : List (Compared HeardEntry)) (heard : List ℕ) (agent index : ℕ) (best now : Option (ℕ × ℕ))
     → agent < length heard → index ≡ get_or heard agent 0 →
-    ((one : Compared Heard) (k : ℕ) → AgreesAt best one k → AgreesAt now one k)
+    ((one : Compared HeardEntry) (k : ℕ) → AgreesAt best one k → AgreesAt now one k)
     → AllByRecursion (λ one. one.agent ≡ agent → AgreesAt now one index) all →
     AgreeSoFar heard best all → AgreeSoFar (slice_set heard agent (index + 1)) now all
 agree_more all heard agent index best now within at keeps here agree =
@@ -164,24 +164,24 @@ entry_there log place one agent command inside is told =
     ∙ cond-true (agent == agent) _ _ (eq-eqb agent agent refl) in
     let before = heard_from log agent 0 (take place log) in
     let rest = heard_from log agent (place + 1) (drop (suc place) log) in
-    ap (λ (all : List Heard). slice_get all (length before))
+    ap (λ (all : List HeardEntry). slice_get all (length before))
     (whole_parted log agent place one inside is
     ∙ ap (λ (command : Option Command). before ++ entry_first log place command one.mark rest) its)
     ∙ at_end before rest (entry_of log place command one.mark)
   where
-    at_end : (xs ys : List Heard) (y : Heard) → slice_get (xs ++ y ∷ ys) (length xs) ≡ Some y
+    at_end : (xs ys : List HeardEntry) (y : HeardEntry) → slice_get (xs ++ y ∷ ys) (length xs) ≡ Some y
     at_end [] ys y = refl
     at_end (x ∷ xs) ys y = at_end xs ys y
 
 -- what the passes say, of all that is compared
-all_say : (play : Play) (passes : List Passed) (agent index : ℕ) (entry : Heard) → has_pass passes agent ≡ true
+all_say : (play : Play) (passes : List Passed) (agent index : ℕ) (entry : HeardEntry) → has_pass passes agent ≡ true
     → AllSay agent index entry passes →
     AllByRecursion (λ one. one.agent ≡ agent → slice_get one.said index ≡ Some entry) (commands_of play passes)
 all_say play passes agent index entry has say =
     all_joined Says (map (told_by play) passes) (map (told_by_none play) (without_pass passes play.setup.agents))
     (by_pass passes say) (by_none (range_with_len 0 play.setup.agents))
   where
-    Says : Compared Heard → Type 0
+    Says : Compared HeardEntry → Type 0
     Says one = one.agent ≡ agent → slice_get one.said index ≡ Some entry
 
     by_pass : (some : List Passed) → AllSay agent index entry some → AllByRecursion Says (map (told_by play) some)
@@ -207,18 +207,18 @@ all_say play passes agent index entry has say =
     by_none (other ∷ others) = first (not (has_pass passes other)) other
         (filter (λ agent. not (has_pass passes agent)) others) refl (by_none others)
 
-pub any_left : (agent index : ℕ) (xs ys : List (Compared Heard)) → AnyDiffers agent index xs
+pub any_left : (agent index : ℕ) (xs ys : List (Compared HeardEntry)) → AnyDiffers agent index xs
     → AnyDiffers agent index (xs ++ ys)
 any_left agent index [] ys any = absurd any
 any_left agent index (x ∷ xs) ys any = elim any [ inl h ↦ inl h | inr h ↦ inr (any_left agent index xs ys h) ]
 
-any_right : (agent index : ℕ) (xs ys : List (Compared Heard)) → AnyDiffers agent index ys
+any_right : (agent index : ℕ) (xs ys : List (Compared HeardEntry)) → AnyDiffers agent index ys
     → AnyDiffers agent index (xs ++ ys)
 any_right agent index [] ys any = any
 any_right agent index (x ∷ xs) ys any = inr (any_right agent index xs ys any)
 
 -- what a pass does not say differs
-any_other : (play : Play) (passes : List Passed) (agent index : ℕ) (entry : Heard)
+any_other : (play : Play) (passes : List Passed) (agent index : ℕ) (entry : HeardEntry)
     → slice_get (heard_in agent play.log) index ≡ Some entry → AnyOther agent index entry passes
     → AnyDiffers agent index (map (told_by play) passes)
 any_other play [] agent index entry there other = absurd other
@@ -228,7 +228,7 @@ any_other play (pass ∷ passes) agent index entry there other = elim other [
 ]
 
 -- what nobody says differs
-any_none : (play : Play) (passes : List Passed) (agent index : ℕ) (entry : Heard)
+any_none : (play : Play) (passes : List Passed) (agent index : ℕ) (entry : HeardEntry)
     → slice_get (heard_in agent play.log) index ≡ Some entry → has_pass passes agent ≡ false → (start count : ℕ)
     → start ≤ agent → agent < start + count →
     AnyDiffers agent index (map (told_by_none play)
@@ -271,7 +271,7 @@ counts_on play passes log heard place best now one agent index command said so_f
     room : agent < length heard
     room = omega (arith, small, so_far.room)
 
-    entry : Heard
+    entry : HeardEntry
     entry = entry_of log place command one.mark
 
     there : slice_get (heard_in agent play.log) index ≡ Some entry
@@ -306,7 +306,8 @@ counts_on play passes log heard place best now one agent index command said so_f
         (λ one. one.agent ≡ agent → slice_get one.said index ≡ Some entry)
         (λ one. one.agent ≡ agent → AgreesAt best one index) (commands_of play passes)
         (λ one logged said its. same_agrees best one index
-        (ap (λ (xs : List Heard). slice_get xs index) logged ∙ ap (λ (a : ℕ). slice_get (heard_in a play.log) index)
+        (ap (λ (xs : List HeardEntry). slice_get xs index) logged
+        ∙ ap (λ (a : ℕ). slice_get (heard_in a play.log) index)
         its ∙ there ∙ sym (said its)))
         (logged_all play passes) (all_say play passes agent index entry says.0 says.1) in
         rw made (so_on best (agree_more (commands_of play passes) heard agent index best best room at (λ one k old. old)

@@ -13,7 +13,7 @@ use Rattle.bhs_world.proofs.ListLemmas.{lt_tells}
 use Rattle.bhs_world.proofs.GrowthLemmas.{map_more, all_append}
 use Rattle.bhs_match.specs.Matches.{Play}
 use Rattle.bhs_lock.specs.Passes.{Passed}
-use Rattle.bhs_lock.specs.Comparing.{Heard, heard_from, heard_in}
+use Rattle.bhs_lock.specs.Comparing.{HeardEntry, heard_from, heard_in}
 use Rattle.bhs_lock.specs.Comparing.{receipted}
 use Rattle.bhs_lock.specs.Settling.{Compared, IsLeast, lesser, told_by, told_by_none, without_pass}
 use Rattle.bhs_lock.specs.Settling.{commands_of}
@@ -41,7 +41,8 @@ begun_ending play passes log heard place best so_far same past = record {
   whole = tt;
 }
 
-all_at : (P : Compared Heard → Type 0) (play : Play) (passes : List Passed) (ys : List (Compared Heard)) (place : ℕ)
+all_at : (P : Compared HeardEntry
+    → Type 0) (play : Play) (passes : List Passed) (ys : List (Compared HeardEntry)) (place : ℕ)
     (pass : Passed) → AllByRecursion P (map (told_by play) passes ++ ys) → place < length passes
     → pass ≡ get_or passes place pass → P (told_by play pass)
 all_at P play [] ys place pass all inside is = absurd (omega (arith, inside))
@@ -105,12 +106,12 @@ ending_more play passes heard place best now pass agent count most so_far inside
         slice_get_past (heard_in pass.agent play.log) count (omega (arith, ends)) in
         inside_is (receipted pass.receipts pass.commands) count (omega (arith, below, long)) (sym same ∙ none)
       where
-        inside_is : (xs : List Heard) (k : ℕ) → k < length xs → slice_get xs k ≡ None → ⊥
+        inside_is : (xs : List HeardEntry) (k : ℕ) → k < length xs → slice_get xs k ≡ None → ⊥
         inside_is [] k below none = omega (arith, below)
         inside_is (x ∷ xs) zero below none = cc
         inside_is (x ∷ xs) (suc k) below none = inside_is xs k (omega (arith, below)) none
 
-    so_on : (now : Option (ℕ × ℕ)) → ((one : Compared Heard) (k : ℕ) → AgreesAt best one k → AgreesAt now one k)
+    so_on : (now : Option (ℕ × ℕ)) → ((one : Compared HeardEntry) (k : ℕ) → AgreesAt best one k → AgreesAt now one k)
         → IsFound now (commands_of play passes) → ((k : ℕ) → count ≤ k → AgreesAt now (told_by play pass) k)
         → IsEnding play passes heard (place + 1) now
     so_on now keeps found above =

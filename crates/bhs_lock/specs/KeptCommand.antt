@@ -5,10 +5,10 @@ use Rattle.bhs_model.specs.declared.commands.Command.{Command}
 use Rattle.bhs_model.specs.declared.commands.Command.TheVariants as commands
 use Rattle.bhs_lock.specs.declared.kept_command.Form.{Form}
 use Rattle.bhs_lock.specs.declared.kept_command.Form.TheVariants as forms
-use Rattle.bhs_lock.specs.declared.kept_command.Texts.{Texts}
+use Rattle.bhs_lock.specs.declared.kept_command.WriteTexts.{WriteTexts}
 
 -- a Write of these texts, or of empty ones
-abbrev pub write_of : Option (Box Texts) → Command
+abbrev pub write_of : Option (Box WriteTexts) → Command
 write_of (Some texts) = commands.Write texts.value.expect texts.value.put
 write_of None = commands.Write [] []
 

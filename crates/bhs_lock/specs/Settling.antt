@@ -8,7 +8,7 @@ use Rattle.bhs_match.specs.Matches.{Play, arrivals}
 use Rattle.bhs_lock.specs.declared.model.Receipt.{Receipt}
 use Rattle.bhs_lock.specs.Passes.{Passed}
 use Rattle.bhs_lock.specs.Arrivals.{receipt_at}
-use Rattle.bhs_lock.specs.Comparing.{Heard, heard_in, receipted, IsFirstDifference}
+use Rattle.bhs_lock.specs.Comparing.{HeardEntry, heard_in, receipted, IsFirstDifference}
 
 -- what the log has for an agent, and what is said of it
 pub record Compared (A : Type 0) : Type 0 where
@@ -57,7 +57,7 @@ abbrev pub has_pass : List Passed → (agent : ℕ) → Bool
 has_pass passes agent = list_any (λ pass. pass.agent == agent) passes
 
 -- the heard commands of a pass's agent, and its receipts with the kept commands
-abbrev pub told_by : Play → Passed → Compared Heard
+abbrev pub told_by : Play → Passed → Compared HeardEntry
 told_by play pass = record {
   agent = pass.agent;
   logged = heard_in pass.agent play.log;
@@ -65,7 +65,7 @@ told_by play pass = record {
 }
 
 -- the heard commands of an agent of whom nothing is said
-abbrev pub told_by_none : Play → (agent : ℕ) → Compared Heard
+abbrev pub told_by_none : Play → (agent : ℕ) → Compared HeardEntry
 told_by_none play agent = record { agent = agent; logged = heard_in agent play.log; said = [] }
 
 -- the agents without a pass, of the first of this number
@@ -73,7 +73,7 @@ abbrev pub without_pass : List Passed → (agents : ℕ) → List ℕ
 without_pass passes agents = filter (λ agent. not (has_pass passes agent)) (range_with_len 0 agents)
 
 -- all that is compared of commands: each pass, and each agent without one
-abbrev pub commands_of : Play → List Passed → List (Compared Heard)
+abbrev pub commands_of : Play → List Passed → List (Compared HeardEntry)
 commands_of play passes = map (told_by play) passes ++ map (told_by_none play) (without_pass passes play.setup.agents)
 
 -- the arrivals of a pass's agent, as many as the pass has, and those of the pass

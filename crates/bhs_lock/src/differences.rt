@@ -11,10 +11,10 @@ use bhs_match::Match;
 use bhs_model::{Command, Event, Kept, MAX_AGENTS, Mark};
 
 /// An agent, and an index into its commands or arrivals.
-pub(crate) type Place = (u16, usize);
+pub(crate) type AgentIndex = (u16, usize);
 
 // The lesser of what was found and of an index of an agent, if there are such.
-fn lesser(best: Option<Place>, agent: u16, index: Option<usize>) -> Option<Place>
+fn lesser(best: Option<AgentIndex>, agent: u16, index: Option<usize>) -> Option<AgentIndex>
     ensures { result ≡ lesser best agent index }
 {
     match (best, index) {
@@ -62,7 +62,7 @@ pub(crate) fn missing(agents: u16, left: &[Option<Pass>], passes: &[Pass]) -> Op
 /// The least agent and index at which the receipts of a pass, or none for an agent without a pass, are not the agent's
 /// heard commands in the log of a match; None if each pass has the agent's heard commands, each once, in order, with
 /// places and replies, and an agent without a pass has none. Takes no memory; goes over the log once.
-pub(crate) fn first_difference(play: &Match, passes: &[Pass]) -> Option<Place>
+pub(crate) fn first_difference(play: &Match, passes: &[Pass]) -> Option<AgentIndex>
     ensures { IsLeast (commands_of play.now passes.now) result }
 {
     let log = play.log();
@@ -116,7 +116,7 @@ fn is_said(
 
 /// The least agent and index at which an arrival of a pass is not the agent's arrival of that index in the log of a
 /// match; None if the arrivals of each pass are the agent's first ones, with places and replies. Takes no memory.
-pub(crate) fn first_stray(play: &Match, passes: &[Pass]) -> Option<Place>
+pub(crate) fn first_stray(play: &Match, passes: &[Pass]) -> Option<AgentIndex>
     ensures { IsLeast (arrivals_of play.now passes.now) result }
 {
     let mut best = None;

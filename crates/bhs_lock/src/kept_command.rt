@@ -20,7 +20,7 @@ pub(crate) struct KeptCommand {
 
 /// The texts of a Write.
 #[derive(Debug, Drop)]
-pub(crate) struct Texts {
+pub(crate) struct WriteTexts {
     expect: Text,
     put: Text,
 }
@@ -31,7 +31,7 @@ pub(crate) enum Form {
     Enter,
     Look,
     /// None stands for two empty texts.
-    Write(Option<Box<Texts>>),
+    Write(Option<Box<WriteTexts>>),
     Depart(u16),
     Accuse(u16),
     Leave,
@@ -55,7 +55,7 @@ impl KeptCommand {
         let Command::Write { expect, put } = command else {
             return Ok(KeptCommand::kind_of(command));
         };
-        let texts = Texts {
+        let texts = WriteTexts {
             expect: expect.clone()?,
             put: put.clone()?,
         };
@@ -105,7 +105,7 @@ impl KeptCommand {
 }
 
 // Whether these are the texts of a Write.
-fn are_texts(texts: &Option<Box<Texts>>, expect: &str, put: &str) -> bool
+fn are_texts(texts: &Option<Box<WriteTexts>>, expect: &str, put: &str) -> bool
     ensures { IsTrue result ↔ (Write expect.now put.now ≡ write_of texts.now) }
 {
     match texts {

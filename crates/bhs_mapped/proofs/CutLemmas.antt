@@ -18,21 +18,21 @@ use Rattle.bhs_model.specs.Runs.{Position, Before, At, Bound, After, changed, po
 use Rattle.bhs_model.proofs.StepLemmas.{by_cases}
 use Rattle.bhs_referee.specs.declared.verdicts.Outcome.TheVariants.{Solved}
 use Rattle.bhs_referee.specs.declared.verdicts.Verdict.{Verdict}
-use Rattle.bhs_explore.specs.Minds.{Minds}
-use Rattle.bhs_explore.specs.Schedules.{Trial, under, Deed, Makes, Wakes, Rests}
+use Rattle.bhs_explore.specs.Strategies.{Strategies}
+use Rattle.bhs_explore.specs.Schedules.{Trial, under, Action, Makes, Wakes, Rests}
 use Rattle.bhs_explore.proofs.Turns.{verdict_is}
-use Rattle.bhs_protocols.specs.Pictures.{Picture, blank, deed_in, is_heard, told_at, refused_in, arrived_in}
-use Rattle.bhs_protocols.specs.Pictures.{said_in, delivered_in, done_in, turn_in, turns_in, outcome_in}
+use Rattle.bhs_protocols.specs.Configurations.{Configuration, blank, deed_in, is_heard, told_at, refused_in, arrived_in}
+use Rattle.bhs_protocols.specs.Configurations.{said_in, delivered_in, done_in, turn_in, turns_in, outcome_in}
 use Rattle.bhs_protocols.specs.LastWord.{searched}
-use Rattle.bhs_protocols.proofs.PictureLemmas.{pictures_follow}
+use Rattle.bhs_protocols.proofs.ConfigurationLemmas.{configurations_follow}
 use Rattle.bhs_protocols.proofs.LastWordLemmas as last_word
 use Rattle.bhs_protocols.proofs.AloneLemmas.{unreached_unsolved}
 use Rattle.bhs_mapped.specs.Cuts.{NoTeamPassesACut}
 
-module _ (net : Network) (setup : Setup) (held : Held) (naps : ℕ) (minds : Minds) (cut : ℕ)
+module _ (net : Network) (setup : Setup) (held : Held) (wakeups : ℕ) (strategies : Strategies) (cut : ℕ)
     (labelled : IsPortLabelled net) (apart : setup.home ≢ cut) where
   abbrev trial : Trial
-  trial = searched (world_of net setup) held naps minds cut
+  trial = searched (world_of net setup) held wakeups strategies cut
 
   abbrev Step : ℕ → ℕ → Type 0
   Step = Without cut (Leads net)
@@ -52,9 +52,9 @@ module _ (net : Network) (setup : Setup) (held : Held) (naps : ℕ) (minds : Min
   IsInsideAt (Bound node port) = IsNear node × (port < degree_of net node)
   IsInsideAt After = Unit
 
-  record IsInside (picture : Picture) : Type 0 where
-    places : (agent : ℕ) → IsInsideAt (picture.position agent)
-    reached : (node : ℕ) → picture.reached node ≡ true → IsNear node
+  record IsInside (configuration : Configuration) : Type 0 where
+    places : (agent : ℕ) → IsInsideAt (configuration.position agent)
+    reached : (node : ℕ) → configuration.reached node ≡ true → IsNear node
 
   moved : (position : Position) (command : Command) → IsInsideAt position
       → IsInsideAt (position_after trial.world position command)
@@ -78,18 +78,20 @@ module _ (net : Network) (setup : Setup) (held : Held) (naps : ℕ) (minds : Min
     | inr h ↦ rw h.0 (all k)
   ]
 
-  told_inside : (picture : Picture) (agent : ℕ) (command : Command) → IsInside picture
-      → IsInside (said_in trial.world picture agent command)
-  told_inside picture agent command is = by_cases (is_heard trial.world picture agent command)
-      (IsInside (said_in trial.world picture agent command))
-      (λ yes. subst IsInside (sym (cond-true _ (told_at trial.world picture agent (picture.position agent) command)
-      (refused_in picture agent command) yes)) (record {
-        places = changed_inside picture.position agent _ is.places
-            (moved (picture.position agent) command (is.places agent));
+  told_inside : (configuration : Configuration) (agent : ℕ) (command : Command) → IsInside configuration
+      → IsInside (said_in trial.world configuration agent command)
+  told_inside configuration agent command is = by_cases (is_heard trial.world configuration agent command)
+      (IsInside (said_in trial.world configuration agent command))
+      (λ yes. subst IsInside (sym (cond-true _ (told_at trial.world configuration agent
+      (configuration.position agent) command)
+      (refused_in configuration agent command) yes)) (record {
+        places = changed_inside configuration.position agent _ is.places
+            (moved (configuration.position agent) command (is.places agent));
         reached = is.reached;
       }))
-      (λ none. subst IsInside (sym (cond-false _ (told_at trial.world picture agent (picture.position agent) command)
-      (refused_in picture agent command) none)) (record { places = is.places; reached = is.reached }))
+      (λ none. subst IsInside (sym (cond-false _ (told_at trial.world configuration agent
+      (configuration.position agent) command)
+      (refused_in configuration agent command) none)) (record { places = is.places; reached = is.reached }))
 
   -- who arrives has gone a link that leads to another node than the black hole
   arrival : (node port : ℕ) → IsNear node → port < degree_of net node → doomed trial.world node port ≡ false
@@ -97,43 +99,45 @@ module _ (net : Network) (setup : Setup) (held : Held) (naps : ℕ) (minds : Min
   arrival node port near has safe =
       let target : ℕ = (far_of net node port).0 in
       let off : target ≢ cut = λ same. true≢false (sym (eq-eqb cut target (sym same))
-      ∙ sym (last_word.doomed_is (world_of net setup) held naps minds cut target cut node port) ∙ safe) in
+      ∙ sym (last_word.doomed_is (world_of net setup) held wakeups strategies cut target cut node port) ∙ safe) in
       (off, walks.IsPath-more Step setup.home node target near.1 ((port, has, refl), near.0, off))
 
-  delivered_inside : (picture : Picture) (agent : ℕ) (position : Position) → IsInsideAt position → IsInside picture
-      → IsInside (delivered_in trial.world picture agent position)
-  delivered_inside picture agent (Bound node port) inside is =
+  delivered_inside : (configuration : Configuration) (agent : ℕ) (position : Position) → IsInsideAt position
+      → IsInside configuration
+      → IsInside (delivered_in trial.world configuration agent position)
+  delivered_inside configuration agent (Bound node port) inside is =
       let target : ℕ = (far_of net node port).0 in
-      let new : Picture = arrived_in trial.world picture agent target (far_of net node port).1 in
-      by_cases (doomed trial.world node port) (IsInside (delivered_in trial.world picture agent (Bound node port)))
-      (λ yes. subst IsInside (sym (cond-true _ picture new yes)) is)
+      let new : Configuration = arrived_in trial.world configuration agent target (far_of net node port).1 in
+      by_cases (doomed trial.world node port) (IsInside (delivered_in trial.world configuration agent
+      (Bound node port)))
+      (λ yes. subst IsInside (sym (cond-true _ configuration new yes)) is)
       (λ none.
       let near : IsNear target = arrival node port inside.0 inside.1 none in
-      subst IsInside (sym (cond-false _ picture new none)) (record {
-        places = changed_inside picture.position agent _ is.places near;
+      subst IsInside (sym (cond-false _ configuration new none)) (record {
+        places = changed_inside configuration.position agent _ is.places near;
         reached = λ k was. elim (eqb_tells k target) [
           | inl h ↦ subst IsNear (sym h.1) near
           | inr h ↦ is.reached k (rw h.0 at was)
         ];
       }))
-  delivered_inside picture agent Before inside is = is
-  delivered_inside picture agent (At node came) inside is = is
-  delivered_inside picture agent After inside is = is
+  delivered_inside configuration agent Before inside is = is
+  delivered_inside configuration agent (At node came) inside is = is
+  delivered_inside configuration agent After inside is = is
 
-  done_inside : (picture : Picture) (agent : ℕ) (deed : Deed) → IsInside picture
-      → IsInside (done_in trial picture agent deed)
-  done_inside picture agent (Makes (Tell other command)) is = told_inside picture other command is
-  done_inside picture agent (Makes (Deliver other)) is =
-      delivered_inside picture other (picture.position other) (is.places other) is
-  done_inside picture agent (Makes Close) is = is
-  done_inside picture agent Wakes is = record { places = is.places; reached = is.reached }
-  done_inside picture agent Rests is = is
+  done_inside : (configuration : Configuration) (agent : ℕ) (deed : Action) → IsInside configuration
+      → IsInside (done_in trial configuration agent deed)
+  done_inside configuration agent (Makes (Tell other command)) is = told_inside configuration other command is
+  done_inside configuration agent (Makes (Deliver other)) is =
+      delivered_inside configuration other (configuration.position other) (is.places other) is
+  done_inside configuration agent (Makes Close) is = is
+  done_inside configuration agent Wakes is = record { places = is.places; reached = is.reached }
+  done_inside configuration agent Rests is = is
 
-  always_inside : (picture : Picture) (schedule : List ℕ) → IsInside picture
-      → IsInside (turns_in trial picture schedule)
-  always_inside picture [] is = is
-  always_inside picture (agent ∷ schedule) is = always_inside (turn_in trial picture agent) schedule
-      (done_inside picture agent (deed_in trial picture agent) is)
+  always_inside : (configuration : Configuration) (schedule : List ℕ) → IsInside configuration
+      → IsInside (turns_in trial configuration schedule)
+  always_inside configuration [] is = is
+  always_inside configuration (agent ∷ schedule) is = always_inside (turn_in trial configuration agent) schedule
+      (done_inside configuration agent (deed_in trial configuration agent) is)
 
   inside : (schedule : List ℕ) → IsInside (turns_in trial blank schedule)
   inside schedule = always_inside blank schedule (record {
@@ -143,36 +147,38 @@ module _ (net : Network) (setup : Setup) (held : Held) (naps : ℕ) (minds : Min
 
   -- ---- so the match is not solved
 
-  unsolved : (picture : Picture) (node : ℕ) → node < nodes_of net → node ≢ cut → node ≢ setup.home
-      → picture.reached node ≡ false → outcome_in trial.world picture ≢ Solved
-  unsolved picture node below off not_home never =
-      unreached_unsolved (world_of net setup) cut node picture below not_home (λ same. off (sym same)) never
+  unsolved : (configuration : Configuration) (node : ℕ) → node < nodes_of net → node ≢ cut → node ≢ setup.home
+      → configuration.reached node ≡ false → outcome_in trial.world configuration ≢ Solved
+  unsolved configuration node below off not_home never =
+      unreached_unsolved (world_of net setup) cut node configuration below not_home (λ same. off (sym same)) never
 
   -- a node to which such a path leads, or the match is not solved
-  near_or : (picture : Picture) → IsInside picture → (node : ℕ) → node < nodes_of net → node ≢ cut
-      → IsPath Step setup.home node ⊎ (outcome_in trial.world picture ≢ Solved)
-  near_or picture is node below off = elim (eqb_tells node setup.home) [
+  near_or : (configuration : Configuration) → IsInside configuration → (node : ℕ) → node < nodes_of net → node ≢ cut
+      → IsPath Step setup.home node ⊎ (outcome_in trial.world configuration ≢ Solved)
+  near_or configuration is node below off = elim (eqb_tells node setup.home) [
     | inl h ↦ inl (subst (λ (k : ℕ). IsPath Step setup.home k) (sym h.1) near_home.1)
-    | inr h ↦ by_cases (picture.reached node) (IsPath Step setup.home node ⊎ (outcome_in trial.world picture ≢ Solved))
+    | inr h ↦ by_cases (configuration.reached node) (IsPath Step setup.home node ⊎
+        (outcome_in trial.world configuration ≢ Solved))
         (λ yes. inl (is.reached node yes).1)
-        (λ none. inr (unsolved picture node below off h.1 none))
+        (λ none. inr (unsolved configuration node below off h.1 none))
   ]
 
-  never_solved : IsCutIn net cut → (picture : Picture) → IsInside picture → outcome_in trial.world picture ≢ Solved
-  never_solved is picture all =
+  never_solved : IsCutIn net cut → (configuration : Configuration) → IsInside configuration
+      → outcome_in trial.world configuration ≢ Solved
+  never_solved is configuration all =
       let two = is.1 in
-      elim (near_or picture all two.0 two.2 two.4) [
+      elim (near_or configuration all two.0 two.2 two.4) [
         | inr h ↦ h
-        | inl one ↦ elim (near_or picture all two.1 two.3 two.5) [
+        | inl one ↦ elim (near_or configuration all two.1 two.3 two.5) [
           | inr h ↦ h
           | inl other ↦ absurd (two.6 (walks.joined net labelled cut setup.home two.0 two.1 one other))
         ]
       ]
 
 pub no_team_passes_a_cut : NoTeamPassesACut
-no_team_passes_a_cut net setup held naps minds cut labelled here apart is schedule solved =
-    let it : Trial = searched (world_of net setup) held naps minds cut in
-    never_solved net setup held naps minds cut labelled apart is (turns_in it blank schedule)
-    (inside net setup held naps minds cut labelled apart schedule)
-    (ap (outcome_in it.world) (sym (pictures_follow it schedule))
+no_team_passes_a_cut net setup held wakeups strategies cut labelled here apart is schedule solved =
+    let it : Trial = searched (world_of net setup) held wakeups strategies cut in
+    never_solved net setup held wakeups strategies cut labelled apart is (turns_in it blank schedule)
+    (inside net setup held wakeups strategies cut labelled apart schedule)
+    (ap (outcome_in it.world) (sym (configurations_follow it schedule))
     ∙ sym (ap (λ (v : Verdict). v.outcome) (verdict_is it (under it schedule))) ∙ solved)

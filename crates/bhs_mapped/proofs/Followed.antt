@@ -1,4 +1,5 @@
--- What minds do on a part of a network, others do on the network: they solve the match there within the same bounds.
+-- What strategies do on a part of a network, others do on the network: they solve the match there within the same
+-- bounds.
 use Rattle.std.proofs.Common.{ℕ, ◌+◌, ◌<◌, ◌≡◌, Bool, true, false, not, ◌||◌, ◌&&◌, ◌==◌, Option, Some, None, List}
 use Rattle.std.proofs.Common.{[], ◌∷◌, ◌++◌, refl, sym, ap, ◌∙◌, subst, if◌then◌else◌, arith}
 use Rattle.std.specs.Prelude.{◌≢◌, count_by, find}
@@ -14,42 +15,42 @@ use Rattle.bhs_referee.specs.declared.verdicts.Verdict.{Verdict}
 use Rattle.bhs_referee.specs.Verdicts.{passes, accuses, is_over_dark, is_right, is_hole_accused, is_dark_accused}
 use Rattle.bhs_referee.specs.Verdicts.{is_silent, is_present, is_unfinished, first_unreached}
 use Rattle.bhs_referee.specs.Verdicts.{guess_or_solved}
-use Rattle.bhs_explore.specs.declared.minds.Step.{Step}
-use Rattle.bhs_explore.specs.declared.minds.Step.TheVariants.{Says, Sleeps, Stops, Fails}
-use Rattle.bhs_explore.specs.Minds.{Heard, Minds}
-use Rattle.bhs_explore.specs.Schedules.{Trial, Scene, Deed, Makes, Wakes, Rests, opening, state_of, position_of, deed}
+use Rattle.bhs_explore.specs.declared.answers.Step.{Step}
+use Rattle.bhs_explore.specs.declared.answers.Step.TheVariants.{Says, Sleeps, Stops, Fails}
+use Rattle.bhs_explore.specs.Strategies.{Heard, Strategies}
+use Rattle.bhs_explore.specs.Schedules.{Trial, Scene, Action, Makes, Wakes, Rests, opening, state_of, position_of, deed}
 use Rattle.bhs_explore.specs.Schedules.{done, turn, turns as scene_turns, under, can_move, verdict}
 use Rattle.bhs_explore.specs.Certificates.{one_if}
 use Rattle.bhs_explore.specs.Endings.{moving}
 use Rattle.bhs_explore.specs.Everywhere.{IsSolvedWithin}
 use Rattle.bhs_explore.proofs.Turns.{IsOwn, own_deed, lost_more, verdict_is}
-use Rattle.bhs_protocols.specs.Pictures.{Picture, picture_of, found_in, outcome_in, turn_in}
-use Rattle.bhs_protocols.specs.Invariants.{Bounds, IsSolved}
+use Rattle.bhs_protocols.specs.Configurations.{Configuration, configuration_of, found_in, outcome_in, turn_in}
+use Rattle.bhs_protocols.specs.Invariants.{CostBounds, IsSolved}
 use Rattle.bhs_protocols.specs.Attained.{IsAttained}
-use Rattle.bhs_protocols.proofs.PictureLemmas.{turn_picture, open_turn}
+use Rattle.bhs_protocols.proofs.ConfigurationLemmas.{turn_configuration, open_turn}
 use Rattle.bhs_mapped.specs.Parts.{IsPart, Follower, command_of, heard_at, followed, step_of}
 use Rattle.bhs_mapped.proofs.Following as following
 use Rattle.bhs_mapped.proofs.FollowedTurns as turns
 
-module _ (world : World) (part : Network) (port : (node port : ℕ) → ℕ) (naps : ℕ) (minds : Minds)
+module _ (world : World) (part : Network) (port : (node port : ℕ) → ℕ) (wakeups : ℕ) (strategies : Strategies)
     (is : IsPart world part port) where
   abbrev inner : World
-  inner = following.inner world part port naps minds is
+  inner = following.inner world part port wakeups strategies is
 
   abbrev pub played : Trial
-  played = following.played world part port naps minds is
+  played = following.played world part port wakeups strategies is
 
   abbrev pub followed_by : Trial
-  followed_by = following.followed_by world part port naps minds is
+  followed_by = following.followed_by world part port wakeups strategies is
 
-  abbrev IsAlike : Picture → Picture → Type 0
-  IsAlike = following.IsAlike world part port naps minds is
+  abbrev IsAlike : Configuration → Configuration → Type 0
+  IsAlike = following.IsAlike world part port wakeups strategies is
 
   abbrev SamePlace : Position → Position → Type 0
-  SamePlace = following.SamePlace world part port naps minds is
+  SamePlace = following.SamePlace world part port wakeups strategies is
 
   abbrev SameLink : Option (ℕ × ℕ) → Option (ℕ × ℕ) → Type 0
-  SameLink = following.SameLink world part port naps minds is
+  SameLink = following.SameLink world part port wakeups strategies is
 
   -- ---- the verdict
 
@@ -60,7 +61,7 @@ module _ (world : World) (part : Network) (port : (node port : ℕ) → ℕ) (na
   passes_same test test_too outer (Some end) same all =
       ap (passes test) same.2 ∙ all end.0 end.1 same.0 same.1
 
-  module _ (outer it : Picture) (same : IsAlike outer it) where
+  module _ (outer it : Configuration) (same : IsAlike outer it) where
     accuses_same : (test test_too : ℕ × ℕ → Bool)
         → ((node by : ℕ) → node < part.nodes → by < part.degree node
         → test (node, port node by) ≡ test_too (node, by))
@@ -131,25 +132,25 @@ module _ (world : World) (part : Network) (port : (node port : ℕ) → ℕ) (na
   says_never : (command : Command) → Says command ≢ Sleeps
   says_never command h = cc
 
-  says_as : (outer it : Picture) (k : ℕ) → IsAlike outer it
-      → followed_by.minds k (outer.history k) ≡ step_of port (it.position k) (minds k (it.history k))
-  says_as = following.says_same world part port naps minds is
+  says_as : (outer it : Configuration) (k : ℕ) → IsAlike outer it
+      → followed_by.strategies k (outer.history k) ≡ step_of port (it.position k) (strategies k (it.history k))
+  says_as = following.says_same world part port wakeups strategies is
 
   -- once it is over, where the agent is on a link
-  over_as : (outer it : Picture) (k : ℕ) (place : Position) → IsAlike outer it → it.position k ≡ place
-      → ((node by : ℕ) → place ≡ Bound node by → minds k (Heard Over ∷ it.history k) ≢ Fails)
+  over_as : (outer it : Configuration) (k : ℕ) (place : Position) → IsAlike outer it → it.position k ≡ place
+      → ((node by : ℕ) → place ≡ Bound node by → strategies k (Heard Over ∷ it.history k) ≢ Fails)
       → (node by : ℕ) → SamePlace (outer.position k) place → outer.position k ≡ Bound node by
-      → followed_by.minds k (Heard Over ∷ outer.history k) ≢ Fails
+      → followed_by.strategies k (Heard Over ∷ outer.history k) ≢ Fails
   over_as outer it k (Bound start way) same at fine node by like on =
       subst (λ (step : Step). step ≢ Fails) (sym (
-      (λ i. does (followed part world.home minds (same.mind k i) (Heard Over)))
+      (λ i. does (followed part world.home strategies (same.strategy k i) (Heard Over)))
       ∙ (λ i. does (heard_at part world.home (record { agent = k; past = it.history k; place = it.position k })
-      (at i) (minds k (it.history k)) Over))))
-      (never Fails says_no (it.position k) (minds k (Heard Over ∷ it.history k))
+      (at i) (strategies k (it.history k)) Over))))
+      (never Fails says_no (it.position k) (strategies k (Heard Over ∷ it.history k))
       (fine start way refl))
     where
       does : Follower → Step
-      does m = step_of port m.place (minds m.agent m.past)
+      does m = step_of port m.place (strategies m.agent m.past)
   over_as outer it k Before same at fine node by like on =
       let no_way : Before ≡ Bound node by = sym like ∙ on in cc
   over_as outer it k (At start came) same at fine node by like on =
@@ -170,7 +171,7 @@ module _ (world : World) (part : Network) (port : (node port : ℕ) → ℕ) (na
   record AreAlike (outer it : Scene) : Type 0 where
     is_open : (state_of followed_by outer).closed ≡ false
     open_too : (state_of played it).closed ≡ false
-    alike : IsAlike (picture_of followed_by outer) (picture_of played it)
+    alike : IsAlike (configuration_of followed_by outer) (configuration_of played it)
     lost : (k : ℕ) → lost world outer.events k ≡ lost inner it.events k
 
   first : AreAlike opening opening
@@ -179,7 +180,7 @@ module _ (world : World) (part : Network) (port : (node port : ℕ) → ℕ) (na
     open_too = refl;
     alike = record {
       place = λ k. refl;
-      mind = λ k. refl;
+      strategy = λ k. refl;
       woken = λ k. refl;
       used = λ k. refl;
       shown = refl;
@@ -191,15 +192,15 @@ module _ (world : World) (part : Network) (port : (node port : ℕ) → ℕ) (na
   }
 
   -- who is lost after a deed
-  abbrev delivers : Deed → Bool
-  delivers = turns.delivers world part port naps minds is
+  abbrev delivers : Action → Bool
+  delivers = turns.delivers world part port wakeups strategies is
 
   marks_by : (marks : ℕ → Bool) (k j : ℕ) (b : Bool)
       → (if b then changed marks k true else marks) j ≡ (if b then changed marks k true j else marks j)
   marks_by marks k j true = refl
   marks_by marks k j false = refl
 
-  lost_done : (trial : Trial) (scene : Scene) (k j : ℕ) (deed : Deed) → IsOwn k deed
+  lost_done : (trial : Trial) (scene : Scene) (k j : ℕ) (deed : Action) → IsOwn k deed
       → (state_of trial scene).closed ≡ false → lost trial.world (done trial scene k deed).events j
       ≡ (if delivers deed && is_doomed trial.world (position_of trial scene k)
       then changed (lost trial.world scene.events) k true j else lost trial.world scene.events j)
@@ -218,18 +219,21 @@ module _ (world : World) (part : Network) (port : (node port : ℕ) → ℕ) (na
   turned outer it k same = record {
     is_open = open_turn followed_by outer k same.is_open;
     open_too = open_turn played it k same.open_too;
-    alike = subst (λ (p : Picture). IsAlike p (picture_of played (turn played it k)))
-        (sym (turn_picture followed_by outer k same.is_open))
-        (subst (λ (p : Picture). IsAlike (turn_in followed_by (picture_of followed_by outer) k) p)
-        (sym (turn_picture played it k same.open_too))
-        (turns.turn_alike world part port naps minds is (picture_of followed_by outer) (picture_of played it) k
+    alike = subst (λ (p : Configuration). IsAlike p (configuration_of played (turn played it k)))
+        (sym (turn_configuration followed_by outer k same.is_open))
+        (subst (λ (p : Configuration). IsAlike (turn_in followed_by (configuration_of followed_by outer) k) p)
+        (sym (turn_configuration played it k same.open_too))
+        (turns.turn_alike world part port wakeups strategies is (configuration_of followed_by outer)
+        (configuration_of played it) k
         same.alike));
     lost = λ j.
         let delivered : delivers (deed followed_by outer k) ≡ delivers (deed played it k) =
-        turns.delivers_alike world part port naps minds is (picture_of followed_by outer) (picture_of played it) k
+        turns.delivers_alike world part port wakeups strategies is (configuration_of followed_by outer)
+        (configuration_of played it) k
         same.alike in
         let doom : is_doomed world (position_of followed_by outer k) ≡ is_doomed inner (position_of played it k) =
-        turns.doomed_alike world part port naps minds is (picture_of followed_by outer) (picture_of played it)
+        turns.doomed_alike world part port wakeups strategies is (configuration_of followed_by outer)
+        (configuration_of played it)
         same.alike k in
         lost_done followed_by outer k j (deed followed_by outer k) (own_deed followed_by outer k) same.is_open
         ∙ (λ i. if delivered i && doom i then changed (λ (a : ℕ). same.lost a i) k true j else same.lost j i)
@@ -248,7 +252,8 @@ module _ (world : World) (part : Network) (port : (node port : ℕ) → ℕ) (na
   moves_same : (outer it : Scene) → AreAlike outer it → (k : ℕ)
       → can_move followed_by outer k ≡ can_move played it k
   moves_same outer it same k =
-      turns.moves_alike world part port naps minds is (picture_of followed_by outer) (picture_of played it) k same.alike
+      turns.moves_alike world part port wakeups strategies is (configuration_of followed_by outer)
+      (configuration_of played it) k same.alike
 
   moving_same : (outer it : Scene) (schedule : List ℕ) → AreAlike outer it
       → moving followed_by outer schedule ≡ moving played it schedule
@@ -261,20 +266,20 @@ module _ (world : World) (part : Network) (port : (node port : ℕ) → ℕ) (na
   verdict_same outer it same =
       verdict_is followed_by outer
       ∙ (λ i. record {
-        outcome = outcome_same (picture_of followed_by outer) (picture_of played it) same.alike i;
+        outcome = outcome_same (configuration_of followed_by outer) (configuration_of played it) same.alike i;
         moves = same.alike.moves i;
         lost = count_by (λ k. same.lost k i) (range_with_len 0 world.agents);
       })
       ∙ sym (verdict_is played it)
 
-  -- the pictures of what a schedule comes to
-  abbrev outer_after : List ℕ → Picture
-  outer_after schedule = picture_of followed_by (under followed_by schedule)
+  -- the configurations of what a schedule comes to
+  abbrev outer_after : List ℕ → Configuration
+  outer_after schedule = configuration_of followed_by (under followed_by schedule)
 
-  abbrev inner_after : List ℕ → Picture
-  inner_after schedule = picture_of played (under played schedule)
+  abbrev inner_after : List ℕ → Configuration
+  inner_after schedule = configuration_of played (under played schedule)
 
-  pub follows : (bounds : Bounds) → IsSolved played bounds → IsSolved followed_by bounds
+  pub follows : (bounds : CostBounds) → IsSolved played bounds → IsSolved followed_by bounds
   follows bounds solved = record {
     solves = λ schedule rest.
         let same : AreAlike (under followed_by schedule) (under played schedule) = after schedule in

@@ -8,7 +8,7 @@ use Rattle.bhs_model.specs.declared.replies.Reply.TheVariants.{Here, Written, Ch
 use Rattle.bhs_model.specs.declared.setups.Setup.{Setup}
 use Rattle.bhs_model.specs.Setups.{network_of, world_of}
 use Rattle.bhs_model.specs.Worlds.{Network as WorldNetwork, World}
-use Rattle.bhs_explore.specs.Minds.{Heard, History, Minds}
+use Rattle.bhs_explore.specs.Strategies.{Heard, History, Strategies}
 use Rattle.bhs_model.specs.Examples.{none_held}
 use Rattle.bhs_explore.specs.Schedules.{Trial}
 use Rattle.bhs_protocols.specs.declared.shuttle.Memory.{Memory as Seen}
@@ -18,7 +18,7 @@ use Rattle.bhs_protocols.specs.Shuttle.{other_in, round_trips, moves_on}
 use Rattle.bhs_protocols.specs.Invariants.{IsSolved}
 use Rattle.bhs_protocols.specs.Laws.{shuttle_bounds}
 use Rattle.bhs_protocols.specs.LastWord.{searched, SolvesEverywhere}
-use Rattle.bhs_protocols.specs.Programs.{held_after, minds_by}
+use Rattle.bhs_protocols.specs.Programs.{held_after, strategies_by}
 use Rattle.bhs_protocols.specs.AllRings.{ring_bounds}
 use Rattle.bhs_protocols.proofs.LossLemmas.{each_black_hole_destroys}
 use Rattle.bhs_protocols.proofs.RingLemmas.{quota_enough, solved_wherever, two_within, within_more}
@@ -87,7 +87,7 @@ module _ (n : ℕ) (guide : Guide) where
       ap (λ (ph : Phase). seen_as guide (after_in guide (held s past) ph (Heard reply)))
       (sym (same_phase (way_of guide (held s past)) (held s past).phase) ∙ ap without_ports is)
 
-  are_explorers : AreExplorers n (minds_by (explorers n guide)) holds (way_to guide)
+  are_explorers : AreExplorers n (strategies_by (explorers n guide)) holds (way_to guide)
   are_explorers = record {
     starts = λ s. refl;
     does = λ s past. does_as n guide (held s past) (held s past).phase;
@@ -136,15 +136,15 @@ module _ (n : ℕ) (guide : Guide) where
 
 -- ---- they solve the match, and make all the moves that their bound allows
 
-abbrev guided_game : (world : World) (n right left naps : ℕ) (guide : Guide) → IsGuided world n right left guide
+abbrev guided_game : (world : World) (n right left wakeups : ℕ) (guide : Guide) → IsGuided world n right left guide
     → 4 ≤ world.board → commands_by guide n 0 right ≤ world.quota → commands_by guide n 1 left ≤ world.quota → Game
-guided_game world n right left naps guide search room enough enough_too = record {
+guided_game world n right left wakeups guide search room enough enough_too = record {
   world = world;
   n = n;
   right = right;
   left = left;
-  naps = naps;
-  minds = minds_by (explorers n guide);
+  wakeups = wakeups;
+  strategies = strategies_by (explorers n guide);
   holds = holds n guide;
   node = guide.node;
   way_to = way_to guide;
@@ -183,12 +183,12 @@ guided_game world n right left naps guide search room enough enough_too = record
 }
 
 pub guided_agents_solve : GuidedAgentsSolve
-guided_agents_solve world n right left naps guide search room enough enough_too =
-    explorers_solve (guided_game world n right left naps guide search room enough enough_too)
+guided_agents_solve world n right left wakeups guide search room enough enough_too =
+    explorers_solve (guided_game world n right left wakeups guide search room enough enough_too)
 
 pub guided_agents_attain : GuidedAgentsAttain
-guided_agents_attain world n right left naps guide search room enough enough_too =
-    attains (guided_game world n right left naps guide search room enough enough_too)
+guided_agents_attain world n right left wakeups guide search room enough enough_too =
+    attains (guided_game world n right left wakeups guide search room enough enough_too)
 
 -- ---- all networks
 
@@ -235,10 +235,10 @@ module _ (net : Network) (home : ℕ) (has : HasGuide net home) where
         (within_more trial (guided_bounds has.guide n one other) (shuttle_bounds n one other)
         (omega (arith, few_one, few_other)) (omega arith) commands_few (omega (arith, few_one, few_other)) it)
 
-  solves_with : (setup : Setup) (hole naps : ℕ) → IsSetAt net home setup hole → 4 ≤ setup.board
+  solves_with : (setup : Setup) (hole wakeups : ℕ) → IsSetAt net home setup hole → 4 ≤ setup.board
       → (n - 2) * (n - 1) + 2 * n ≤ setup.quota
-      → IsSolved (guided_trial (world_of net setup) naps n has.guide) (ring_bounds n)
-  solves_with setup hole naps is room enough =
+      → IsSolved (guided_trial (world_of net setup) wakeups n has.guide) (ring_bounds n)
+  solves_with setup hole wakeups is room enough =
       let place = has.guides.all hole is.within in
       let one : ℕ = place.0 in
       let below : one < n = place.1 in
@@ -249,8 +249,8 @@ module _ (net : Network) (home : ℕ) (has : HasGuide net home) where
       let both_enough = quota_enough n one (n - one) setup.quota sum some some_too enough in
       let few = few_one one (n - one) sum some some_too in
       let few_too = few_other one (n - one) sum some some_too in
-      as_on_a_ring one (n - one) sum some some_too (guided_trial (world_of net setup) naps n has.guide)
-      (guided_agents_solve (world_of net setup) n one (n - one) naps has.guide (record {
+      as_on_a_ring one (n - one) sum some some_too (guided_trial (world_of net setup) wakeups n has.guide)
+      (guided_agents_solve (world_of net setup) n one (n - one) wakeups has.guide (record {
         guides = subst (λ (start : ℕ). IsGuide (network_of net) start n has.guide) (sym is.from) has.guides;
         sum = sum;
         not_home = some;
@@ -269,13 +269,13 @@ two_agents_with_a_map_solve net home is here =
     record { guide = has.guide; guides = has.guides; solves = solves_with net home has }
 
 pub one_loss_is_needed_and_suffices : OneLossIsNeededAndSuffices
-one_loss_is_needed_and_suffices net setup naps is here two room enough =
+one_loss_is_needed_and_suffices net setup wakeups is here two room enough =
     let it : IsSearchedFrom net setup.home = two_agents_with_a_map_solve net setup.home is here in
     let n : ℕ = nodes_of net in
-    let minds : Minds = minds_by (explorers n it.guide) in
+    let strategies : Strategies = strategies_by (explorers n it.guide) in
     let few : (hole : ℕ) → hole < n → hole ≢ setup.home
-    → IsSolved (searched (world_of net setup) none_held naps minds hole) (ring_bounds n) =
-    λ hole below not_home. it.solves (record setup { holes = hole ∷ []; dark = [] }) hole naps (record {
+    → IsSolved (searched (world_of net setup) none_held wakeups strategies hole) (ring_bounds n) =
+    λ hole below not_home. it.solves (record setup { holes = hole ∷ []; dark = [] }) hole wakeups (record {
       from = refl;
       within = below;
       not_home = not_home;
@@ -283,7 +283,7 @@ one_loss_is_needed_and_suffices net setup naps is here two room enough =
       dark = refl;
       agents = two;
     }) room enough in
-    let everywhere : SolvesEverywhere (world_of net setup) none_held naps minds =
+    let everywhere : SolvesEverywhere (world_of net setup) none_held wakeups strategies =
     λ hole below not_home. let solved = few hole below not_home in
     record { moves = (n - 1) * (n - 1); lost = 1; solves = solved.solves; rests = solved.rests } in
     record {
@@ -291,5 +291,5 @@ one_loss_is_needed_and_suffices net setup naps is here two room enough =
       guides = it.guides;
       solves = everywhere;
       few = few;
-      loses = each_black_hole_destroys (world_of net setup) none_held naps minds is.labelled.few everywhere;
+      loses = each_black_hole_destroys (world_of net setup) none_held wakeups strategies is.labelled.few everywhere;
     }

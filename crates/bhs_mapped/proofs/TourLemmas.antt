@@ -4,7 +4,7 @@ use Rattle.std.proofs.Common.{arith}
 use Rattle.std.specs.Prelude.{◌≢◌}
 use Rattle.std.proofs.lemmas.Bool.Decides.{eqb_tells}
 use Rattle.bhs_model.specs.Worlds.{Network, World}
-use Rattle.bhs_protocols.specs.Programs.{minds_by}
+use Rattle.bhs_protocols.specs.Programs.{strategies_by}
 use Rattle.bhs_protocols.specs.Rings.{Ways, IsRing, IsSearch}
 use Rattle.bhs_protocols.specs.Halves.{halves}
 use Rattle.bhs_protocols.specs.HalvesLaws.{halves_bounds}
@@ -18,15 +18,16 @@ use Rattle.bhs_mapped.specs.Tours.{HalvesSolveWithATour, HalvesAttainWithATour}
 use Rattle.bhs_mapped.proofs.Followed.{follows, attains}
 
 pub parts_suffice : PartsSuffice
-parts_suffice world part port naps minds is bounds solved = follows world part port naps minds is bounds solved
+parts_suffice world part port wakeups strategies is bounds solved =
+    follows world part port wakeups strategies is bounds solved
 
 pub parts_attain : PartsAttain
-parts_attain world part port naps minds is most it = attains world part port naps minds is most it
+parts_attain world part port wakeups strategies is most it = attains world part port wakeups strategies is most it
 
 pair_is : {a b c d : ℕ} → a ≡ c → b ≡ d → ◌≡◌ {A = ℕ × ℕ} (a, b) (c, d)
 pair_is h k i = (h i, k i)
 
-module _ (world : World) (n hole naps : ℕ) (tour : Tour) (is : IsTour world.net world.home n tour)
+module _ (world : World) (n hole wakeups : ℕ) (tour : Tour) (is : IsTour world.net world.home n tour)
     (set : HasOneHole world hole) where
   abbrev net : Network
   net = world.net
@@ -168,20 +169,21 @@ module _ (world : World) (n hole naps : ℕ) (tour : Tour) (is : IsTour world.ne
       positive k some = omega (arith, some)
 
 pub halves_solve_with_a_tour : HalvesSolveWithATour
-halves_solve_with_a_tour world n hole naps tour is set room enough =
+halves_solve_with_a_tour world n hole wakeups tour is set room enough =
     let below : hole < n = subst (λ (k : ℕ). hole < k) is.size set.within in
     let at = is.all hole below in
-    follows world (ring_of world.net n tour) (port_of world.net tour) naps (minds_by (halves n))
-    (part world n hole naps tour is set) (halves_bounds n)
-    (halves_solve (inner world n hole naps tour is set) n at.0 (n - at.0) naps (ways world n hole naps tour is set)
-    (searches world n hole naps tour is set at.0 at.1 at.2) room enough)
+    follows world (ring_of world.net n tour) (port_of world.net tour) wakeups (strategies_by (halves n))
+    (part world n hole wakeups tour is set) (halves_bounds n)
+    (halves_solve (inner world n hole wakeups tour is set) n at.0 (n - at.0) wakeups
+    (ways world n hole wakeups tour is set)
+    (searches world n hole wakeups tour is set at.0 at.1 at.2) room enough)
 
 pub halves_attain_with_a_tour : HalvesAttainWithATour
-halves_attain_with_a_tour world n naps tour is set room enough =
+halves_attain_with_a_tour world n wakeups tour is set room enough =
     let hole : ℕ = tour.node (worst_distance n) in
     let within = worst_is_within n is.three in
-    attains world (ring_of world.net n tour) (port_of world.net tour) naps (minds_by (halves n))
-    (part world n hole naps tour is set) (most_moves n)
-    (halves_attain (inner world n hole naps tour is set) n (n - worst_distance n) naps
-    (ways world n hole naps tour is set)
-    (searches world n hole naps tour is set (worst_distance n) within.1 refl) room enough)
+    attains world (ring_of world.net n tour) (port_of world.net tour) wakeups (strategies_by (halves n))
+    (part world n hole wakeups tour is set) (most_moves n)
+    (halves_attain (inner world n hole wakeups tour is set) n (n - worst_distance n) wakeups
+    (ways world n hole wakeups tour is set)
+    (searches world n hole wakeups tour is set (worst_distance n) within.1 refl) room enough)

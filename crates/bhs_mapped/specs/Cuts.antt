@@ -6,7 +6,7 @@ use Rattle.bhs_model.specs.declared.setups.Setup.{Setup}
 use Rattle.bhs_model.specs.Setups.{world_of}
 use Rattle.bhs_model.specs.Draws.{Held}
 use Rattle.bhs_referee.specs.declared.verdicts.Outcome.TheVariants.{Solved}
-use Rattle.bhs_explore.specs.Minds.{Minds}
+use Rattle.bhs_explore.specs.Strategies.{Strategies}
 use Rattle.bhs_explore.specs.Schedules.{under, verdict}
 use Rattle.bhs_protocols.specs.LastWord.{searched}
 
@@ -14,7 +14,7 @@ use Rattle.bhs_protocols.specs.LastWord.{searched}
 -- schedule of any team solves the match, whatever the agents know and however many they are: they cannot reach what is
 -- behind it.
 abbrev pub NoTeamPassesACut : Type 0
-NoTeamPassesACut = (net : Network) (setup : Setup) (held : Held) (naps : ℕ) (minds : Minds) (cut : ℕ)
+NoTeamPassesACut = (net : Network) (setup : Setup) (held : Held) (wakeups : ℕ) (strategies : Strategies) (cut : ℕ)
     → IsPortLabelled net → setup.home < nodes_of net → setup.home ≢ cut → IsCutIn net cut → (schedule : List ℕ)
-    → (verdict (searched (world_of net setup) held naps minds cut)
-    (under (searched (world_of net setup) held naps minds cut) schedule)).outcome ≢ Solved
+    → (verdict (searched (world_of net setup) held wakeups strategies cut)
+    (under (searched (world_of net setup) held wakeups strategies cut) schedule)).outcome ≢ Solved

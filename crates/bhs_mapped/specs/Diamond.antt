@@ -5,7 +5,7 @@ use Rattle.bhs_model.specs.Worlds.{World}
 use Rattle.bhs_referee.specs.declared.verdicts.Outcome.TheVariants.{Solved}
 use Rattle.bhs_explore.specs.Schedules.{Trial, under, verdict}
 use Rattle.bhs_mapped.specs.Guides.{Route, Guide}
-use Rattle.bhs_protocols.specs.Pictures.{blank, turns_in, outcome_in}
+use Rattle.bhs_protocols.specs.Configurations.{blank, turns_in, outcome_in}
 use Rattle.bhs_protocols.specs.Halving.{most_moves}
 use Rattle.bhs_mapped.specs.MapLaws.{guided_trial}
 use Rattle.bhs_mapped.specs.Tours.{Tour, IsTour, toured_trial}

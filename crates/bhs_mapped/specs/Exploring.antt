@@ -6,10 +6,10 @@
 use Rattle.std.specs.Prelude.{ℕ, zero, suc, ◌+◌, ◌-◌, ◌*◌, ◌==◌, Bool, ◌&&◌, List, if◌then◌else◌}
 use Rattle.bhs_model.specs.declared.commands.Command.TheVariants.{Enter, Write, Depart, Accuse}
 use Rattle.bhs_model.specs.declared.replies.Reply.TheVariants.{Here, Written, Changed, Gone, Noted}
-use Rattle.bhs_explore.specs.declared.minds.Step.{Step}
-use Rattle.bhs_explore.specs.declared.minds.Step.TheVariants.{Says, Stops}
-use Rattle.bhs_explore.specs.Minds.{Item, Heard}
-use Rattle.bhs_protocols.specs.Invariants.{Bounds}
+use Rattle.bhs_explore.specs.declared.answers.Step.{Step}
+use Rattle.bhs_explore.specs.declared.answers.Step.TheVariants.{Says, Stops}
+use Rattle.bhs_explore.specs.Strategies.{Observation, Heard}
+use Rattle.bhs_protocols.specs.Invariants.{CostBounds}
 use Rattle.bhs_protocols.specs.Programs.{Program}
 use Rattle.bhs_protocols.specs.Shuttle.{other_in, text_by}
 use Rattle.bhs_mapped.specs.Guides.{Route, Guide}
@@ -64,7 +64,7 @@ came_back memory zero board = record memory { phase = Writes; theirs = other_in 
 came_back memory (suc step) board = record memory { phase = ComesBack (suc step) }
 
 -- what an agent holds after something has happened
-abbrev pub after_in : Guide → Memory → Phase → Item → Memory
+abbrev pub after_in : Guide → Memory → Phase → Observation → Memory
 after_in guide memory Begins (Heard (Here ports came board)) =
     record memory { theirs = other_in memory.side board; phase = GoesOut 0 }
 after_in guide memory (GoesOut step) (Heard Gone) = record memory { phase = Leaves step }
@@ -100,7 +100,7 @@ abbrev pub commands_by : Guide → (n side distance : ℕ) → ℕ
 commands_by guide n side distance = moves_by guide side distance + n
 
 -- what it costs if the black hole has the number `one` on side 0 and `other` on side 1
-abbrev pub guided_bounds : Guide → (n one other : ℕ) → Bounds
+abbrev pub guided_bounds : Guide → (n one other : ℕ) → CostBounds
 guided_bounds guide n one other = record {
   moves = moves_by guide 0 one + moves_by guide 1 other - 1;
   lost = 1;

@@ -7,7 +7,7 @@ use Rattle.bhs_model.specs.Worlds.{World, Network as WorldNetwork}
 use Rattle.bhs_model.specs.Examples.{none_held}
 use Rattle.bhs_explore.specs.Schedules.{Trial}
 use Rattle.bhs_protocols.specs.Invariants.{IsSolved}
-use Rattle.bhs_protocols.specs.Programs.{minds_by}
+use Rattle.bhs_protocols.specs.Programs.{strategies_by}
 use Rattle.bhs_protocols.specs.Shuttle.{moves_on}
 use Rattle.bhs_protocols.specs.AllRings.{ring_bounds}
 use Rattle.bhs_protocols.specs.Attained.{IsAttained}
@@ -28,22 +28,22 @@ pub record IsGuided (world : World) (n one other : ℕ) (guide : Guide) : Type 0
   pub agents : world.agents ≡ 2
 
 -- two agents that explore by this guide, where no link is held
-abbrev pub guided_trial : World → (naps n : ℕ) → Guide → Trial
-guided_trial world naps n guide =
-    record { world = world; held = none_held; naps = naps; minds = minds_by (explorers n guide) }
+abbrev pub guided_trial : World → (wakeups n : ℕ) → Guide → Trial
+guided_trial world wakeups n guide =
+    record { world = world; held = none_held; wakeups = wakeups; strategies = strategies_by (explorers n guide) }
 
 -- Whatever the network is, and wherever the black hole is, two agents that explore by a guide solve the match under
 -- every schedule. They go to each node and back by its way.
 abbrev pub GuidedAgentsSolve : Type 0
-GuidedAgentsSolve = (world : World) (n one other naps : ℕ) (guide : Guide) → IsGuided world n one other guide
+GuidedAgentsSolve = (world : World) (n one other wakeups : ℕ) (guide : Guide) → IsGuided world n one other guide
     → 4 ≤ world.board → commands_by guide n 0 one ≤ world.quota → commands_by guide n 1 other ≤ world.quota
-    → IsSolved (guided_trial world naps n guide) (guided_bounds guide n one other)
+    → IsSolved (guided_trial world wakeups n guide) (guided_bounds guide n one other)
 
 -- and under some schedule they make all these moves
 abbrev pub GuidedAgentsAttain : Type 0
-GuidedAgentsAttain = (world : World) (n one other naps : ℕ) (guide : Guide) → IsGuided world n one other guide
+GuidedAgentsAttain = (world : World) (n one other wakeups : ℕ) (guide : Guide) → IsGuided world n one other guide
     → 4 ≤ world.board → commands_by guide n 0 one ≤ world.quota → commands_by guide n 1 other ≤ world.quota
-    → IsAttained (guided_trial world naps n guide) (moves_by guide 0 one + moves_by guide 1 other - 1)
+    → IsAttained (guided_trial world wakeups n guide) (moves_by guide 0 one + moves_by guide 1 other - 1)
 
 -- These are no more moves than those of the shuttle on a ring where the black hole has its numbers as distances: a way
 -- to the k-th node of a side has k steps at most.
@@ -65,9 +65,9 @@ pub record IsSetAt (net : Network) (home : ℕ) (setup : Setup) (hole : ℕ) : T
 pub record IsSearchedFrom (net : Network) (home : ℕ) : Type 0 where
   pub guide : Guide
   pub guides : IsGuide (network_of net) home (nodes_of net) guide
-  pub solves : (setup : Setup) (hole naps : ℕ) → IsSetAt net home setup hole → 4 ≤ setup.board
+  pub solves : (setup : Setup) (hole wakeups : ℕ) → IsSetAt net home setup hole → 4 ≤ setup.board
       → (nodes_of net - 2) * (nodes_of net - 1) + 2 * nodes_of net ≤ setup.quota
-      → IsSolved (guided_trial (world_of net setup) naps (nodes_of net) guide) (ring_bounds (nodes_of net))
+      → IsSolved (guided_trial (world_of net setup) wakeups (nodes_of net) guide) (ring_bounds (nodes_of net))
 
 -- Two agents that have a map solve each network of a file, from each home base and with each black hole. The guide is
 -- chosen by the network and the home base alone.
@@ -76,19 +76,19 @@ TwoAgentsWithAMapSolve = (net : Network) (home : ℕ) → IsNetwork net → home
 
 -- a guide by which two agents solve the match whichever other node is the black hole: they lose one of them at most,
 -- and under some schedule they do
-pub record SolvesByAGuide (net : Network) (setup : Setup) (naps : ℕ) : Type 0 where
+pub record SolvesByAGuide (net : Network) (setup : Setup) (wakeups : ℕ) : Type 0 where
   pub guide : Guide
   pub guides : IsGuide (network_of net) setup.home (nodes_of net) guide
-  pub solves : SolvesEverywhere (world_of net setup) none_held naps (minds_by (explorers (nodes_of net) guide))
+  pub solves : SolvesEverywhere (world_of net setup) none_held wakeups (strategies_by (explorers (nodes_of net) guide))
   pub few : (hole : ℕ) → hole < nodes_of net → hole ≢ setup.home →
-      IsSolved (searched (world_of net setup) none_held naps (minds_by (explorers (nodes_of net) guide)) hole)
+      IsSolved (searched (world_of net setup) none_held wakeups (strategies_by (explorers (nodes_of net) guide)) hole)
       (ring_bounds (nodes_of net))
   pub loses : (hole : ℕ) → hole < nodes_of net → hole ≢ setup.home
-      → LosesOne (searched (world_of net setup) none_held naps (minds_by (explorers (nodes_of net) guide)) hole)
+      → LosesOne (searched (world_of net setup) none_held wakeups (strategies_by (explorers (nodes_of net) guide)) hole)
 
 -- On each network of a file, from each home base, one loss suffices for two agents that have a map; and no team is
 -- spared a loss, as `ALossIsNeeded` says.
 abbrev pub OneLossIsNeededAndSuffices : Type 0
-OneLossIsNeededAndSuffices = (net : Network) (setup : Setup) (naps : ℕ) → IsNetwork net → setup.home < nodes_of net
+OneLossIsNeededAndSuffices = (net : Network) (setup : Setup) (wakeups : ℕ) → IsNetwork net → setup.home < nodes_of net
     → setup.agents ≡ 2 → 4 ≤ setup.board
-    → (nodes_of net - 2) * (nodes_of net - 1) + 2 * nodes_of net ≤ setup.quota → SolvesByAGuide net setup naps
+    → (nodes_of net - 2) * (nodes_of net - 1) + 2 * nodes_of net ≤ setup.quota → SolvesByAGuide net setup wakeups

@@ -7,14 +7,14 @@ use Rattle.bhs_model.specs.declared.replies.Reply.{Reply}
 use Rattle.bhs_model.specs.declared.replies.Reply.TheVariants.{Here, No, Over}
 use Rattle.bhs_model.specs.Worlds.{Network, World}
 use Rattle.bhs_model.specs.Runs.{Position, Before, At, Bound, position_after}
-use Rattle.bhs_explore.specs.declared.minds.Step.{Step}
-use Rattle.bhs_explore.specs.declared.minds.Step.TheVariants.{Says}
-use Rattle.bhs_explore.specs.Minds.{Item, Heard, Woke, History, Minds}
+use Rattle.bhs_explore.specs.declared.answers.Step.{Step}
+use Rattle.bhs_explore.specs.declared.answers.Step.TheVariants.{Says}
+use Rattle.bhs_explore.specs.Strategies.{Observation, Heard, Woke, History, Strategies}
 use Rattle.bhs_model.specs.Examples.{none_held}
 use Rattle.bhs_explore.specs.Schedules.{Trial}
 use Rattle.bhs_protocols.specs.Attained.{IsAttained}
-use Rattle.bhs_protocols.specs.Invariants.{Bounds, IsSolved}
-use Rattle.bhs_protocols.specs.Programs.{Program, minds_by}
+use Rattle.bhs_protocols.specs.Invariants.{CostBounds, IsSolved}
+use Rattle.bhs_protocols.specs.Programs.{Program, strategies_by}
 
 -- The part has the nodes of the network. A port of a node in the part is one of its ports in the network, by which one
 -- goes to the same node; a number that is no port in the part is none in the network. No link is dark.
@@ -28,8 +28,8 @@ pub record IsPart (world : World) (part : Network) (port : (node port : ℕ) →
   pub within : (node it : ℕ) → node < part.nodes → it < part.degree node → (part.far node it).0 < part.nodes
   pub none_dark : world.dark ≡ []
 
--- what an agent holds that does what a mind does on the part: what would have happened to it there, and where it would
--- be
+-- what an agent holds that does what a strategy does on the part: what would have happened to it there, and where it
+-- would be
 pub record Follower : Type 0 where
   pub agent : ℕ
   pub past : History
@@ -45,7 +45,7 @@ command_of port (At node came) (Depart it) = Depart (port node it)
 command_of port (At node came) (Accuse it) = Accuse (port node it)
 command_of port place command = command
 
--- what an agent does in the network where the mind would do this in the part
+-- what an agent does in the network where the strategy would do this in the part
 abbrev pub step_of : (port : (node port : ℕ) → ℕ) → Position → Step → Step
 step_of port place (Says command) = Says (command_of port place command)
 step_of port place step = step
@@ -74,7 +74,7 @@ come_by part it far board = record {
   place = At far.0 (Some far.1);
 }
 
--- after a reply to an agent that is at this place, where the mind takes this step
+-- after a reply to an agent that is at this place, where the strategy takes this step
 abbrev pub heard_at : Network → (home : ℕ) → Follower → Position → Step → Reply → Follower
 heard_at part home it (Bound node by) step (Here ports seen board) = come_by part it (part.far node by) board
 heard_at part home it (Bound node by) step reply = noted it reply
@@ -83,41 +83,42 @@ heard_at part home it place (Says command) reply =
 heard_at part home it place step reply = noted it reply
 
 -- after something has happened
-abbrev pub followed : Network → (home : ℕ) → Minds → Follower → Item → Follower
-followed part home minds it (Heard reply) = heard_at part home it it.place (minds it.agent it.past) reply
-followed part home minds it Woke = record it { past = Woke ∷ it.past }
+abbrev pub followed : Network → (home : ℕ) → Strategies → Follower → Observation → Follower
+followed part home strategies it (Heard reply) = heard_at part home it it.place (strategies it.agent it.past) reply
+followed part home strategies it Woke = record it { past = Woke ∷ it.past }
 
--- Agents that know the part, its ports in the network and the home base, and do on the network what these minds do on
--- the part. They do not know where the black hole is.
-abbrev pub followers : (part : Network) (home : ℕ) (port : (node port : ℕ) → ℕ) → Minds → Program Follower
-followers part home port minds = record {
+-- Agents that know the part, its ports in the network and the home base, and do on the network what these strategies do
+-- on the part. They do not know where the black hole is.
+abbrev pub followers : (part : Network) (home : ℕ) (port : (node port : ℕ) → ℕ) → Strategies → Program Follower
+followers part home port strategies = record {
   start = λ agent. record { agent = agent; past = []; place = Before };
-  after = followed part home minds;
-  does = λ it. step_of port it.place (minds it.agent it.past);
+  after = followed part home strategies;
+  does = λ it. step_of port it.place (strategies it.agent it.past);
 }
 
--- a match of these minds on the part alone
-abbrev pub on_part : World → (part : Network) → (naps : ℕ) → Minds → Trial
-on_part world part naps minds =
-    record { world = record world { net = part }; held = none_held; naps = naps; minds = minds }
+-- a match of these strategies on the part alone
+abbrev pub on_part : World → (part : Network) → (wakeups : ℕ) → Strategies → Trial
+on_part world part wakeups strategies =
+    record { world = record world { net = part }; held = none_held; wakeups = wakeups; strategies = strategies }
 
--- one of agents that do on the network what these minds do on the part
-abbrev pub through_part : World → (part : Network) → (port : (node port : ℕ) → ℕ) → (naps : ℕ) → Minds → Trial
-through_part world part port naps minds = record {
+-- one of agents that do on the network what these strategies do on the part
+abbrev pub through_part : World → (part : Network) → (port : (node port : ℕ) → ℕ) → (wakeups : ℕ) → Strategies → Trial
+through_part world part port wakeups strategies = record {
   world = world;
   held = none_held;
-  naps = naps;
-  minds = minds_by (followers part world.home port minds);
+  wakeups = wakeups;
+  strategies = strategies_by (followers part world.home port strategies);
 }
 
--- If minds solve the match on a part within bounds, then the others solve it on the network within the same bounds.
+-- If strategies solve the match on a part within bounds, then the others solve it on the network within the same
+-- bounds.
 abbrev pub PartsSuffice : Type 0
-PartsSuffice = (world : World) (part : Network) (port : (node port : ℕ) → ℕ) (naps : ℕ) (minds : Minds)
-    → IsPart world part port → (bounds : Bounds) → IsSolved (on_part world part naps minds) bounds
-    → IsSolved (through_part world part port naps minds) bounds
+PartsSuffice = (world : World) (part : Network) (port : (node port : ℕ) → ℕ) (wakeups : ℕ) (strategies : Strategies)
+    → IsPart world part port → (bounds : CostBounds) → IsSolved (on_part world part wakeups strategies) bounds
+    → IsSolved (through_part world part port wakeups strategies) bounds
 
 -- And if they make this number of moves on the part under some schedule, so do the others on the network.
 abbrev pub PartsAttain : Type 0
-PartsAttain = (world : World) (part : Network) (port : (node port : ℕ) → ℕ) (naps : ℕ) (minds : Minds)
-    → IsPart world part port → (most : ℕ) → IsAttained (on_part world part naps minds) most
-    → IsAttained (through_part world part port naps minds) most
+PartsAttain = (world : World) (part : Network) (port : (node port : ℕ) → ℕ) (wakeups : ℕ) (strategies : Strategies)
+    → IsPart world part port → (most : ℕ) → IsAttained (on_part world part wakeups strategies) most
+    → IsAttained (through_part world part port wakeups strategies) most

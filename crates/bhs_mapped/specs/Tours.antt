@@ -4,7 +4,7 @@ use Rattle.std.specs.Prelude.{ℕ, zero, suc, ◌+◌, ◌≡◌, ◌≢◌, ◌
 use Rattle.bhs_model.specs.Worlds.{Network, World}
 use Rattle.bhs_explore.specs.Schedules.{Trial}
 use Rattle.bhs_protocols.specs.Invariants.{IsSolved}
-use Rattle.bhs_protocols.specs.Programs.{minds_by}
+use Rattle.bhs_protocols.specs.Programs.{strategies_by}
 use Rattle.bhs_protocols.specs.Halves.{halves}
 use Rattle.bhs_protocols.specs.HalvesLaws.{halves_bounds}
 use Rattle.bhs_protocols.specs.Halving.{most_moves, most_turns}
@@ -47,9 +47,9 @@ port_of net tour node (suc zero) = tour.behind node
 port_of net tour node (suc (suc port)) = net.degree node + port
 
 -- two agents that search the ring of a tour by halves
-abbrev pub toured_trial : World → (naps n : ℕ) → Tour → Trial
-toured_trial world naps n tour =
-    through_part world (ring_of world.net n tour) (port_of world.net tour) naps (minds_by (halves n))
+abbrev pub toured_trial : World → (wakeups n : ℕ) → Tour → Trial
+toured_trial world wakeups n tour =
+    through_part world (ring_of world.net n tour) (port_of world.net tour) wakeups (strategies_by (halves n))
 
 -- one black hole, which is another node than the home base, two agents, and no dark link
 pub record HasOneHole (world : World) (hole : ℕ) : Type 0 where
@@ -62,13 +62,13 @@ pub record HasOneHole (world : World) (hole : ℕ) : Type 0 where
 -- Two agents that have a map with a tour solve the match whatever the network is, and wherever the black hole is. It
 -- costs what the search by halves costs on a ring.
 abbrev pub HalvesSolveWithATour : Type 0
-HalvesSolveWithATour = (world : World) (n hole naps : ℕ) (tour : Tour) → IsTour world.net world.home n tour
+HalvesSolveWithATour = (world : World) (n hole wakeups : ℕ) (tour : Tour) → IsTour world.net world.home n tour
     → HasOneHole world hole → 4 ≤ world.board → most_turns n ≤ world.quota
-    → IsSolved (toured_trial world naps n tour) (halves_bounds n)
+    → IsSolved (toured_trial world wakeups n tour) (halves_bounds n)
 
 -- and with the black hole at that distance from the home base which `HalvesAttain` names, some schedule makes all the
 -- moves that there may be
 abbrev pub HalvesAttainWithATour : Type 0
-HalvesAttainWithATour = (world : World) (n naps : ℕ) (tour : Tour) → IsTour world.net world.home n tour
+HalvesAttainWithATour = (world : World) (n wakeups : ℕ) (tour : Tour) → IsTour world.net world.home n tour
     → HasOneHole world (tour.node (worst_distance n)) → 4 ≤ world.board → most_turns n ≤ world.quota
-    → IsAttained (toured_trial world naps n tour) (most_moves n)
+    → IsAttained (toured_trial world wakeups n tour) (most_moves n)

@@ -37,8 +37,8 @@ pub fn no_team_passes_a_cut()
     ensures { NoTeamPassesACut }
 {}
 
-/// What minds do on a part of a network, agents that have a map can do on the network: so two of them search a network
-/// with a tour by halves.
+/// What strategies do on a part of a network, agents that have a map can do on the network: so two of them search a
+/// network with a tour by halves.
 pub fn tours_suffice()
     ensures parts { PartsSuffice }
     ensures moves { PartsAttain }

@@ -11,6 +11,6 @@ pub mod Walks
 pub mod Marks
 pub mod Made
 pub mod Counts
-pub mod Numberings
+pub mod DepthFirstLemmas
 pub mod TreeLemmas
 pub mod Fillings

@@ -1,11 +1,11 @@
 -- A tree of a search shows of a node that it cuts nothing, if ways lead past it.
 use Rattle.std.proofs.Common.{◌≡◌, ◌≢◌, ℕ, zero, suc, ◌+◌, ◌<◌, ◌≤◌, ◌⊎◌, ⊎_elim, sym, ap, ◌∙◌, arith}
 use Rattle.std.proofs.Common.{List, length, subst, get_or, Vec, Global}
-use Rattle.bhs_net.specs.declared.numbering.Search.{Search}
+use Rattle.bhs_net.specs.declared.depth_first_search.DepthFirst.{DepthFirst}
 use Rattle.bhs_net.specs.Links.{End}
 use Rattle.bhs_net.specs.Paths.{IsPath, Without}
 use Rattle.bhs_net.specs.Network.{Network, network_of, nodes_of, row_of, Leads, IsPortLabelled, AreJoinedWithout}
-use Rattle.bhs_net.specs.Numbering.{place_in}
+use Rattle.bhs_net.specs.DepthFirst.{place_in}
 use Rattle.bhs_net.specs.Trees.{Hangs, IsTree, AllLeadPast, place, parent, low, escape}
 use Rattle.bhs_net.proofs.Degrees.{row_of-network_of}
 use Rattle.bhs_net.proofs.Places.{below_or_at}
@@ -14,7 +14,8 @@ use Rattle.bhs_net.proofs.Walks.{IsPath-none, IsPath-more, IsPath-append, IsPath
 same_or_other : (a b : ℕ) → (a ≡ b) ⊎ (a ≢ b)
 same_or_other a b = grind arith
 
-module _ (net : Network) (labelled : IsPortLabelled net) (search : Search) (tree : IsTree net search) (cut : ℕ) where
+module _ (net : Network) (labelled : IsPortLabelled net) (search : DepthFirst) (tree : IsTree net search)
+    (cut : ℕ) where
   abbrev Way : ℕ → ℕ → Type 0
   Way = IsPath (Without cut (Leads net))
 
@@ -136,11 +137,11 @@ module _ (net : Network) (labelled : IsPortLabelled net) (search : Search) (tree
 -- ---- the rows
 
 -- the first rows hang in the tree
-abbrev pub AllHang : List (Vec End Global) → Search → (seen : ℕ) → Type 0
+abbrev pub AllHang : List (Vec End Global) → DepthFirst → (seen : ℕ) → Type 0
 AllHang rows search seen = (node : ℕ) → node < seen → node ≢ 0
     → Hangs (row_of (network_of rows) node) search (nodes_of (network_of rows)) node
 
-pub AllHang-more : (rows : List (Vec End Global)) (search : Search) (seen : ℕ) (row : Vec End Global)
+pub AllHang-more : (rows : List (Vec End Global)) (search : DepthFirst) (seen : ℕ) (row : Vec End Global)
     → seen < length rows → row ≡ get_or rows seen row
     → (seen ≢ 0 → Hangs row.items search (nodes_of (network_of rows)) seen)
     → AllHang rows search seen → AllHang rows search (seen + 1)

@@ -5,6 +5,6 @@ pub mod Faults
 pub mod Listing
 pub mod Filling
 pub mod Search
-pub mod Numbering
+pub mod DepthFirst
 pub mod Trees
 pub mod Laws

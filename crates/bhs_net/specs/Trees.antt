@@ -1,9 +1,9 @@
 -- What the tables of a depth-first search show of a network: that most of its nodes cut nothing.
 use Rattle.std.specs.Prelude.{◌≡◌, ◌≢◌, ℕ, ◌<◌, ◌⊎◌, List, length, slice_index_or}
-use Rattle.bhs_net.specs.declared.numbering.Search.{Search}
+use Rattle.bhs_net.specs.declared.depth_first_search.DepthFirst.{DepthFirst}
 use Rattle.bhs_net.specs.Links.{End}
 use Rattle.bhs_net.specs.Network.{Network, nodes_of, row_of}
-use Rattle.bhs_net.specs.Numbering.{place_in}
+use Rattle.bhs_net.specs.DepthFirst.{place_in}
 
 -- some port of the row leads to the node
 abbrev pub HasHead : List End → ℕ → Type 0
@@ -11,22 +11,22 @@ HasHead row node = (port : ℕ) × (port < length row) × ((slice_index_or row p
 
 -- the place of a node, the node from which it was found, the lowest place that a way from it leads to, and the
 -- neighbour over which that way begins
-abbrev pub place : Search → ℕ → ℕ
+abbrev pub place : DepthFirst → ℕ → ℕ
 place search node = place_in search.places node
 
-abbrev pub parent : Search → ℕ → ℕ
+abbrev pub parent : DepthFirst → ℕ → ℕ
 parent search node = place_in search.parents node
 
-abbrev pub low : Search → ℕ → ℕ
+abbrev pub low : DepthFirst → ℕ → ℕ
 low search node = place_in search.lows node
 
-abbrev pub escape : Search → ℕ → ℕ
+abbrev pub escape : DepthFirst → ℕ → ℕ
 escape search node = place_in search.escapes node
 
 -- A node with this row hangs in the tree of a search: it has a link to its parent, which was found before it, and one
 -- to the neighbour over which the way to its lowest place begins. That neighbour has this place, or it was found later
 -- and has the same lowest place.
-pub record Hangs (row : List End) (search : Search) (nodes node : ℕ) : Type 0 where
+pub record Hangs (row : List End) (search : DepthFirst) (nodes node : ℕ) : Type 0 where
   pub within : place search node < nodes
   pub up : HasHead row (parent search node)
   pub later : place search (parent search node) < place search node
@@ -36,17 +36,17 @@ pub record Hangs (row : List End) (search : Search) (nodes node : ℕ) : Type 0 
       × (place search node < place search (escape search node)))
 
 -- the first node has the place 0, and all others hang in the tree
-pub record IsTree (net : Network) (search : Search) : Type 0 where
+pub record IsTree (net : Network) (search : DepthFirst) : Type 0 where
   pub root : place search 0 ≡ 0
   pub hung : (node : ℕ) → node < nodes_of net → node ≢ 0 → Hangs (row_of net node) search (nodes_of net) node
 
 -- A way leads past a node from one that was found from it: to a place below the node; or there is nothing below, and no
 -- other node was found from it.
-abbrev pub LeadsPast : Search → (node child : ℕ) → Type 0
+abbrev pub LeadsPast : DepthFirst → (node child : ℕ) → Type 0
 LeadsPast search node child =
     ((node ≡ 0) × (child ≡ place_in search.found 1)) ⊎ ((node ≢ 0) × (low search child < place search node))
 
 -- ways lead past a node from all nodes that were found from it
-abbrev pub AllLeadPast : Search → (nodes node : ℕ) → Type 0
+abbrev pub AllLeadPast : DepthFirst → (nodes node : ℕ) → Type 0
 AllLeadPast search nodes node =
     (child : ℕ) → child < nodes → child ≢ 0 → parent search child ≡ node → LeadsPast search node child

@@ -10,9 +10,9 @@ ghost use Rattle.bhs_net.specs.Network.{network_of};
 ghost use Rattle.bhs_net.specs.Faults.{Lists};
 ghost use Rattle.bhs_net.specs.Filling.{index_of, place_at, AreIndexed, IsFilled, AreFilled, LeadsApart, AllLeadApart};
 
+use crate::depth_first_search::NODES;
 use crate::links::Link;
 use crate::listing::{End, check_loops};
-use crate::numbering::NODES;
 use std::alloc::{AllocError, Global};
 
 // Writes the place of a link into the index, if that has room for this end.

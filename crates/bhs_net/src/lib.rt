@@ -1,13 +1,13 @@
 //! Networks: simple graphs whose nodes number their links by ports.
 #![tactic(auto)]
 
+mod depth_first_search;
 mod faults;
 mod filling;
 mod laws;
 mod links;
 mod listing;
 mod network;
-mod numbering;
 mod search;
 mod trees;
 

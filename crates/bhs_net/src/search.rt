@@ -8,9 +8,9 @@ ghost use Rattle.bhs_net.specs.Search.{MarksReached, ReachesAll, MissesSome, IsA
 ghost use Rattle.bhs_net.specs.Listing.{TellsLeast};
 ghost use Rattle.bhs_net.specs.Trees.{IsTree};
 
+use crate::depth_first_search::{DepthFirst, depth_first, order_of};
 use crate::faults::NetFault;
 use crate::listing::End;
-use crate::numbering::{Search, depth_first, order_of};
 use std::alloc::{AllocError, Global};
 
 // Marks the nodes to which paths lead from `start` that keep off the node `removed`.
@@ -85,7 +85,7 @@ fn joins_others(alloc: Global, rows: &[Vec<End>], node: usize) -> Result<bool, A
 fn stay_joined(
     alloc: Global,
     rows: &[Vec<End>],
-    search: &Search,
+    search: &DepthFirst,
     is_tree: bool,
     node: usize,
 ) -> Result<bool, AllocError>

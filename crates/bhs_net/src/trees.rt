@@ -5,11 +5,11 @@
 
 ghost use Rattle.std.specs.Prelude.{◌≡◌, ◌<◌, ◌⊎◌, true};
 ghost use Rattle.bhs_net.specs.Network.{network_of, IsPortLabelled};
-ghost use Rattle.bhs_net.specs.Numbering.{place_in};
+ghost use Rattle.bhs_net.specs.DepthFirst.{place_in};
 ghost use Rattle.bhs_net.specs.Trees.{HasHead, Hangs, IsTree, LeadsPast, AllLeadPast};
 
+use crate::depth_first_search::DepthFirst;
 use crate::listing::End;
-use crate::numbering::Search;
 
 // What a table has for a node.
 fn entry(table: &[u16], node: usize) -> usize
@@ -33,7 +33,7 @@ fn has_head(row: &[End], node: usize) -> bool
     false
 }
 
-impl Search {
+impl DepthFirst {
     /// Whether the tables are those of a tree of the rows.
     pub fn is_tree(&self, rows: &[Vec<End>]) -> bool
         requires { IsPortLabelled (network_of rows.now) }

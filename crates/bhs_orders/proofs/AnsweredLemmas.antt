@@ -17,7 +17,8 @@ use Rattle.bhs_script.specs.Transcript.{all_printed}
 use Rattle.bhs_script.proofs.LineLemmas.{lines_of-found}
 use Rattle.bhs_orders.specs.Answered.{answers_to, HasAnswered, IsTranscribed, known_flushes, Mean}
 use Rattle.bhs_orders.specs.Answered.{no_line, skips, gives, stands_by}
-use Rattle.bhs_orders.specs.Interactive.{Progress, Interacts, answer, answers, begins, reads_end, reads_more, judged}
+use Rattle.bhs_orders.specs.Interactive.{ScriptProgress, Interacts, answer, answers, begins, reads_end, reads_more}
+use Rattle.bhs_orders.specs.Interactive.{judged}
 use Rattle.bhs_orders.specs.Interactive.{onward, with_end}
 
 -- ---- lines, and the text that they end in
@@ -117,7 +118,7 @@ as_script games lines script (gives line others one all is mean) place =
 module _ {R W : Type 0} (remaining : R → Option (List ℕ)) (contents : W → Option (List ℕ)) (turns : ℕ) (stage : Stage)
     (input : R) (output : W) where
   -- what was read and written so far
-  record SoFar (is_over : Bool) (progress : Progress) (input' : R) (output' : W) : Type 0 where
+  record SoFar (is_over : Bool) (progress : ScriptProgress) (input' : R) (output' : W) : Type 0 where
     pub script : List ℕ
     pub supplied : List ℕ
     pub lines : List (List ℕ)
@@ -132,7 +133,7 @@ module _ {R W : Type 0} (remaining : R → Option (List ℕ)) (contents : W → 
     pub stands : progress.stage ≡ stands_by (length stage.games) stage lines
     pub written : Appends (contents output) (contents output') (answers_to (length stage.games) stage lines)
 
-  abbrev InteractsKnown : (reads : ℕ) → (is_over : Bool) → Progress → R → W → Type 0
+  abbrev InteractsKnown : (reads : ℕ) → (is_over : Bool) → ScriptProgress → R → W → Type 0
   InteractsKnown = Interacts (known_gives remaining) (known_takes contents) (known_flushes contents) turns stage input
       output
 
@@ -152,7 +153,7 @@ module _ {R W : Type 0} (remaining : R → Option (List ℕ)) (contents : W → 
   at_first : (script supplied held : List ℕ) → supplied ≡ [] → script ++ supplied ≡ held → script ≡ held
   at_first script supplied held none is = sym (append-nil script) ∙ ap (λ (s : List ℕ). script ++ s) (sym none) ∙ is
 
-  so_far : (reads : ℕ) (is_over : Bool) (progress : Progress) (input' : R) (output' : W)
+  so_far : (reads : ℕ) (is_over : Bool) (progress : ScriptProgress) (input' : R) (output' : W)
       → InteractsKnown reads is_over progress input' output' → SoFar is_over progress input' output'
   so_far reads is_over progress input' output' begins = record {
     script = [];
@@ -237,7 +238,7 @@ module _ {R W : Type 0} (remaining : R → Option (List ℕ)) (contents : W → 
             (Appends-trans _ _ _ _ _ old.written (Appends-from_all contents _ there next puts));
       }
 
-  pub has_answered : (reads : ℕ) (is_over : Bool) (progress : Progress) (input' : R) (output' : W)
+  pub has_answered : (reads : ℕ) (is_over : Bool) (progress : ScriptProgress) (input' : R) (output' : W)
       → InteractsKnown reads is_over progress input' output' → HasAnswered remaining contents stage input input' output
       output'
       progress

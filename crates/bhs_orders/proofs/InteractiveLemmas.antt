@@ -5,7 +5,7 @@ use Rattle.std.proofs.Common.{IfErr, OnOk, Result, Ok, Err, length-take-le, take
 use Rattle.std.proofs.lemmas.Bool.{le-ltb, lt-ltb}
 use Rattle.bhs_stream.specs.Reading.{IsPiece}
 use Rattle.bhs_stream.specs.declared.reading.TheConstants.{BUFFER}
-use Rattle.bhs_stream.specs.Streams.{Bytes, Chunk, End, Taken}
+use Rattle.bhs_stream.specs.Streams.{Bytes, Chunk, End, WriteAnswer}
 use Rattle.bhs_stream.specs.Sending.{PutsAll, PutsPart}
 use Rattle.bhs_rehearsal.specs.Stages.{Stage}
 use Rattle.bhs_model.specs.declared.limits.TheConstants.{MAX_TEXT}
@@ -13,7 +13,7 @@ use Rattle.bhs_script.specs.Script.{Meaning, Refused, meaning}
 use Rattle.bhs_orders.specs.Shells.{IsConcluded, IsRefusal, IsReplied, progress_of}
 use Rattle.bhs_orders.specs.Interactive.{Answers, none, more, AnswersPart, BreaksAt, BreaksWithin, IsNext, IsPart}
 use Rattle.bhs_orders.specs.Interactive.{IsRefused}
-use Rattle.bhs_orders.specs.Interactive.{unmeant, overlong, Progress, Interacts, answer, answers, ended, judged}
+use Rattle.bhs_orders.specs.Interactive.{unmeant, overlong, ScriptProgress, Interacts, answer, answers, ended, judged}
 use Rattle.bhs_orders.specs.Interactive.{onward}
 use Rattle.bhs_orders.specs.Interactive.{Breaks, InteractsToEnd, InteractionStops, reads_end, reads_more, at_start}
 use Rattle.bhs_orders.specs.Interactive.{with_end}
@@ -48,25 +48,25 @@ judged-long games line long =
 -- two places of a script are the same
 pub same_progress : {stage stage' : Stage} {answered answered' : ℕ} {held held' : List ℕ} → stage ≡ stage'
     → answered ≡ answered' → held ≡ held'
-    → (let one : Progress = record { stage = stage; answered = answered; held = held } in
-    let two : Progress = record { stage = stage'; answered = answered'; held = held' } in one ≡ two)
+    → (let one : ScriptProgress = record { stage = stage; answered = answered; held = held } in
+    let two : ScriptProgress = record { stage = stage'; answered = answered'; held = held' } in one ≡ two)
 same_progress e f g = rw (e, f, g) refl
 
 -- ---- lines one after the other
 
-module _ {O : Type 0} (takes : O → List ℕ → Taken → O → Type 0) (games : ℕ) where
-  pub Answers-trans : (a b : Progress) (x y : O) → Answers takes games a x b y → (c : Progress) (z : O)
+module _ {O : Type 0} (takes : O → List ℕ → WriteAnswer → O → Type 0) (games : ℕ) where
+  pub Answers-trans : (a b : ScriptProgress) (x y : O) → Answers takes games a x b y → (c : ScriptProgress) (z : O)
       → Answers takes games b y c z → Answers takes games a x c z
   Answers-trans a b x y one c z none = one
   Answers-trans a b x y one c z (more mid line rest there next others is_next meant puts) =
       more mid line rest there next (Answers-trans a b x y one mid there others) is_next meant puts
 
-module _ {I O : Type 0} (gives : I → Chunk → I → Type 0) (takes : O → List ℕ → Taken → O → Type 0)
+module _ {I O : Type 0} (gives : I → Chunk → I → Type 0) (takes : O → List ℕ → WriteAnswer → O → Type 0)
     (flushes : O → Bool → O → Type 0) (turns : ℕ) (stage : Stage) (input : I) (output : O) where
   -- the rehearsal goes on by the lines that are answered
-  pub interacts_on : (reads : ℕ) (is_over : Bool) (progress : Progress) (here : I) (there : O)
+  pub interacts_on : (reads : ℕ) (is_over : Bool) (progress : ScriptProgress) (here : I) (there : O)
       → Interacts gives takes flushes turns stage input output reads is_over progress here there
-      → (progress' : Progress) (there' : O) → Answers takes (length stage.games) progress there progress' there'
+      → (progress' : ScriptProgress) (there' : O) → Answers takes (length stage.games) progress there progress' there'
       → Interacts gives takes flushes turns stage input output reads is_over progress' here there'
   interacts_on reads is_over progress here there interacts progress' there' none = interacts
   interacts_on reads is_over progress here there interacts progress' there'
@@ -76,9 +76,10 @@ module _ {I O : Type 0} (gives : I → Chunk → I → Type 0) (takes : O → Li
 
 -- ---- faults
 
-module _ {O : Type 0} (takes : O → List ℕ → Taken → O → Type 0) (flushes : O → Bool → O → Type 0) (games : ℕ) where
+module _ {O : Type 0} (takes : O → List ℕ → WriteAnswer → O → Type 0) (flushes : O → Bool → O
+    → Type 0) (games : ℕ) where
   -- a line that is refused
-  pub refused_at : (progress : Progress) (output output' : O) (fault : Fault) → IsRefused games progress
+  pub refused_at : (progress : ScriptProgress) (output output' : O) (fault : Fault) → IsRefused games progress
       → IsRefusal flushes (progress.answered + 1) output output' fault
       → BreaksAt takes games flushes progress output output' fault
   refused_at progress output output' (Line line) refused (is, passed) = (refused, is, passed)
@@ -99,7 +100,7 @@ module _ {O : Type 0} (takes : O → List ℕ → Taken → O → Type 0) (flush
   refused_at progress output output' Memory refused bad = absurd bad
 
   -- behind lines that were answered
-  pub breaks_within : (start progress : Progress) (output there output' : O) (fault : Fault)
+  pub breaks_within : (start progress : ScriptProgress) (output there output' : O) (fault : Fault)
       → Answers takes games start output progress there → BreaksAt takes games flushes progress there output' fault
       → BreaksWithin takes games flushes start output output' fault
   breaks_within start progress output there output' fault so_far breaks = record {
@@ -115,7 +116,7 @@ module _ (shell : Shell) (rest : List ℕ) (part : IsPart shell.line.items) wher
   next_line = record { held = refl; first = part.unended }
 
 -- a line that is too long
-pub overlong_refused : (games : ℕ) (progress : Progress) → IsOverlong progress.held → IsRefused games progress
+pub overlong_refused : (games : ℕ) (progress : ScriptProgress) → IsOverlong progress.held → IsRefused games progress
 overlong_refused games progress over = begun over.begins where
   begun : (progress.held ≡ over.line) ⊎ (progress.held ≡ over.line ++ 10 ∷ over.rest) → IsRefused games progress
   begun (inl same) = overlong (rw same over.unended) (rw same over.long)
@@ -123,7 +124,7 @@ overlong_refused games progress over = begun over.begins where
       unmeant over.line over.rest (record { held = same; first = over.unended }) (judged-long games over.line over.long)
 
 -- a line was answered
-module _ {O : Type 0} (takes : O → List ℕ → Taken → O → Type 0) (old new : Shell) (output output' : O)
+module _ {O : Type 0} (takes : O → List ℕ → WriteAnswer → O → Type 0) (old new : Shell) (output output' : O)
     (part : IsPart old.line.items) (text : List ℕ)
     (replied : IsReplied (meaning old.games old.line.items) old.rehearsal.stage new.rehearsal.stage [] text true)
   where
@@ -140,7 +141,8 @@ module _ {O : Type 0} (takes : O → List ℕ → Taken → O → Type 0) (old n
         → new.answered ≡ old.answered + 1
         → Answers takes old.games (progress_of old (10 ∷ rest)) output (progress_of new rest) output'
     line_answered rest puts empty count =
-        subst (λ (progress : Progress). Answers takes old.games (progress_of old (10 ∷ rest)) output progress output')
+        subst (λ (progress : ScriptProgress). Answers takes old.games (progress_of old
+        (10 ∷ rest)) output progress output')
         (same_progress (sym (replied.2 ∙ ap (onward old.rehearsal.stage) (sym means))) (sym count)
         (sym (ap (λ (line : List ℕ). line ++ rest) empty)))
         (more (progress_of old (10 ∷ rest)) old.line.items rest output output' none (next_line old rest part) meant
@@ -188,9 +190,9 @@ part_of bytes part = subst IsPart (sym (append-nil bytes)) part
 
 -- ---- the whole rehearsal
 
-module _ {I O : Type 0} (gives : I → Chunk → I → Type 0) (takes : O → List ℕ → Taken → O → Type 0)
+module _ {I O : Type 0} (gives : I → Chunk → I → Type 0) (takes : O → List ℕ → WriteAnswer → O → Type 0)
     (flushes : O → Bool → O → Type 0) (turns : ℕ) (stage : Stage) (input : I) (output : O) where
-  abbrev InteractsHere : (reads : ℕ) → (is_over : Bool) → Progress → I → O → Type 0
+  abbrev InteractsHere : (reads : ℕ) → (is_over : Bool) → ScriptProgress → I → O → Type 0
   InteractsHere = Interacts gives takes flushes turns stage input output
 
   -- more is read, and its lines are answered
@@ -201,7 +203,7 @@ module _ {I O : Type 0} (gives : I → Chunk → I → Type 0) (takes : O → Li
       → InteractsHere (reads + 1) false (progress_of new []) next out
   interacts_more reads old new piece here next there passed out interacts part flushed left is_piece given more_of =
       interacts_on gives takes flushes turns stage input output (reads + 1) false (progress_of old piece) next passed
-      (subst (λ (progress : Progress). InteractsHere (reads + 1) false progress next passed)
+      (subst (λ (progress : ScriptProgress). InteractsHere (reads + 1) false progress next passed)
       (same_progress refl refl (ap (λ (line : List ℕ). line ++ piece) (append-nil old.line.items)))
       (reads_more reads (progress_of old []) piece here next there passed interacts (part_of old.line.items part)
       flushed left
@@ -214,13 +216,13 @@ module _ {I O : Type 0} (gives : I → Chunk → I → Type 0) (takes : O → Li
       → reads < turns → IsPiece piece → gives here (Bytes piece) next
       → InteractsHere (reads + 1) false (progress_of old piece) next passed
   interacts_before reads old piece here next there passed interacts part flushed left is_piece given =
-      subst (λ (progress : Progress). InteractsHere (reads + 1) false progress next passed)
+      subst (λ (progress : ScriptProgress). InteractsHere (reads + 1) false progress next passed)
       (same_progress refl refl (ap (λ (line : List ℕ). line ++ piece) (append-nil old.line.items)))
       (reads_more reads (progress_of old []) piece here next there passed interacts (part_of old.line.items part)
       flushed left
       is_piece given)
 
-  module _ (reads : ℕ) (is_over : Bool) (start : Progress) (input' : I) (there output' : O)
+  module _ (reads : ℕ) (is_over : Bool) (start : ScriptProgress) (input' : I) (there output' : O)
       (interacts : InteractsHere reads is_over start input' there) where
     breaks_at : (fault : Fault) → BreaksWithin takes (length stage.games) flushes start there output' fault
         → Breaks gives takes flushes turns stage input output input' output' fault

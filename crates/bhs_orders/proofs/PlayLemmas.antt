@@ -3,7 +3,7 @@ use Rattle.std.proofs.Common.{◌≡◌, inr, OnOk, IfOk, IfErr, IsErrAnd, ℕ, 
 use Rattle.std.proofs.Common.{Err, None, Some, Bool, true, false, nat_lt, length, if◌then◌else◌, ◌∙◌, ap, append-nil}
 use Rattle.std.proofs.Common.{◌+◌, ◌<◌, map, drop, get_or}
 use Rattle.std.proofs.lemmas.List.{drop_more}
-use Rattle.bhs_stream.specs.Streams.{Chunk, Taken}
+use Rattle.bhs_stream.specs.Streams.{Chunk, WriteAnswer}
 use Rattle.bhs_stream.specs.Sending.{PutsAll}
 use Rattle.bhs_stream.proofs.PutsLemmas.{IsSentUpTo, sent_part, sent_some}
 use Rattle.bhs_rehearsal.specs.Games.{Game}
@@ -25,7 +25,7 @@ use Rattle.bhs_orders.specs.declared.reporting.faults.Fault.TheVariants.{NoMatch
 use Rattle.bhs_orders.specs.declared.reporting.faults.Fault.TheVariants.{Exploring, Appeal}
 
 -- a fault at the next bytes of a text
-pub stopped_at : {O : Type 0} (takes : O → List ℕ → Taken → O → Type 0) (a b c : O)
+pub stopped_at : {O : Type 0} (takes : O → List ℕ → WriteAnswer → O → Type 0) (a b c : O)
     (text bytes left : List ℕ) (fault : Fault)
     → IsSentUpTo takes a b text (bytes ++ left) → StopsPlaying takes bytes b c fault → StopsPlaying takes text a c fault
 stopped_at takes a b c text bytes left Write so_far part = sent_part takes a b c text bytes left so_far part
@@ -98,7 +98,7 @@ pub transcript-turn : (stage : Stage) (script : List Instruction) (one : Instruc
     → transcript stage script ≡ all_printed (step stage one).outs ++ transcript (step stage one).stage others
 transcript-turn stage script one others turn = rw turn refl
 
-module _ {I O : Type 0} (gives : I → Chunk → I → Type 0) (takes : O → List ℕ → Taken → O → Type 0) (turns : ℕ)
+module _ {I O : Type 0} (gives : I → Chunk → I → Type 0) (takes : O → List ℕ → WriteAnswer → O → Type 0) (turns : ℕ)
     (stage : Stage) (input input' : I) (output output' : O) (instructions : List Instruction)
     (means : Means gives takes turns stage input input' instructions) where
   pub plays_all : {T : Type 0} (games_in : T → List Game) (r : Result T Fault)

@@ -5,7 +5,7 @@ use Rattle.std.proofs.Common.{Err, Some, ap, arith}
 use Rattle.std.specs.Prelude.{if◌then◌else◌}
 use Rattle.std.specs.Result.{is_err}
 use Rattle.std.proofs.lemmas.List.{drop_more, take_more}
-use Rattle.bhs_stream.specs.Streams.{Taken}
+use Rattle.bhs_stream.specs.Streams.{WriteAnswer}
 use Rattle.bhs_stream.specs.Sending.{PutsAll}
 use Rattle.bhs_match.specs.Matches.{Play}
 use Rattle.bhs_replay.specs.declared.faults.ReplayFault.TheVariants as replays
@@ -22,12 +22,12 @@ use Rattle.bhs_orders.specs.declared.reporting.appeal_faults.AppealFault.TheVari
 use Rattle.bhs_orders.specs.declared.reporting.statuses.TheConstants.{DONE, NO_MEMORY}
 use Rattle.bhs_orders.specs.Fault.{of_twin, status}
 use Rattle.bhs_standings.specs.declared.rows.Row.{Row}
-use Rattle.bhs_command_line.specs.declared.orders.Entry.{Entry}
+use Rattle.bhs_command_line.specs.declared.orders.TableEntry.{TableEntry}
 use Rattle.bhs_orders.specs.Reports.{AreRows, one_more, HasNoTwin, IsReplayed, IsRow, line_at, lines_at}
 use Rattle.bhs_orders.specs.Showing.{Prints, Reports, prints, stops}
 
 -- a report that was printed if there was memory to make it
-pub reported : {O S E : Type 0} (takes : O → List ℕ → Taken → O → Type 0) (flushes : O → Bool → O → Type 0)
+pub reported : {O S E : Type 0} (takes : O → List ℕ → WriteAnswer → O → Type 0) (flushes : O → Bool → O → Type 0)
     (IsReport : List ℕ → Type 0) (bytes : S → List ℕ)
     (output output' : O) (code : ℕ) (made : Result S E) → IfOk made (λ text. IsReport (bytes text))
     → IfOk made (λ text. Prints takes flushes (bytes text) output output' code)
@@ -37,7 +37,8 @@ reported takes flushes IsReport bytes output output' code (Ok text) is printed l
 reported takes flushes IsReport bytes output output' code (Err e) is printed lacks = stops Memory lacks.0 lacks.1
 
 -- a file that took the whole text
-pub filed : {O T E : Type 0} (takes : O → List ℕ → Taken → O → Type 0) (old new : O) (text : List ℕ) (r : Result T E)
+pub filed : {O T E : Type 0} (takes : O → List ℕ → WriteAnswer → O
+    → Type 0) (old new : O) (text : List ℕ) (r : Result T E)
     → OnOk r (PutsAll takes old text new)
     → OnOk r ((x : O) × (y : O) × PutsAll takes x text y)
 filed takes old new text (Ok x) puts = (old, new, puts)
@@ -114,7 +115,8 @@ pushed : {T E : Type 0} (r : Result T E) → is_err r ≡ false → is_ok r ≡ 
 pushed (Ok x) e = refl
 pushed (Err x) e = absurd (true≢false e)
 
-pub row_more : {T E : Type 0} (entries : List Entry) (place : ℕ) (entry : Entry) (rows new : List Row) (row : Row)
+pub row_more : {T E : Type 0} (entries : List TableEntry) (place : ℕ) (entry : TableEntry) (rows new : List Row)
+    (row : Row)
     (r : Result T E) → is_err r ≡ false
     → new ≡ (if is_ok r then rows ++ row ∷ [] else rows) → place < length entries → entry ≡ get_or entries place entry
     → AreRows (take place entries) rows → IsRow entry row → AreRows (take (place + 1) entries) new
@@ -122,7 +124,7 @@ row_more entries place entry rows new row r fine grown within at all one =
     let all_grown : new ≡ rows ++ row ∷ [] = grown ∙ ap (λ (b : Bool). if b then rows ++ row ∷ [] else rows)
     (pushed r fine) in
     let front : take (place + 1) entries ≡ take place entries ++ entry ∷ [] =
-    take_more entries place entry within ∙ ap (λ (e : Entry). take place entries ++ e ∷ []) (sym at) in
-    subst (λ (es : List Entry). AreRows es new) (sym front)
+    take_more entries place entry within ∙ ap (λ (e : TableEntry). take place entries ++ e ∷ []) (sym at) in
+    subst (λ (es : List TableEntry). AreRows es new) (sym front)
     (subst (λ (rs : List Row). AreRows (take place entries ++ entry ∷ []) rs) (sym all_grown)
     (one_more (take place entries) rows entry row all one))

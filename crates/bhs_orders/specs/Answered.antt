@@ -6,7 +6,7 @@ use Rattle.std.specs.Io.KnownBytes.{Appends, Consumes, Keeps}
 use Rattle.bhs_rehearsal.specs.Stages.{Stage, Instruction, stands_after, step}
 use Rattle.bhs_script.specs.Script.{Gives, Meaning, Refused, Skipped, instructions_from, lines_of}
 use Rattle.bhs_script.specs.Transcript.{all_printed, transcript}
-use Rattle.bhs_orders.specs.Interactive.{Progress, answer, judged, onward}
+use Rattle.bhs_orders.specs.Interactive.{ScriptProgress, answer, judged, onward}
 
 -- what lines are answered, one after the other, in a rehearsal of this number of matches
 abbrev pub answers_to : (games : ℕ) → Stage → List (List ℕ) → List ℕ
@@ -34,7 +34,7 @@ pub data Mean (games : ℕ) : List (List ℕ) → List Instruction → Type 0 wh
 -- This script was read, these of its lines were answered, and what is held are the others; at the end of the input a
 -- line feed may have been supplied. What was written are the answers.
 pub record HasAnswered {R W : Type 0} (remaining : R → Option (List ℕ)) (contents : W → Option (List ℕ)) (stage : Stage)
-    (input input' : R) (output output' : W) (progress : Progress) : Type 0 where
+    (input input' : R) (output output' : W) (progress : ScriptProgress) : Type 0 where
   pub script : List ℕ
   pub supplied : List ℕ
   pub lines : List (List ℕ)

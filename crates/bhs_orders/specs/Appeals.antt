@@ -2,7 +2,7 @@
 use Rattle.std.specs.Prelude.{◌≡◌, ◌≢◌, ◌==◌, ℕ, Bool, List, Option, Some, None, length, slice_get, if◌then◌else◌}
 use Rattle.bhs_net.specs.Network.{Network}
 use Rattle.bhs_model.specs.declared.setups.Setup.{Setup}
-use Rattle.bhs_stream.specs.Streams.{Taken}
+use Rattle.bhs_stream.specs.Streams.{WriteAnswer}
 use Rattle.bhs_time.specs.Schedules.{DelayLaw, Schedule}
 use Rattle.bhs_time.specs.TimedLogs.{IsTimedLog}
 use Rattle.bhs_time.specs.declared.kinds.ScheduleKind.TheVariants as kinds
@@ -125,7 +125,7 @@ abbrev pub IsVerdictOn : Play → (text : List ℕ) → Type 0
 IsVerdictOn play text = text ≡ verdict_line (verdict_of play)
 
 -- the calls of the output
-module _ {O : Type 0} (takes : O → List ℕ → Taken → O → Type 0) (flushes : O → Bool → O → Type 0) where
+module _ {O : Type 0} (takes : O → List ℕ → WriteAnswer → O → Type 0) (flushes : O → Bool → O → Type 0) where
   -- what came of an appeal to the match of this number
   pub data Appeals (game : ℕ) (output output' : O) (code : ℕ) : Type 0 where
     -- with its turns it is a timed execution, and the verdict on it was to be printed

@@ -1,6 +1,6 @@
 -- The table of a contest's teams, by the replays of its matches that are there.
 use Rattle.std.specs.Prelude.{◌≡◌, ℕ, Bool, List, [], ◌∷◌, ◌++◌, Result, Ok, Err, string_bytes}
-use Rattle.bhs_stream.specs.Streams.{Taken}
+use Rattle.bhs_stream.specs.Streams.{WriteAnswer}
 use Rattle.bhs_match.specs.Matches.{Play}
 use Rattle.bhs_referee.specs.Verdicts.{verdict_of}
 use Rattle.bhs_standings.specs.Ranks.{IsRanking}
@@ -59,7 +59,7 @@ pub record IsTableOf (rows : List Row) (text : List ℕ) : Type 0 where
   pub said : text ≡ table_of rows places
 
 -- the calls of the output
-module _ {O : Type 0} (takes : O → List ℕ → Taken → O → Type 0) (flushes : O → Bool → O → Type 0) where
+module _ {O : Type 0} (takes : O → List ℕ → WriteAnswer → O → Type 0) (flushes : O → Bool → O → Type 0) where
   -- what came of the order to print the table of these matches
   pub data TablesMatches (matches : List Ready) (output output' : O) (code : ℕ) : Type 0 where
     -- matches without a row are left out, and the table of the others was to be printed

@@ -2,24 +2,24 @@
 use Rattle.std.specs.Prelude.{◌≡◌, ℕ, ◌<◌, Bool, true, false, List, [], ◌∷◌, ◌++◌, codes, decimal, Some, is_some}
 use Rattle.std.specs.Prelude.{slice_get, nat_lt}
 use Rattle.bhs_net.specs.Network.{nodes_of, degree_of}
-use Rattle.bhs_stream.specs.Streams.{Taken}
+use Rattle.bhs_stream.specs.Streams.{WriteAnswer}
 use Rattle.bhs_deal.specs.Links.{held_in}
 use Rattle.bhs_referee.specs.declared.verdicts.Verdict.{Verdict}
 use Rattle.bhs_standings.specs.Tables.{outcome_text}
 use Rattle.bhs_lineup.specs.declared.lineups.Lineup.{Lineup}
 use Rattle.bhs_lineup.specs.declared.lineups.Ready.{Ready}
 use Rattle.bhs_command_line.specs.declared.orders.Exploration.{Exploration}
-use Rattle.bhs_explore.specs.declared.found.Bounds.{Bounds}
-use Rattle.bhs_explore.specs.declared.found.Found.{Found}
-use Rattle.bhs_explore.specs.declared.found.Found.TheVariants.{Solves, Comes, Fails, Breaks, Endless, Exceeds}
-use Rattle.bhs_explore.specs.declared.found.Failure.{Failure}
-use Rattle.bhs_explore.specs.declared.found.Failure.TheVariants as failures
-use Rattle.bhs_explore.specs.declared.drawing.Drawn.{Drawn}
+use Rattle.bhs_explore.specs.declared.results.Bounds.{Bounds}
+use Rattle.bhs_explore.specs.declared.results.Finding.{Finding}
+use Rattle.bhs_explore.specs.declared.results.Finding.TheVariants.{Solves, Comes, Fails, Breaks, Endless, Exceeds}
+use Rattle.bhs_explore.specs.declared.results.Failure.{Failure}
+use Rattle.bhs_explore.specs.declared.results.Failure.TheVariants as failures
+use Rattle.bhs_explore.specs.declared.sampling.SampleResult.{SampleResult}
 use Rattle.bhs_explore.specs.declared.explorers.Explored.{Explored}
 use Rattle.bhs_explore.specs.Answers.{Knowledge, is_held}
 use Rattle.bhs_explore.specs.Counting.{is_excess, is_failure}
 use Rattle.bhs_explore.specs.Questions.{IsAskedOnce, SomeMachinesAnswer}
-use Rattle.bhs_explore.specs.Truths.{IsTrueOf}
+use Rattle.bhs_explore.specs.Results.{IsTrueOf}
 use Rattle.bhs_orders.specs.Fault.{status}
 use Rattle.bhs_orders.specs.RehearsedTournaments.{Rests}
 use Rattle.bhs_orders.specs.Showing.{Shows}
@@ -59,7 +59,7 @@ solves_line bounds =
     (codes "{\"found\":\"solves\",\"moves\":" ++ (decimal bounds.moves
     ++ (codes ",\"lost\":" ++ (decimal bounds.lost
     ++ (codes ",\"turns\":" ++ decimal bounds.turns)))))
-    ++ (codes ",\"naps\":" ++ (decimal bounds.naps
+    ++ (codes ",\"naps\":" ++ (decimal bounds.wakeups
     ++ (codes ",\"commands\":" ++ (list_text bounds.commands.items ++ codes "}\n"))))
 
 -- the word for yes or no, as JSON spells it
@@ -68,10 +68,10 @@ bool_text true = codes "true"
 bool_text false = codes "false"
 
 -- the line of a round that may go on for ever
-abbrev pub endless_line : (schedule round : List ℕ) → (is_fair : Bool) → List ℕ
-endless_line schedule round is_fair =
+abbrev pub endless_line : (schedule cycle : List ℕ) → (is_fair : Bool) → List ℕ
+endless_line schedule cycle is_fair =
     codes "{\"found\":\"endless\",\"schedule\":" ++ (list_text schedule
-    ++ (codes ",\"round\":" ++ (list_text round
+    ++ (codes ",\"round\":" ++ (list_text cycle
     ++ (codes ",\"fair\":" ++ (bool_text is_fair ++ codes "}\n")))))
 
 -- the line of a schedule that solves
@@ -103,12 +103,12 @@ breaks_line agent failure schedule =
     ++ (codes "\",\"schedule\":" ++ (list_text schedule ++ codes "}\n")))))
 
 -- the line of what was found
-abbrev pub found_line : Found → List ℕ
+abbrev pub found_line : Finding → List ℕ
 found_line (Solves bounds) = solves_line bounds
 found_line (Comes verdict schedule) = comes_line verdict schedule.items
 found_line (Fails verdict schedule) = fails_line verdict schedule.items
 found_line (Breaks agent failure schedule) = breaks_line agent failure schedule.items
-found_line (Endless schedule round is_fair) = endless_line schedule.items round.items is_fair
+found_line (Endless schedule cycle is_fair) = endless_line schedule.items cycle.items is_fair
 found_line (Exceeds agent commands) =
     codes "{\"found\":\"exceeds\",\"agent\":" ++ (decimal agent
     ++ (codes ",\"commands\":" ++ (decimal commands ++ codes "}\n")))
@@ -118,11 +118,11 @@ abbrev pub counts_line : Explored → List ℕ
 counts_line explored =
     codes "{\"states\":" ++ (decimal explored.states
     ++ (codes ",\"memories\":" ++ (decimal explored.memories
-    ++ (codes ",\"stances\":" ++ (decimal explored.stances
+    ++ (codes ",\"stances\":" ++ (decimal explored.locals
     ++ (codes ",\"boards\":" ++ (decimal explored.boards ++ codes "}\n")))))))
 
 -- the line of what was counted of drawn schedules
-abbrev pub draws_line : Drawn → List ℕ
+abbrev pub draws_line : SampleResult → List ℕ
 draws_line drawn =
     (codes "{\"solved\":" ++ (decimal drawn.solved
     ++ (codes ",\"failed\":" ++ (decimal drawn.failed
@@ -130,10 +130,10 @@ draws_line drawn =
     ++ (codes ",\"moves\":" ++ pairs_text drawn.moves.items)))))))
     ++ (codes ",\"lost\":" ++ (pairs_text drawn.lost.items
     ++ (codes ",\"memories\":" ++ (decimal drawn.memories
-    ++ (codes ",\"stances\":" ++ (decimal drawn.stances ++ codes "}\n"))))))
+    ++ (codes ",\"stances\":" ++ (decimal drawn.locals ++ codes "}\n"))))))
 
 -- what was found, under every schedule or under those that were drawn
-abbrev pub found_in : Discovery → Found
+abbrev pub found_in : Discovery → Finding
 found_in (discoveries.Tried explored) = explored.found
 found_in (discoveries.Drawn drawn) = drawn.found
 
@@ -151,12 +151,12 @@ abbrev pub discovery : Discovery → List ℕ
 discovery found = found_line (found_in found) ++ counted_line found
 
 -- the exit status of what was found
-abbrev pub found_status : Found → ℕ
+abbrev pub found_status : Finding → ℕ
 found_status (Solves bounds) = DONE
 found_status (Comes verdict schedule) = DONE
 found_status (Fails verdict schedule) = FAILING
 found_status (Breaks agent failure schedule) = FAILING
-found_status (Endless schedule round is_fair) = FAILING
+found_status (Endless schedule cycle is_fair) = FAILING
 found_status (Exceeds agent commands) = REFUSED_TEXT
 
 -- ---- what it is true of
@@ -166,12 +166,12 @@ abbrev pub AreLinks : Ready → List (ℕ × ℕ) → Type 0
 AreLinks ready links = (node port : ℕ) → node < nodes_of ready.game.net → port < degree_of ready.game.net node
     → is_held links node port ≡ held_in ready.held node port
 
--- what was answered of the agents of this match, where its held links are held and agents may nap so often
+-- what was answered of the agents of this match, with its held links and this number of spurious wake-ups
 pub record IsOf (ready : Ready) (exploration : Exploration) (known : Knowledge) : Type 0 where
   pub net : known.net ≡ ready.game.net
   pub setup : known.setup ≡ ready.game.setup
   pub held : AreLinks ready known.held
-  pub naps : known.naps ≡ exploration.naps
+  pub wakeups : known.wakeups ≡ exploration.wakeups
 
 -- Of drawn schedules one is told that fails exactly if some were counted that fail, unless an agent wants more commands
 -- than its quota.
@@ -193,7 +193,7 @@ pub record IsFound (ready : Ready) (exploration : Exploration) (found : Discover
 -- ---- the order
 
 -- the calls of the output
-module _ {O : Type 0} (takes : O → List ℕ → Taken → O → Type 0) (flushes : O → Bool → O → Type 0) where
+module _ {O : Type 0} (takes : O → List ℕ → WriteAnswer → O → Type 0) (flushes : O → Bool → O → Type 0) where
   -- what was found is printed last and passed on, and told by the exit status
   pub record PrintsDiscovery (ready : Ready) (exploration : Exploration) (output' : O) (code : ℕ) : Type 0 where
     pub found : Discovery

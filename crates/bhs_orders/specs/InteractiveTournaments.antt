@@ -1,6 +1,6 @@
 -- The rehearsal of a tournament whose script is played as it comes, and the replays of its matches.
 use Rattle.std.specs.Prelude.{◌≡◌, ℕ, Bool, List, Option, Some, None, IsSome}
-use Rattle.bhs_stream.specs.Streams.{Chunk, Taken}
+use Rattle.bhs_stream.specs.Streams.{Chunk, WriteAnswer}
 use Rattle.bhs_lineup.specs.declared.lineups.Lineup.{Lineup}
 use Rattle.bhs_rehearsal.specs.Games.{Game}
 use Rattle.bhs_rehearsal.specs.Stages.{Stage}
@@ -15,8 +15,8 @@ use Rattle.bhs_orders.specs.declared.reporting.statuses.TheConstants.{DONE}
 use Rattle.bhs_orders.specs.declared.rehearsals.interactive.TheConstants.{MAX_READS}
 
 -- the calls of the files that are written, of the input and of the output
-module _ {P I O : Type 0} (files : P → List ℕ → Taken → P → Type 0) (gives : I → Chunk → I → Type 0)
-    (takes : O → List ℕ → Taken → O → Type 0) (flushes : O → Bool → O → Type 0) where
+module _ {P I O : Type 0} (files : P → List ℕ → WriteAnswer → P → Type 0) (gives : I → Chunk → I → Type 0)
+    (takes : O → List ℕ → WriteAnswer → O → Type 0) (flushes : O → Bool → O → Type 0) where
   -- what the exit status says
   pub data InteractsWhole (prefix : Option (List ℕ)) (stage : Stage) (input input' : I) (output output' : O) (code : ℕ)
       : Type 0 where

@@ -2,7 +2,7 @@
 -- events, and the table.
 use Rattle.std.specs.Prelude.{◌≡◌, ◌==◌, ◌<◌, ◌+◌, ◌-◌, ◌^◌, min, ℕ, Bool, Option, Some, None, List, [], ◌∷◌, ◌++◌}
 use Rattle.std.specs.Prelude.{length, take, slice_get, if◌then◌else◌}
-use Rattle.bhs_stream.specs.Streams.{Taken}
+use Rattle.bhs_stream.specs.Streams.{WriteAnswer}
 use Rattle.bhs_model.specs.declared.marks.Kept.{Kept}
 use Rattle.bhs_time.specs.TimedLogs.{turn_behind}
 use Rattle.bhs_match.specs.Matches.{Play}
@@ -52,7 +52,7 @@ abbrev pub case_of : Lineup → (number : ℕ) → Play → (turns : List ℕ) �
 case_of lineup number play turns = record { lineup = lineup; game = number; play = play; turns = turns }
 
 -- what was done of the turns of a match of this number with calls of the files that are written
-pub data AreSavedTurns {P : Type 0} (files : P → List ℕ → Taken → P → Type 0) (lineup : Lineup) (number : ℕ)
+pub data AreSavedTurns {P : Type 0} (files : P → List ℕ → WriteAnswer → P → Type 0) (lineup : Lineup) (number : ℕ)
     (play : Play) : Type 0 where
   -- nothing: the tournament has no turns, or a match that has a replay has turns, or none were left
   untimed : AreSavedTurns files lineup number play
@@ -61,7 +61,8 @@ pub data AreSavedTurns {P : Type 0} (files : P → List ℕ → Taken → P → 
       → AreSavedTurns files lineup number play
 
 -- what was done of the match of this number of a tournament with calls of the files that are written
-pub data IsSaved {P : Type 0} (files : P → List ℕ → Taken → P → Type 0) (lineup : Lineup) (number : ℕ) : Type 0 where
+pub data IsSaved {P : Type 0} (files : P → List ℕ → WriteAnswer → P
+    → Type 0) (lineup : Lineup) (number : ℕ) : Type 0 where
   -- nothing: it has a replay and turns, or nothing is left of it
   left_alone : IsSaved files lineup number
   -- the replay of what its part says was written, with its turns
@@ -72,7 +73,8 @@ pub data IsSaved {P : Type 0} (files : P → List ℕ → Taken → P → Type 0
   has_replay : (play : Play) → IsReplayed play → AreSavedTurns files lineup number play → IsSaved files lineup number
 
 -- what the exit status says of the matches of a tournament that were to be saved, one after the other
-pub data AreSaved {P : Type 0} (files : P → List ℕ → Taken → P → Type 0) (lineup : Lineup) (code : ℕ) : Type 0 where
+pub data AreSaved {P : Type 0} (files : P → List ℕ → WriteAnswer → P
+    → Type 0) (lineup : Lineup) (code : ℕ) : Type 0 where
   -- each was
   all_saved : code ≡ DONE → ((number : ℕ) → number < length lineup.ready.items → IsSaved files lineup number)
       → AreSaved files lineup code
@@ -80,7 +82,7 @@ pub data AreSaved {P : Type 0} (files : P → List ℕ → Taken → P → Type 
   unsaved_one : (fault : Fault) → code ≡ status fault → AreSaved files lineup code
 
 -- the calls of the files that are written, and of the output
-module _ {P O : Type 0} (files : P → List ℕ → Taken → P → Type 0) (takes : O → List ℕ → Taken → O → Type 0)
+module _ {P O : Type 0} (files : P → List ℕ → WriteAnswer → P → Type 0) (takes : O → List ℕ → WriteAnswer → O → Type 0)
     (flushes : O → Bool → O → Type 0) where
   -- the matches of a tournament were to be saved, and then their table was to be printed
   pub record RecoversMatches (lineup : Lineup) (output output' : O) (code : ℕ) : Type 0 where

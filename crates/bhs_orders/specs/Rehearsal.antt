@@ -3,7 +3,7 @@ use Rattle.std.specs.Prelude.{◌≡◌, ℕ, ◌⊎◌, Bool, true, false, List
 use Rattle.std.specs.Prelude.{Err}
 use Rattle.std.specs.List.{AllByRecursion}
 use Rattle.bhs_model.specs.declared.limits.TheConstants.{MAX_TEXT}
-use Rattle.bhs_stream.specs.Streams.{Chunk, End, Taken}
+use Rattle.bhs_stream.specs.Streams.{Chunk, End, WriteAnswer}
 use Rattle.bhs_stream.specs.Reading.{Closes}
 use Rattle.bhs_stream.specs.Reading as reading
 use Rattle.bhs_stream.specs.Sending.{PutsAll}
@@ -42,7 +42,8 @@ abbrev pub instructions_on : Stage → (script : List ℕ) → Result (List Inst
 instructions_on stage script = instructions_of (length stage.games) script
 
 -- an input and an output whose calls are these, and how many reads may be made
-module _ {I O : Type 0} (gives : I → Chunk → I → Type 0) (takes : O → List ℕ → Taken → O → Type 0) (turns : ℕ) where
+module _ {I O : Type 0} (gives : I → Chunk → I → Type 0) (takes : O → List ℕ → WriteAnswer → O
+    → Type 0) (turns : ℕ) where
   -- this script was read to the end of the input
   abbrev pub HasRead : (input input' : I) → (script : List ℕ) → Type 0
   HasRead input input' script = Closes gives input MAX_TEXT turns script End input'
@@ -110,18 +111,18 @@ module _ {I O : Type 0} (gives : I → Chunk → I → Type 0) (takes : O → Li
       ⊎ ((fault ≡ Write) × PlaysOut flushes false stage input input' output output')
 
 -- some file took the whole replay of a match that has ended
-abbrev pub IsFiled : {P : Type 0} → (P → List ℕ → Taken → P → Type 0) → Game → Type 0
+abbrev pub IsFiled : {P : Type 0} → (P → List ℕ → WriteAnswer → P → Type 0) → Game → Type 0
 IsFiled {P} files game =
     (state_of game).closed ≡ true → Took files (replay (version_of game.net game.setup) game.net game.setup game.log)
 
 -- where replays were asked for, those of all matches that have ended
-abbrev pub AreFiled : {P : Type 0} → (P → List ℕ → Taken → P → Type 0) → Option (List ℕ) → List Game → Type 0
+abbrev pub AreFiled : {P : Type 0} → (P → List ℕ → WriteAnswer → P → Type 0) → Option (List ℕ) → List Game → Type 0
 AreFiled files None games = Unit {0}
 AreFiled files (Some prefix) games = AllByRecursion (IsFiled files) games
 
 -- what the exit status of a rehearsal says
-pub data Rehearses {P I O : Type 0} (files : P → List ℕ → Taken → P → Type 0) (gives : I → Chunk → I → Type 0)
-    (takes : O → List ℕ → Taken → O → Type 0) (turns : ℕ) (flushes : O → Bool → O → Type 0)
+pub data Rehearses {P I O : Type 0} (files : P → List ℕ → WriteAnswer → P → Type 0) (gives : I → Chunk → I → Type 0)
+    (takes : O → List ℕ → WriteAnswer → O → Type 0) (turns : ℕ) (flushes : O → Bool → O → Type 0)
     (prefix : Option (List ℕ)) (stage : Stage) (input input' : I) (output output' : O) (code : ℕ) : Type 0 where
   -- the whole script was played, all that it sends was passed on, and then the replays were written
   done : (out : PlaysOut gives takes turns flushes true stage input input' output output') → code ≡ DONE

@@ -1,7 +1,7 @@
 -- The rehearsal of a tournament that is named, or of the built-in one.
 use Rattle.std.specs.Prelude.{◌≡◌, ℕ, Bool, List, Option, Some, None}
 use Rattle.bhs_model.specs.declared.limits.TheConstants.{MAX_TURNS}
-use Rattle.bhs_stream.specs.Streams.{Chunk, Taken}
+use Rattle.bhs_stream.specs.Streams.{Chunk, WriteAnswer}
 use Rattle.bhs_lineup.specs.declared.lineups.Lineup.{Lineup}
 use Rattle.bhs_orders.specs.BuiltIn.{built_in}
 use Rattle.bhs_orders.specs.Fault.{status}
@@ -15,8 +15,8 @@ pub record Rests {I O : Type 0} (input input' : I) (output output' : O) : Type 0
   pub unwritten : output' ≡ output
 
 -- the calls of the files that are written, of the input and of the output
-module _ {P I O : Type 0} (files : P → List ℕ → Taken → P → Type 0) (gives : I → Chunk → I → Type 0)
-    (takes : O → List ℕ → Taken → O → Type 0) (flushes : O → Bool → O → Type 0) where
+module _ {P I O : Type 0} (files : P → List ℕ → WriteAnswer → P → Type 0) (gives : I → Chunk → I → Type 0)
+    (takes : O → List ℕ → WriteAnswer → O → Type 0) (flushes : O → Bool → O → Type 0) where
   -- a rehearsal of a tournament that is named, with the prefix of its replays
   pub data RehearsesNamed (prefix : Option (List ℕ)) (input input' : I) (output output' : O) (code : ℕ) : Type 0 where
     -- a tournament that was read from its file and put together is rehearsed

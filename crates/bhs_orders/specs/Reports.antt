@@ -16,7 +16,7 @@ use Rattle.bhs_terminal.specs.Visible.{visible}
 use Rattle.bhs_view.specs.Places.{places_of}
 use Rattle.bhs_view.specs.Twins.{IsTwin, twin_fault}
 use Rattle.bhs_view.specs.declared.twins.TwinFault.{TwinFault}
-use Rattle.bhs_command_line.specs.declared.orders.Entry.{Entry}
+use Rattle.bhs_command_line.specs.declared.orders.TableEntry.{TableEntry}
 use Rattle.bhs_orders.specs.Fault.{status}
 use Rattle.bhs_orders.specs.declared.reporting.faults.Fault.TheVariants.{Twin}
 
@@ -41,20 +41,20 @@ pub record IsJudgement (text : List ℕ) : Type 0 where
 -- ---- the table
 
 -- the row of an entry: its team, and the verdict on a match that some text is the replay of
-pub record IsRow (entry : Entry) (row : Row) : Type 0 where
+pub record IsRow (entry : TableEntry) (row : Row) : Type 0 where
   pub play : Play
   pub replayed : IsReplayed play
   pub team : string_bytes row.team ≡ entry.team
   pub judged : row.verdict ≡ verdict_of play
 
 -- the rows of entries, one of each, in their order
-pub data AreRows : List Entry → List Row → Type 0 where
+pub data AreRows : List TableEntry → List Row → Type 0 where
   no_rows : AreRows [] []
-  one_more : (entries : List Entry) (rows : List Row) (entry : Entry) (row : Row) → AreRows entries rows
+  one_more : (entries : List TableEntry) (rows : List Row) (entry : TableEntry) (row : Row) → AreRows entries rows
       → IsRow entry row → AreRows (entries ++ entry ∷ []) (rows ++ row ∷ [])
 
 -- the text is the table of these entries
-pub record IsTable (entries : List Entry) (text : List ℕ) : Type 0 where
+pub record IsTable (entries : List TableEntry) (text : List ℕ) : Type 0 where
   pub rows : List Row
   pub places : List ℕ
   pub judged : AreRows entries rows

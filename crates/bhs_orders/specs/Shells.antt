@@ -1,15 +1,15 @@
 -- Where the code is in a script that is played as it comes. Only contracts of private functions cite it.
 use Rattle.std.specs.Prelude.{◌≡◌, ◌≢◌, ℕ, Bool, true, false, List, [], ◌++◌}
-use Rattle.bhs_stream.specs.Streams.{Taken}
+use Rattle.bhs_stream.specs.Streams.{WriteAnswer}
 use Rattle.bhs_rehearsal.specs.Stages.{Stage}
 use Rattle.bhs_script.specs.Script.{Meaning, Refused}
-use Rattle.bhs_orders.specs.Interactive.{Answers, Progress, answer, ended, onward}
+use Rattle.bhs_orders.specs.Interactive.{Answers, ScriptProgress, answer, ended, onward}
 use Rattle.bhs_orders.specs.declared.reporting.faults.Fault.{Fault}
 use Rattle.bhs_orders.specs.declared.reporting.faults.Fault.TheVariants.{Line, Write}
 use Rattle.bhs_orders.specs.declared.rehearsals.interactive.Shell.{Shell}
 
 -- where the shell is that has this still to go over
-abbrev pub progress_of : Shell → (after : List ℕ) → Progress
+abbrev pub progress_of : Shell → (after : List ℕ) → ScriptProgress
 progress_of shell after = record {
   stage = shell.rehearsal.stage;
   answered = shell.answered;
@@ -30,9 +30,9 @@ IsRefusal flushes line output output' Write = flushes output false output'
 IsRefusal flushes line output output' fault = ⊥
 
 -- behind the end of the input the last line was answered, and all was passed on
-pub record IsConcluded {O : Type 0} (takes : O → List ℕ → Taken → O → Type 0) (flushes : O → Bool → O → Type 0)
+pub record IsConcluded {O : Type 0} (takes : O → List ℕ → WriteAnswer → O → Type 0) (flushes : O → Bool → O → Type 0)
     (old new : Shell) (output output' : O) : Type 0 where
-  pub progress : Progress
+  pub progress : ScriptProgress
   pub there : O
   pub answers : Answers takes old.games (ended (progress_of old [])) output progress there
   pub all : progress.held ≡ []

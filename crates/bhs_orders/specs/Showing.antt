@@ -1,6 +1,6 @@
 -- Texts that are written to an output and passed on.
 use Rattle.std.specs.Prelude.{◌≡◌, ℕ, Bool, true, false, List}
-use Rattle.bhs_stream.specs.Streams.{Taken}
+use Rattle.bhs_stream.specs.Streams.{WriteAnswer}
 use Rattle.bhs_stream.specs.Sending.{PutsAll, PutsPart}
 use Rattle.bhs_orders.specs.declared.reporting.faults.Fault.{Fault}
 use Rattle.bhs_orders.specs.declared.reporting.faults.Fault.TheVariants.{Write}
@@ -9,10 +9,10 @@ use Rattle.bhs_orders.specs.Fault.{status}
 use Rattle.bhs_orders.specs.Playing.{StopsPlaying}
 
 -- some file took the whole of a text
-abbrev pub Took : {P : Type 0} → (P → List ℕ → Taken → P → Type 0) → (text : List ℕ) → Type 0
+abbrev pub Took : {P : Type 0} → (P → List ℕ → WriteAnswer → P → Type 0) → (text : List ℕ) → Type 0
 Took {P} files text = (old new : P) × PutsAll files old text new
 
-module _ {O : Type 0} (takes : O → List ℕ → Taken → O → Type 0) (flushes : O → Bool → O → Type 0) where
+module _ {O : Type 0} (takes : O → List ℕ → WriteAnswer → O → Type 0) (flushes : O → Bool → O → Type 0) where
   -- all of a text was written, and whether what was held back was passed on
   pub record Shows (text : List ℕ) (is_out : Bool) (output output' : O) : Type 0 where
     pub held : O

@@ -4,7 +4,7 @@ ghost use Rattle.std.specs.Prelude.{◌≡◌, ℕ, Bool, List, [], ◌∷◌, c
 ghost use Rattle.bhs_stream.specs.Streams.{known_gives, known_takes};
 ghost use Rattle.bhs_rehearsal.specs.Stages.{Stage, Instruction};
 ghost use Rattle.bhs_orders.specs.Answered.{HasAnswered, IsTranscribed, Mean, known_flushes};
-ghost use Rattle.bhs_orders.specs.Interactive.{Progress, Interacts};
+ghost use Rattle.bhs_orders.specs.Interactive.{ScriptProgress, Interacts};
 ghost use Rattle.bhs_orders.specs.Turns.{turns_text};
 
 use std::io::{Read, Write};
@@ -13,7 +13,7 @@ use std::io::{Read, Write};
 /// that was read, in order.
 pub fn known_answers<R: Read, W: Write>()
     ensures { (turns : ℕ) (stage : Stage) (input input' : R) (output output' : W) (reads : ℕ) (is_over : Bool)
-        (progress : Progress)
+        (progress : ScriptProgress)
         → Interacts (known_gives R.remaining) (known_takes W.contents) (known_flushes W.contents) turns stage input
         output
         reads is_over progress input' output'

@@ -4,7 +4,7 @@
 mod wire;
 mod words;
 
-use bhs_searcher::{Ended, PlayFault, Player, play};
+use bhs_searcher::{PlayEnd, PlayFault, Player, play};
 use std::alloc::Global;
 use std::io::BufReader;
 use std::net::TcpStream;
@@ -38,7 +38,7 @@ fn started(rt: &HostRuntime, alloc: Global) -> io::Result<u8> {
         }
     };
     match ended {
-        Ok(Ended::Accused | Ended::Over) => Ok(0),
+        Ok(PlayEnd::Accused | PlayEnd::Over) => Ok(0),
         Err(fault) => {
             eprintln!(rt; "bhs_player: {fault}")?;
             Ok(1)
@@ -58,7 +58,7 @@ fn played<R: io::BufRead + Drop, W: io::Write + Drop>(
     reader: R,
     writer: W,
     entrant: &Entrant<'_>,
-) -> Result<Ended, PlayFault> {
+) -> Result<PlayEnd, PlayFault> {
     let player = Player {
         protocol: entrant.protocol,
         nodes: entrant.nodes,

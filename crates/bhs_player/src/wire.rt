@@ -2,7 +2,7 @@
 
 ghost use Rattle.std.specs.Prelude.{⊤};
 
-use bhs_searcher::{Connection, Lost};
+use bhs_searcher::{Lost, ServerConnection};
 use std::alloc::Global;
 use std::io::{BufRead, Write};
 
@@ -14,7 +14,7 @@ pub struct Wire<R, W> {
     pub writer: W,
 }
 
-impl<R: BufRead + Drop, W: Write + Drop> Connection for Wire<R, W> {
+impl<R: BufRead + Drop, W: Write + Drop> ServerConnection for Wire<R, W> {
     // No contract says what a socket takes or gives.
     ghost says = { λ _ _ _. ⊤ };
 

@@ -10,7 +10,7 @@ use Rattle.bhs_lock.specs.declared.settling.Settlement.{Settlement}
 use Rattle.bhs_server.specs.declared.settling.Refused.{Refused}
 use Rattle.bhs_server.specs.Settling.{HaveFared}
 use Rattle.bhs_host.specs.Hosting.{givens_of}
-use Rattle.bhs_stream.specs.Streams.{Taken}
+use Rattle.bhs_stream.specs.Streams.{WriteAnswer}
 use Rattle.bhs_orders.specs.Showing.{Prints, all, part, held_back, Shows}
 use Rattle.bhs_orders.specs.Summary.{IsAssembled}
 use Rattle.bhs_orders.specs.declared.reporting.faults.Fault.TheVariants.{Write, Memory}
@@ -28,7 +28,7 @@ as_many schedule place (ready ∷ matches) dealers (one ∷ settled) (first, oth
     omega (arith, as_many schedule (place + 1) matches (drop 1 dealers) settled others)
 
 -- the line that says that the program listens
-module _ {O : Type 0} (takes : O → List ℕ → Taken → O → Type 0) (flushes : O → Bool → O → Type 0) (port : ℕ)
+module _ {O : Type 0} (takes : O → List ℕ → WriteAnswer → O → Type 0) (flushes : O → Bool → O → Type 0) (port : ℕ)
     (output output' : O) (code : ℕ) where
   shown : (text : List ℕ) → Prints takes flushes text output output' code → code ≡ DONE
       → Shows takes flushes text true output output'
@@ -44,14 +44,14 @@ module _ {O : Type 0} (takes : O → List ℕ → Taken → O → Type 0) (flush
       subst (λ (line : List ℕ). Shows takes flushes line true output output') is (shown (bytes text) printed done)
   heard bytes (Err e) is printed lacks done = absurd (not_done Memory (sym lacks.0 ∙ done))
 
-  unshown : {P : Type 0} (files : P → List ℕ → Taken → P → Type 0) (lineup : Lineup) → IsAssembled lineup
+  unshown : {P : Type 0} (files : P → List ℕ → WriteAnswer → P → Type 0) (lineup : Lineup) → IsAssembled lineup
       → (code ≡ DONE → ⊥) → Prints takes flushes (listening port) output output' code
       → Serves files takes flushes port output output' code
   unshown files lineup made undone (all is shows) = absurd (undone is)
   unshown files lineup made undone (part is puts) = goes_unheard lineup made is (part is puts)
   unshown files lineup made undone (held_back is shows) = goes_unheard lineup made is (held_back is shows)
 
-  pub unheard : {P S E : Type 0} (files : P → List ℕ → Taken → P → Type 0) (bytes : S → List ℕ) (lineup : Lineup)
+  pub unheard : {P S E : Type 0} (files : P → List ℕ → WriteAnswer → P → Type 0) (bytes : S → List ℕ) (lineup : Lineup)
       → IsAssembled lineup → (code ≡ DONE → ⊥) → (made : Result S E) → IfOk made (λ text. bytes text ≡ listening port)
       → IfOk made (λ text. Prints takes flushes (bytes text) output output' code)
       → OnErr made ((code ≡ NO_MEMORY) × (output' ≡ output)) → Serves files takes flushes port output output' code

@@ -7,13 +7,13 @@ use Rattle.bhs_server.specs.declared.settling.Refused.{Refused}
 use Rattle.bhs_lineup.specs.declared.lineups.Lineup.{Lineup}
 use Rattle.bhs_lineup.specs.declared.lineups.Ready.{Ready}
 use Rattle.bhs_time.specs.declared.kinds.ScheduleKind.{ScheduleKind}
-use Rattle.bhs_stream.specs.Streams.{Chunk, Taken}
+use Rattle.bhs_stream.specs.Streams.{Chunk, WriteAnswer}
 use Rattle.bhs_rehearsal.specs.Stages.{Stage}
 use Rattle.bhs_command_line.specs.declared.orders.Order.{Order}
 use Rattle.bhs_command_line.specs.declared.orders.Order.TheVariants as order
 use Rattle.bhs_command_line.specs.declared.orders.Exploration.{Exploration}
-use Rattle.bhs_explore.specs.declared.found.Found.{Found}
-use Rattle.bhs_explore.specs.declared.found.Found.TheVariants as found
+use Rattle.bhs_explore.specs.declared.results.Finding.{Finding}
+use Rattle.bhs_explore.specs.declared.results.Finding.TheVariants as found
 use Rattle.bhs_orders.specs.declared.reporting.faults.Fault.TheVariants.{Write, Memory, Twin, Text}
 use Rattle.bhs_orders.specs.Appeals.{Appeals, upholds, rejects, hears_nothing}
 use Rattle.bhs_orders.specs.ContestTables.{IsTableOf, TablesContest, TablesMatches, tables_contest, tables_found}
@@ -37,7 +37,8 @@ use Rattle.bhs_program.specs.Program.{Does, IsStatus, Obeys, does, lacks_memory}
 use Rattle.bhs_program.specs.Program.{Runs, obeys, helps, refuses_words, lacks_room}
 
 -- the exit status of what was printed
-module _ {O : Type 0} (takes : O → List ℕ → Taken → O → Type 0) (flushes : O → Bool → O → Type 0) (output output' : O)
+module _ {O : Type 0} (takes : O → List ℕ → WriteAnswer → O → Type 0) (flushes : O → Bool → O
+    → Type 0) (output output' : O)
     (code : ℕ) where
   of_print : (text : List ℕ) → Prints takes flushes text output output' code → IsStatus code
   of_print text (all is shows) = inl is
@@ -68,7 +69,7 @@ module _ {O : Type 0} (takes : O → List ℕ → Taken → O → Type 0) (flush
   of_appeal game (hears_nothing fault coded kept) = inr (inr (fault, coded))
 
 -- the exit status of what was found
-of_found : (found : Found) (code : ℕ) → code ≡ found_status found → IsStatus code
+of_found : (found : Finding) (code : ℕ) → code ≡ found_status found → IsStatus code
 of_found (found.Solves bounds) code is = inl is
 of_found (found.Comes verdict schedule) code is = inl is
 of_found (found.Fails verdict schedule) code is = inr (inl (inr is))
@@ -93,7 +94,8 @@ of_all _ _ _ (found_more matches rows code ready found before is) =
     of_either (code == DONE) code (status_in found) (of_all matches rows code before) (of_one ready found is)
 
 -- the exit status of the table of a contest
-module _ {O : Type 0} (takes : O → List ℕ → Taken → O → Type 0) (flushes : O → Bool → O → Type 0) (output output' : O)
+module _ {O : Type 0} (takes : O → List ℕ → WriteAnswer → O → Type 0) (flushes : O → Bool → O
+    → Type 0) (output output' : O)
   where
     of_matches : (matches : List Ready) (code : ℕ) → TablesMatches takes flushes matches output output' code
         → IsStatus code
@@ -106,7 +108,7 @@ module _ {O : Type 0} (takes : O → List ℕ → Taken → O → Type 0) (flush
     of_contest_table code (tables_contest lineup assembled tables) = of_matches lineup.ready.items code tables
     of_contest_table code (tables_nothing fault is kept) = inr (inr (fault, is))
 
-module _ {P O : Type 0} (files : P → List ℕ → Taken → P → Type 0) (takes : O → List ℕ → Taken → O → Type 0)
+module _ {P O : Type 0} (files : P → List ℕ → WriteAnswer → P → Type 0) (takes : O → List ℕ → WriteAnswer → O → Type 0)
     (flushes : O → Bool → O → Type 0) where
   of_files : (schedule : ScheduleKind) (settled : List (Result Settlement Refused)) (code : ℕ)
       → Files files schedule settled code → IsStatus code
@@ -139,8 +141,8 @@ module _ {P O : Type 0} (files : P → List ℕ → Taken → P → Type 0) (tak
       (of_table _ settled output output' ended.printed ended.tables))
   of_host seed schedule matches output output' code (fails fault unbegun is kept) = inr (inr (fault, is))
 
-module _ {P I O : Type 0} (files : P → List ℕ → Taken → P → Type 0) (gives : I → Chunk → I → Type 0)
-    (takes : O → List ℕ → Taken → O → Type 0)
+module _ {P I O : Type 0} (files : P → List ℕ → WriteAnswer → P → Type 0) (gives : I → Chunk → I → Type 0)
+    (takes : O → List ℕ → WriteAnswer → O → Type 0)
     (flushes : O → Bool → O → Type 0) (input input' : I) (output output' : O) (code : ℕ) where
   of_rehearsal : (turns : ℕ) (prefix : Option (List ℕ)) (stage : Stage) → Rehearses files gives takes turns flushes
       prefix stage input input' output output' code → IsStatus code

@@ -1,7 +1,7 @@
 -- What a contest over sockets does to its output and to the files of its replays, call by call.
 use Rattle.std.specs.Prelude.{◌≡◌, ℕ, Bool, true, List, ◌∷◌, ◌++◌, codes, decimal, length, map, Result, Ok, Err}
 use Rattle.std.specs.List.{AllByRecursion}
-use Rattle.bhs_stream.specs.Streams.{Taken}
+use Rattle.bhs_stream.specs.Streams.{WriteAnswer}
 use Rattle.bhs_time.specs.declared.kinds.ScheduleKind.{ScheduleKind}
 use Rattle.bhs_time.specs.declared.kinds.ScheduleKind.TheVariants.{Adaptive, Oblivious}
 use Rattle.bhs_lineup.specs.declared.lineups.Ready.{Ready}
@@ -45,12 +45,12 @@ IsUnbegun faults.Threads = Unit {0}
 IsUnbegun fault = ⊥
 
 -- under the oblivious schedule, the turns of a match's events were written to a file with these calls
-abbrev pub HasTurns : {P : Type 0} → (P → List ℕ → Taken → P → Type 0) → ScheduleKind → (turns : List ℕ) → Type 0
+abbrev pub HasTurns : {P : Type 0} → (P → List ℕ → WriteAnswer → P → Type 0) → ScheduleKind → (turns : List ℕ) → Type 0
 HasTurns files Adaptive turns = Unit {0}
 HasTurns files (Oblivious law) turns = Took files (turns_text turns)
 
 -- if the match settled, its replay, and its turns if it has such, were written to files with these calls
-abbrev pub HasReplay : {P : Type 0} → (P → List ℕ → Taken → P → Type 0) → ScheduleKind → Result Settlement Refused
+abbrev pub HasReplay : {P : Type 0} → (P → List ℕ → WriteAnswer → P → Type 0) → ScheduleKind → Result Settlement Refused
     → Type 0
 HasReplay files schedule (Ok settlement) =
     Took files (replay_of settlement.sealed) × HasTurns files schedule settlement.turns.items
@@ -58,14 +58,14 @@ HasReplay files schedule (Err refused) = Unit {0}
 
 -- What the exit status says of the replays of matches that were to be written to files with these calls, and of their
 -- turns under the oblivious schedule.
-pub data Files {P : Type 0} (files : P → List ℕ → Taken → P → Type 0) (schedule : ScheduleKind)
+pub data Files {P : Type 0} (files : P → List ℕ → WriteAnswer → P → Type 0) (schedule : ScheduleKind)
     (settled : List (Result Settlement Refused)) (code : ℕ) : Type 0 where
   -- each was written
   all_filed : code ≡ DONE → AllByRecursion (HasReplay files schedule) settled → Files files schedule settled code
   -- one was not written
   unfiled_one : (fault : Fault) → code ≡ status fault → Files files schedule settled code
 
-module _ {O : Type 0} (takes : O → List ℕ → Taken → O → Type 0) (flushes : O → Bool → O → Type 0) where
+module _ {O : Type 0} (takes : O → List ℕ → WriteAnswer → O → Type 0) (flushes : O → Bool → O → Type 0) where
   -- what was printed of the matches of these teams
   pub data Tables (teams : List (List ℕ)) (settled : List (Result Settlement Refused)) (output output' : O) (code : ℕ) :
       Type 0 where
@@ -78,7 +78,7 @@ module _ {O : Type 0} (takes : O → List ℕ → Taken → O → Type 0) (flush
         → Tables teams settled output output' code
 
 -- the calls of the files that are written, and of the output
-module _ {P O : Type 0} (files : P → List ℕ → Taken → P → Type 0) (takes : O → List ℕ → Taken → O → Type 0)
+module _ {P O : Type 0} (files : P → List ℕ → WriteAnswer → P → Type 0) (takes : O → List ℕ → WriteAnswer → O → Type 0)
     (flushes : O → Bool → O → Type 0) where
   -- the matches of these teams fared so: replays were to be written, and then a table was to be printed
   pub record Ends (schedule : ScheduleKind) (teams : List (List ℕ)) (settled : List (Result Settlement Refused))

@@ -1,7 +1,7 @@
 -- What the program does with its words: to its input and its output, call by call, and with which exit status.
 use Rattle.std.specs.Prelude.{◌≡◌, ◌⊎◌, ℕ, Bool, IsTrue, List, Some}
 use Rattle.std.specs.List.{list_any}
-use Rattle.bhs_stream.specs.Streams.{Chunk, Taken}
+use Rattle.bhs_stream.specs.Streams.{Chunk, WriteAnswer}
 use Rattle.bhs_command_line.specs.CommandLine.{AreRefused, faults, is_asked, order_in}
 use Rattle.bhs_command_line.specs.declared.orders.Order.{Order}
 use Rattle.bhs_command_line.specs.declared.orders.Order.TheVariants as order
@@ -24,8 +24,8 @@ abbrev pub IsStatus : ℕ → Type 0
 IsStatus code = (code ≡ DONE) ⊎ (((code ≡ REFUSED_WORDS) ⊎ (code ≡ FAILING)) ⊎ IsOfFault code)
 
 -- the calls of the files that are written, of the input and of the output
-module _ {P I O : Type 0} (files : P → List ℕ → Taken → P → Type 0) (gives : I → Chunk → I → Type 0)
-    (takes : O → List ℕ → Taken → O → Type 0) (flushes : O → Bool → O → Type 0) where
+module _ {P I O : Type 0} (files : P → List ℕ → WriteAnswer → P → Type 0) (gives : I → Chunk → I → Type 0)
+    (takes : O → List ℕ → WriteAnswer → O → Type 0) (flushes : O → Bool → O → Type 0) where
   -- a report that is printed at once, and one that is printed line by line
   abbrev pub Tells : (IsReport : List ℕ → Type 0) → (output output' : O) → ℕ → Type 0
   Tells = Reports (Prints takes flushes)

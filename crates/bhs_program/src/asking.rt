@@ -7,7 +7,7 @@ use bhs_script::number_of;
 
 /// What the operator asks for.
 #[derive(Clone, Copy, Debug, PartialEq, Eq)]
-pub(crate) enum Asked {
+pub(crate) enum OperatorRequest {
     /// That all matches be closed.
     CloseAll,
     /// That the match of this number be closed.
@@ -17,24 +17,24 @@ pub(crate) enum Asked {
 }
 
 /// What a line of the operator asks for in a contest of this number of matches, if it asks for something.
-pub(crate) fn asked_in(matches: usize, line: &[u8]) -> Option<Asked>
+pub(crate) fn asked_in(matches: usize, line: &[u8]) -> Option<OperatorRequest>
     ensures { result ≡ asked_in matches line.now }
 {
     if line == b"close".as_slice() {
-        Some(Asked::CloseAll)
+        Some(OperatorRequest::CloseAll)
     } else if line == b"status".as_slice() {
-        Some(Asked::Status)
+        Some(OperatorRequest::Status)
     } else {
         closes(matches, line)
     }
 }
 
-fn closes(matches: usize, line: &[u8]) -> Option<Asked>
+fn closes(matches: usize, line: &[u8]) -> Option<OperatorRequest>
     ensures { result ≡ closes matches line.now }
 {
     let number = number_of(line.strip_prefix(b"close ".as_slice())?)?;
     if (number as usize) < matches {
-        Some(Asked::Close(number))
+        Some(OperatorRequest::Close(number))
     } else {
         None
     }

@@ -12,7 +12,7 @@ use std::time::Duration;
 
 /// What came of standard input.
 #[derive(Clone, Copy, Debug, PartialEq, Eq)]
-pub enum Heard {
+pub enum ConsoleInput {
     /// Nothing yet.
     Nothing,
     /// This many bytes.
@@ -28,7 +28,7 @@ pub trait Console {
     fn has_input(&self) -> bool;
 
     /// Waits for standard input for at most this many milliseconds, and takes what came into `room`.
-    fn hear(&self, room: &mut [u8], longest: u16) -> Heard
+    fn hear(&self, room: &mut [u8], longest: u16) -> ConsoleInput
         ensures { IsHeardIn room.new result };
 }
 
@@ -38,30 +38,30 @@ impl Console for HostRuntime {
         poll(&mut asked, 0) >= 0 && asked[0].revents & POLLNVAL == 0
     }
 
-    fn hear(&self, room: &mut [u8], longest: u16) -> Heard {
+    fn hear(&self, room: &mut [u8], longest: u16) -> ConsoleInput {
         let mut asked = [asked_of_input()];
         if poll(&mut asked, i32::from(longest)) <= 0 {
-            return Heard::Nothing;
+            return ConsoleInput::Nothing;
         }
         if is_for_others() {
             thread::sleep(self, Duration::from_millis(u64::from(longest)));
-            return Heard::Nothing;
+            return ConsoleInput::Nothing;
         }
         match self.stdin().read(room) {
-            Ok(0) => Heard::End,
-            Ok(count) => Heard::Bytes(count),
+            Ok(0) => ConsoleInput::End,
+            Ok(count) => ConsoleInput::Bytes(count),
             Err(error) => after(error.kind()),
         }
     }
 }
 
 // What came of standard input where a read failed.
-fn after(kind: ErrorKind) -> Heard
+fn after(kind: ErrorKind) -> ConsoleInput
     ensures { IsHeardIn [] result }
 {
     match kind {
-        ErrorKind::WouldBlock | ErrorKind::Interrupted => Heard::Nothing,
-        _ => Heard::End,
+        ErrorKind::WouldBlock | ErrorKind::Interrupted => ConsoleInput::Nothing,
+        _ => ConsoleInput::End,
     }
 }
 

@@ -94,7 +94,7 @@ fn table<R: Threads + Sync>(
 
 // Under which name the files of a match are written.
 #[derive(Drop)]
-struct Place<'a> {
+struct ReplayName<'a> {
     prefix: &'a str,
     number: usize,
 }
@@ -114,7 +114,7 @@ fn write_settled<F: Files, E: Write>(
 {
     let mut status = DONE;
     for (number, one) in settled.iter().enumerate() {
-        let place = Place { prefix, number };
+        let place = ReplayName { prefix, number };
         let code = write_one(alloc, files, &place, schedule, one, errors);
         status = first_status(status, code);
     }
@@ -125,7 +125,7 @@ fn write_settled<F: Files, E: Write>(
 fn write_one<F: Files, E: Write>(
     alloc: Global,
     files: &F,
-    place: &Place<'_>,
+    place: &ReplayName<'_>,
     schedule: &ScheduleKind,
     settled: &Settled,
     errors: &mut E,
@@ -145,7 +145,7 @@ fn write_one<F: Files, E: Write>(
 fn write_timed<F: Files, E: Write>(
     alloc: Global,
     files: &F,
-    place: &Place<'_>,
+    place: &ReplayName<'_>,
     schedule: &ScheduleKind,
     turns: &[u32],
     errors: &mut E,

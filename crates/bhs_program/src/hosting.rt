@@ -13,9 +13,9 @@ use crate::log::Log;
 use crate::machines::Machine;
 use crate::manners::Manner;
 use crate::operator::Operator;
-use crate::parts::Parts;
-use crate::recording::{Recorder, Scene};
-use crate::standing::Standings;
+use crate::parts::PartFiles;
+use crate::recording::{Recorder, RunningContest};
+use crate::standing::MatchStatuses;
 use bhs_host::{Hosted, Steady, contest_of};
 use bhs_lineup::Lineup;
 use bhs_lock::Open;
@@ -33,9 +33,9 @@ use std::time::{Clock, Duration};
 
 /// Where a contest is held: the socket on which its agents connect, and the parts of its replays, which it locks.
 #[derive(Drop)]
-pub struct Stage {
+pub struct ContestFiles {
     pub(crate) listener: TcpListener,
-    pub(crate) parts: Parts,
+    pub(crate) parts: PartFiles,
 }
 
 /// Serves a contest to the agents that connect, until all its matches and sessions have ended; no session
@@ -46,7 +46,7 @@ pub struct Stage {
 pub fn host<R: Machine, W: Output, E: Write>(
     alloc: Global,
     rt: &R,
-    stage: &Stage,
+    stage: &ContestFiles,
     lineup: Lineup,
     manner: &Manner<'_>,
     writer: &mut W,
@@ -69,7 +69,7 @@ pub fn host<R: Machine, W: Output, E: Write>(
 fn served<R: Machine>(
     alloc: Global,
     rt: &R,
-    stage: &Stage,
+    stage: &ContestFiles,
     lineup: Lineup,
     manner: &Manner<'_>,
 ) -> Result<Finished, Fault>
@@ -99,7 +99,7 @@ fn served<R: Machine>(
 fn settled<R: Machine>(
     alloc: Global,
     rt: &R,
-    stage: &Stage,
+    stage: &ContestFiles,
     contest: Contest,
     manner: &Manner<'_>,
     teams: &[Text],
@@ -108,14 +108,14 @@ fn settled<R: Machine>(
 {
     let log = started_log(alloc, rt)?;
     let operator = heard_operator(alloc, rt, manner.hears, &log, contest.cells.len())?;
-    let scene = Scene {
+    let scene = RunningContest {
         is_reporting: manner.log,
         turns: manner.turns,
         teams,
         log: &log,
         operator: &operator,
     };
-    let standings = Standings::new(alloc, &contest.cells)?;
+    let standings = MatchStatuses::new(alloc, &contest.cells)?;
     let recorder = Recorder::new(rt, alloc, scene, standings, &stage.parts);
     let pace = Steady::new(rt, operator.progress(), manner.turns, manner.pause);
     let limits = Limits {

@@ -22,12 +22,12 @@ mod serving;
 mod standing;
 mod words;
 
-pub use console::{Console, Heard};
-pub use hosting::{Stage, host};
+pub use console::{Console, ConsoleInput};
+pub use hosting::{ContestFiles, host};
 pub use keeping::Keep;
 pub use log::Log;
 pub use machines::Machine;
 pub use manners::{Manner, manner_of};
 pub use orders::run;
-pub use parts::Parts;
+pub use parts::PartFiles;
 pub use words::words_of;

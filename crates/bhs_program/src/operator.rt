@@ -1,8 +1,8 @@
 //! The operator of a contest, who closes matches and asks how they stand, by lines on standard input. A thread of its
 //! own hears them, and nothing waits for it.
 
-use crate::asking::{Asked, asked_in};
-use crate::console::{Console, Heard};
+use crate::asking::{OperatorRequest, asked_in};
+use crate::console::{Console, ConsoleInput};
 use crate::log::Log;
 use crate::log_lines::{all_closing_line, closing_line};
 use bhs_host::Progress;
@@ -78,9 +78,9 @@ impl Operator {
         let mut room = [0; ROOM];
         for _ in rt.forever() {
             match rt.hear(&mut room, EVERY) {
-                Heard::End => return,
-                Heard::Nothing => {}
-                Heard::Bytes(count) => {
+                ConsoleInput::End => return,
+                ConsoleInput::Nothing => {}
+                ConsoleInput::Bytes(count) => {
                     for byte in &room[..count] {
                         self.take(rt, alloc, log, &mut line, *byte);
                     }
@@ -114,17 +114,17 @@ impl Operator {
             return;
         }
         match asked_in(self.matches, line) {
-            Some(Asked::CloseAll) => {
+            Some(OperatorRequest::CloseAll) => {
                 if self.progress.call_all_off(rt) {
                     log.report(rt, all_closing_line(alloc));
                 }
             }
-            Some(Asked::Close(game)) => {
+            Some(OperatorRequest::Close(game)) => {
                 if self.progress.call_off(rt, game) {
                     log.report(rt, closing_line(alloc, game));
                 }
             }
-            Some(Asked::Status) => self.asks.lock(rt).status = true,
+            Some(OperatorRequest::Status) => self.asks.lock(rt).status = true,
             None => {
                 let mut asks = self.asks.lock(rt);
                 asks.unknown = asks.unknown.saturating_add(1);

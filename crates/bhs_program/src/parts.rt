@@ -30,7 +30,7 @@ use std::time::Clock;
 /// The parts of the matches of a contest, by their numbers. Each is locked until the contest has ended, under both its
 /// names, so that no other server puts it aside, whatever its prefix is.
 #[derive(Drop)]
-pub struct Parts {
+pub struct PartFiles {
     /// Only the thread that looks at the matches takes this lock, so nobody waits for the disk.
     all: Mutex<Vec<Part>>,
 }
@@ -46,7 +46,7 @@ struct Part {
     turns: Option<LineFile>,
     /// Whether it could not be written on when that was tried last.
     has_failed: bool,
-    state: State,
+    state: PartState,
 }
 
 // The names of the files of a match.
@@ -60,7 +60,7 @@ struct Names {
 
 // How far the part of a match is on its way to be the replay.
 #[derive(Clone, Copy, Debug, PartialEq, Eq)]
-enum State {
+enum PartState {
     /// More events may come.
     GoesOn,
     /// It has the close, and lacks the end line.
@@ -82,7 +82,7 @@ pub(crate) fn begin_parts<R: Files + Keep, E: Write>(
     prefix: &str,
     lineup: &Lineup,
     errors: &mut E,
-) -> Result<Parts, u8>
+) -> Result<PartFiles, u8>
     ensures { IfErr result IsOfFault }
 {
     for number in 0..lineup.ready.len() {
@@ -102,7 +102,7 @@ pub(crate) fn begin_parts<R: Files + Keep, E: Write>(
             return Err(report(prefix, Fault::Memory, errors));
         }
     }
-    Ok(Parts {
+    Ok(PartFiles {
         all: Mutex::new(all),
     })
 }
@@ -166,11 +166,11 @@ fn begun<R: Files + Keep>(
         events,
         turns,
         has_failed: false,
-        state: State::GoesOn,
+        state: PartState::GoesOn,
     })
 }
 
-impl Parts {
+impl PartFiles {
     /// Writes what the matches have newly kept to their parts, first its turns. The matches take turns, so that none
     /// waits for one that has much. The part of a match that is closed becomes the replay.
     pub(crate) fn write_on<R: Keep + Wait + Clock>(
@@ -268,7 +268,7 @@ impl Part {
         let lines = lines_of(alloc, &found)?;
         self.events.append(lines.as_bytes(), found.len())?;
         if found.iter().any(|one| is_close(&one.event)) {
-            self.state = State::IsClosed;
+            self.state = PartState::IsClosed;
         }
         Ok(found.len())
     }
@@ -276,7 +276,7 @@ impl Part {
     // The part of a match that is closed gets its end line and the name of the replay, once its turns have theirs. If
     // that fails it is reported, once, and tried again at the next look.
     fn end<R: Keep + Wait + Clock>(&mut self, rt: &R, alloc: Global, log: &Log) {
-        if self.state == State::GoesOn || self.state == State::IsNamed {
+        if self.state == PartState::GoesOn || self.state == PartState::IsNamed {
             return;
         }
         match self.named(rt, alloc) {
@@ -286,12 +286,12 @@ impl Part {
     }
 
     fn named<R: Keep>(&mut self, rt: &R, alloc: Global) -> Result<(), Fault> {
-        if self.state == State::IsClosed {
+        if self.state == PartState::IsClosed {
             let line = full_end_line(alloc, self.events.events())?;
             self.events.append(line.as_bytes(), 0)?;
-            self.state = State::IsWhole;
+            self.state = PartState::IsWhole;
         }
-        if self.state == State::IsWhole {
+        if self.state == PartState::IsWhole {
             if self.turns.is_some() {
                 rt.rename(
                     alloc,
@@ -299,10 +299,10 @@ impl Part {
                     self.names.turns.as_str(),
                 )?;
             }
-            self.state = State::IsTimed;
+            self.state = PartState::IsTimed;
         }
         rt.rename(alloc, self.names.part.as_str(), self.names.replay.as_str())?;
-        self.state = State::IsNamed;
+        self.state = PartState::IsNamed;
         Ok(())
     }
 
@@ -311,8 +311,8 @@ impl Part {
     fn make_way<R: Keep>(&mut self, rt: &R, alloc: Global, has_settled: bool) {
         let replay = self.names.replay.as_str();
         let turns = self.names.turns.as_str();
-        let is_timed = self.state == State::IsTimed || self.state == State::IsNamed;
-        if self.state == State::IsNamed && !has_settled {
+        let is_timed = self.state == PartState::IsTimed || self.state == PartState::IsNamed;
+        if self.state == PartState::IsNamed && !has_settled {
             let _ = rt.rename(alloc, replay, self.names.part.as_str());
         }
         if is_timed && self.turns.is_some() && !has_settled {

@@ -9,8 +9,8 @@ use crate::log_lines::{
     unplayed_line,
 };
 use crate::operator::Operator;
-use crate::parts::Parts;
-use crate::standing::{Standing, Standings};
+use crate::parts::PartFiles;
+use crate::standing::{MatchStatus, MatchStatuses};
 use bhs_host::table_by;
 use bhs_lock::Cell;
 use bhs_model::Text;
@@ -34,7 +34,7 @@ const COUNTED: u32 = 20;
 
 /// What is known of a contest while it goes on, and to whom it is reported.
 #[derive(Clone, Copy, Drop)]
-pub(crate) struct Scene<'a> {
+pub(crate) struct RunningContest<'a> {
     /// Whether it is reported what happens. What cannot be written, and what the operator asks for, is reported anyway.
     pub(crate) is_reporting: bool,
     /// How many turns a match takes at most.
@@ -50,15 +50,15 @@ pub(crate) struct Scene<'a> {
 pub(crate) struct Recorder<'a, R> {
     rt: &'a R,
     alloc: Global,
-    scene: Scene<'a>,
-    standings: Standings,
-    parts: &'a Parts,
-    going: Mutex<Going>,
+    scene: RunningContest<'a>,
+    standings: MatchStatuses,
+    parts: &'a PartFiles,
+    going: Mutex<RecorderState>,
 }
 
 // What goes on.
 #[derive(Clone, Copy)]
-struct Going {
+struct RecorderState {
     /// How many sessions go on whose agents have entered.
     sessions: u32,
     /// How many looks there were since it was reported how far the matches are.
@@ -73,9 +73,9 @@ impl<'a, R> Recorder<'a, R> {
     pub(crate) fn new(
         rt: &'a R,
         alloc: Global,
-        scene: Scene<'a>,
-        standings: Standings,
-        parts: &'a Parts,
+        scene: RunningContest<'a>,
+        standings: MatchStatuses,
+        parts: &'a PartFiles,
     ) -> Recorder<'a, R> {
         Recorder {
             rt,
@@ -83,7 +83,7 @@ impl<'a, R> Recorder<'a, R> {
             scene,
             standings,
             parts,
-            going: Mutex::new(Going {
+            going: Mutex::new(RecorderState {
                 sessions: 0,
                 looks: 0,
                 came: 0,
@@ -137,7 +137,7 @@ impl<R: Keep + Wait + Clock> Recorder<'_, R> {
     }
 
     // Tells how far a match is whose part has this number of events, and who has not entered.
-    fn report_match(&self, game: usize, events: usize, standing: &Standing) {
+    fn report_match(&self, game: usize, events: usize, standing: &MatchStatus) {
         let log = self.scene.log;
         let team = self.team(game);
         log.report(
@@ -194,7 +194,7 @@ impl<R: Keep + Wait + Clock> Recorder<'_, R> {
     }
 
     // Counts a look: what went on before it.
-    fn counted(&self) -> Going {
+    fn counted(&self) -> RecorderState {
         let mut going = self.going.lock(self.rt);
         going.looks = going.looks.saturating_add(1);
         let counted = *going;

@@ -5,10 +5,10 @@ ghost use Rattle.bhs_stream.specs.Streams.{known_takes};
 ghost use Rattle.bhs_orders.specs.Fault.{IsOfFault};
 ghost use Rattle.bhs_program.specs.Contests.{Serves, listening};
 
-use crate::hosting::{Stage, host};
+use crate::hosting::{ContestFiles, host};
 use crate::machines::Machine;
 use crate::manners::manner_of;
-use crate::parts::{Parts, begin_parts};
+use crate::parts::{PartFiles, begin_parts};
 use bhs_command_line::Hosting;
 use bhs_lineup::{Lineup, Ready};
 use bhs_net::Memory;
@@ -56,7 +56,7 @@ pub(crate) fn serve_named<
     if status != DONE {
         return status;
     }
-    let stage = Stage { listener, parts };
+    let stage = ContestFiles { listener, parts };
     host(alloc, rt, &stage, lineup, &manner, writer, errors)
 }
 
@@ -82,7 +82,7 @@ fn begun<R: Machine, E: Write>(
     prefix: &str,
     lineup: &Lineup,
     errors: &mut E,
-) -> Result<Parts, u8>
+) -> Result<PartFiles, u8>
     ensures { IfErr result IsOfFault }
 {
     if !can_start(rt, lineup.ready.len().saturating_add(OTHERS)) {

@@ -9,7 +9,7 @@ use std::sync::{Mutex, Wait};
 
 /// What is known of a match beside its events.
 #[derive(Clone, Drop)]
-pub(crate) struct Standing {
+pub(crate) struct MatchStatus {
     /// The agents that have not entered, in order.
     pub(crate) missing: Vec<u16>,
     /// After how many turns it was closed; None while it is open.
@@ -18,24 +18,24 @@ pub(crate) struct Standing {
 
 /// What is known of the matches of a contest, by their numbers.
 #[derive(Drop)]
-pub(crate) struct Standings {
-    all: Mutex<Vec<Standing>>,
+pub(crate) struct MatchStatuses {
+    all: Mutex<Vec<MatchStatus>>,
     /// The verdicts on those that are closed.
     verdicts: Showcase,
 }
 
-impl Standings {
+impl MatchStatuses {
     /// Of matches that are open, none of whose agents has entered.
-    pub(crate) fn new(alloc: Global, cells: &[Cell]) -> Result<Standings, Memory> {
+    pub(crate) fn new(alloc: Global, cells: &[Cell]) -> Result<MatchStatuses, Memory> {
         let mut all = Vec::with_capacity(alloc, cells.len())?;
         for cell in cells {
-            all.push(Standing {
+            all.push(MatchStatus {
                 missing: agents_of(alloc, cell)?,
                 closed: None,
             })?;
         }
         let games = u32::try_from(cells.len()).unwrap_or(u32::MAX);
-        Ok(Standings {
+        Ok(MatchStatuses {
             all: Mutex::new(all),
             verdicts: Showcase::new(alloc, games)?,
         })
@@ -69,7 +69,7 @@ impl Standings {
     }
 
     /// A copy of what is known now.
-    pub(crate) fn copied<R: Wait>(&self, rt: &R) -> Result<Vec<Standing>, Memory> {
+    pub(crate) fn copied<R: Wait>(&self, rt: &R) -> Result<Vec<MatchStatus>, Memory> {
         self.all.lock(rt).clone()
     }
 }

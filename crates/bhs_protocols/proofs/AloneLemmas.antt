@@ -19,15 +19,16 @@ use Rattle.bhs_referee.specs.declared.verdicts.Verdict.{Verdict}
 use Rattle.bhs_referee.specs.Findings.{accused_by}
 use Rattle.bhs_referee.specs.Verdicts.{passes, accuses, is_over_dark, is_right, is_silent, is_unfinished, is_unreached}
 use Rattle.bhs_referee.specs.Verdicts.{first_unreached, guess_or_solved, is_hole_accused}
-use Rattle.bhs_explore.specs.declared.minds.Step.{Step}
-use Rattle.bhs_explore.specs.declared.minds.Step.TheVariants.{Says, Sleeps}
-use Rattle.bhs_explore.specs.Minds.{Minds}
-use Rattle.bhs_explore.specs.Schedules.{Trial, Makes, Wakes, Rests, deed_at, is_move, under, verdict, IsAtRest}
+use Rattle.bhs_explore.specs.declared.answers.Step.{Step}
+use Rattle.bhs_explore.specs.declared.answers.Step.TheVariants.{Says, Sleeps}
+use Rattle.bhs_explore.specs.Strategies.{Strategies}
+use Rattle.bhs_explore.specs.Schedules.{Trial, Makes, Wakes, Rests, action_at, is_move, under, verdict, IsAtRest}
 use Rattle.bhs_explore.proofs.Turns.{verdict_is}
-use Rattle.bhs_protocols.specs.Pictures.{Picture, picture_of, blank, deed_in, can_move_in, answer_at, is_heard, told_at}
-use Rattle.bhs_protocols.specs.Pictures.{refused_in, woken_in, done_in, turn_in, turns_in, found_in, outcome_in}
+use Rattle.bhs_protocols.specs.Configurations.{Configuration, configuration_of, blank, deed_in, can_move_in, answer_at}
+use Rattle.bhs_protocols.specs.Configurations.{is_heard, told_at}
+use Rattle.bhs_protocols.specs.Configurations.{refused_in, woken_in, done_in, turn_in, turns_in, found_in, outcome_in}
 use Rattle.bhs_protocols.specs.Alone.{alone, HasThree, FailsSomewhere, OneAloneFails}
-use Rattle.bhs_protocols.proofs.PictureLemmas.{pictures_follow}
+use Rattle.bhs_protocols.proofs.ConfigurationLemmas.{configurations_follow}
 use Rattle.bhs_protocols.proofs.LastWordLemmas.{accused_write}
 
 -- ---- what is not solved
@@ -50,18 +51,20 @@ find_some test start (suc count) node after before passes_it none = by_cases (te
     (sym (cond-false _ _ _ not_here) ∙ none))
 
 -- a match with one black hole is not if another node was not reached
-pub unreached_unsolved : (world : World) (hole node : ℕ) (picture : Picture) → node < world.net.nodes
-    → node ≢ world.home → hole ≢ node → picture.reached node ≡ false
-    → outcome_in (record world { holes = hole ∷ []; dark = [] }) picture ≢ Solved
-unreached_unsolved world hole node picture below not_home apart never =
+pub unreached_unsolved : (world : World) (hole node : ℕ) (configuration : Configuration) → node < world.net.nodes
+    → node ≢ world.home → hole ≢ node → configuration.reached node ≡ false
+    → outcome_in (record world { holes = hole ∷ []; dark = [] }) configuration ≢ Solved
+unreached_unsolved world hole node configuration below not_home apart never =
     let w : World = record world { holes = hole ∷ []; dark = [] } in
-    let lonely : is_unreached w (found_in picture) node ≡ true =
+    let lonely : is_unreached w (found_in configuration) node ≡ true =
     (λ i. not (ne_eqb node world.home not_home i) && (not (ne_eqb hole node apart i || false) && not (never i))) in
-    unsolved_by (accuses w (found_in picture) (λ link. not (is_right w link))) (is_silent w (found_in picture))
-    (is_unfinished w picture.position) (accuses w (found_in picture) (λ link. not (is_over_dark w link)))
-    (first_unreached w (found_in picture))
-    (spoken (accuses w (found_in picture) (λ link. true)) (not (is_hole_accused w (found_in picture) hole)))
-    (find_some (is_unreached w (found_in picture)) 0 world.net.nodes node (omega arith) (omega (arith, below)) lonely)
+    unsolved_by (accuses w (found_in configuration) (λ link. not (is_right w link))) (is_silent w
+    (found_in configuration))
+    (is_unfinished w configuration.position) (accuses w (found_in configuration) (λ link. not (is_over_dark w link)))
+    (first_unreached w (found_in configuration))
+    (spoken (accuses w (found_in configuration) (λ link. true)) (not (is_hole_accused w (found_in configuration) hole)))
+    (find_some (is_unreached w (found_in configuration)) 0 world.net.nodes node (omega arith) (omega
+    (arith, below)) lonely)
   where
     spoken : (a b : Bool) → (not a || (b || false) || false) ≡ false → a ≡ true
     spoken true b h = refl
@@ -108,9 +111,9 @@ third one two = elim (eqb_tells 0 one) [
   ]
 ]
 
-module _ (world : World) (naps : ℕ) (minds : Minds) where
+module _ (world : World) (wakeups : ℕ) (strategies : Strategies) where
   abbrev trial : (hole : ℕ) → Trial
-  trial hole = alone world naps minds hole
+  trial hole = alone world wakeups strategies hole
 
   -- the agent has not entered, is at the home base, or has ended
   abbrev IsNear : Position → Type 0
@@ -133,14 +136,14 @@ module _ (world : World) (naps : ℕ) (minds : Minds) where
   abbrev IsNext : Position → Option (ℕ × ℕ) → Type 0
   IsNext position accused = (IsNear position × IsHonest position accused) ⊎ (IsLeaving position × (accused ≡ None))
 
-  record IsQuiet (picture : Picture) : Type 0 where
-    near : IsNear (picture.position 0)
-    honest : IsHonest (picture.position 0) (picture.accused 0)
-    unreached : (node : ℕ) → picture.reached node ≡ false
+  record IsQuiet (configuration : Configuration) : Type 0 where
+    near : IsNear (configuration.position 0)
+    honest : IsHonest (configuration.position 0) (configuration.accused 0)
+    unreached : (node : ℕ) → configuration.reached node ≡ false
 
-  record IsGoing (picture : Picture) : Type 0 where
-    leaves : IsLeaving (picture.position 0)
-    honest : picture.accused 0 ≡ None
+  record IsGoing (configuration : Configuration) : Type 0 where
+    leaves : IsLeaving (configuration.position 0)
+    honest : configuration.accused 0 ≡ None
 
   -- the world, but for where the black hole is
   abbrev some_world : World
@@ -190,16 +193,16 @@ module _ (world : World) (naps : ℕ) (minds : Minds) where
 
   -- ---- a turn while nobody has arrived anywhere: it makes the same of all worlds
 
-  record Next (picture : Picture) (agent : ℕ) : Type 0 where
-    after : Picture
-    same : (hole : ℕ) → turn_in (trial hole) picture agent ≡ after
+  record Next (configuration : Configuration) (agent : ℕ) : Type 0 where
+    after : Configuration
+    same : (hole : ℕ) → turn_in (trial hole) configuration agent ≡ after
     leads_to : IsQuiet after ⊎ IsGoing after
 
-  module _ (picture : Picture) (quiet : IsQuiet picture) where
-    stays : (agent : ℕ) → ((hole : ℕ) → deed_in (trial hole) picture agent ≡ Rests) → Next picture agent
+  module _ (configuration : Configuration) (quiet : IsQuiet configuration) where
+    stays : (agent : ℕ) → ((hole : ℕ) → deed_in (trial hole) configuration agent ≡ Rests) → Next configuration agent
     stays agent rests = record {
-      after = picture;
-      same = λ hole. ap (done_in (trial hole) picture agent) (rests hole);
+      after = configuration;
+      same = λ hole. ap (done_in (trial hole) configuration agent) (rests hole);
       leads_to = inl quiet;
     }
 
@@ -207,81 +210,97 @@ module _ (world : World) (naps : ℕ) (minds : Minds) where
     beyond k = by_cases (nat_lt (suc k) 1) (nat_lt (suc k) 1 ≡ false)
         (λ yes. let below : suc k < 1 = ltb-true (suc k) 1 yes in absurd (omega (arith, below))) (λ none. none)
 
-    wakes : ((hole : ℕ) → deed_in (trial hole) picture 0 ≡ Wakes) → Next picture 0
+    wakes : ((hole : ℕ) → deed_in (trial hole) configuration 0 ≡ Wakes) → Next configuration 0
     wakes it = record {
-      after = woken_in picture 0;
-      same = λ hole. ap (done_in (trial hole) picture 0) (it hole);
+      after = woken_in configuration 0;
+      same = λ hole. ap (done_in (trial hole) configuration 0) (it hole);
       leads_to = inl (record { near = quiet.near; honest = quiet.honest; unreached = quiet.unreached });
     }
 
-    says : (place : Position) (command : Command) → picture.position 0 ≡ place → IsTalking place
-        → IsHonest place (picture.accused 0)
-        → ((hole : ℕ) → deed_in (trial hole) picture 0 ≡ Makes (Tell 0 command)) → Next picture 0
-    says place command at talking honest it = by_cases (is_heard some_world picture 0 command) (Next picture 0)
+    says : (place : Position) (command : Command) → configuration.position 0 ≡ place → IsTalking place
+        → IsHonest place (configuration.accused 0)
+        → ((hole : ℕ) → deed_in (trial hole) configuration 0 ≡ Makes (Tell 0 command)) → Next configuration 0
+    says place command at talking honest it =
+        by_cases (is_heard some_world configuration 0 command) (Next configuration 0)
         (λ yes. record {
-          after = told_at some_world picture 0 place command;
-          same = λ hole. ap (done_in (trial hole) picture 0) (it hole) ∙ cond-true _ _ _ yes
-              ∙ ap (λ (p : Position). told_at some_world picture 0 p command) at;
-          leads_to = elim (next_place place command picture.shown (picture.accused 0) talking honest) [
+          after = told_at some_world configuration 0 place command;
+          same = λ hole. ap (done_in (trial hole) configuration 0) (it hole) ∙ cond-true _ _ _ yes
+              ∙ ap (λ (p : Position). told_at some_world configuration 0 p command) at;
+          leads_to = elim (next_place place command configuration.shown (configuration.accused 0) talking honest) [
             | inl h ↦ inl (record { near = h.0; honest = h.1; unreached = quiet.unreached })
             | inr h ↦ inr (record { leaves = h.0; honest = h.1 })
           ];
         })
         (λ none. record {
-          after = refused_in picture 0 command;
-          same = λ hole. ap (done_in (trial hole) picture 0) (it hole) ∙ cond-false _ _ _ none;
+          after = refused_in configuration 0 command;
+          same = λ hole. ap (done_in (trial hole) configuration 0) (it hole) ∙ cond-false _ _ _ none;
           leads_to = inl (record { near = quiet.near; honest = quiet.honest; unreached = quiet.unreached });
         })
 
-    by_step : (place : Position) (step : Step) → picture.position 0 ≡ place → IsTalking place
-        → IsHonest place (picture.accused 0)
-        → ((hole : ℕ) → deed_in (trial hole) picture 0 ≡ deed_at none_held naps place (picture.woken 0) step 0)
-        → Next picture 0
+    by_step : (place : Position) (step : Step) → configuration.position 0 ≡ place → IsTalking place
+        → IsHonest place (configuration.accused 0)
+        → ((hole : ℕ) → deed_in (trial hole) configuration 0
+        ≡ action_at none_held wakeups place (configuration.woken 0) step 0)
+        → Next configuration 0
     by_step Before (Says command) at talking honest it = says Before command at talking honest it
-    by_step Before Sleeps at talking honest it = by_cases (nat_lt naps (picture.woken 0)) (Next picture 0)
+    by_step Before Sleeps at talking honest it =
+        by_cases (nat_lt wakeups (configuration.woken 0)) (Next configuration 0)
         (λ yes. stays 0 (λ hole. it hole ∙ cond-true _ _ _ yes))
         (λ none. wakes (λ hole. it hole ∙ cond-false _ _ _ none))
     by_step (At node came) (Says command) at talking honest it = says (At node came) command at talking honest it
-    by_step (At node came) Sleeps at talking honest it = by_cases (nat_lt naps (picture.woken 0)) (Next picture 0)
+    by_step (At node came) Sleeps at talking honest it =
+        by_cases (nat_lt wakeups (configuration.woken 0)) (Next configuration 0)
         (λ yes. stays 0 (λ hole. it hole ∙ cond-true _ _ _ yes))
         (λ none. wakes (λ hole. it hole ∙ cond-false _ _ _ none))
     by_step (Bound node port) step at talking honest it = absurd talking
     by_step After step at talking honest it = absurd talking
     by_step place step at talking honest it = stays 0 it
 
-    by_place : (place : Position) → picture.position 0 ≡ place → IsNear place → IsHonest place (picture.accused 0)
-        → Next picture 0
-    by_place Before at near honest = by_step Before (minds 0 (picture.history 0)) at near honest
-        (λ hole i. deed_at none_held naps (at i) (picture.woken 0) (minds 0 (picture.history 0)) 0)
-    by_place (At node came) at near honest = by_step (At node came) (minds 0 (picture.history 0)) at near honest
-        (λ hole i. deed_at none_held naps (at i) (picture.woken 0) (minds 0 (picture.history 0)) 0)
+    by_place : (place : Position) → configuration.position 0 ≡ place → IsNear place
+        → IsHonest place (configuration.accused 0)
+        → Next configuration 0
+    by_place Before at near honest = by_step Before (strategies 0 (configuration.history 0)) at near honest
+        (λ hole i. action_at none_held wakeups (at i) (configuration.woken 0) (strategies 0
+        (configuration.history 0)) 0)
+    by_place (At node came) at near honest =
+        by_step (At node came) (strategies 0 (configuration.history 0)) at near honest
+        (λ hole i. action_at none_held wakeups (at i) (configuration.woken 0) (strategies 0
+        (configuration.history 0)) 0)
     by_place (Bound node port) at near honest = absurd near
     by_place After at near honest = stays 0
-        (λ hole i. deed_at none_held naps (at i) (picture.woken 0) (minds 0 (picture.history 0)) 0)
+        (λ hole i. action_at none_held wakeups (at i) (configuration.woken 0) (strategies 0
+        (configuration.history 0)) 0)
 
-    next : (agent : ℕ) → Next picture agent
-    next zero = by_place (picture.position 0) refl quiet.near quiet.honest
+    next : (agent : ℕ) → Next configuration agent
+    next zero = by_place (configuration.position 0) refl quiet.near quiet.honest
     next (suc k) = stays (suc k) (λ hole. cond-false _ _ _ (beyond k))
 
   -- ---- a schedule: either all of it, or as far as the agent leaves the home base
 
-  record Run (picture : Picture) (schedule : List ℕ) : Type 0 where
+  record Run (configuration : Configuration) (schedule : List ℕ) : Type 0 where
     first : List ℕ
-    after : Picture
-    same : (hole : ℕ) → turns_in (trial hole) picture first ≡ after
+    after : Configuration
+    same : (hole : ℕ) → turns_in (trial hole) configuration first ≡ after
     leads_to : (IsQuiet after × (first ≡ schedule)) ⊎ IsGoing after
 
-  run : (schedule : List ℕ) (picture : Picture) → IsQuiet picture → Run picture schedule
-  run [] picture quiet = record { first = []; after = picture; same = λ hole. refl; leads_to = inl (quiet, refl) }
-  run (agent ∷ schedule) picture quiet =
-      let it : Next picture agent = next picture quiet agent in
+  run : (schedule : List ℕ) (configuration : Configuration) → IsQuiet configuration → Run configuration schedule
+  run [] configuration quiet = record {
+    first = [];
+    after = configuration;
+    same = λ hole. refl;
+    leads_to =
+        inl (quiet, refl);
+  }
+  run (agent ∷ schedule) configuration quiet =
+      let it : Next configuration agent = next configuration quiet agent in
       elim it.leads_to [
         | inl h ↦
             let rest : Run it.after schedule = run schedule it.after h in
             record {
               first = agent ∷ rest.first;
               after = rest.after;
-              same = λ hole. ap (λ (p : Picture). turns_in (trial hole) p rest.first) (it.same hole) ∙ rest.same hole;
+              same = λ hole. ap (λ (p : Configuration). turns_in (trial hole) p rest.first) (it.same hole)
+                  ∙ rest.same hole;
               leads_to = elim rest.leads_to [
                 | inl q ↦ inl (q.0, ap (λ (xs : List ℕ). agent ∷ xs) q.1)
                 | inr g ↦ inr g
@@ -292,53 +311,57 @@ module _ (world : World) (naps : ℕ) (minds : Minds) where
 
   -- ---- it has not solved
 
-  quiet_unsolved : (hole : ℕ) (picture : Picture) → HasThree world → IsQuiet picture
-      → outcome_in (trial hole).world picture ≢ Solved
-  quiet_unsolved hole picture has quiet =
+  quiet_unsolved : (hole : ℕ) (configuration : Configuration) → HasThree world → IsQuiet configuration
+      → outcome_in (trial hole).world configuration ≢ Solved
+  quiet_unsolved hole configuration has quiet =
       let it : IsThird world.home hole = third world.home hole in
       let three : 3 ≤ world.net.nodes = has.three in
-      unreached_unsolved (trial hole).world hole it.it picture (omega (arith, it.small, three)) it.first
+      unreached_unsolved (trial hole).world hole it.it configuration (omega (arith, it.small, three)) it.first
       (λ h. it.second (sym h)) (quiet.unreached it.it)
 
-  going_unsolved : (hole : ℕ) (picture : Picture) → IsGoing picture → outcome_in (trial hole).world picture ≢ Solved
-  going_unsolved hole picture going =
+  going_unsolved : (hole : ℕ) (configuration : Configuration) → IsGoing configuration
+      → outcome_in (trial hole).world configuration ≢ Solved
+  going_unsolved hole configuration going =
       let w : World = (trial hole).world in
-      silent_unsolved (accuses w (found_in picture) (λ link. not (is_right w link))) (is_silent w (found_in picture)) _
+      silent_unsolved (accuses w (found_in configuration) (λ link. not (is_right w link))) (is_silent w
+      (found_in configuration)) _
       (ap (λ (a : Option (ℕ × ℕ)). not (passes (λ link. true) a || false)
-      || (not (is_hole_accused w (found_in picture) hole) || false) || false) going.honest)
+      || (not (is_hole_accused w (found_in configuration) hole) || false) || false) going.honest)
 
   -- ---- so there is a black hole with which it fails
 
   outcome_is : (hole : ℕ) (schedule : List ℕ)
       → (verdict (trial hole) (under (trial hole) schedule)).outcome
-      ≡ outcome_in (trial hole).world (picture_of (trial hole) (under (trial hole) schedule))
+      ≡ outcome_in (trial hole).world (configuration_of (trial hole) (under (trial hole) schedule))
   outcome_is hole schedule = ap (λ (v : Verdict). v.outcome) (verdict_is (trial hole) (under (trial hole) schedule))
 
   blank_quiet : IsQuiet blank
   blank_quiet = record { near = tt; honest = refl; unreached = λ node. refl }
 
-  same_picture : (hole : ℕ) (schedule : List ℕ) (after : Picture) → turns_in (trial hole) blank schedule ≡ after
-      → picture_of (trial hole) (under (trial hole) schedule) ≡ after
-  same_picture hole schedule after same = pictures_follow (trial hole) schedule ∙ same
+  same_configuration : (hole : ℕ) (schedule : List ℕ) (after : Configuration)
+      → turns_in (trial hole) blank schedule ≡ after
+      → configuration_of (trial hole) (under (trial hole) schedule) ≡ after
+  same_configuration hole schedule after same = configurations_follow (trial hole) schedule ∙ same
 
-  stuck : (picture : Picture) (going : IsGoing picture) (agent : ℕ)
-      → can_move_in (trial (world.net.far world.home going.leaves.port).0) picture agent ≡ false
-  stuck picture going zero =
+  stuck : (configuration : Configuration) (going : IsGoing configuration) (agent : ℕ)
+      → can_move_in (trial (world.net.far world.home going.leaves.port).0) configuration agent ≡ false
+  stuck configuration going zero =
       let port : ℕ = going.leaves.port in
       let hole : ℕ = (world.net.far world.home port).0 in
       (λ i. is_move (trial hole).world (going.leaves.on i)
-      (deed_at none_held naps (going.leaves.on i) (picture.woken 0) (minds 0 (picture.history 0)) 0))
+      (action_at none_held wakeups (going.leaves.on i) (configuration.woken 0) (strategies 0
+      (configuration.history 0)) 0))
       ∙ ap (λ (b : Bool). not ((b || false) || false)) (eq-eqb hole hole refl)
-  stuck picture going (suc k) =
+  stuck configuration going (suc k) =
       let hole : ℕ = (world.net.far world.home going.leaves.port).0 in
-      ap (is_move (trial hole).world (picture.position (suc k))) (cond-false _ _ _ (far_off k))
+      ap (is_move (trial hole).world (configuration.position (suc k))) (cond-false _ _ _ (far_off k))
     where
       far_off : (k : ℕ) → nat_lt (suc k) 1 ≡ false
       far_off k = by_cases (nat_lt (suc k) 1) (nat_lt (suc k) 1 ≡ false)
           (λ yes. let below : suc k < 1 = ltb-true (suc k) 1 yes in absurd (omega (arith, below))) (λ none. none)
 
   fails_somewhere : (hole : ℕ) (schedule : List ℕ) → HasThree world → hole < world.net.nodes → hole ≢ world.home
-      → IsAtRest (trial hole) (under (trial hole) schedule) → FailsSomewhere world naps minds
+      → IsAtRest (trial hole) (under (trial hole) schedule) → FailsSomewhere world wakeups strategies
   fails_somewhere hole schedule has within not_home rest =
       let it : Run blank schedule = run schedule blank blank_quiet in
       elim it.leads_to [
@@ -350,7 +373,7 @@ module _ (world : World) (naps : ℕ) (minds : Minds) where
           fails = record {
             rest = rest;
             unsolved = λ solved. quiet_unsolved hole it.after has h.0
-                (ap (outcome_in (trial hole).world) (sym (same_picture hole schedule it.after
+                (ap (outcome_in (trial hole).world) (sym (same_configuration hole schedule it.after
                 (ap (turns_in (trial hole) blank) (sym h.1) ∙ it.same hole)))
                 ∙ sym (outcome_is hole schedule) ∙ solved);
           };
@@ -358,22 +381,23 @@ module _ (world : World) (naps : ℕ) (minds : Minds) where
         | inr h ↦
             let port : ℕ = h.leaves.port in
             let other : ℕ = (world.net.far world.home port).0 in
-            let picture : picture_of (trial other) (under (trial other) it.first) ≡ it.after =
-            same_picture other it.first it.after (it.same other) in
+            let configuration : configuration_of (trial other) (under (trial other) it.first) ≡ it.after =
+            same_configuration other it.first it.after (it.same other) in
             record {
               hole = other;
               within = has.leads port h.leaves.there;
               not_home = has.away port h.leaves.there;
               schedule = it.first;
               fails = record {
-                rest = λ agent. ap (λ (p : Picture). can_move_in (trial other) p agent) picture
+                rest = λ agent. ap (λ (p : Configuration). can_move_in (trial other) p agent) configuration
                     ∙ stuck it.after h agent;
                 unsolved = λ solved. going_unsolved other it.after h
-                    (ap (outcome_in (trial other).world) (sym picture) ∙ sym (outcome_is other it.first) ∙ solved);
+                    (ap (outcome_in (trial other).world) (sym configuration) ∙ sym (outcome_is other it.first)
+                    ∙ solved);
               };
             }
       ]
 
 pub one_alone_fails : OneAloneFails
-one_alone_fails world naps minds hole schedule has within not_home rest =
-    fails_somewhere world naps minds hole schedule has within not_home rest
+one_alone_fails world wakeups strategies hole schedule has within not_home rest =
+    fails_somewhere world wakeups strategies hole schedule has within not_home rest

@@ -31,5 +31,6 @@ has_three net setup is home = record {
 }
 
 pub one_alone_fails_on_networks : OneAloneFailsOnNetworks
-one_alone_fails_on_networks net setup naps minds hole schedule is home within not_home rest =
-    one_alone_fails (world_of net setup) naps minds hole schedule (has_three net setup is home) within not_home rest
+one_alone_fails_on_networks net setup wakeups strategies hole schedule is home within not_home rest =
+    one_alone_fails (world_of net setup) wakeups strategies hole schedule
+    (has_three net setup is home) within not_home rest

@@ -64,7 +64,7 @@ module _ (net : Network) (setup : Setup) (hole : ℕ) (is : IsSetOn net setup ho
       omega (arith, none, some)
 
 pub halves_attain_on_all_rings : HalvesAttainOnAllRings
-halves_attain_on_all_rings net setup hole naps is room enough =
+halves_attain_on_all_rings net setup hole wakeups is room enough =
     let n : ℕ = nodes_of net in
     let distance : ℕ = worst_distance n in
     let within = worst_is_within n (ring net setup hole is).three in
@@ -72,18 +72,18 @@ halves_attain_on_all_rings net setup hole naps is room enough =
       hole = node_at net setup hole is distance;
       within = within_net net setup hole is distance within.1;
       not_home = not_home net setup hole is distance within.0 within.1;
-      attained = halves_attain (world_of net (moved net setup hole is distance)) n (n - distance) naps
+      attained = halves_attain (world_of net (moved net setup hole is distance)) n (n - distance) wakeups
           (ways_of net setup.home) (search_at net setup hole is distance within.0 within.1) room enough;
     }
 
 pub shuttle_attains_on_all_rings : ShuttleAttainsOnAllRings
-shuttle_attains_on_all_rings net setup hole naps is room enough =
+shuttle_attains_on_all_rings net setup hole wakeups is room enough =
     let n : ℕ = nodes_of net in
     let three : 3 ≤ n = (ring net setup hole is).three in
     record {
       hole = node_at net setup hole is 1;
       within = within_net net setup hole is 1 (omega (arith, three));
       not_home = not_home net setup hole is 1 (omega arith) (omega (arith, three));
-      attained = shuttle_attains_squares (world_of net (moved net setup hole is 1)) n naps (ways_of net setup.home)
+      attained = shuttle_attains_squares (world_of net (moved net setup hole is 1)) n wakeups (ways_of net setup.home)
           (search_at net setup hole is 1 (omega arith) (omega (arith, three))) room enough;
     }

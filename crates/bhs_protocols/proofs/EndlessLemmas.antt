@@ -9,55 +9,59 @@ use Rattle.bhs_model.specs.Standings.{standing_at}
 use Rattle.bhs_model.specs.Runs.{Position, Before}
 use Rattle.bhs_model.specs.Examples.{none_held}
 use Rattle.bhs_model.proofs.StepLemmas.{by_cases}
-use Rattle.bhs_explore.specs.declared.minds.Step.TheVariants.{Says}
-use Rattle.bhs_explore.specs.Schedules.{Makes, Rests, deed_at, is_move, under, can_move, IsAtRest}
+use Rattle.bhs_explore.specs.declared.answers.Step.TheVariants.{Says}
+use Rattle.bhs_explore.specs.Schedules.{Makes, Rests, action_at, is_move, under, can_move, IsAtRest}
 use Rattle.bhs_explore.specs.Spending.{used_in}
-use Rattle.bhs_protocols.specs.Pictures.{Picture, picture_of, blank, deed_in, said_in, refused_in, done_in}
-use Rattle.bhs_protocols.specs.Pictures.{turn_in, turns_in}
+use Rattle.bhs_protocols.specs.Configurations.{Configuration, configuration_of, blank, deed_in, said_in, refused_in}
+use Rattle.bhs_protocols.specs.Configurations.{done_in}
+use Rattle.bhs_protocols.specs.Configurations.{turn_in, turns_in}
 use Rattle.bhs_protocols.specs.Endless.{lookers, LookersSolveAtRest, LookersDoNotRest}
-use Rattle.bhs_protocols.proofs.PictureLemmas.{pictures_follow}
+use Rattle.bhs_protocols.proofs.ConfigurationLemmas.{configurations_follow}
 
 -- nobody has entered or used anything
-record AreOutside (picture : Picture) : Type 0 where
-  position : (k : ℕ) → picture.position k ≡ Before
-  used : (k : ℕ) → picture.used k ≡ 0
+record AreOutside (configuration : Configuration) : Type 0 where
+  position : (k : ℕ) → configuration.position k ≡ Before
+  used : (k : ℕ) → configuration.used k ≡ 0
 
-deed_is : (picture : Picture) (k : ℕ) → AreOutside picture
-    → deed_in lookers picture k ≡ (if nat_lt k 2 then Makes (Tell k Look) else Rests)
-deed_is picture k outside i =
-    if nat_lt k 2 then deed_at none_held 0 (outside.position k i) (picture.woken k) (Says Look) k else Rests
+deed_is : (configuration : Configuration) (k : ℕ) → AreOutside configuration
+    → deed_in lookers configuration k ≡ (if nat_lt k 2 then Makes (Tell k Look) else Rests)
+deed_is configuration k outside i =
+    if nat_lt k 2 then action_at none_held 0 (outside.position k i) (configuration.woken k) (Says Look) k else Rests
 
-turn_outside : (picture : Picture) (k : ℕ) → AreOutside picture → AreOutside (turn_in lookers picture k)
-turn_outside picture k outside = by_cases (nat_lt k 2) (AreOutside (turn_in lookers picture k))
+turn_outside : (configuration : Configuration) (k : ℕ) → AreOutside configuration
+    → AreOutside (turn_in lookers configuration k)
+turn_outside configuration k outside = by_cases (nat_lt k 2) (AreOutside (turn_in lookers configuration k))
     (λ yes.
-    let is : turn_in lookers picture k ≡ said_in lookers.world picture k Look =
-    ap (done_in lookers picture k) (deed_is picture k outside ∙ cond-true _ _ _ yes) in
-    let deaf : said_in lookers.world picture k Look ≡ refused_in picture k Look =
-    cond-false _ _ _ (unheard (picture.position k) (outside.position k)) in
+    let is : turn_in lookers configuration k ≡ said_in lookers.world configuration k Look =
+    ap (done_in lookers configuration k) (deed_is configuration k outside ∙ cond-true _ _ _ yes) in
+    let deaf : said_in lookers.world configuration k Look ≡ refused_in configuration k Look =
+    cond-false _ _ _ (unheard (configuration.position k) (outside.position k)) in
     subst AreOutside (sym (is ∙ deaf)) (record { position = outside.position; used = outside.used }))
-    (λ none. subst AreOutside (sym (ap (done_in lookers picture k) (deed_is picture k outside ∙ cond-false _ _ _ none)))
+    (λ none. subst AreOutside (sym (ap (done_in lookers configuration k) (deed_is configuration k outside
+    ∙ cond-false _ _ _ none)))
     outside)
   where
     unheard : (place : Position) → place ≡ Before
-        → accepts (standing_at place) (nat_lt (picture.used k) lookers.world.quota) Look ≡ false
-    unheard place at = ap (λ (p : Position). accepts (standing_at p) (nat_lt (picture.used k) lookers.world.quota) Look)
+        → accepts (standing_at place) (nat_lt (configuration.used k) lookers.world.quota) Look ≡ false
+    unheard place at = ap (λ (p : Position). accepts (standing_at p) (nat_lt
+        (configuration.used k) lookers.world.quota) Look)
         at
 
-turns_outside : (schedule : List ℕ) (picture : Picture) → AreOutside picture
-    → AreOutside (turns_in lookers picture schedule)
-turns_outside [] picture outside = outside
-turns_outside (k ∷ schedule) picture outside =
-    turns_outside schedule (turn_in lookers picture k) (turn_outside picture k outside)
+turns_outside : (schedule : List ℕ) (configuration : Configuration) → AreOutside configuration
+    → AreOutside (turns_in lookers configuration schedule)
+turns_outside [] configuration outside = outside
+turns_outside (k ∷ schedule) configuration outside =
+    turns_outside schedule (turn_in lookers configuration k) (turn_outside configuration k outside)
 
-outside_under : (schedule : List ℕ) → AreOutside (picture_of lookers (under lookers schedule))
-outside_under schedule = subst AreOutside (sym (pictures_follow lookers schedule))
+outside_under : (schedule : List ℕ) → AreOutside (configuration_of lookers (under lookers schedule))
+outside_under schedule = subst AreOutside (sym (configurations_follow lookers schedule))
     (turns_outside schedule blank (record { position = λ k. refl; used = λ k. refl }))
 
 never_rest : (schedule : List ℕ) → IsAtRest lookers (under lookers schedule) → ⊥
 never_rest schedule rest =
     let moves : can_move lookers (under lookers schedule) 0 ≡ true =
     λ i. is_move lookers.world ((outside_under schedule).position 0 i)
-    (deed_at none_held 0 ((outside_under schedule).position 0 i) ((under lookers schedule).woken 0) (Says Look) 0) in
+    (action_at none_held 0 ((outside_under schedule).position 0 i) ((under lookers schedule).woken 0) (Says Look) 0) in
     true≢false (sym moves ∙ rest 0)
 
 pub lookers_solve : LookersSolveAtRest

@@ -9,9 +9,9 @@ use Rattle.bhs_model.specs.declared.events.Event.TheVariants.{Tell}
 use Rattle.bhs_model.specs.Runs.{Position, Before, At}
 use Rattle.bhs_model.specs.Examples.{none_held}
 use Rattle.bhs_model.proofs.StepLemmas.{by_cases}
-use Rattle.bhs_explore.specs.declared.minds.Step.TheVariants.{Says}
-use Rattle.bhs_explore.specs.Schedules.{Trial, Makes, deed_at}
-use Rattle.bhs_protocols.specs.Pictures.{can_move_in, turn_in}
+use Rattle.bhs_explore.specs.declared.answers.Step.TheVariants.{Says}
+use Rattle.bhs_explore.specs.Schedules.{Trial, Makes, action_at}
+use Rattle.bhs_protocols.specs.Configurations.{can_move_in, turn_in}
 use Rattle.bhs_protocols.specs.declared.shuttle.Memory.{Memory}
 use Rattle.bhs_protocols.specs.declared.shuttle.Phase.{Phase}
 use Rattle.bhs_protocols.specs.declared.shuttle.Phase.TheVariants.{Begins, GoesOut, Leaves, ComesBack, Returns, Writes}
@@ -34,14 +34,14 @@ pub record IsLost (game : Game) (s : ℕ) (m : Memory) : Type 0 where
   pub edge : m.mine + 1 ≡ distance game.search s
 
 module _ {game : Game} (on : Turn game) where
-  open game use {world, n, naps}
-  open on use {s, o, picture, pair, inv}
+  open game use {world, n, wakeups}
+  open on use {s, o, configuration, pair, inv}
 
   abbrev trial : Trial
   trial = trial_of game
 
   abbrev M : Memory
-  M = mem game picture s
+  M = mem game configuration s
 
   abbrev all : ℕ
   all = all_of game s M
@@ -54,19 +54,20 @@ module _ {game : Game} (on : Turn game) where
 
   -- ---- any turn
 
-  end_still : M.phase ≡ Ends → can_move_in trial picture s ≡ false
+  end_still : M.phase ≡ Ends → can_move_in trial configuration s ≡ false
   end_still is =
-      moving.end_stays trial picture s (agents_two game.search s pair.own) (placed_as game s picture Ends is inv.own).0
+      moving.end_stays trial configuration s (agents_two game.search s pair.own)
+      (placed_as game s configuration Ends is inv.own).0
 
-  returns_turn : (step : ℕ) → M.phase ≡ Returns step → Onward game s o picture (turn_in trial picture s)
+  returns_turn : (step : ℕ) → M.phase ≡ Returns step → Onward game s o configuration (turn_in trial configuration s)
   returns_turn zero is =
-      let placed = placed_as game s picture (Returns zero) is inv.own in
+      let placed = placed_as game s configuration (Returns zero) is inv.own in
       let some : 0 < 0 = placed.0 in absurd (omega (arith, some))
   returns_turn (suc zero) is = home_turn on (suc zero) refl is
   returns_turn (suc (suc k)) is = return_turn on k (suc (suc k)) (omega arith) is
 
-  by_phase : (phase : Phase) → M.phase ≡ phase → can_move_in trial picture s ≡ true
-      → Onward game s o picture (turn_in trial picture s)
+  by_phase : (phase : Phase) → M.phase ≡ phase → can_move_in trial configuration s ≡ true
+      → Onward game s o configuration (turn_in trial configuration s)
   by_phase Begins is moves = begin_turn on is
   by_phase (GoesOut step port) is moves = out_turn on step port is
   by_phase (Leaves step) is moves = leave_turn on step is moves
@@ -75,24 +76,25 @@ module _ {game : Game} (on : Turn game) where
   by_phase Writes is moves = write_turn on is
   by_phase Ends is moves = absurd (true≢false (sym moves ∙ end_still is))
 
-  pub any_turn : can_move_in trial picture s ≡ true → Onward game s o picture (turn_in trial picture s)
+  pub any_turn : can_move_in trial configuration s ≡ true
+      → Onward game s o configuration (turn_in trial configuration s)
   any_turn moves = by_phase M.phase refl moves
 
   -- ---- at rest
 
-  says_moves : (place : Position) (command : Command) → picture.position s ≡ place
-      → deed_at none_held naps place (picture.woken s) (Says command) s ≡ Makes (Tell s command)
-      → trial.minds s (picture.history s) ≡ Says command → can_move_in trial picture s ≡ true
-  says_moves = moving.says_moves trial picture s (agents_two game.search s pair.own)
+  says_moves : (place : Position) (command : Command) → configuration.position s ≡ place
+      → action_at none_held wakeups place (configuration.woken s) (Says command) s ≡ Makes (Tell s command)
+      → trial.strategies s (configuration.history s) ≡ Says command → can_move_in trial configuration s ≡ true
+  says_moves = moving.says_moves trial configuration s (agents_two game.search s pair.own)
 
   -- an agent that cannot move has ended or is lost
-  pub resting : (phase : Phase) → M.phase ≡ phase → can_move_in trial picture s ≡ false
+  pub resting : (phase : Phase) → M.phase ≡ phase → can_move_in trial configuration s ≡ false
       → (M.phase ≡ Ends) ⊎ IsLost game s M
   resting Begins is still =
-      let placed = placed_as game s picture Begins is inv.own in
+      let placed = placed_as game s configuration Begins is inv.own in
       absurd (true≢false (sym (says_moves Before Enter placed.0 refl (says_by on ∙ ap (does_by n way M) is)) ∙ still))
   resting (GoesOut step port) is still =
-      let placed = placed_as game s picture (GoesOut step port) is inv.own in
+      let placed = placed_as game s configuration (GoesOut step port) is inv.own in
       let place : Position = At (along step) placed.2.came in
       absurd (by_cases (step + 1 == all && is_one_left n M) ⊥
       (λ yes. true≢false (sym (says_moves place (Accuse port) placed.2.at refl
@@ -100,7 +102,7 @@ module _ {game : Game} (on : Turn game) where
       (λ none. true≢false (sym (says_moves place (Depart port) placed.2.at refl
       (says_by on ∙ ap (does_by n way M) is ∙ cond-false _ _ _ none)) ∙ still)))
   resting (Leaves step) is still =
-      let placed = placed_as game s picture (Leaves step) is inv.own in
+      let placed = placed_as game s configuration (Leaves step) is inv.own in
       let before : step < all = placed.0 in
       let safe : M.mine < distance game.search s = inv.own.safe in
       elim (eqb_tells (step + 1) all) [
@@ -113,15 +115,15 @@ module _ {game : Game} (on : Turn game) where
             ∙ ap not (ahead_safe on step (omega (arith, before, old.1)))) ∙ still))
       ]
   resting (ComesBack step port) is still =
-      let placed = placed_as game s picture (ComesBack step port) is inv.own in
+      let placed = placed_as game s configuration (ComesBack step port) is inv.own in
       absurd (true≢false (sym (says_moves (At (along step) placed.4.came) (Depart port) placed.4.at refl
       (says_by on ∙ ap (does_by n way M) is)) ∙ still))
   resting (Returns step) is still =
-      let placed = placed_as game s picture (Returns step) is inv.own in
+      let placed = placed_as game s configuration (Returns step) is inv.own in
       let some : 0 < step = placed.0 in
       absurd (true≢false (sym (comes_to on (step - 1) step (omega (arith, some)) is).moves ∙ still))
   resting Writes is still =
-      let placed = placed_as game s picture Writes is inv.own in
+      let placed = placed_as game s configuration Writes is inv.own in
       absurd (true≢false (sym (says_moves (At world.home placed.1.came)
       (Write (text_by M.side M.mine M.theirs) (text_by M.side (M.mine + 1) M.theirs)) placed.1.at refl
       (says_by on ∙ ap (does_by n way M) is)) ∙ still))

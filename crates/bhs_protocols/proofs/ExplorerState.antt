@@ -7,9 +7,9 @@ use Rattle.std.proofs.lemmas.Bool.Decides.{eqb_tells}
 use Rattle.bhs_model.specs.Worlds.{World}
 use Rattle.bhs_model.specs.Runs.{Position, Before, At, Bound, After}
 use Rattle.bhs_model.specs.Examples.{none_held}
-use Rattle.bhs_explore.specs.Minds.{Item, History, Minds}
+use Rattle.bhs_explore.specs.Strategies.{Observation, History, Strategies}
 use Rattle.bhs_explore.specs.Schedules.{Trial}
-use Rattle.bhs_protocols.specs.Pictures.{Picture}
+use Rattle.bhs_protocols.specs.Configurations.{Configuration}
 use Rattle.bhs_protocols.specs.declared.shuttle.Memory.{Memory}
 use Rattle.bhs_protocols.specs.declared.shuttle.Phase.{Phase}
 use Rattle.bhs_protocols.specs.declared.shuttle.Phase.TheVariants.{Begins, GoesOut, Leaves, ComesBack, Returns, Writes}
@@ -26,8 +26,8 @@ pub record Game : Type 0 where
   pub n : ℕ
   pub right : ℕ
   pub left : ℕ
-  pub naps : ℕ
-  pub minds : Minds
+  pub wakeups : ℕ
+  pub strategies : Strategies
   pub holds : (agent : ℕ) → History → Memory
   pub node : (side place : ℕ) → ℕ
   pub way_to : (side k : ℕ) → Way
@@ -38,19 +38,33 @@ pub record Game : Type 0 where
   pub three : 3 ≤ n
   pub search : IsTwoSided world n right left node
   pub ways : (side k : ℕ) → side < 2 → k < n → IsWay world.net (node side) k (way_to side k)
-  pub explorers : AreExplorers n minds holds way_to
+  pub explorers : AreExplorers n strategies holds way_to
   pub room : 4 ≤ world.board
   pub enough : round_trips 0 (right - 1) + (way_to 0 right).steps + n ≤ world.quota
   pub enough_too : round_trips 1 (left - 1) + (way_to 1 left).steps + n ≤ world.quota
 
 module _ (game : Game) where
-  open game use {world, n, right, left, naps, minds, holds, node, way_to, round_trips, search, enough, enough_too}
+  open game use {
+    world,
+    n,
+    right,
+    left,
+    wakeups,
+    strategies,
+    holds,
+    node,
+    way_to,
+    round_trips,
+    search,
+    enough,
+    enough_too,
+  }
 
   abbrev pub trial : Trial
-  trial = record { world = world; held = none_held; naps = naps; minds = minds }
+  trial = record { world = world; held = none_held; wakeups = wakeups; strategies = strategies }
 
-  abbrev pub mem : Picture → (s : ℕ) → Memory
-  mem picture s = holds s (picture.history s)
+  abbrev pub mem : Configuration → (s : ℕ) → Memory
+  mem configuration s = holds s (configuration.history s)
 
   -- ---- what it may cost
 
@@ -146,44 +160,46 @@ module _ (game : Game) where
     pub used : spends ≤ cost s m
     pub reached : (k : ℕ) → 0 < k → k ≤ come m.mine m.phase → seen (node s k) ≡ true
 
-  abbrev pub IsFitIn : Picture → (s : ℕ) → Type 0
-  IsFitIn picture s =
-      IsFit s (mem picture s) (picture.position s) (picture.accused s) (picture.used s) picture.reached
+  abbrev pub IsFitIn : Configuration → (s : ℕ) → Type 0
+  IsFitIn configuration s =
+      IsFit s (mem configuration s) (configuration.position s) (configuration.accused s)
+      (configuration.used s) configuration.reached
 
   -- what holds of both
-  pub record Inv (s o : ℕ) (picture : Picture) : Type 0 where
-    pub own : IsFitIn picture s
-    pub other : IsFitIn picture o
-    pub known : (mem picture s).theirs ≤ (mem picture o).mine
-    pub known_too : (mem picture o).theirs ≤ (mem picture s).mine
-    pub fresh : ((mem picture s).theirs ≡ (mem picture o).mine) ⊎ ((mem picture o).theirs ≡ (mem picture s).mine)
-    pub board : picture.shown world.home ≡ text_by s (mem picture s).mine (mem picture o).mine
-    pub moves : picture.moves ≡ spent s (mem picture s) + spent o (mem picture o)
-    pub none : (k : ℕ) → 2 ≤ k → picture.used k ≡ 0
+  pub record Inv (s o : ℕ) (configuration : Configuration) : Type 0 where
+    pub own : IsFitIn configuration s
+    pub other : IsFitIn configuration o
+    pub known : (mem configuration s).theirs ≤ (mem configuration o).mine
+    pub known_too : (mem configuration o).theirs ≤ (mem configuration s).mine
+    pub fresh : ((mem configuration s).theirs ≡ (mem configuration o).mine) ⊎ ((mem configuration o).theirs
+        ≡ (mem configuration s).mine)
+    pub board : configuration.shown world.home ≡ text_by s (mem configuration s).mine (mem configuration o).mine
+    pub moves : configuration.moves ≡ spent s (mem configuration s) + spent o (mem configuration o)
+    pub none : (k : ℕ) → 2 ≤ k → configuration.used k ≡ 0
 
-  pub swapped : (s o : ℕ) (picture : Picture) → Pair s o → Inv s o picture → Inv o s picture
-  swapped s o picture pair it =
-      let moves : picture.moves ≡ spent s (mem picture s) + spent o (mem picture o) = it.moves in
+  pub swapped : (s o : ℕ) (configuration : Configuration) → Pair s o → Inv s o configuration → Inv o s configuration
+  swapped s o configuration pair it =
+      let moves : configuration.moves ≡ spent s (mem configuration s) + spent o (mem configuration o) = it.moves in
       record {
         own = it.other;
         other = it.own;
         known = it.known_too;
         known_too = it.known;
         fresh = elim it.fresh [ inl h ↦ inr h | inr h ↦ inl h ];
-        board = it.board ∙ sym (text_other s o (mem picture s).mine (mem picture o).mine pair);
+        board = it.board ∙ sym (text_other s o (mem configuration s).mine (mem configuration o).mine pair);
         moves = omega (arith, moves);
         none = it.none;
       }
 
   -- ---- one turn more
 
-  pub record Onward (s o : ℕ) (old new : Picture) : Type 0 where
+  pub record Onward (s o : ℕ) (old new : Configuration) : Type 0 where
     pub inv : Inv s o new
     pub more : progress s (mem old s) + 1 ≤ progress s (mem new s)
     pub same : mem new o ≡ mem old o
 
   -- all that a turn of an agent has to keep
-  pub record Keeps (s o : ℕ) (old : Picture) (after : Memory) (place : Position) (costs moved : ℕ)
+  pub record Keeps (s o : ℕ) (old : Configuration) (after : Memory) (place : Position) (costs moved : ℕ)
       (accused : Option (ℕ × ℕ)) (shown : ℕ → List ℕ) (reached : ℕ → Bool) : Type 0 where
     pub fit : IsFit s after place accused (old.used s + costs) reached
     pub grows : (k : ℕ) → old.reached k ≡ true → reached k ≡ true
@@ -194,7 +210,8 @@ module _ (game : Game) where
     pub spends : spent s after ≡ spent s (mem old s) + moved
     pub more : progress s (mem old s) + 1 ≤ progress s after
 
-  pub assembled : (s o : ℕ) (old new : Picture) (after : Memory) (place : Position) (news : Item) (costs moved : ℕ)
+  pub assembled : (s o : ℕ) (old new : Configuration) (after : Memory) (place : Position) (news : Observation)
+      (costs moved : ℕ)
       (accused : Option (ℕ × ℕ)) (shown : ℕ → List ℕ) (reached : ℕ → Bool) → Pair s o → Inv s o old
       → Becomes old new s place news costs moved accused shown reached
       → holds s (news ∷ old.history s) ≡ after
@@ -236,19 +253,21 @@ module _ (game : Game) where
 
   -- ---- the turns of an agent, by what it is about
 
-  pub placed_as : (s : ℕ) (picture : Picture) (phase : Phase) → (mem picture s).phase ≡ phase → IsFitIn picture s
-      → IsPlaced s (mem picture s) phase (picture.position s) (picture.accused s)
-  placed_as s picture phase is fit =
-      subst (λ (p : Phase). IsPlaced s (mem picture s) p (picture.position s) (picture.accused s)) is fit.placed
+  pub placed_as : (s : ℕ) (configuration : Configuration) (phase : Phase) → (mem configuration s).phase ≡ phase
+      → IsFitIn configuration s
+      → IsPlaced s (mem configuration s) phase (configuration.position s) (configuration.accused s)
+  placed_as s configuration phase is fit =
+      subst (λ (p : Phase). IsPlaced s (mem configuration s) p (configuration.position s)
+      (configuration.accused s)) is fit.placed
 
   -- the two sides are not known to be safe as far as the black hole
-  pub both_safe : (s o : ℕ) (picture : Picture) → Pair s o → Inv s o picture
-      → (mem picture s).mine + (mem picture s).theirs + 2 ≤ n
-  both_safe s o picture pair inv =
+  pub both_safe : (s o : ℕ) (configuration : Configuration) → Pair s o → Inv s o configuration
+      → (mem configuration s).mine + (mem configuration s).theirs + 2 ≤ n
+  both_safe s o configuration pair inv =
       let sum : distance search s + distance search o ≡ n = sum_is search s o pair in
-      let safe : (mem picture s).mine < distance search s = inv.own.safe in
-      let safe_too : (mem picture o).mine < distance search o = inv.other.safe in
-      let known : (mem picture s).theirs ≤ (mem picture o).mine = inv.known in
+      let safe : (mem configuration s).mine < distance search s = inv.own.safe in
+      let safe_too : (mem configuration o).mine < distance search o = inv.other.safe in
+      let known : (mem configuration s).theirs ≤ (mem configuration o).mine = inv.known in
       omega (arith, sum, safe, safe_too, known)
 
   -- ---- the costs of a side
@@ -290,23 +309,24 @@ module _ (game : Game) where
   ]
 
   -- who has not ended has a command left
-  pub has_room : (s o : ℕ) (picture : Picture) (was : Phase) → Pair s o → Inv s o picture
-      → (mem picture s).phase ≡ was
-      → trip (all s (mem picture s)) was + ended was + trips s (mem picture s).mine ≤ most_moves s
-      → picture.used s < world.quota
-  has_room s o picture was pair inv is few =
-      let used : picture.used s ≤ cost s (mem picture s) = inv.own.used in
-      let safe : (mem picture s).mine + (mem picture s).theirs + 2 ≤ n = both_safe s o picture pair inv in
+  pub has_room : (s o : ℕ) (configuration : Configuration) (was : Phase) → Pair s o → Inv s o configuration
+      → (mem configuration s).phase ≡ was
+      → trip (all s (mem configuration s)) was + ended was + trips s (mem configuration s).mine ≤ most_moves s
+      → configuration.used s < world.quota
+  has_room s o configuration was pair inv is few =
+      let used : configuration.used s ≤ cost s (mem configuration s) = inv.own.used in
+      let safe : (mem configuration s).mine + (mem configuration s).theirs + 2 ≤ n =
+      both_safe s o configuration pair inv in
       let quota : most_commands s ≤ world.quota = quota_of s pair.own in
-      omega (arith, used, safe, quota, few, ap (trip (all s (mem picture s))) is, ap ended is)
+      omega (arith, used, safe, quota, few, ap (trip (all s (mem configuration s))) is, ap ended is)
 
   -- a turn of agent s
   pub record Turn : Type 0 where
     pub s : ℕ
     pub o : ℕ
-    pub picture : Picture
+    pub configuration : Configuration
     pub pair : Pair s o
-    pub inv : Inv s o picture
+    pub inv : Inv s o configuration
 
-  abbrev pub at_turn : (s o : ℕ) (picture : Picture) → Pair s o → Inv s o picture → Turn
-  at_turn s o picture pair inv = record { s = s; o = o; picture = picture; pair = pair; inv = inv }
+  abbrev pub at_turn : (s o : ℕ) (configuration : Configuration) → Pair s o → Inv s o configuration → Turn
+  at_turn s o configuration pair inv = record { s = s; o = o; configuration = configuration; pair = pair; inv = inv }

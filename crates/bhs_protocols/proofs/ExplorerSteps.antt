@@ -5,9 +5,9 @@ use Rattle.std.proofs.Common.{if◌then◌else◌}
 use Rattle.bhs_model.specs.declared.commands.Command.TheVariants.{Enter, Write, Depart, Accuse}
 use Rattle.bhs_model.specs.declared.replies.Reply.TheVariants.{Here, Written, Changed, Gone, Noted}
 use Rattle.bhs_model.specs.Worlds.{Network}
-use Rattle.bhs_explore.specs.declared.minds.Step.{Step}
-use Rattle.bhs_explore.specs.declared.minds.Step.TheVariants.{Says, Stops}
-use Rattle.bhs_explore.specs.Minds.{Heard, History, Minds}
+use Rattle.bhs_explore.specs.declared.answers.Step.{Step}
+use Rattle.bhs_explore.specs.declared.answers.Step.TheVariants.{Says, Stops}
+use Rattle.bhs_explore.specs.Strategies.{Heard, History, Strategies}
 use Rattle.bhs_protocols.specs.declared.shuttle.Memory.{Memory}
 use Rattle.bhs_protocols.specs.declared.shuttle.Phase.{Phase}
 use Rattle.bhs_protocols.specs.declared.shuttle.Phase.TheVariants.{Begins, GoesOut, Leaves, ComesBack, Returns, Writes}
@@ -58,7 +58,7 @@ abbrev pub back_by : Way → Memory → (step : ℕ) → (board : List ℕ) → 
 back_by way m zero board = record m { phase = Writes; theirs = other_in m.side board }
 back_by way m (suc step) board = record m { phase = ComesBack (suc step) (way.behind (suc step)) }
 
-module _ (n : ℕ) (minds : Minds) (holds : (agent : ℕ) → History → Memory) (way_to : (side k : ℕ) → Way) where
+module _ (n : ℕ) (strategies : Strategies) (holds : (agent : ℕ) → History → Memory) (way_to : (side k : ℕ) → Way) where
   -- the way of agent s to its next node
   abbrev pub next_way : (s : ℕ) → History → Way
   next_way s past = way_to s ((holds s past).mine + 1)
@@ -73,7 +73,7 @@ module _ (n : ℕ) (minds : Minds) (holds : (agent : ℕ) → History → Memory
   -- Agents that hold this do as explorers do. What they hold after an arrival is said of links of their way only.
   pub record AreExplorers : Type 0 where
     pub starts : (s : ℕ) → holds s [] ≡ record { side = s; mine = 0; theirs = 0; phase = Begins }
-    pub does : (s : ℕ) (past : History) → minds s past
+    pub does : (s : ℕ) (past : History) → strategies s past
         ≡ does_by n (way_to (holds s past).side ((holds s past).mine + 1)) (holds s past) (holds s past).phase
     pub enters : (s : ℕ) (past : History) (ports : ℕ) (came : Option ℕ) (board : List ℕ) → IsAbout s past Begins
         → holds s (Heard (Here ports came board) ∷ past) ≡ record (holds s past) {

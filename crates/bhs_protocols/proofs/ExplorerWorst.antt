@@ -5,7 +5,7 @@ use Rattle.std.proofs.Common.{sym, ap, ◌∙◌, subst, nat_lt, inl, inr, arith
 use Rattle.std.proofs.lemmas.Bool.{lt-ltb, ltb-true, true≢false}
 use Rattle.bhs_model.proofs.StepLemmas.{by_cases}
 use Rattle.bhs_explore.specs.Schedules.{Trial}
-use Rattle.bhs_protocols.specs.Pictures.{Picture, blank, can_move_in, turn_in, turns_in}
+use Rattle.bhs_protocols.specs.Configurations.{Configuration, blank, can_move_in, turn_in, turns_in}
 use Rattle.bhs_protocols.specs.Attained.{IsAttained}
 use Rattle.bhs_protocols.specs.declared.shuttle.Memory.{Memory}
 use Rattle.bhs_protocols.specs.declared.shuttle.Phase.TheVariants.{Leaves, Ends}
@@ -28,63 +28,70 @@ module _ (game : Game) where
   trial = trial_of game
 
   -- where agent s cannot move any more
-  record HasRun (s o : ℕ) (P : Picture → Type 0) (picture : Picture) : Type 0 where
+  record HasRun (s o : ℕ) (P : Configuration → Type 0) (configuration : Configuration) : Type 0 where
     schedule : List ℕ
-    inv : Inv game s o (turns_in trial picture schedule)
-    holds : P (turns_in trial picture schedule)
-    still : can_move_in trial (turns_in trial picture schedule) s ≡ false
+    inv : Inv game s o (turns_in trial configuration schedule)
+    holds : P (turns_in trial configuration schedule)
+    still : can_move_in trial (turns_in trial configuration schedule) s ≡ false
 
-  runs : (s o : ℕ) (P : Picture → Type 0) → Pair s o
-      → ((picture : Picture) → Inv game s o picture → P picture → Onward game s o picture (turn_in trial picture s)
-      → P (turn_in trial picture s))
-      → (fuel : ℕ) (picture : Picture) → Inv game s o picture → P picture
-      → most_progress game s ≤ progress game s (mem game picture s) + fuel → HasRun s o P picture
-  runs s o P pair keeps zero picture inv holds few =
-      by_cases (can_move_in trial picture s) (HasRun s o P picture)
+  runs : (s o : ℕ) (P : Configuration → Type 0) → Pair s o
+      → ((configuration : Configuration) → Inv game s o configuration → P configuration
+      → Onward game s o configuration (turn_in trial configuration s)
+      → P (turn_in trial configuration s))
+      → (fuel : ℕ) (configuration : Configuration) → Inv game s o configuration → P configuration
+      → most_progress game s ≤ progress game s (mem game configuration s) + fuel → HasRun s o P configuration
+  runs s o P pair keeps zero configuration inv holds few =
+      by_cases (can_move_in trial configuration s) (HasRun s o P configuration)
       (λ moves.
-      let on : Onward game s o picture (turn_in trial picture s) = any_turn (at_turn game s o picture pair inv) moves in
-      let more : progress game s (mem game picture s) + 1 ≤ progress game s (mem game (turn_in trial picture s) s) =
+      let on : Onward game s o configuration (turn_in trial configuration s) =
+      any_turn (at_turn game s o configuration pair inv) moves in
+      let more : progress game s (mem game configuration s) + 1 ≤ progress game s (mem game
+      (turn_in trial configuration s) s) =
       on.more in
-      let most : progress game s (mem game (turn_in trial picture s) s) ≤ most_progress game s =
-      (spent_in game s o (turn_in trial picture s) pair on.inv).1 in
+      let most : progress game s (mem game (turn_in trial configuration s) s) ≤ most_progress game s =
+      (spent_in game s o (turn_in trial configuration s) pair on.inv).1 in
       absurd (omega (arith, more, most, few)))
       (λ rests. record { schedule = []; inv = inv; holds = holds; still = rests })
-  runs s o P pair keeps (suc fuel) picture inv holds few =
-      by_cases (can_move_in trial picture s) (HasRun s o P picture)
+  runs s o P pair keeps (suc fuel) configuration inv holds few =
+      by_cases (can_move_in trial configuration s) (HasRun s o P configuration)
       (λ moves.
-      let on : Onward game s o picture (turn_in trial picture s) = any_turn (at_turn game s o picture pair inv) moves in
-      let more : progress game s (mem game picture s) + 1 ≤ progress game s (mem game (turn_in trial picture s) s) =
+      let on : Onward game s o configuration (turn_in trial configuration s) =
+      any_turn (at_turn game s o configuration pair inv) moves in
+      let more : progress game s (mem game configuration s) + 1 ≤ progress game s (mem game
+      (turn_in trial configuration s) s) =
       on.more in
-      let after : HasRun s o P (turn_in trial picture s) =
-      runs s o P pair keeps fuel (turn_in trial picture s) on.inv (keeps picture inv holds on)
+      let after : HasRun s o P (turn_in trial configuration s) =
+      runs s o P pair keeps fuel (turn_in trial configuration s) on.inv (keeps configuration inv holds on)
       (omega (arith, more, few)) in
       record { schedule = s ∷ after.schedule; inv = after.inv; holds = after.holds; still = after.still })
       (λ rests. record { schedule = []; inv = inv; holds = holds; still = rests })
 
   -- who is lost stays so
-  lost_still : (s o : ℕ) (picture : Picture) (pair : Pair s o) (inv : Inv game s o picture)
-      → IsLost game s (mem game picture s) → can_move_in trial picture s ≡ false
-  lost_still s o picture pair inv gone =
-      let placed = placed_as game s picture (Leaves gone.step) gone.phase inv.own in
-      let m : Memory = mem game picture s in
-      bound_moves (at_turn game s o picture pair inv) (along game s m gone.step) ((way game s m).ahead gone.step)
+  lost_still : (s o : ℕ) (configuration : Configuration) (pair : Pair s o) (inv : Inv game s o configuration)
+      → IsLost game s (mem game configuration s) → can_move_in trial configuration s ≡ false
+  lost_still s o configuration pair inv gone =
+      let placed = placed_as game s configuration (Leaves gone.step) gone.phase inv.own in
+      let m : Memory = mem game configuration s in
+      bound_moves (at_turn game s o configuration pair inv) (along game s m gone.step) ((way game s m).ahead gone.step)
       placed.2
-      ∙ ap not (last_doomed (at_turn game s o picture pair inv) gone.step gone.last gone.edge)
+      ∙ ap not (last_doomed (at_turn game s o configuration pair inv) gone.step gone.last gone.edge)
 
   -- Agent s takes turns alone, and knows of no safe node of the other side.
-  record IsAlone (o : ℕ) (picture : Picture) : Type 0 where
-    other : mem game picture o ≡ mem game blank o
+  record IsAlone (o : ℕ) (configuration : Configuration) : Type 0 where
+    other : mem game configuration o ≡ mem game blank o
 
-  gone_by : (s o : ℕ) (picture : Picture) (pair : Pair s o) (inv : Inv game s o picture) → IsAlone o picture
-      → 2 ≤ distance game.search o → can_move_in trial picture s ≡ false → IsLost game s (mem game picture s)
-  gone_by s o picture pair inv alone far still =
-      elim (resting (at_turn game s o picture pair inv) (mem game picture s).phase refl still) [
+  gone_by : (s o : ℕ) (configuration : Configuration) (pair : Pair s o) (inv : Inv game s o configuration)
+      → IsAlone o configuration
+      → 2 ≤ distance game.search o → can_move_in trial configuration s ≡ false
+      → IsLost game s (mem game configuration s)
+  gone_by s o configuration pair inv alone far still =
+      elim (resting (at_turn game s o configuration pair inv) (mem game configuration s).phase refl still) [
         | inl h ↦
-            let placed = placed_as game s picture Ends h inv.own in
-            let edge : (mem game picture s).mine + 1 ≡ distance game.search s = placed.1 in
-            let one_left : (mem game picture s).mine + (mem game picture s).theirs + 2 ≡ n = placed.3 in
-            let known : (mem game picture s).theirs ≤ (mem game picture o).mine = inv.known in
-            let none : (mem game picture o).mine ≡ 0 =
+            let placed = placed_as game s configuration Ends h inv.own in
+            let edge : (mem game configuration s).mine + 1 ≡ distance game.search s = placed.1 in
+            let one_left : (mem game configuration s).mine + (mem game configuration s).theirs + 2 ≡ n = placed.3 in
+            let known : (mem game configuration s).theirs ≤ (mem game configuration o).mine = inv.known in
+            let none : (mem game configuration o).mine ≡ 0 =
             ap (λ (m : Memory). m.mine) (alone.other ∙ game.explorers.starts o) in
             let sum : distance game.search s + distance game.search o ≡ n = sum_is game.search s o pair in
             absurd (omega (arith, edge, one_left, known, none, sum, far))
@@ -92,19 +99,20 @@ module _ (game : Game) where
       ]
 
   -- then the other accuses, and all moves but its last one are made
-  all_made : (s o : ℕ) (picture : Picture) → Pair s o → Inv game o s picture → IsLost game s (mem game picture s)
-      → can_move_in trial picture o ≡ false → picture.moves ≡ most_moves game s + most_moves game o - 1
-  all_made s o picture pair inv gone still =
+  all_made : (s o : ℕ) (configuration : Configuration) → Pair s o → Inv game o s configuration
+      → IsLost game s (mem game configuration s)
+      → can_move_in trial configuration o ≡ false → configuration.moves ≡ most_moves game s + most_moves game o - 1
+  all_made s o configuration pair inv gone still =
       let pair_too : Pair o s = swapped_pair s o pair in
-      let m : Memory = mem game picture s in
-      let m_too : Memory = mem game picture o in
-      let moves : picture.moves ≡ spent game o m_too + spent game s m = inv.moves in
+      let m : Memory = mem game configuration s in
+      let m_too : Memory = mem game configuration o in
+      let moves : configuration.moves ≡ spent game o m_too + spent game s m = inv.moves in
       let on_trip : trip (all game s m) m.phase ≡ gone.step + 1 = ap (trip (all game s m)) gone.phase in
       let whole : trips game s m.mine + all game s m ≡ most_moves game s = at_last game s m.mine gone.edge in
       let last : gone.step + 1 ≡ all game s m = gone.last in
-      elim (resting (at_turn game o s picture pair_too inv) m_too.phase refl still) [
+      elim (resting (at_turn game o s configuration pair_too inv) m_too.phase refl still) [
         | inl h ↦
-            let placed = placed_as game o picture Ends h inv.own in
+            let placed = placed_as game o configuration Ends h inv.own in
             let edge_too : m_too.mine + 1 ≡ distance game.search o = placed.1 in
             let on_trip_too : trip (all game o m_too) m_too.phase ≡ all game o m_too - 1 =
             ap (trip (all game o m_too)) h in
@@ -112,7 +120,7 @@ module _ (game : Game) where
             at_last game o m_too.mine edge_too in
             let long : 0 < all game o m_too = some_steps game o m_too pair.other inv.own.safe in
             omega (arith, moves, on_trip, whole, last, on_trip_too, whole_too, long)
-        | inr h ↦ absurd (not_both game o s picture pair_too inv h gone)
+        | inr h ↦ absurd (not_both game o s configuration pair_too inv h gone)
       ]
 
   record IsWorst (s o : ℕ) : Type 0 where
@@ -123,33 +131,34 @@ module _ (game : Game) where
 
   first_run : (s o : ℕ) → Pair s o → Inv game s o blank → HasRun s o (IsAlone o) blank
   first_run s o pair first =
-      runs s o (IsAlone o) pair (λ picture inv alone on. record { other = on.same ∙ alone.other })
+      runs s o (IsAlone o) pair (λ configuration inv alone on. record { other = on.same ∙ alone.other })
       (most_progress game s) blank first (record { other = refl }) (omega arith)
 
-  second_run : (s o : ℕ) (picture : Picture) → Pair s o → Inv game s o picture → IsLost game s (mem game picture s)
-      → HasRun o s (λ now. IsLost game s (mem game now s)) picture
-  second_run s o picture pair inv gone =
+  second_run : (s o : ℕ) (configuration : Configuration) → Pair s o → Inv game s o configuration
+      → IsLost game s (mem game configuration s)
+      → HasRun o s (λ now. IsLost game s (mem game now s)) configuration
+  second_run s o configuration pair inv gone =
       runs o s (λ now. IsLost game s (mem game now s)) (swapped_pair s o pair)
-      (λ now inv_now lost on. subst (IsLost game s) (sym on.same) lost) (most_progress game o) picture
-      (swapped game s o picture pair inv) gone (omega arith)
+      (λ now inv_now lost on. subst (IsLost game s) (sym on.same) lost) (most_progress game o) configuration
+      (swapped game s o configuration pair inv) gone (omega arith)
 
   worst_of : (s o : ℕ) → Pair s o → (one : HasRun s o (IsAlone o) blank)
       → HasRun o s (λ now. IsLost game s (mem game now s)) (turns_in trial blank one.schedule) → IsWorst s o
   worst_of s o pair one two =
-      let end : Picture = turns_in trial (turns_in trial blank one.schedule) two.schedule in
+      let end : Configuration = turns_in trial (turns_in trial blank one.schedule) two.schedule in
       let is : turns_in trial blank (one.schedule ++ two.schedule) ≡ end =
       turns_in_append trial blank one.schedule two.schedule in
       let back : Inv game s o end = swapped game o s end (swapped_pair s o pair) two.inv in
       record {
         schedule = one.schedule ++ two.schedule;
-        still = ap (λ (p : Picture). can_move_in trial p s) is ∙ lost_still s o end pair back two.holds;
-        still_too = ap (λ (p : Picture). can_move_in trial p o) is ∙ two.still;
-        moves = ap (λ (p : Picture). p.moves) is ∙ all_made s o end pair two.inv two.holds two.still;
+        still = ap (λ (p : Configuration). can_move_in trial p s) is ∙ lost_still s o end pair back two.holds;
+        still_too = ap (λ (p : Configuration). can_move_in trial p o) is ∙ two.still;
+        moves = ap (λ (p : Configuration). p.moves) is ∙ all_made s o end pair two.inv two.holds two.still;
       }
 
   worst_after : (s o : ℕ) → Pair s o → 2 ≤ distance game.search o → HasRun s o (IsAlone o) blank → IsWorst s o
   worst_after s o pair far one =
-      let middle : Picture = turns_in trial blank one.schedule in
+      let middle : Configuration = turns_in trial blank one.schedule in
       worst_of s o pair one
       (second_run s o middle pair one.inv (gone_by s o middle pair one.inv one.holds far one.still))
 

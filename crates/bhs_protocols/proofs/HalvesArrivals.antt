@@ -8,9 +8,9 @@ use Rattle.bhs_model.specs.declared.replies.Reply.TheVariants.{Here}
 use Rattle.bhs_model.specs.Worlds.{doomed}
 use Rattle.bhs_model.specs.Runs.{Position, At, Bound, changed}
 use Rattle.bhs_model.proofs.StepLemmas.{by_cases, changed_same}
-use Rattle.bhs_explore.specs.Minds.{Item, Heard}
+use Rattle.bhs_explore.specs.Strategies.{Observation, Heard}
 use Rattle.bhs_explore.specs.Schedules.{Trial}
-use Rattle.bhs_protocols.specs.Pictures.{can_move_in, turn_in}
+use Rattle.bhs_protocols.specs.Configurations.{can_move_in, turn_in}
 use Rattle.bhs_protocols.specs.declared.halves.Memory.{Memory}
 use Rattle.bhs_protocols.specs.declared.halves.Phase.{Phase}
 use Rattle.bhs_protocols.specs.declared.halves.Phase.TheVariants.{GoesOut, Leaves, Tries, Turns, Returns, Writes}
@@ -30,17 +30,17 @@ use Rattle.bhs_protocols.proofs.HalvesTurns.{far_safe, held, other_fit, own_fit,
 use Rattle.bhs_protocols.proofs.HalvesTurns.{small_side, two_sides}
 
 module _ {game : Game} (on : Turn game) where
-  open game use {world, n, right, naps, ways, search}
-  open on use {s, o, v, w, picture, pair, inv}
+  open game use {world, n, right, wakeups, ways, search}
+  open on use {s, o, v, w, configuration, pair, inv}
 
   abbrev trial : Trial
   trial = trial_of game
 
   abbrev M : Memory
-  M = mem game picture s
+  M = mem game configuration s
 
   abbrev O : Memory
-  O = mem game picture o
+  O = mem game configuration o
 
   abbrev B : ℕ
   B = nodes_due game s M v
@@ -50,43 +50,46 @@ module _ {game : Game} (on : Turn game) where
 
   -- ---- arrivals
 
-  pub bound_moves : (node port : ℕ) → picture.position s ≡ Bound node port
-      → can_move_in trial picture s ≡ not (doomed world node port)
-  bound_moves node port at = moving.bound_moves trial picture s (agents_two (sides search) s pair.own) node port at refl
+  pub bound_moves : (node port : ℕ) → configuration.position s ≡ Bound node port
+      → can_move_in trial configuration s ≡ not (doomed world node port)
+  bound_moves node port at =
+      moving.bound_moves trial configuration s (agents_two (sides search) s pair.own) node port at refl
 
-  grows_by : (target k : ℕ) → picture.reached k ≡ true → changed picture.reached target true k ≡ true
-  grows_by = moving.grows_by picture.reached
+  grows_by : (target k : ℕ) → configuration.reached k ≡ true → changed configuration.reached target true k ≡ true
+  grows_by = moving.grows_by configuration.reached
 
-  abbrev pub come_to : (node label : ℕ) → Item
-  come_to node label = Heard (Here (world.net.degree node) (Some label) (picture.shown node))
+  abbrev pub come_to : (node label : ℕ) → Observation
+  come_to node label = Heard (Here (world.net.degree node) (Some label) (configuration.shown node))
 
   abbrev pub Arrives : (node label : ℕ) → Type 0
-  Arrives node label = Becomes picture (turn_in trial picture s) s (At node (Some label)) (come_to node label) 0 0
-      (picture.accused s) picture.shown (changed picture.reached node true)
+  Arrives node label = Becomes configuration (turn_in trial configuration s) s (At node (Some label))
+      (come_to node label) 0 0
+      (configuration.accused s) configuration.shown (changed configuration.reached node true)
 
   -- outwards, and towards the home base
   out_to : (side steps : ℕ) → side < 2 → steps + 1 < distance game side
-      → picture.position s ≡ Bound (ways.node side steps) (ways.ahead side steps)
+      → configuration.position s ≡ Bound (ways.node side steps) (ways.ahead side steps)
       → Arrives (ways.node side (steps + 1)) (1 - ways.ahead side (steps + 1))
   out_to side steps below before at =
       let within : distance game side < n = within_n game side below in
       let far = search.ring.out side steps below (omega (arith, before, within)) in
-      moving.arrives_at trial picture s (agents_two (sides search) s pair.own) (ways.node side steps)
+      moving.arrives_at trial configuration s (agents_two (sides search) s pair.own) (ways.node side steps)
       (ways.ahead side steps) (ways.node side (steps + 1)) (1 - ways.ahead side (steps + 1)) at refl far
       (doomed_is game (ways.node side steps) (ways.ahead side steps) (ways.node side (steps + 1))
       (1 - ways.ahead side (steps + 1)) far ∙ safe_before game side (steps + 1) below before)
 
   back_to : (side steps : ℕ) → side < 2 → steps + 1 < n → steps < distance game side
-      → picture.position s ≡ Bound (ways.node side (steps + 1)) (1 - ways.ahead side (steps + 1))
+      → configuration.position s ≡ Bound (ways.node side (steps + 1)) (1 - ways.ahead side (steps + 1))
       → Arrives (ways.node side steps) (ways.ahead side steps)
   back_to side steps below within before at =
       let far = search.ring.back side steps below within in
-      moving.arrives_at trial picture s (agents_two (sides search) s pair.own) (ways.node side (steps + 1))
+      moving.arrives_at trial configuration s (agents_two (sides search) s pair.own) (ways.node side (steps + 1))
       (1 - ways.ahead side (steps + 1)) (ways.node side steps) (ways.ahead side steps) at refl far
       (doomed_is game (ways.node side (steps + 1)) (1 - ways.ahead side (steps + 1)) (ways.node side steps)
       (ways.ahead side steps) far ∙ safe_before game side steps below before)
 
-  pub leave_turn : (steps : ℕ) → M.phase ≡ Leaves steps → Onward game s o v w picture (turn_in trial picture s)
+  pub leave_turn : (steps : ℕ) → M.phase ≡ Leaves steps
+      → Onward game s o v w configuration (turn_in trial configuration s)
   leave_turn steps is =
       let placed = placed_as on (Leaves steps) is in
       let few : steps < M.mine = placed.0 in
@@ -99,7 +102,7 @@ module _ {game : Game} (on : Turn game) where
       let within : steps + 1 < n = small_side on s (steps + 1) pair.own (omega (arith, few, safe)) in
       let port : ways.ahead s (steps + 1) < 2 = search.ring.port s (steps + 1) pair.own within in
       paced on M.target M.theirs M.own M.other (GoesOut (steps + 1) (1 - label)) (At target (Some label))
-      (come_to target label) 0 0 (picture.accused s) (changed picture.reached target true)
+      (come_to target label) 0 0 (configuration.accused s) (changed configuration.reached target true)
       (out_to s steps pair.own (omega (arith, few, safe)) placed.2)
       (ap (λ (ph : Phase). after_in n M ph (come_to target label)) is)
       refl refl (own_fit on).reachable (own_fit on).known
@@ -108,8 +111,8 @@ module _ {game : Game} (on : Turn game) where
       (λ k some far. grows_by target (ways.node s k) ((own_fit on).reached k some (omega (arith, far, c))))
       (omega arith) (omega (arith, q)) (omega (arith, p))
 
-  pub try_turn : M.phase ≡ Tries → can_move_in trial picture s ≡ true
-      → Onward game s o v w picture (turn_in trial picture s)
+  pub try_turn : M.phase ≡ Tries → can_move_in trial configuration s ≡ true
+      → Onward game s o v w configuration (turn_in trial configuration s)
   try_turn is moves =
       let placed = placed_as on Tries is in
       let safe : M.mine < distance game s = (own_fit on).safe in
@@ -131,13 +134,14 @@ module _ {game : Game} (on : Turn game) where
             let p : paces M.phase ≡ 2 = ap paces is in
             let c : come M.mine M.phase ≡ M.mine = ap (come M.mine) is in
             paced on M.target M.theirs M.own M.other (Turns label) (At target (Some label)) (come_to target label) 0 0
-            (picture.accused s) (changed picture.reached target true) (out_to s M.mine pair.own before placed.1)
+            (configuration.accused s) (changed configuration.reached target true)
+            (out_to s M.mine pair.own before placed.1)
             (ap (λ (ph : Phase). after_in n M ph (come_to target label)) is)
             refl refl (own_fit on).reachable (own_fit on).known
             (placed.0, before, refl, record { came = Some label; at = refl }, placed.2) (grows_by target)
             (λ k some last. elim (eqb_tells k (M.mine + 1)) [
-              | inl it ↦ subst (λ (j : ℕ). changed picture.reached target true (ways.node s j) ≡ true) (sym it.1)
-                  (changed_same picture.reached target true)
+              | inl it ↦ subst (λ (j : ℕ). changed configuration.reached target true (ways.node s j) ≡ true) (sym it.1)
+                  (changed_same configuration.reached target true)
               | inr it ↦ grows_by target (ways.node s k) ((own_fit on).reached k some (omega (arith, last, c, it.1)))
             ])
             (omega arith) (omega (arith, q)) (omega (arith, p))
@@ -145,7 +149,7 @@ module _ {game : Game} (on : Turn game) where
 
   -- ---- reading
 
-  pub marked_here : picture.shown (ways.node s M.mine) ≡ text_by s v (beside O.mine w M.mine)
+  pub marked_here : configuration.shown (ways.node s M.mine) ≡ text_by s v (beside O.mine w M.mine)
   marked_here = inv.state.marked M.mine (own_fit on).safe
       ∙ ap (λ (k : ℕ). text_by s k (beside O.mine w M.mine)) (mark_here M.mine v M.mine refl)
 
@@ -153,9 +157,9 @@ module _ {game : Game} (on : Turn game) where
   far_below = subst (λ (k : ℕ). k < 2) pair.is pair.other
 
   pub marked_far : (k : ℕ) → k < distance game o
-      → picture.shown (ways.node (opposite s) k) ≡ text_by s (beside M.mine v k) (mark_at O.mine w k)
+      → configuration.shown (ways.node (opposite s) k) ≡ text_by s (beside M.mine v k) (mark_at O.mine w k)
   marked_far k before =
-      subst (λ (side : ℕ). picture.shown (ways.node side k) ≡ text_by s (beside M.mine v k) (mark_at O.mine w k))
+      subst (λ (side : ℕ). configuration.shown (ways.node side k) ≡ text_by s (beside M.mine v k) (mark_at O.mine w k))
       pair.is (inv.state.marked_too k before
       ∙ text_other s o (beside M.mine v k) (mark_at O.mine w k) pair)
 
@@ -184,30 +188,31 @@ module _ {game : Game} (on : Turn game) where
   theirs_twice theirs (suc (suc k)) = refl
 
   -- it reads the whiteboard of its last safe node, and learns what is told there
-  pub learns : (place : Position) (news : Item) (costs port : ℕ) (came : Option ℕ) (seen : ℕ → Bool)
-      → Becomes picture (turn_in trial picture s) s place news costs 0 (picture.accused s) picture.shown seen
-      → after_in n M M.phase news ≡ learned n M port (picture.shown (ways.node s M.mine))
+  pub learns : (place : Position) (news : Observation) (costs port : ℕ) (came : Option ℕ) (seen : ℕ → Bool)
+      → Becomes configuration (turn_in trial configuration s) s place news costs 0
+      (configuration.accused s) configuration.shown seen
+      → after_in n M M.phase news ≡ learned n M port (configuration.shown (ways.node s M.mine))
       → place ≡ At (ways.node s M.mine) came → M.mine < M.target → M.mine + 1 < distance game s
-      → port ≡ ways.ahead s M.mine → picture.accused s ≡ None
-      → ((k : ℕ) → picture.reached k ≡ true → seen k ≡ true)
+      → port ≡ ways.ahead s M.mine → configuration.accused s ≡ None
+      → ((k : ℕ) → configuration.reached k ≡ true → seen k ≡ true)
       → ((k : ℕ) → 0 < k → k ≤ M.mine + 1 → seen (ways.node s k) ≡ true) → costs ≤ 1
       → (B - 2) + 0 + W ≡ owing B W M.mine M.phase
-      → 2 ≤ paces M.phase + stale game s M M.phase picture.shown
-      → Onward game s o v w picture (turn_in trial picture s)
+      → 2 ≤ paces M.phase + stale game s M M.phase configuration.shown
+      → Onward game s o v w configuration (turn_in trial configuration s)
   learns place news costs port came seen becomes is there more next ahead none grows reached once dues fewer =
-      let board : List ℕ = picture.shown (ways.node s M.mine) in
+      let board : List ℕ = configuration.shown (ways.node s M.mine) in
       let x : ℕ = own_in M.side board in
       let y : ℕ = other_in M.side board in
       let x_is : x ≡ v = read_mine board v (beside O.mine w M.mine) marked_here in
       let still : stale game s (held on (target_by n M.mine M.target x) (theirs_by M.theirs x) x y (Writes port))
-      (Writes port) picture.shown ≡ 0 = fresh board v (beside O.mine w M.mine) marked_here in
+      (Writes port) configuration.shown ≡ 0 = fresh board v (beside O.mine w M.mine) marked_here in
       let part_is : target_by n M.mine M.target x ≡ part n M v = ap (target_by n M.mine M.target) x_is in
       let told_is : theirs_by M.theirs x ≡ told M v = ap (theirs_by M.theirs) x_is in
       let within : M.mine ≤ part n M v = (own_fit on).within in
       let known : told M v ≤ O.mine = (own_fit on).known_too in
       let further : M.mine < part n M v = part_more on more v refl in
       paced on (target_by n M.mine M.target x) (theirs_by M.theirs x) x y (Writes port) place news costs 0
-      (picture.accused s) seen becomes is
+      (configuration.accused s) seen becomes is
       (ap (λ (k : ℕ). target_by n M.mine k v) part_is ∙ target_twice M.mine M.target v)
       (ap (λ (k : ℕ). theirs_by k v) told_is ∙ theirs_twice M.theirs v)
       (omega (arith, part_is, within)) (omega (arith, told_is, known)) (
@@ -221,7 +226,7 @@ module _ {game : Game} (on : Turn game) where
       )
       grows reached once (omega (arith, dues)) (omega (arith, still, fewer))
 
-  pub return_turn : M.phase ≡ Returns → Onward game s o v w picture (turn_in trial picture s)
+  pub return_turn : M.phase ≡ Returns → Onward game s o v w configuration (turn_in trial configuration s)
   return_turn is =
       let placed = placed_as on Returns is in
       let next : M.mine + 1 < distance game s = placed.1 in
@@ -233,27 +238,28 @@ module _ {game : Game} (on : Turn game) where
       let target : ℕ = ways.node s M.mine in
       let label : ℕ = ways.ahead s M.mine in
       learns (At target (Some label)) (come_to target label) 0 label (Some label)
-      (changed picture.reached target true) (back_to s M.mine pair.own within safe placed.2)
+      (changed configuration.reached target true) (back_to s M.mine pair.own within safe placed.2)
       (ap (λ (ph : Phase). after_in n M ph (come_to target label)) is) refl placed.0 next refl placed.3
       (grows_by target)
       (λ k some far. grows_by target (ways.node s k) ((own_fit on).reached k some (omega (arith, far, c))))
       (omega arith) (omega (arith, q)) (omega (arith, p))
 
   -- it reads a whiteboard of the other side on its way to divide
-  pub follows_at : (steps port : ℕ) (place : Position) (news : Item) (costs moved : ℕ) (came : Option ℕ)
+  pub follows_at : (steps port : ℕ) (place : Position) (news : Observation) (costs moved : ℕ) (came : Option ℕ)
       (seen : ℕ → Bool)
-      → Becomes picture (turn_in trial picture s) s place news costs moved (picture.accused s) picture.shown seen
-      → after_in n M M.phase news ≡ follows M steps port (picture.shown (ways.node (opposite s) steps))
+      → Becomes configuration (turn_in trial configuration s) s place news costs moved
+      (configuration.accused s) configuration.shown seen
+      → after_in n M M.phase news ≡ follows M steps port (configuration.shown (ways.node (opposite s) steps))
       → place ≡ At (ways.node (opposite s) steps) came → IsDone game M v → steps ≤ O.mine
-      → port ≡ ways.ahead (opposite s) steps → picture.accused s ≡ None
-      → ((k : ℕ) → picture.reached k ≡ true → seen k ≡ true)
+      → port ≡ ways.ahead (opposite s) steps → configuration.accused s ≡ None
+      → ((k : ℕ) → configuration.reached k ≡ true → seen k ≡ true)
       → ((k : ℕ) → 0 < k → k ≤ M.mine → seen (ways.node s k) ≡ true) → costs ≤ 1
       → moved + ((B - 0) + 0 + (W - (M.mine + steps))) ≡ owing B W M.mine M.phase
-      → 2 ≤ paces M.phase + stale game s M M.phase picture.shown + 2 * moved
-      → Onward game s o v w picture (turn_in trial picture s)
+      → 2 ≤ paces M.phase + stale game s M M.phase configuration.shown + 2 * moved
+      → Onward game s o v w configuration (turn_in trial configuration s)
   follows_at steps port place news costs moved came seen becomes is there done few ahead none grows reached once
       dues fewer =
-      let board : List ℕ = picture.shown (ways.node (opposite s) steps) in
+      let board : List ℕ = configuration.shown (ways.node (opposite s) steps) in
       let x : ℕ = own_in M.side board in
       let y : ℕ = other_in M.side board in
       let safe_too : O.mine < distance game o = far_safe on in
@@ -261,19 +267,20 @@ module _ {game : Game} (on : Turn game) where
       marked_far steps (omega (arith, few, safe_too)) in
       let y_is : y ≡ mark_at O.mine w steps =
       read_theirs board (beside M.mine v steps) (mark_at O.mine w steps) marked in
-      by_cases (y == 1) (Onward game s o v w picture (turn_in trial picture s))
+      by_cases (y == 1) (Onward game s o v w configuration (turn_in trial configuration s))
       (λ yes.
       let one : y ≡ 1 = eqb-true y 1 yes in
       let not_last : steps ≢ O.mine =
       λ h. (other_fit on).plain (sym (mark_here O.mine w steps h) ∙ sym y_is ∙ one) in
-      paced on M.target M.theirs x y (Follows steps port) place news costs moved (picture.accused s) seen becomes
+      paced on M.target M.theirs x y (Follows steps port) place news costs moved (configuration.accused s) seen becomes
       (is ∙ cond-true _ _ _ yes) refl refl (own_fit on).reachable (own_fit on).known
       (done, omega (arith, few, not_last), ahead, record { came = came; at = there }, none)
       grows reached once (omega (arith, dues)) (omega (arith, fewer)))
       (λ other.
-      let still : stale game s (held on M.target M.theirs x y (Tells steps port)) (Tells steps port) picture.shown ≡ 0 =
+      let still : stale game s (held on M.target M.theirs x y (Tells steps port)) (Tells steps port) configuration.shown
+      ≡ 0 =
       fresh board (beside M.mine v steps) (mark_at O.mine w steps) marked in
-      paced on M.target M.theirs x y (Tells steps port) place news costs moved (picture.accused s) seen becomes
+      paced on M.target M.theirs x y (Tells steps port) place news costs moved (configuration.accused s) seen becomes
       (is ∙ cond-false _ _ _ other) refl refl (own_fit on).reachable (own_fit on).known (
         done,
         few,
@@ -284,7 +291,8 @@ module _ {game : Game} (on : Turn game) where
       )
       grows reached once (omega (arith, dues)) (omega (arith, still, fewer)))
 
-  pub pass_turn : (steps : ℕ) → M.phase ≡ Passes steps → Onward game s o v w picture (turn_in trial picture s)
+  pub pass_turn : (steps : ℕ) → M.phase ≡ Passes steps
+      → Onward game s o v w configuration (turn_in trial configuration s)
   pass_turn steps is =
       let placed = placed_as on (Passes steps) is in
       let few : steps < O.mine = placed.1 in
@@ -301,7 +309,7 @@ module _ {game : Game} (on : Turn game) where
       let port : ways.ahead (opposite s) (steps + 1) < 2 =
       search.ring.port (opposite s) (steps + 1) far_below within in
       follows_at (steps + 1) (1 - label) (At target (Some label)) (come_to target label) 0 0 (Some label)
-      (changed picture.reached target true) (out_to (opposite s) steps far_below before_far placed.2)
+      (changed configuration.reached target true) (out_to (opposite s) steps far_below before_far placed.2)
       (ap (λ (ph : Phase). after_in n M ph (come_to target label)) is) refl placed.0 (omega (arith, few))
       (omega (arith, port)) placed.3 (grows_by target)
       (λ k some far. grows_by target (ways.node s k) ((own_fit on).reached k some (omega (arith, far, c))))
@@ -322,14 +330,14 @@ module _ {game : Game} (on : Turn game) where
       ∙ both (λ (k : ℕ). 1 - opposite k ≡ k) refl refl s pair.own ∙ sym (search.ring.first s pair.own)
 
   pub near_turn : (steps rest : ℕ) → steps ≡ suc rest → M.phase ≡ NearsHome steps
-      → Onward game s o v w picture (turn_in trial picture s)
+      → Onward game s o v w configuration (turn_in trial configuration s)
   near_turn steps zero last is =
       let placed = placed_as on (NearsHome steps) is in
       let few : steps ≤ M.mine = placed.2 in
       let safe : M.mine < distance game s = (own_fit on).safe in
       let within : distance game s < n = within_n game s pair.own in
       let one : steps ≡ 0 + 1 = omega (arith, last) in
-      let at : picture.position s ≡ Bound (ways.node s (0 + 1)) (1 - ways.ahead s (0 + 1)) =
+      let at : configuration.position s ≡ Bound (ways.node s (0 + 1)) (1 - ways.ahead s (0 + 1)) =
       placed.3 ∙ ap (λ (k : ℕ). Bound (ways.node s k) (1 - ways.ahead s k)) one in
       let target : ℕ = ways.node s 0 in
       let label : ℕ = ways.ahead s 0 in
@@ -338,11 +346,11 @@ module _ {game : Game} (on : Turn game) where
       let p : paces M.phase ≡ 2 = ap paces is in
       let c : come M.mine M.phase ≡ M.mine = ap (come M.mine) is in
       follows_at 0 (1 - label) (At target (Some label)) (come_to target label) 0 0 (Some label)
-      (changed picture.reached target true)
+      (changed configuration.reached target true)
       (back_to s 0 pair.own (omega (arith, safe, within, few, last)) (omega (arith, safe)) at)
       (ap (λ (ph : Phase). after_in n M ph (come_to target label)) is
-      ∙ ap (λ (k : ℕ). came_near M k label (picture.shown target)) none_left
-      ∙ ap (λ (k : ℕ). follows M 0 (1 - label) (picture.shown k)) homes_are)
+      ∙ ap (λ (k : ℕ). came_near M k label (configuration.shown target)) none_left
+      ∙ ap (λ (k : ℕ). follows M 0 (1 - label) (configuration.shown k)) homes_are)
       (ap (λ (k : ℕ). At k (Some label)) homes_are) placed.0 (omega arith) firsts_are placed.4 (grows_by target)
       (λ k some far. grows_by target (ways.node s k) ((own_fit on).reached k some (omega (arith, far, c))))
       (omega arith) (omega (arith, q, last)) (omega (arith, p))
@@ -352,7 +360,7 @@ module _ {game : Game} (on : Turn game) where
       let safe : M.mine < distance game s = (own_fit on).safe in
       let within : distance game s < n = within_n game s pair.own in
       let one : steps ≡ suc k + 1 = omega (arith, last) in
-      let at : picture.position s ≡ Bound (ways.node s (suc k + 1)) (1 - ways.ahead s (suc k + 1)) =
+      let at : configuration.position s ≡ Bound (ways.node s (suc k + 1)) (1 - ways.ahead s (suc k + 1)) =
       placed.3 ∙ ap (λ (j : ℕ). Bound (ways.node s j) (1 - ways.ahead s j)) one in
       let target : ℕ = ways.node s (suc k) in
       let label : ℕ = ways.ahead s (suc k) in
@@ -361,10 +369,10 @@ module _ {game : Game} (on : Turn game) where
       let p : paces M.phase ≡ 2 = ap paces is in
       let c : come M.mine M.phase ≡ M.mine = ap (come M.mine) is in
       paced on M.target M.theirs M.own M.other (GoesHome (suc k) (1 - label)) (At target (Some label))
-      (come_to target label) 0 0 (picture.accused s) (changed picture.reached target true)
+      (come_to target label) 0 0 (configuration.accused s) (changed configuration.reached target true)
       (back_to s (suc k) pair.own (omega (arith, safe, within, few, last)) (omega (arith, safe, few, last)) at)
       (ap (λ (ph : Phase). after_in n M ph (come_to target label)) is
-      ∙ ap (λ (j : ℕ). came_near M j label (picture.shown target)) less)
+      ∙ ap (λ (j : ℕ). came_near M j label (configuration.shown target)) less)
       refl refl (own_fit on).reachable (own_fit on).known
       (placed.0, omega arith, omega (arith, few, last), refl, record { came = Some label; at = refl }, placed.4)
       (grows_by target)
@@ -372,14 +380,14 @@ module _ {game : Game} (on : Turn game) where
       (omega arith) (omega (arith, q, last)) (omega (arith, p))
 
   pub back_turn : (steps rest : ℕ) → steps ≡ suc rest → M.phase ≡ NearsBack steps
-      → Onward game s o v w picture (turn_in trial picture s)
+      → Onward game s o v w configuration (turn_in trial configuration s)
   back_turn steps zero last is =
       let placed = placed_as on (NearsBack steps) is in
       let more : M.mine < M.target = placed.0 in
       let few : steps ≤ O.mine = placed.2 in
       let two : M.mine + O.mine + 2 ≤ n = two_sides on in
       let one : steps ≡ 0 + 1 = omega (arith, last) in
-      let at : picture.position s ≡ Bound (ways.node (opposite s) (0 + 1)) (1 - ways.ahead (opposite s) (0 + 1)) =
+      let at : configuration.position s ≡ Bound (ways.node (opposite s) (0 + 1)) (1 - ways.ahead (opposite s) (0 + 1)) =
       placed.3 ∙ ap (λ (k : ℕ). Bound (ways.node (opposite s) k) (1 - ways.ahead (opposite s) k)) one in
       let target : ℕ = ways.node (opposite s) 0 in
       let label : ℕ = ways.ahead (opposite s) 0 in
@@ -389,7 +397,7 @@ module _ {game : Game} (on : Turn game) where
       let p : paces M.phase ≡ 2 = ap paces is in
       let c : come M.mine M.phase ≡ M.mine = ap (come M.mine) is in
       paced on M.target M.theirs M.own M.other (GoesOut 0 (1 - label)) (At target (Some label))
-      (come_to target label) 0 0 (picture.accused s) (changed picture.reached target true)
+      (come_to target label) 0 0 (configuration.accused s) (changed configuration.reached target true)
       (back_to (opposite s) 0 far_below (omega (arith, two, few, last)) before at)
       (ap (λ (ph : Phase). after_in n M ph (come_to target label)) is
       ∙ ap (λ (j : ℕ). goes_back M j (1 - label)) less)
@@ -409,7 +417,7 @@ module _ {game : Game} (on : Turn game) where
       let safe_too : O.mine < distance game o = far_safe on in
       let two : M.mine + O.mine + 2 ≤ n = two_sides on in
       let one : steps ≡ suc k + 1 = omega (arith, last) in
-      let at : picture.position s
+      let at : configuration.position s
       ≡ Bound (ways.node (opposite s) (suc k + 1)) (1 - ways.ahead (opposite s) (suc k + 1)) =
       placed.3 ∙ ap (λ (j : ℕ). Bound (ways.node (opposite s) j) (1 - ways.ahead (opposite s) j)) one in
       let target : ℕ = ways.node (opposite s) (suc k) in
@@ -421,7 +429,7 @@ module _ {game : Game} (on : Turn game) where
       let p : paces M.phase ≡ 2 = ap paces is in
       let c : come M.mine M.phase ≡ M.mine = ap (come M.mine) is in
       paced on M.target M.theirs M.own M.other (ComesHome (suc k) (1 - label)) (At target (Some label))
-      (come_to target label) 0 0 (picture.accused s) (changed picture.reached target true)
+      (come_to target label) 0 0 (configuration.accused s) (changed configuration.reached target true)
       (back_to (opposite s) (suc k) far_below (omega (arith, two, few, last)) before_far at)
       (ap (λ (ph : Phase). after_in n M ph (come_to target label)) is
       ∙ ap (λ (j : ℕ). goes_back M j (1 - label)) less)

@@ -8,10 +8,10 @@ use Rattle.bhs_model.specs.declared.commands.Command.TheVariants.{Write}
 use Rattle.bhs_model.specs.declared.replies.Reply.TheVariants.{Written, Changed, Noted}
 use Rattle.bhs_model.specs.Runs.{At, changed}
 use Rattle.bhs_model.proofs.StepLemmas.{by_cases, changed_same}
-use Rattle.bhs_explore.specs.declared.minds.Step.TheVariants.{Says}
-use Rattle.bhs_explore.specs.Minds.{Heard}
+use Rattle.bhs_explore.specs.declared.answers.Step.TheVariants.{Says}
+use Rattle.bhs_explore.specs.Strategies.{Heard}
 use Rattle.bhs_explore.specs.Schedules.{Trial}
-use Rattle.bhs_protocols.specs.Pictures.{turn_in}
+use Rattle.bhs_protocols.specs.Configurations.{turn_in}
 use Rattle.bhs_protocols.specs.declared.halves.Memory.{Memory}
 use Rattle.bhs_protocols.specs.declared.halves.Phase.{Phase}
 use Rattle.bhs_protocols.specs.declared.halves.Phase.TheVariants.{Begins, GoesOut, Leaves, GoesHome, NearsHome, Follows}
@@ -34,16 +34,16 @@ use Rattle.bhs_protocols.proofs.HalvesWrites.{same_bytes, shown_across, shown_th
 
 module _ {game : Game} (on : Turn game) where
   open game use {world, n, left, ways, search, room}
-  open on use {s, o, v, w, picture, pair, inv}
+  open on use {s, o, v, w, configuration, pair, inv}
 
   abbrev trial : Trial
   trial = trial_of game
 
   abbrev M : Memory
-  M = mem game picture s
+  M = mem game configuration s
 
   abbrev O : Memory
-  O = mem game picture o
+  O = mem game configuration o
 
   abbrev B : ℕ
   B = nodes_due game s M v
@@ -70,8 +70,8 @@ module _ {game : Game} (on : Turn game) where
 
   -- the other agent is where it was, with another mark ahead of it
   told_more : IsDone game M v → (mark : ℕ) → (phase : Phase)
-      → IsPlaced game o O M.mine w phase (picture.position o) (picture.accused o)
-      → IsPlaced game o O M.mine mark phase (picture.position o) (picture.accused o)
+      → IsPlaced game o O M.mine w phase (configuration.position o) (configuration.accused o)
+      → IsPlaced game o O M.mine mark phase (configuration.position o) (configuration.accused o)
   told_more done mark Begins placed =
       (placed.0, placed.1, (λ h. absurd (not_done done h (placed.2 h))), placed.3)
   told_more done mark (GoesOut steps port) placed =
@@ -117,19 +117,20 @@ module _ {game : Game} (on : Turn game) where
       → steps ≡ O.mine → left_by n M.mine steps ≢ 1 → spent phase ≡ 0 → back M.mine phase ≡ M.mine + steps
       → ((amount : ℕ) → ways_due amount M.mine phase ≡ amount) → paces phase ≡ 1 → come M.mine phase ≡ M.mine
       → ((shown : ℕ → List ℕ) → stale game s (told_memory steps phase) phase shown ≡ 0)
-      → trial.minds s (picture.history s) ≡ Says (Write (text_by s M.own M.other) (text_by s M.own (M.mine + 2)))
-      → picture.position s ≡ At (ways.node (opposite s) steps) came
-      → bytes_eq (picture.shown (ways.node (opposite s) steps)) (text_by s M.own M.other) ≡ true
+      → trial.strategies s (configuration.history s)
+      ≡ Says (Write (text_by s M.own M.other) (text_by s M.own (M.mine + 2)))
+      → configuration.position s ≡ At (ways.node (opposite s) steps) came
+      → bytes_eq (configuration.shown (ways.node (opposite s) steps)) (text_by s M.own M.other) ≡ true
       → after_in n M M.phase (Heard Written) ≡ told_memory steps phase
       → IsPlaced game s (told_memory steps phase) O.mine 0 phase (At (ways.node (opposite s) steps) came)
-      (picture.accused s)
-      → M.own ≡ beside M.mine v steps → Onward game s o v w picture (turn_in trial picture s)
+      (configuration.accused s)
+      → M.own ≡ beside M.mine v steps → Onward game s o v w configuration (turn_in trial configuration s)
   divides steps port came phase is done last_node not_one none_spent back_is ways_are one c none_stale says at same
       holds placed own_is =
       let after : Memory = told_memory steps phase in
       let node : ℕ = ways.node (opposite s) steps in
       let put : List ℕ = text_by s M.own (M.mine + 2) in
-      let shown : ℕ → List ℕ = changed picture.shown node put in
+      let shown : ℕ → List ℕ = changed configuration.shown node put in
       let rest : ℕ = n - 1 - M.mine - steps in
       let length_of : length put ≤ 4 = text_fits s M.own (M.mine + 2) pair.own in
       let fits : length put ≤ world.board = omega (arith, length_of, room) in
@@ -171,8 +172,8 @@ module _ {game : Game} (on : Turn game) where
       let rounds_more : rounds rest ≤ rounds (rest_of game s M v) = rounds_within rest (rest_of game s M v) wider in
       let small_spent : spent O.phase ≤ 2 = spent_small O.phase in
       let small : stale game o O O.phase shown ≤ 1 = stale_small on O.phase shown in
-      let st : stale game s M M.phase picture.shown ≡ 0 =
-      ap (λ (ph : Phase). stale game s M ph picture.shown) is ∙ ap miss same in
+      let st : stale game s M M.phase configuration.shown ≡ 0 =
+      ap (λ (ph : Phase). stale game s M ph configuration.shown) is ∙ ap miss same in
       let st_after : stale game s after phase shown ≡ 0 = none_stale shown in
       let ways_after : ways_due (walks_at n (rest_of game s after 0)) M.mine phase
       ≡ walks_at n (rest_of game s after 0) =
@@ -275,9 +276,10 @@ module _ {game : Game} (on : Turn game) where
       ≤ rounds (rest_of game s M v) + rounds (rest_of game o O w) = numbers.1 in
       let far_step : steps < distance game (opposite s) =
       subst (λ (side : ℕ). steps < distance game side) pair.is (omega (arith, last_node, safe_too)) in
-      assembled game s o v w picture (turn_in trial picture s) after (At node came) (Heard Written) 1 0
-      (picture.accused s) 0 mark shown picture.reached pair inv
-      (writes trial picture s (agents_two (sides search) s pair.own) node came (text_by s M.own M.other) put at says
+      assembled game s o v w configuration (turn_in trial configuration s) after (At node came) (Heard Written) 1 0
+      (configuration.accused s) 0 mark shown configuration.reached pair inv
+      (writes trial configuration s (agents_two (sides search) s pair.own) node came
+      (text_by s M.own M.other) put at says
       (has_room on (omega (arith, p))) fits same)
       holds
       (record {
@@ -324,7 +326,7 @@ module _ {game : Game} (on : Turn game) where
               ap (ways.node s) k_none ∙ homes_are on ∙ ap (ways.node (opposite s)) (sym steps_none) in
               let here : mark_at O.mine mark 0 ≡ mark =
               mark_here O.mine mark 0 (omega (arith, last_node, steps_none)) in
-              ap shown there ∙ changed_same picture.shown node put
+              ap shown there ∙ changed_same configuration.shown node put
               ∙ (λ i. text_by s ((own_is ∙ ap (beside M.mine v) steps_none
               ∙ ap (λ (j : ℕ). mark_at M.mine j 0) done.unmarked) i) (sym here i))
               ∙ ap (λ (j : ℕ). text_by s (mark_at M.mine 0 j) (beside O.mine mark j)) (sym k_none));
@@ -332,13 +334,13 @@ module _ {game : Game} (on : Turn game) where
             | inl h ↦
                 let here : mark_at O.mine mark k ≡ mark = mark_here O.mine mark k (omega (arith, h.1, last_node)) in
                 ap (λ (side : ℕ). shown (ways.node side k)) pair.is
-                ∙ ap (λ (j : ℕ). shown (ways.node (opposite s) j)) h.1 ∙ changed_same picture.shown node put
+                ∙ ap (λ (j : ℕ). shown (ways.node (opposite s) j)) h.1 ∙ changed_same configuration.shown node put
                 ∙ (λ i. text_by s (own_is i) (sym here i))
                 ∙ ap (λ (j : ℕ). text_by s (beside M.mine v j) (mark_at O.mine mark k)) (sym h.1)
                 ∙ sym (text_other s o (beside M.mine v k) (mark_at O.mine mark k) pair)
                 ∙ ap (λ (j : ℕ). text_by o (mark_at O.mine mark k) (beside M.mine j k)) done.unmarked
             | inr h ↦
-                subst (λ (side : ℕ). shown (ways.node side k) ≡ picture.shown (ways.node side k)) (sym pair.is)
+                subst (λ (side : ℕ). shown (ways.node side k) ≡ configuration.shown (ways.node side k)) (sym pair.is)
                 (shown_there on (opposite s) steps k put (far_below on) far_step
                 (subst (λ (side : ℕ). k < distance game side) pair.is before) h.1)
                 ∙ inv.state.marked_too k before
@@ -371,15 +373,17 @@ module _ {game : Game} (on : Turn game) where
       halves_left a b rest all = omega (arith, all)
 
       across_from : (j k : ℕ) (put : List ℕ) → j < distance game (opposite s) → k < distance game s → 0 < j + k
-          → changed picture.shown (ways.node (opposite s) j) put (ways.node s k) ≡ picture.shown (ways.node s k)
+          → changed configuration.shown (ways.node (opposite s) j) put (ways.node s k)
+          ≡ configuration.shown (ways.node s k)
       across_from j k put before before_too some =
           let is : opposite (opposite s) ≡ s =
           both (λ (side : ℕ). opposite (opposite side) ≡ side) refl refl s pair.own in
-          subst (λ (side : ℕ). k < distance game side → changed picture.shown (ways.node (opposite s) j) put
-          (ways.node side k) ≡ picture.shown (ways.node side k)) is
+          subst (λ (side : ℕ). k < distance game side → changed configuration.shown (ways.node (opposite s) j) put
+          (ways.node side k) ≡ configuration.shown (ways.node side k)) is
           (λ within. shown_across on (opposite s) j k put (far_below on) before within some) before_too
 
-  pub tell_turn : (steps port : ℕ) → M.phase ≡ Tells steps port → Onward game s o v w picture (turn_in trial picture s)
+  pub tell_turn : (steps port : ℕ) → M.phase ≡ Tells steps port
+      → Onward game s o v w configuration (turn_in trial configuration s)
   tell_turn steps port is =
       let placed = placed_as on (Tells steps port) is in
       let done : IsDone game M v = placed.0 in
@@ -397,7 +401,7 @@ module _ {game : Game} (on : Turn game) where
       (ahead_fits on (opposite s) steps (far_below on) within) in
       let expect : List ℕ = text_by s M.own M.other in
       let put : List ℕ = text_by s M.own (M.mine + 2) in
-      by_cases (left_by n M.mine steps == 1) (Onward game s o v w picture (turn_in trial picture s))
+      by_cases (left_by n M.mine steps == 1) (Onward game s o v w configuration (turn_in trial configuration s))
       (λ only.
       let one_left : n - 1 - M.mine - steps ≡ 1 = eqb-true (left_by n M.mine steps) 1 only in
       let last_node : steps ≡ O.mine = omega (arith, one_left, two, few) in
@@ -413,19 +417,20 @@ module _ {game : Game} (on : Turn game) where
       (λ more.
       let not_one : left_by n M.mine steps ≢ 1 =
       λ h. true≢false (sym (eq-eqb (left_by n M.mine steps) 1 h) ∙ more) in
-      let says : trial.minds s (picture.history s) ≡ Says (Write expect put) =
+      let says : trial.strategies s (configuration.history s) ≡ Says (Write expect put) =
       ap (does_in n M) is ∙ cond-false _ _ _ more ∙ (λ i. Says (Write (text_by ((own_fit on).side i) M.own M.other)
       (text_by ((own_fit on).side i) M.own (M.mine + 2)))) in
       let length_of : length put ≤ 4 = text_fits s M.own (M.mine + 2) pair.own in
       let fits : length put ≤ world.board = omega (arith, length_of, room) in
-      let st : stale game s M M.phase picture.shown ≡ miss (bytes_eq (picture.shown node) expect) =
-      ap (λ (ph : Phase). stale game s M ph picture.shown) is in
-      by_cases (bytes_eq (picture.shown node) expect) (Onward game s o v w picture (turn_in trial picture s))
+      let st : stale game s M M.phase configuration.shown ≡ miss (bytes_eq (configuration.shown node) expect) =
+      ap (λ (ph : Phase). stale game s M ph configuration.shown) is in
+      by_cases (bytes_eq (configuration.shown node) expect) (Onward game s o v w configuration
+      (turn_in trial configuration s))
       (λ yes.
-      let marked : picture.shown node ≡ text_by s (beside M.mine v steps) (mark_at O.mine w steps) =
+      let marked : configuration.shown node ≡ text_by s (beside M.mine v steps) (mark_at O.mine w steps) =
       marked_far on steps (omega (arith, few, safe_too)) in
       let same : text_by s (beside M.mine v steps) (mark_at O.mine w steps) ≡ expect =
-      sym marked ∙ same_bytes on (picture.shown node) expect yes in
+      sym marked ∙ same_bytes on (configuration.shown node) expect yes in
       let own_is : M.own ≡ beside M.mine v steps =
       sym (read_own s M.own M.other pair.own) ∙ ap (own_in s) (sym same)
       ∙ read_own s (beside M.mine v steps) (mark_at O.mine w steps) pair.own in
@@ -436,22 +441,23 @@ module _ {game : Game} (on : Turn game) where
       let last_node : steps ≡ O.mine = omega (arith, few, not_before) in
       by_steps steps port came is done last_node not_one says placed.3.at yes own_is placed.2 placed.5)
       (λ none.
-      let st_is : stale game s M M.phase picture.shown ≡ 1 = st ∙ ap miss none in
-      follows_at on steps port (At node came) (Heard (Changed (picture.shown node))) 1 0 came picture.reached
-      (writes_not trial picture s (agents_two (sides search) s pair.own) node came expect put placed.3.at says
+      let st_is : stale game s M M.phase configuration.shown ≡ 1 = st ∙ ap miss none in
+      follows_at on steps port (At node came) (Heard (Changed
+      (configuration.shown node))) 1 0 came configuration.reached
+      (writes_not trial configuration s (agents_two (sides search) s pair.own) node came expect put placed.3.at says
       (has_room on (omega (arith, p))) fits none)
-      (ap (λ (ph : Phase). after_in n M ph (Heard (Changed (picture.shown node)))) is) refl done few placed.2
+      (ap (λ (ph : Phase). after_in n M ph (Heard (Changed (configuration.shown node)))) is) refl done few placed.2
       placed.5 (λ k was. was) (λ k some far. (own_fit on).reached k some (omega (arith, far, c))) (omega arith)
       (omega (arith, q)) (omega (arith, p, st_is))))
     where
       by_steps : (steps port : ℕ) (came : Option ℕ) → M.phase ≡ Tells steps port → IsDone game M v → steps ≡ O.mine
           → left_by n M.mine steps ≢ 1
-          → trial.minds s (picture.history s)
+          → trial.strategies s (configuration.history s)
           ≡ Says (Write (text_by s M.own M.other) (text_by s M.own (M.mine + 2)))
-          → picture.position s ≡ At (ways.node (opposite s) steps) came
-          → bytes_eq (picture.shown (ways.node (opposite s) steps)) (text_by s M.own M.other) ≡ true
-          → M.own ≡ beside M.mine v steps → port ≡ ways.ahead (opposite s) steps → picture.accused s ≡ None
-          → Onward game s o v w picture (turn_in trial picture s)
+          → configuration.position s ≡ At (ways.node (opposite s) steps) came
+          → bytes_eq (configuration.shown (ways.node (opposite s) steps)) (text_by s M.own M.other) ≡ true
+          → M.own ≡ beside M.mine v steps → port ≡ ways.ahead (opposite s) steps → configuration.accused s ≡ None
+          → Onward game s o v w configuration (turn_in trial configuration s)
       by_steps zero port came is done last_node not_one says at same own_is ahead none =
           divides 0 port came (GoesOut 0 (1 - port)) is done last_node not_one refl (omega arith) (λ amount. refl) refl
           refl (λ shown. refl) says at same (ap (λ (ph : Phase). after_in n M ph (Heard Written)) is) (

@@ -5,10 +5,10 @@ use Rattle.std.proofs.lemmas.Bool.{lt-ltb, ltb-true, true≢false, cond-true, co
 use Rattle.bhs_model.specs.declared.commands.Command.TheVariants.{Depart, Accuse}
 use Rattle.bhs_model.specs.declared.replies.Reply.TheVariants.{Over}
 use Rattle.bhs_model.proofs.StepLemmas.{by_cases}
-use Rattle.bhs_explore.specs.declared.minds.Step.TheVariants.{Says}
-use Rattle.bhs_explore.specs.Minds.{Heard}
+use Rattle.bhs_explore.specs.declared.answers.Step.TheVariants.{Says}
+use Rattle.bhs_explore.specs.Strategies.{Heard}
 use Rattle.bhs_explore.specs.Schedules.{Trial}
-use Rattle.bhs_protocols.specs.Pictures.{Picture, blank, can_move_in, turn_in}
+use Rattle.bhs_protocols.specs.Configurations.{Configuration, blank, can_move_in, turn_in}
 use Rattle.bhs_protocols.specs.declared.halves.Memory.{Memory}
 use Rattle.bhs_protocols.specs.declared.halves.Phase.{Phase}
 use Rattle.bhs_protocols.specs.declared.halves.Phase.TheVariants.{GoesOut, Tells}
@@ -18,7 +18,7 @@ use Rattle.bhs_protocols.specs.Halves.{left_by, is_done, does_in, after_in, halv
 use Rattle.bhs_protocols.specs.Halving.{most_turns}
 use Rattle.bhs_protocols.proofs.HalvesDues.{mark_at, beside, last}
 use Rattle.bhs_protocols.specs.HalvesLaws.{halves_bounds, HalvesSolve}
-use Rattle.bhs_protocols.specs.Invariants.{Bounds, GoesOn, IsInvariant}
+use Rattle.bhs_protocols.specs.Invariants.{CostBounds, GoesOn, IsInvariant}
 use Rattle.bhs_protocols.proofs.SearchLemmas.{Pair, both, either_goes_on}
 use Rattle.bhs_protocols.proofs.Principle.{invariants_solve}
 use Rattle.bhs_protocols.proofs.MovingLemmas.{is_steady, fails_not, sleeps_not, steady_if}
@@ -158,41 +158,42 @@ module _ (game : Game) where
 
   -- ---- all together
 
-  abbrev pub bounds : Bounds
+  abbrev pub bounds : CostBounds
   bounds = halves_bounds n
 
   -- the invariant, with the turns that are left
-  pub record Holds (s o : ℕ) (picture : Picture) (turns : ℕ) : Type 0 where
+  pub record Holds (s o : ℕ) (configuration : Configuration) (turns : ℕ) : Type 0 where
     pub mark : ℕ
     pub mark_too : ℕ
-    pub inv : Inv game s o mark mark_too picture
-    pub total : turns_due game s (mem game picture s) mark picture.shown
-        + turns_due game o (mem game picture o) mark_too picture.shown ≤ turns
+    pub inv : Inv game s o mark mark_too configuration
+    pub total : turns_due game s (mem game configuration s) mark configuration.shown
+        + turns_due game o (mem game configuration o) mark_too configuration.shown ≤ turns
 
-  turned : (s o : ℕ) (picture : Picture) (turns : ℕ) → Pair s o → Holds s o picture turns → Holds o s picture turns
-  turned s o picture turns pair held =
-      let total : turns_due game s (mem game picture s) held.mark picture.shown
-      + turns_due game o (mem game picture o) held.mark_too picture.shown ≤ turns = held.total in
+  turned : (s o : ℕ) (configuration : Configuration) (turns : ℕ) → Pair s o → Holds s o configuration turns
+      → Holds o s configuration turns
+  turned s o configuration turns pair held =
+      let total : turns_due game s (mem game configuration s) held.mark configuration.shown
+      + turns_due game o (mem game configuration o) held.mark_too configuration.shown ≤ turns = held.total in
       record {
         mark = held.mark_too;
         mark_too = held.mark;
-        inv = swapped game s o held.mark held.mark_too picture held.inv;
+        inv = swapped game s o held.mark held.mark_too configuration held.inv;
         total = omega (arith, total);
       }
 
-  goes_on : (s o : ℕ) (picture : Picture) (turns : ℕ) → Pair s o → can_move_in trial picture s ≡ true
-      → Holds s o picture turns → GoesOn (Holds s o) turns (turn_in trial picture s)
-  goes_on s o picture turns pair moves held =
-      let new : Picture = turn_in trial picture s in
-      let on : Onward game s o held.mark held.mark_too picture new =
-      any_turn (at_turn game s o held.mark held.mark_too picture pair held.inv) moves in
+  goes_on : (s o : ℕ) (configuration : Configuration) (turns : ℕ) → Pair s o → can_move_in trial configuration s ≡ true
+      → Holds s o configuration turns → GoesOn (Holds s o) turns (turn_in trial configuration s)
+  goes_on s o configuration turns pair moves held =
+      let new : Configuration = turn_in trial configuration s in
+      let on : Onward game s o held.mark held.mark_too configuration new =
+      any_turn (at_turn game s o held.mark held.mark_too configuration pair held.inv) moves in
       let fewer : turns_due game s (mem game new s) on.mark new.shown
       + turns_due game o (mem game new o) on.mark_too new.shown
-      < turns_due game s (mem game picture s) held.mark picture.shown
-      + turns_due game o (mem game picture o) held.mark_too picture.shown =
+      < turns_due game s (mem game configuration s) held.mark configuration.shown
+      + turns_due game o (mem game configuration o) held.mark_too configuration.shown =
       on.fewer in
-      let total : turns_due game s (mem game picture s) held.mark picture.shown
-      + turns_due game o (mem game picture o) held.mark_too picture.shown ≤ turns = held.total in
+      let total : turns_due game s (mem game configuration s) held.mark configuration.shown
+      + turns_due game o (mem game configuration o) held.mark_too configuration.shown ≤ turns = held.total in
       record {
         rest = turns_due game s (mem game new s) on.mark new.shown
             + turns_due game o (mem game new o) on.mark_too new.shown;
@@ -203,43 +204,46 @@ module _ (game : Game) where
   invariant : IsInvariant trial bounds (Holds 0 1)
   invariant = record {
     begins = record { mark = 0; mark_too = 0; inv = first_inv; total = first_turns };
-    goes_on = λ picture turns agent within moves held.
-        either_goes_on trial Holds turned goes_on picture turns agent
+    goes_on = λ configuration turns agent within moves held.
+        either_goes_on trial Holds turned goes_on configuration turns agent
         (subst (λ (k : ℕ). agent < k) search.agents within) moves held;
-    moves = λ picture turns held.
-        let moves : picture.moves + due game 0 (mem game picture 0) held.mark
-        + due game 1 (mem game picture 1) held.mark_too
+    moves = λ configuration turns held.
+        let moves : configuration.moves + due game 0 (mem game configuration 0) held.mark
+        + due game 1 (mem game configuration 1) held.mark_too
         ≤ most_moves n = held.inv.moves in
         omega (arith, moves);
-    commands = λ picture turns agent held.
-        let used : picture.used agent + turns_due game 0 (mem game picture 0) held.mark picture.shown
-        + turns_due game 1 (mem game picture 1) held.mark_too picture.shown ≤ most_turns n = held.inv.used agent in
+    commands = λ configuration turns agent held.
+        let used : configuration.used agent + turns_due game 0 (mem game configuration 0) held.mark configuration.shown
+        + turns_due game 1 (mem game configuration 1) held.mark_too configuration.shown ≤ most_turns n =
+        held.inv.used agent in
         omega (arith, used);
-    fine = λ picture turns agent within held.
-        fails_not _ (steady (mem game picture agent) (mem game picture agent).phase);
-    settles = λ picture turns still held.
-        let good = at_rest game held.mark held.mark_too picture held.inv still in
+    fine = λ configuration turns agent within held.
+        fails_not _ (steady (mem game configuration agent) (mem game configuration agent).phase);
+    settles = λ configuration turns still held.
+        let good = at_rest game held.mark held.mark_too configuration held.inv still in
         record {
           outcome = good.0;
           few = good.1;
           over = λ agent node port within at.
-              let now : Memory = after_in n (mem game picture agent) (mem game picture agent).phase (Heard Over) in
+              let now : Memory = after_in n (mem game configuration agent) (mem game configuration agent).phase
+              (Heard Over) in
               fails_not _ (steady now now.phase);
-          awake = λ agent within at. sleeps_not _ (steady (mem game picture agent) (mem game picture agent).phase);
+          awake = λ agent within at. sleeps_not _ (steady (mem game configuration agent)
+              (mem game configuration agent).phase);
         };
   }
 
 pub halves_solve : HalvesSolve
-halves_solve world n right left naps ways search room enough =
+halves_solve world n right left wakeups ways search room enough =
     let game : Game = record {
       world = world;
       n = n;
       right = right;
       left = left;
-      naps = naps;
+      wakeups = wakeups;
       ways = ways;
       search = search;
       room = room;
       enough = enough;
     } in
-    invariants_solve (halves_trial world naps n) (halves_bounds n) (Holds game 0 1) (invariant game)
+    invariants_solve (halves_trial world wakeups n) (halves_bounds n) (Holds game 0 1) (invariant game)

@@ -8,10 +8,10 @@ use Rattle.bhs_model.specs.declared.commands.Command.TheVariants.{Enter, Write, 
 use Rattle.bhs_model.specs.Runs.{Position, Before, At, Bound}
 use Rattle.bhs_model.specs.Examples.{none_held}
 use Rattle.bhs_model.proofs.StepLemmas.{by_cases}
-use Rattle.bhs_explore.specs.declared.minds.Step.TheVariants.{Says}
+use Rattle.bhs_explore.specs.declared.answers.Step.TheVariants.{Says}
 use Rattle.bhs_model.specs.declared.events.Event.TheVariants.{Tell}
-use Rattle.bhs_explore.specs.Schedules.{Trial, Makes, deed_at}
-use Rattle.bhs_protocols.specs.Pictures.{can_move_in, turn_in}
+use Rattle.bhs_explore.specs.Schedules.{Trial, Makes, action_at}
+use Rattle.bhs_protocols.specs.Configurations.{can_move_in, turn_in}
 use Rattle.bhs_protocols.specs.declared.halves.Memory.{Memory}
 use Rattle.bhs_protocols.specs.declared.halves.Phase.{Phase}
 use Rattle.bhs_protocols.specs.declared.halves.Phase.TheVariants.{Begins, GoesOut, Leaves, Tries, Turns, Returns}
@@ -31,33 +31,33 @@ use Rattle.bhs_protocols.proofs.HalvesWrites.{write_turn}
 use Rattle.bhs_protocols.proofs.HalvesDivisions.{tell_turn}
 
 module _ {game : Game} (on : Turn game) where
-  open game use {world, n, naps, ways, search}
-  open on use {s, o, v, w, picture, pair, inv}
+  open game use {world, n, wakeups, ways, search}
+  open on use {s, o, v, w, configuration, pair, inv}
 
   abbrev trial : Trial
   trial = trial_of game
 
   abbrev M : Memory
-  M = mem game picture s
+  M = mem game configuration s
 
   abbrev O : Memory
-  O = mem game picture o
+  O = mem game configuration o
 
   -- ---- any turn
 
-  end_still : M.phase ≡ Ends → can_move_in trial picture s ≡ false
-  end_still is = moving.end_stays trial picture s (agents_two (sides search) s pair.own) (placed_as on Ends is).0
+  end_still : M.phase ≡ Ends → can_move_in trial configuration s ≡ false
+  end_still is = moving.end_stays trial configuration s (agents_two (sides search) s pair.own) (placed_as on Ends is).0
 
-  near_any : (steps : ℕ) → M.phase ≡ NearsHome steps → Onward game s o v w picture (turn_in trial picture s)
+  near_any : (steps : ℕ) → M.phase ≡ NearsHome steps → Onward game s o v w configuration (turn_in trial configuration s)
   near_any zero is = let some : 0 < 0 = (placed_as on (NearsHome zero) is).1 in absurd (omega (arith, some))
   near_any (suc k) is = near_turn on (suc k) k refl is
 
-  back_any : (steps : ℕ) → M.phase ≡ NearsBack steps → Onward game s o v w picture (turn_in trial picture s)
+  back_any : (steps : ℕ) → M.phase ≡ NearsBack steps → Onward game s o v w configuration (turn_in trial configuration s)
   back_any zero is = let some : 0 < 0 = (placed_as on (NearsBack zero) is).1 in absurd (omega (arith, some))
   back_any (suc k) is = back_turn on (suc k) k refl is
 
-  by_phase : (phase : Phase) → M.phase ≡ phase → can_move_in trial picture s ≡ true
-      → Onward game s o v w picture (turn_in trial picture s)
+  by_phase : (phase : Phase) → M.phase ≡ phase → can_move_in trial configuration s ≡ true
+      → Onward game s o v w configuration (turn_in trial configuration s)
   by_phase Begins is moves = begin_turn on is
   by_phase (GoesOut steps port) is moves = out_turn on steps port is
   by_phase (Leaves steps) is moves = leave_turn on steps is
@@ -74,19 +74,20 @@ module _ {game : Game} (on : Turn game) where
   by_phase (NearsBack steps) is moves = back_any steps is
   by_phase Ends is moves = absurd (true≢false (sym moves ∙ end_still is))
 
-  pub any_turn : can_move_in trial picture s ≡ true → Onward game s o v w picture (turn_in trial picture s)
+  pub any_turn : can_move_in trial configuration s ≡ true
+      → Onward game s o v w configuration (turn_in trial configuration s)
   any_turn moves = by_phase M.phase refl moves
 
   -- ---- at rest
 
-  says_moves : (place : Position) (command : Command) → picture.position s ≡ place
-      → deed_at none_held naps place (picture.woken s) (Says command) s ≡ Makes (Tell s command)
-      → trial.minds s (picture.history s) ≡ Says command → can_move_in trial picture s ≡ true
-  says_moves = moving.says_moves trial picture s (agents_two (sides search) s pair.own)
+  says_moves : (place : Position) (command : Command) → configuration.position s ≡ place
+      → action_at none_held wakeups place (configuration.woken s) (Says command) s ≡ Makes (Tell s command)
+      → trial.strategies s (configuration.history s) ≡ Says command → can_move_in trial configuration s ≡ true
+  says_moves = moving.says_moves trial configuration s (agents_two (sides search) s pair.own)
 
   out_moves : (side steps : ℕ) → side < 2 → steps + 1 < distance game side
-      → picture.position s ≡ Bound (ways.node side steps) (ways.ahead side steps)
-      → can_move_in trial picture s ≡ true
+      → configuration.position s ≡ Bound (ways.node side steps) (ways.ahead side steps)
+      → can_move_in trial configuration s ≡ true
   out_moves side steps below before at =
       let within : distance game side < n = within_n game side below in
       bound_moves on (ways.node side steps) (ways.ahead side steps) at
@@ -95,12 +96,12 @@ module _ {game : Game} (on : Turn game) where
       ∙ safe_before game side (steps + 1) below before)
 
   back_moves : (side steps : ℕ) → side < 2 → 0 < steps → steps < n → steps ≤ distance game side
-      → picture.position s ≡ Bound (ways.node side steps) (1 - ways.ahead side steps)
-      → can_move_in trial picture s ≡ true
+      → configuration.position s ≡ Bound (ways.node side steps) (1 - ways.ahead side steps)
+      → can_move_in trial configuration s ≡ true
   back_moves side zero below some within before at = absurd (omega (arith, some))
   back_moves side (suc k) below some within before at =
       let same : suc k ≡ k + 1 = omega arith in
-      let there : picture.position s ≡ Bound (ways.node side (k + 1)) (1 - ways.ahead side (k + 1)) =
+      let there : configuration.position s ≡ Bound (ways.node side (k + 1)) (1 - ways.ahead side (k + 1)) =
       at ∙ ap (λ (j : ℕ). Bound (ways.node side j) (1 - ways.ahead side j)) same in
       bound_moves on (ways.node side (k + 1)) (1 - ways.ahead side (k + 1)) there
       ∙ ap not (doomed_is game (ways.node side (k + 1)) (1 - ways.ahead side (k + 1)) (ways.node side k)
@@ -112,7 +113,8 @@ module _ {game : Game} (on : Turn game) where
     pub phase : M.phase ≡ Tries
     pub edge : M.mine + 1 ≡ distance game s
 
-  pub resting : (phase : Phase) → M.phase ≡ phase → can_move_in trial picture s ≡ false → (M.phase ≡ Ends) ⊎ IsLost
+  pub resting : (phase : Phase) → M.phase ≡ phase → can_move_in trial configuration s ≡ false
+      → (M.phase ≡ Ends) ⊎ IsLost
   resting Begins is still =
       let placed = placed_as on Begins is in
       absurd (true≢false (sym (says_moves Before Enter placed.0 refl (ap (does_in n M) is)) ∙ still))

@@ -10,9 +10,10 @@ use Rattle.bhs_protocols.proofs.HalvesLemmas.{halves_solve}
 use Rattle.bhs_protocols.proofs.RingLemmas.{is_away}
 
 pub halves_solve_all_rings : HalvesSolveAllRings
-halves_solve_all_rings net setup hole naps is room enough =
+halves_solve_all_rings net setup hole wakeups is room enough =
     let away : IsAway net setup hole = is_away net setup hole is in
-    halves_solve (world_of net setup) (nodes_of net) away.one away.other naps (ways_of net setup.home) away.search room
+    halves_solve (world_of net setup) (nodes_of net) away.one away.other wakeups
+    (ways_of net setup.home) away.search room
     enough
 
 pub turns_are_few : TurnsAreFew

@@ -5,9 +5,9 @@ use Rattle.std.specs.Prelude.{◌≢◌, bytes_eq}
 use Rattle.std.proofs.lemmas.Bool.Decides.{eqb_tells}
 use Rattle.bhs_model.specs.Worlds.{World, doomed}
 use Rattle.bhs_model.specs.Runs.{Position, Before, At, Bound, After}
-use Rattle.bhs_explore.specs.Minds.{Item}
+use Rattle.bhs_explore.specs.Strategies.{Observation}
 use Rattle.bhs_explore.specs.Schedules.{Trial}
-use Rattle.bhs_protocols.specs.Pictures.{Picture}
+use Rattle.bhs_protocols.specs.Configurations.{Configuration}
 use Rattle.bhs_protocols.specs.Programs.{held_after}
 use Rattle.bhs_protocols.specs.Rings.{Ways, IsSearch}
 use Rattle.bhs_protocols.specs.declared.halves.Memory.{Memory}
@@ -30,23 +30,28 @@ pub record Game : Type 0 where
   pub n : ℕ
   pub right : ℕ
   pub left : ℕ
-  pub naps : ℕ
+  pub wakeups : ℕ
   pub ways : Ways
   pub search : IsSearch world n right left ways
   pub room : 4 ≤ world.board
   pub enough : most_turns n ≤ world.quota
 
 module _ (game : Game) where
-  open game use {world, n, right, left, naps, ways, search}
+  open game use {world, n, right, left, wakeups, ways, search}
 
   abbrev pub trial : Trial
-  trial = halves_trial world naps n
+  trial = halves_trial world wakeups n
 
-  abbrev pub mem : Picture → (s : ℕ) → Memory
-  mem picture s = held_after (halves n) s (picture.history s)
+  abbrev pub mem : Configuration → (s : ℕ) → Memory
+  mem configuration s = held_after (halves n) s (configuration.history s)
 
-  abbrev pub seat : Picture → (s : ℕ) → Seat
-  seat picture s = record { memory = mem picture s; position = picture.position s; accused = picture.accused s }
+  abbrev pub seat : Configuration → (s : ℕ) → Seat
+  seat configuration s = record {
+    memory = mem configuration s;
+    position = configuration.position s;
+    accused =
+        configuration.accused s;
+  }
 
   -- ---- the ring
 
@@ -190,16 +195,17 @@ module _ (game : Game) where
       2 * due s m mark + 2 * (distance s - 1 - m.mine) + 2 * rounds (rest_of s m mark) + paces m.phase
       + stale s m m.phase shown
 
-  pub record Inv (s o v w : ℕ) (picture : Picture) : Type 0 where
-    pub state : State s o v w (seat picture s) (seat picture o) picture.shown picture.reached
-    pub moves : picture.moves + due s (mem picture s) v + due o (mem picture o) w ≤ most_moves n
-    pub used : (k : ℕ) → picture.used k + turns_due s (mem picture s) v picture.shown
-        + turns_due o (mem picture o) w picture.shown ≤ most_turns n
+  pub record Inv (s o v w : ℕ) (configuration : Configuration) : Type 0 where
+    pub state : State s o v w (seat configuration s) (seat configuration o) configuration.shown configuration.reached
+    pub moves : configuration.moves + due s (mem configuration s) v + due o (mem configuration o) w ≤ most_moves n
+    pub used : (k : ℕ) → configuration.used k + turns_due s (mem configuration s) v configuration.shown
+        + turns_due o (mem configuration o) w configuration.shown ≤ most_turns n
 
-  pub swapped : (s o v w : ℕ) (picture : Picture) → Inv s o v w picture → Inv o s w v picture
-  swapped s o v w picture it =
-      let moves : picture.moves + due s (mem picture s) v + due o (mem picture o) w ≤ most_moves n = it.moves in
-      let sum : part n (mem picture s) v + part n (mem picture o) w + 1 ≡ n = it.state.sum in
+  pub swapped : (s o v w : ℕ) (configuration : Configuration) → Inv s o v w configuration → Inv o s w v configuration
+  swapped s o v w configuration it =
+      let moves : configuration.moves + due s (mem configuration s) v + due o (mem configuration o) w ≤ most_moves n =
+      it.moves in
+      let sum : part n (mem configuration s) v + part n (mem configuration o) w + 1 ≡ n = it.state.sum in
       record {
         state = record {
           own = it.state.other;
@@ -210,8 +216,8 @@ module _ (game : Game) where
         };
         moves = omega (arith, moves);
         used = λ k.
-            let used : picture.used k + turns_due s (mem picture s) v picture.shown
-            + turns_due o (mem picture o) w picture.shown ≤ most_turns n = it.used k in
+            let used : configuration.used k + turns_due s (mem configuration s) v configuration.shown
+            + turns_due o (mem configuration o) w configuration.shown ≤ most_turns n = it.used k in
             omega (arith, used);
       }
 
@@ -249,7 +255,7 @@ module _ (game : Game) where
       IsSpent s o v w mark mark_too was other now moved
       ⊎ (IsDivided s o v w mark mark_too was other now moved ⊎ IsLate s v was other)
 
-  pub record Onward (s o v w : ℕ) (old new : Picture) : Type 0 where
+  pub record Onward (s o v w : ℕ) (old new : Configuration) : Type 0 where
     pub mark : ℕ
     pub mark_too : ℕ
     pub inv : Inv s o mark mark_too new
@@ -261,7 +267,7 @@ module _ (game : Game) where
         < turns_due s (mem old s) v old.shown + turns_due o (mem old o) w old.shown
 
   -- all that a turn of an agent has to keep
-  pub record Keeps (s o v w : ℕ) (old : Picture) (a : Seat) (costs moved mark mark_too : ℕ) (shown : ℕ → List ℕ)
+  pub record Keeps (s o v w : ℕ) (old : Configuration) (a : Seat) (costs moved mark mark_too : ℕ) (shown : ℕ → List ℕ)
       (seen : ℕ → Bool) : Type 0 where
     pub state : State s o mark mark_too a (seat old o) shown seen
     pub once : costs ≤ 1
@@ -270,7 +276,8 @@ module _ (game : Game) where
     pub fewer : turns_due s a.memory mark shown + turns_due o (mem old o) mark_too shown
         < turns_due s (mem old s) v old.shown + turns_due o (mem old o) w old.shown
 
-  pub assembled : (s o v w : ℕ) (old new : Picture) (after : Memory) (place : Position) (news : Item) (costs moved : ℕ)
+  pub assembled : (s o v w : ℕ) (old new : Configuration) (after : Memory) (place : Position) (news : Observation)
+      (costs moved : ℕ)
       (accused : Option (ℕ × ℕ)) (mark mark_too : ℕ) (shown : ℕ → List ℕ) (seen : ℕ → Bool) → Pair s o
       → Inv s o v w old → Becomes old new s place news costs moved accused shown seen
       → after_in n (mem old s) (mem old s).phase news ≡ after
@@ -340,10 +347,10 @@ module _ (game : Game) where
     pub o : ℕ
     pub v : ℕ
     pub w : ℕ
-    pub picture : Picture
+    pub configuration : Configuration
     pub pair : Pair s o
-    pub inv : Inv s o v w picture
+    pub inv : Inv s o v w configuration
 
-  abbrev pub at_turn : (s o v w : ℕ) (picture : Picture) → Pair s o → Inv s o v w picture → Turn
-  at_turn s o v w picture pair inv =
-      record { s = s; o = o; v = v; w = w; picture = picture; pair = pair; inv = inv }
+  abbrev pub at_turn : (s o v w : ℕ) (configuration : Configuration) → Pair s o → Inv s o v w configuration → Turn
+  at_turn s o v w configuration pair inv =
+      record { s = s; o = o; v = v; w = w; configuration = configuration; pair = pair; inv = inv }

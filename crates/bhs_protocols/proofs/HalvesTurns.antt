@@ -8,10 +8,10 @@ use Rattle.bhs_model.specs.declared.commands.Command.TheVariants.{Enter, Depart,
 use Rattle.bhs_model.specs.declared.replies.Reply.TheVariants.{Here, Gone, Noted}
 use Rattle.bhs_model.specs.Runs.{Position, At, Bound, After}
 use Rattle.bhs_model.proofs.StepLemmas.{by_cases}
-use Rattle.bhs_explore.specs.declared.minds.Step.TheVariants.{Says}
-use Rattle.bhs_explore.specs.Minds.{Item, Heard}
+use Rattle.bhs_explore.specs.declared.answers.Step.TheVariants.{Says}
+use Rattle.bhs_explore.specs.Strategies.{Observation, Heard}
 use Rattle.bhs_explore.specs.Schedules.{Trial}
-use Rattle.bhs_protocols.specs.Pictures.{turn_in}
+use Rattle.bhs_protocols.specs.Configurations.{turn_in}
 use Rattle.bhs_protocols.specs.declared.halves.Memory.{Memory}
 use Rattle.bhs_protocols.specs.declared.halves.Phase.{Phase}
 use Rattle.bhs_protocols.specs.declared.halves.Phase.TheVariants.{Begins, GoesOut, Leaves, Tries, Turns, Returns}
@@ -30,16 +30,16 @@ use Rattle.bhs_protocols.proofs.HalvesState.{turns_due, within_n}
 
 module _ {game : Game} (on : Turn game) where
   open game use {world, n, ways, search, enough}
-  open on use {s, o, v, w, picture, pair, inv}
+  open on use {s, o, v, w, configuration, pair, inv}
 
   abbrev trial : Trial
   trial = trial_of game
 
   abbrev pub M : Memory
-  M = mem game picture s
+  M = mem game configuration s
 
   abbrev pub O : Memory
-  O = mem game picture o
+  O = mem game configuration o
 
   abbrev pub B : ℕ
   B = nodes_due game s M v
@@ -52,19 +52,20 @@ module _ {game : Game} (on : Turn game) where
   held target theirs own other phase =
       record M { target = target; theirs = theirs; own = own; other = other; phase = phase }
 
-  pub own_fit : Fit game s (seat game picture s) O.mine v picture.reached
+  pub own_fit : Fit game s (seat game configuration s) O.mine v configuration.reached
   own_fit = inv.state.own
 
-  pub other_fit : Fit game o (seat game picture o) M.mine w picture.reached
+  pub other_fit : Fit game o (seat game configuration o) M.mine w configuration.reached
   other_fit = inv.state.other
 
   pub placed_as : (phase : Phase) → M.phase ≡ phase
-      → IsPlaced game s M O.mine v phase (picture.position s) (picture.accused s)
+      → IsPlaced game s M O.mine v phase (configuration.position s) (configuration.accused s)
   placed_as phase is =
-      subst (λ (p : Phase). IsPlaced game s M O.mine v p (picture.position s) (picture.accused s)) is own_fit.placed
+      subst (λ (p : Phase). IsPlaced game s M O.mine v p (configuration.position s)
+      (configuration.accused s)) is own_fit.placed
 
-  fit_seen : (seen : ℕ → Bool) → ((k : ℕ) → picture.reached k ≡ true → seen k ≡ true)
-      → Fit game o (seat game picture o) M.mine w seen
+  fit_seen : (seen : ℕ → Bool) → ((k : ℕ) → configuration.reached k ≡ true → seen k ≡ true)
+      → Fit game o (seat game configuration o) M.mine w seen
   fit_seen seen grows = record {
     side = other_fit.side;
     placed = other_fit.placed;
@@ -80,20 +81,20 @@ module _ {game : Game} (on : Turn game) where
   }
 
   -- a turn that explores and divides nothing
-  paced_by : (target theirs own other : ℕ) (phase : Phase) (place : Position) (news : Item) (costs moved : ℕ)
+  paced_by : (target theirs own other : ℕ) (phase : Phase) (place : Position) (news : Observation) (costs moved : ℕ)
       (accused : Option (ℕ × ℕ)) (seen : ℕ → Bool)
-      → Becomes picture (turn_in trial picture s) s place news costs moved accused picture.shown seen
+      → Becomes configuration (turn_in trial configuration s) s place news costs moved accused configuration.shown seen
       → after_in n M M.phase news ≡ held target theirs own other phase
       → target_by n M.mine target v ≡ part n M v → theirs_by theirs v ≡ told M v → M.mine ≤ target
       → theirs ≤ O.mine
       → IsPlaced game s (held target theirs own other phase) O.mine v phase place accused
-      → ((k : ℕ) → picture.reached k ≡ true → seen k ≡ true)
+      → ((k : ℕ) → configuration.reached k ≡ true → seen k ≡ true)
       → ((k : ℕ) → 0 < k → k ≤ come M.mine phase → seen (ways.node s k) ≡ true) → costs ≤ 1
       → moved + owing B W M.mine phase ≤ owing B W M.mine M.phase
-      → paces phase + stale game s (held target theirs own other phase) phase picture.shown + 1
-      ≤ paces M.phase + stale game s M M.phase picture.shown + 2 * moved
+      → paces phase + stale game s (held target theirs own other phase) phase configuration.shown + 1
+      ≤ paces M.phase + stale game s M M.phase configuration.shown + 2 * moved
       → (moved + owing B W M.mine phase ≡ owing B W M.mine M.phase) ⊎ IsLate game s v M O
-      → Onward game s o v w picture (turn_in trial picture s)
+      → Onward game s o v w configuration (turn_in trial configuration s)
   paced_by target theirs own other phase place news costs moved accused seen becomes is same same_too reachable known
       placed grows reached once dues fewer exact_or_late =
       let after : Memory = held target theirs own other phase in
@@ -109,7 +110,8 @@ module _ {game : Game} (on : Turn game) where
       let two : part n M v + told M v + 2 ≤ n = own_fit.two in
       let half : n ≤ 2 * part n M v + 2 * told M v + 2 = own_fit.half in
       let sum : part n M v + part n O w + 1 ≡ n = inv.state.sum in
-      assembled game s o v w picture (turn_in trial picture s) after place news costs moved accused v w picture.shown
+      assembled game s o v w configuration
+      (turn_in trial configuration s) after place news costs moved accused v w configuration.shown
       seen
       pair inv becomes is (record {
         state = record {
@@ -146,27 +148,28 @@ module _ {game : Game} (on : Turn game) where
       })
 
   -- one that spends what was owed
-  pub paced : (target theirs own other : ℕ) (phase : Phase) (place : Position) (news : Item) (costs moved : ℕ)
+  pub paced : (target theirs own other : ℕ) (phase : Phase) (place : Position) (news : Observation) (costs moved : ℕ)
       (accused : Option (ℕ × ℕ)) (seen : ℕ → Bool)
-      → Becomes picture (turn_in trial picture s) s place news costs moved accused picture.shown seen
+      → Becomes configuration (turn_in trial configuration s) s place news costs moved accused configuration.shown seen
       → after_in n M M.phase news ≡ held target theirs own other phase
       → target_by n M.mine target v ≡ part n M v → theirs_by theirs v ≡ told M v → M.mine ≤ target
       → theirs ≤ O.mine
       → IsPlaced game s (held target theirs own other phase) O.mine v phase place accused
-      → ((k : ℕ) → picture.reached k ≡ true → seen k ≡ true)
+      → ((k : ℕ) → configuration.reached k ≡ true → seen k ≡ true)
       → ((k : ℕ) → 0 < k → k ≤ come M.mine phase → seen (ways.node s k) ≡ true) → costs ≤ 1
       → moved + owing B W M.mine phase ≡ owing B W M.mine M.phase
-      → paces phase + stale game s (held target theirs own other phase) phase picture.shown + 1
-      ≤ paces M.phase + stale game s M M.phase picture.shown + 2 * moved
-      → Onward game s o v w picture (turn_in trial picture s)
+      → paces phase + stale game s (held target theirs own other phase) phase configuration.shown + 1
+      ≤ paces M.phase + stale game s M M.phase configuration.shown + 2 * moved
+      → Onward game s o v w configuration (turn_in trial configuration s)
   paced target theirs own other phase place news costs moved accused seen becomes is same same_too reachable known
       placed grows reached once dues fewer =
       paced_by target theirs own other phase place news costs moved accused seen becomes is same same_too reachable
       known placed grows reached once (omega (arith, dues)) fewer (inl dues)
 
-  pub has_room : 1 ≤ paces M.phase → picture.used s < world.quota
+  pub has_room : 1 ≤ paces M.phase → configuration.used s < world.quota
   has_room some =
-      let used : picture.used s + turns_due game s M v picture.shown + turns_due game o O w picture.shown
+      let used : configuration.used s + turns_due game s M v configuration.shown + turns_due game o O w
+      configuration.shown
       ≤ most_turns n =
       inv.used s in
       let quota : most_turns n ≤ world.quota = enough in
@@ -176,17 +179,17 @@ module _ {game : Game} (on : Turn game) where
 
   goes : (phase : Phase) (node port : ℕ) (came : Option ℕ)
       → after_in n M M.phase (Heard Gone) ≡ held M.target M.theirs M.own M.other phase
-      → trial.minds s (picture.history s) ≡ Says (Depart port) → picture.position s ≡ At node came
+      → trial.strategies s (configuration.history s) ≡ Says (Depart port) → configuration.position s ≡ At node came
       → port < world.net.degree node → come M.mine phase ≤ come M.mine M.phase
       → IsPlaced game s (held M.target M.theirs M.own M.other phase) O.mine v phase (Bound node port)
-      (picture.accused s)
+      (configuration.accused s)
       → paces M.phase ≡ 1 → paces phase ≡ 2
-      → stale game s (held M.target M.theirs M.own M.other phase) phase picture.shown ≡ 0
+      → stale game s (held M.target M.theirs M.own M.other phase) phase configuration.shown ≡ 0
       → 1 + owing B W M.mine phase ≡ owing B W M.mine M.phase
-      → Onward game s o v w picture (turn_in trial picture s)
+      → Onward game s o v w configuration (turn_in trial configuration s)
   goes phase node port came is says at there came_to placed one two none dues =
-      paced M.target M.theirs M.own M.other phase (Bound node port) (Heard Gone) 1 1 (picture.accused s)
-      picture.reached (departs trial picture s (agents_two (sides search) s pair.own) node port came at says
+      paced M.target M.theirs M.own M.other phase (Bound node port) (Heard Gone) 1 1 (configuration.accused s)
+      configuration.reached (departs trial configuration s (agents_two (sides search) s pair.own) node port came at says
       (has_room (omega (arith, one))) there) is refl refl own_fit.reachable own_fit.known placed (λ k was. was)
       (λ k some far. own_fit.reached k some (omega (arith, far, came_to))) (omega arith) dues
       (omega (arith, one, two, none))
@@ -274,19 +277,19 @@ module _ {game : Game} (on : Turn game) where
 
   -- ---- turns at nodes
 
-  pub begin_turn : M.phase ≡ Begins → Onward game s o v w picture (turn_in trial picture s)
+  pub begin_turn : M.phase ≡ Begins → Onward game s o v w configuration (turn_in trial configuration s)
   begin_turn is =
       let placed = placed_as Begins is in
       let none : M.mine ≡ 0 = placed.1 in
-      let says : trial.minds s (picture.history s) ≡ Says Enter = ap (does_in n M) is in
+      let says : trial.strategies s (configuration.history s) ≡ Says Enter = ap (does_in n M) is in
       let q : owing B W M.mine M.phase ≡ (B - 0) + 0 + W = ap (owing B W M.mine) is in
       let p : paces M.phase ≡ 2 = ap paces is in
       let c : come M.mine M.phase ≡ M.mine = ap (come M.mine) is in
       paced M.target M.theirs M.own M.other (GoesOut 0 M.side) (At world.home None)
-      (Heard (Here (world.net.degree world.home) None (picture.shown world.home))) 0 0 (picture.accused s)
-      picture.reached (enters trial picture s (agents_two (sides search) s pair.own) placed.0 says)
+      (Heard (Here (world.net.degree world.home) None (configuration.shown world.home))) 0 0 (configuration.accused s)
+      configuration.reached (enters trial configuration s (agents_two (sides search) s pair.own) placed.0 says)
       (ap (λ (ph : Phase). after_in n M ph
-      (Heard (Here (world.net.degree world.home) None (picture.shown world.home)))) is)
+      (Heard (Here (world.net.degree world.home) None (configuration.shown world.home)))) is)
       refl refl own_fit.reachable own_fit.known (
         omega arith,
         own_fit.side ∙ sym (search.ring.first s pair.own),
@@ -297,7 +300,7 @@ module _ {game : Game} (on : Turn game) where
       (λ k was. was) (λ k some far. own_fit.reached k some (omega (arith, far, c))) (omega arith)
       (omega (arith, q, none)) (omega (arith, p))
 
-  pub turns_turn : (port : ℕ) → M.phase ≡ Turns port → Onward game s o v w picture (turn_in trial picture s)
+  pub turns_turn : (port : ℕ) → M.phase ≡ Turns port → Onward game s o v w configuration (turn_in trial configuration s)
   turns_turn port is =
       let placed = placed_as (Turns port) is in
       let next : M.mine + 1 < distance game s = placed.1 in
@@ -314,7 +317,7 @@ module _ {game : Game} (on : Turn game) where
       (ap paces is) refl refl (omega (arith, q, b))
 
   pub home_turn : (steps port : ℕ) → M.phase ≡ GoesHome steps port
-      → Onward game s o v w picture (turn_in trial picture s)
+      → Onward game s o v w configuration (turn_in trial configuration s)
   home_turn steps port is =
       let placed = placed_as (GoesHome steps port) is in
       let some : 0 < steps = placed.1 in
@@ -333,7 +336,7 @@ module _ {game : Game} (on : Turn game) where
       (ap paces is) refl refl (omega (arith, q, pays_it, two, some, few))
 
   pub follow_turn : (steps port : ℕ) → M.phase ≡ Follows steps port
-      → Onward game s o v w picture (turn_in trial picture s)
+      → Onward game s o v w configuration (turn_in trial configuration s)
   follow_turn steps port is =
       let placed = placed_as (Follows steps port) is in
       let few : steps < O.mine = placed.1 in
@@ -355,7 +358,7 @@ module _ {game : Game} (on : Turn game) where
       (ap paces is) refl refl (omega (arith, q, pays_it, two, few))
 
   pub come_home_turn : (steps port : ℕ) → M.phase ≡ ComesHome steps port
-      → Onward game s o v w picture (turn_in trial picture s)
+      → Onward game s o v w configuration (turn_in trial configuration s)
   come_home_turn steps port is =
       let placed = placed_as (ComesHome steps port) is in
       let some : 0 < steps = placed.1 in
@@ -379,25 +382,26 @@ module _ {game : Game} (on : Turn game) where
 
   pub accuse_turn : (phase : Phase) (node port : ℕ) (came : Option ℕ) → M.phase ≡ phase
       → after_in n M M.phase (Heard Noted) ≡ held M.target M.theirs M.own M.other Ends
-      → trial.minds s (picture.history s) ≡ Says (Accuse port) → picture.position s ≡ At node came
+      → trial.strategies s (configuration.history s) ≡ Says (Accuse port) → configuration.position s ≡ At node came
       → port < world.net.degree node → M.mine + O.mine + 2 ≡ n
       → ((link game node port ≡ link game (ways.node s M.mine) (ways.ahead s M.mine))
       ⊎ (link game node port ≡ link game (ways.node (opposite s) O.mine) (ways.ahead (opposite s) O.mine)))
       → spent phase ≡ 0 → come M.mine phase ≡ M.mine → paces phase ≡ 1
       → (0 + owing B W M.mine Ends ≡ owing B W M.mine M.phase) ⊎ IsLate game s v M O
-      → Onward game s o v w picture (turn_in trial picture s)
+      → Onward game s o v w configuration (turn_in trial configuration s)
   accuse_turn phase node port came is holds says at there all right_one none c one exact_or_late =
       let q : owing B W M.mine M.phase ≡ owing B W M.mine phase = ap (owing B W M.mine) is in
       let p : paces M.phase ≡ paces phase = ap paces is in
       let come_is : come M.mine M.phase ≡ come M.mine phase = ap (come M.mine) is in
-      paced_by M.target M.theirs M.own M.other Ends After (Heard Noted) 1 0 (Some (node, port)) picture.reached
-      (accuses_link trial picture s (agents_two (sides search) s pair.own) node port came at says
+      paced_by M.target M.theirs M.own M.other Ends After (Heard Noted) 1 0 (Some (node, port)) configuration.reached
+      (accuses_link trial configuration s (agents_two (sides search) s pair.own) node port came at says
       (has_room (omega (arith, p, one)))
       there) holds refl refl own_fit.reachable own_fit.known (refl, all, right_one) (λ k was. was)
       (λ k some far. own_fit.reached k some (omega (arith, far, come_is, c))) (omega arith)
       (omega (arith, q, none)) (omega (arith, p, one)) exact_or_late
 
-  pub out_turn : (steps port : ℕ) → M.phase ≡ GoesOut steps port → Onward game s o v w picture (turn_in trial picture s)
+  pub out_turn : (steps port : ℕ) → M.phase ≡ GoesOut steps port
+      → Onward game s o v w configuration (turn_in trial configuration s)
   out_turn steps port is =
       let placed = placed_as (GoesOut steps port) is in
       let few : steps ≤ M.mine = placed.0 in
@@ -411,12 +415,12 @@ module _ {game : Game} (on : Turn game) where
       let known : M.theirs ≤ O.mine = own_fit.known in
       let there : port < world.net.degree (ways.node s steps) =
       by_port (ways.node s steps) port (ways.ahead s steps) ahead (ahead_fits s steps pair.own within) in
-      by_cases (is_done M steps) (Onward game s o v w picture (turn_in trial picture s))
+      by_cases (is_done M steps) (Onward game s o v w configuration (turn_in trial configuration s))
       (λ yes.
       let tests = and_parts (steps == M.mine) (M.mine == M.target) yes in
       let here : steps ≡ M.mine = eqb-true steps M.mine tests.0 in
       let all_of_it : M.mine ≡ M.target = eqb-true M.mine M.target tests.1 in
-      by_cases (left_by n M.mine M.theirs == 1) (Onward game s o v w picture (turn_in trial picture s))
+      by_cases (left_by n M.mine M.theirs == 1) (Onward game s o v w configuration (turn_in trial configuration s))
       (λ only.
       let one_left : n - 1 - M.mine - M.theirs ≡ 1 = eqb-true (left_by n M.mine M.theirs) 1 only in
       let nothing : W ≡ 0 = none_to_walk all_of_it one_left in

@@ -3,7 +3,7 @@ use Rattle.std.proofs.Common.{ℕ, ◌+◌, ◌<◌, ◌≤◌, ◌≡◌, ◌�
 use Rattle.bhs_referee.specs.declared.verdicts.Outcome.TheVariants.{Solved}
 use Rattle.bhs_referee.specs.Verdicts.{is_present}
 use Rattle.bhs_explore.specs.Schedules.{Trial}
-use Rattle.bhs_protocols.specs.Pictures.{Picture, IsResting, outcome_in, doomed_in}
+use Rattle.bhs_protocols.specs.Configurations.{Configuration, IsResting, outcome_in, doomed_in}
 use Rattle.bhs_protocols.specs.declared.halves.Memory.{Memory}
 use Rattle.bhs_protocols.specs.declared.halves.Phase.TheVariants.{Ends, Tries}
 use Rattle.bhs_protocols.proofs.HalvesDues.{come, part}
@@ -19,38 +19,41 @@ module _ (game : Game) where
   abbrev trial : Trial
   trial = trial_of game
 
-  abbrev pub AtRest : (s o v w : ℕ) (picture : Picture) (pair : Pair s o) → Inv game s o v w picture → Type 0
-  AtRest s o v w picture pair inv = ((mem game picture s).phase ≡ Ends) ⊎ IsLost (at_turn game s o v w picture pair inv)
+  abbrev pub AtRest : (s o v w : ℕ) (configuration : Configuration) (pair : Pair s o) → Inv game s o v w configuration
+      → Type 0
+  AtRest s o v w configuration pair inv = ((mem game configuration s).phase
+      ≡ Ends) ⊎ IsLost (at_turn game s o v w configuration pair inv)
 
-  accuser : (s o v w : ℕ) (picture : Picture) → Pair s o → Inv game s o v w picture → (mem game picture s).phase ≡ Ends
-      → IsAccuser (sides search) s picture
-  accuser s o v w picture pair inv is =
-      let placed = placed_as (at_turn game s o v w picture pair inv) Ends is in
-      let all : (mem game picture s).mine + (mem game picture o).mine + 2 ≡ n = placed.1 in
-      let safe : (mem game picture s).mine < distance game s = inv.state.own.safe in
-      let safe_too : (mem game picture o).mine < distance game o = inv.state.other.safe in
+  accuser : (s o v w : ℕ) (configuration : Configuration) → Pair s o → Inv game s o v w configuration
+      → (mem game configuration s).phase ≡ Ends
+      → IsAccuser (sides search) s configuration
+  accuser s o v w configuration pair inv is =
+      let placed = placed_as (at_turn game s o v w configuration pair inv) Ends is in
+      let all : (mem game configuration s).mine + (mem game configuration o).mine + 2 ≡ n = placed.1 in
+      let safe : (mem game configuration s).mine < distance game s = inv.state.own.safe in
+      let safe_too : (mem game configuration o).mine < distance game o = inv.state.other.safe in
       let sum : distance game s + distance game o ≡ n = sum_is game s o pair in
-      let edge_too : (mem game picture o).mine + 1 ≡ distance game o = omega (arith, all, safe, safe_too, sum) in
+      let edge_too : (mem game configuration o).mine + 1 ≡ distance game o = omega (arith, all, safe, safe_too, sum) in
       elim placed.2 [
-        | inl h ↦ ring_accuser search picture s s (mem game picture s).mine pair.own
+        | inl h ↦ ring_accuser search configuration s s (mem game configuration s).mine pair.own
             (omega (arith, all, safe, safe_too, sum)) h
-        | inr h ↦ ring_accuser search picture s (opposite s) (mem game picture o).mine
+        | inr h ↦ ring_accuser search configuration s (opposite s) (mem game configuration o).mine
             (subst (λ (k : ℕ). k < 2) pair.is pair.other)
-            (subst (λ (k : ℕ). (mem game picture o).mine + 1 ≡ distance game k) pair.is edge_too) h
+            (subst (λ (k : ℕ). (mem game configuration o).mine + 1 ≡ distance game k) pair.is edge_too) h
       ]
 
-  has_come : (s o v w : ℕ) (picture : Picture) (pair : Pair s o) (inv : Inv game s o v w picture)
-      → AtRest s o v w picture pair inv → HasCome (sides search) s (mem game picture s).mine picture
-  has_come s o v w picture pair inv rest =
-      let m : Memory = mem game picture s in
+  has_come : (s o v w : ℕ) (configuration : Configuration) (pair : Pair s o) (inv : Inv game s o v w configuration)
+      → AtRest s o v w configuration pair inv → HasCome (sides search) s (mem game configuration s).mine configuration
+  has_come s o v w configuration pair inv rest =
+      let m : Memory = mem game configuration s in
       elim rest [
         | inl h ↦ record {
-          accused = inr (accuser s o v w picture pair inv h);
-          away = ap is_present (placed_as (at_turn game s o v w picture pair inv) Ends h).0;
+          accused = inr (accuser s o v w configuration pair inv h);
+          away = ap is_present (placed_as (at_turn game s o v w configuration pair inv) Ends h).0;
           reached = λ k some far. inv.state.own.reached k some (omega (arith, far, ap (come m.mine) h));
         }
         | inr h ↦
-            let placed = placed_as (at_turn game s o v w picture pair inv) Tries h.phase in
+            let placed = placed_as (at_turn game s o v w configuration pair inv) Tries h.phase in
             record {
               accused = inl placed.2;
               away = ap is_present placed.1;
@@ -58,51 +61,57 @@ module _ (game : Game) where
             }
       ]
 
-  solved_if : (s o v w : ℕ) (picture : Picture) (pair : Pair s o) (inv : Inv game s o v w picture)
-      → (mem game picture s).phase ≡ Ends → (pair_too : Pair o s) (inv_too : Inv game o s w v picture)
-      → AtRest o s w v picture pair_too inv_too → (outcome_in world picture ≡ Solved) × (doomed_in world picture ≤ 1)
-  solved_if s o v w picture pair inv is pair_too inv_too rest =
-      let placed = placed_as (at_turn game s o v w picture pair inv) Ends is in
-      let all : (mem game picture s).mine + (mem game picture o).mine + 2 ≡ n = placed.1 in
-      let safe : (mem game picture s).mine < distance game s = inv.state.own.safe in
-      let safe_too : (mem game picture o).mine < distance game o = inv.state.other.safe in
+  solved_if : (s o v w : ℕ) (configuration : Configuration) (pair : Pair s o) (inv : Inv game s o v w configuration)
+      → (mem game configuration s).phase ≡ Ends → (pair_too : Pair o s) (inv_too : Inv game o s w v configuration)
+      → AtRest o s w v configuration pair_too inv_too
+      → (outcome_in world configuration ≡ Solved) × (doomed_in world configuration ≤ 1)
+  solved_if s o v w configuration pair inv is pair_too inv_too rest =
+      let placed = placed_as (at_turn game s o v w configuration pair inv) Ends is in
+      let all : (mem game configuration s).mine + (mem game configuration o).mine + 2 ≡ n = placed.1 in
+      let safe : (mem game configuration s).mine < distance game s = inv.state.own.safe in
+      let safe_too : (mem game configuration o).mine < distance game o = inv.state.other.safe in
       let sum : distance game s + distance game o ≡ n = sum_is game s o pair in
-      solved_once (sides search) s o (mem game picture s).mine (mem game picture o).mine picture pair (record {
-        accuses = accuser s o v w picture pair inv is;
+      solved_once (sides search) s o (mem game configuration s).mine (mem game configuration o).mine configuration pair
+      (record {
+        accuses = accuser s o v w configuration pair inv is;
         ended = placed.0;
-        own = has_come s o v w picture pair inv (inl is);
-        other = has_come o s w v picture pair_too inv_too rest;
+        own = has_come s o v w configuration pair inv (inl is);
+        other = has_come o s w v configuration pair_too inv_too rest;
         all = omega (arith, all, safe, safe_too, sum);
         all_too = omega (arith, all, safe, safe_too, sum);
       })
 
   -- both cannot be lost: their parts do not overlap
-  not_both : (s o v w : ℕ) (picture : Picture) (pair : Pair s o) (inv : Inv game s o v w picture)
-      → IsLost (at_turn game s o v w picture pair inv) → (pair_too : Pair o s) (inv_too : Inv game o s w v picture)
-      → IsLost (at_turn game o s w v picture pair_too inv_too) → ⊥
-  not_both s o v w picture pair inv lost pair_too inv_too lost_too =
-      let one = placed_as (at_turn game s o v w picture pair inv) Tries lost.phase in
-      let two = placed_as (at_turn game o s w v picture pair_too inv_too) Tries lost_too.phase in
-      let further : (mem game picture s).mine < part n (mem game picture s) v =
-      part_more (at_turn game s o v w picture pair inv) one.0 v refl in
-      let further_too : (mem game picture o).mine < part n (mem game picture o) w =
-      part_more (at_turn game o s w v picture pair_too inv_too) two.0 w refl in
-      let edge : (mem game picture s).mine + 1 ≡ distance game s = lost.edge in
-      let edge_too : (mem game picture o).mine + 1 ≡ distance game o = lost_too.edge in
+  not_both : (s o v w : ℕ) (configuration : Configuration) (pair : Pair s o) (inv : Inv game s o v w configuration)
+      → IsLost (at_turn game s o v w configuration pair inv)
+      → (pair_too : Pair o s) (inv_too : Inv game o s w v configuration)
+      → IsLost (at_turn game o s w v configuration pair_too inv_too) → ⊥
+  not_both s o v w configuration pair inv lost pair_too inv_too lost_too =
+      let one = placed_as (at_turn game s o v w configuration pair inv) Tries lost.phase in
+      let two = placed_as (at_turn game o s w v configuration pair_too inv_too) Tries lost_too.phase in
+      let further : (mem game configuration s).mine < part n (mem game configuration s) v =
+      part_more (at_turn game s o v w configuration pair inv) one.0 v refl in
+      let further_too : (mem game configuration o).mine < part n (mem game configuration o) w =
+      part_more (at_turn game o s w v configuration pair_too inv_too) two.0 w refl in
+      let edge : (mem game configuration s).mine + 1 ≡ distance game s = lost.edge in
+      let edge_too : (mem game configuration o).mine + 1 ≡ distance game o = lost_too.edge in
       let sum : distance game s + distance game o ≡ n = sum_is game s o pair in
-      let parts : part n (mem game picture s) v + part n (mem game picture o) w + 1 ≡ n = inv.state.sum in
+      let parts : part n (mem game configuration s) v + part n (mem game configuration o) w + 1 ≡ n = inv.state.sum in
       omega (arith, further, further_too, edge, edge_too, sum, parts)
 
-  pub at_rest : (v w : ℕ) (picture : Picture) → Inv game 0 1 v w picture → IsResting trial picture
-      → (outcome_in world picture ≡ Solved) × (doomed_in world picture ≤ 1)
-  at_rest v w picture inv still =
-      let inv_too : Inv game 1 0 w v picture = swapped game 0 1 v w picture inv in
-      elim (resting (at_turn game 0 1 v w picture zero_one inv) (mem game picture 0).phase refl (still 0)) [
-        | inl h ↦ solved_if 0 1 v w picture zero_one inv h one_zero inv_too
-            (resting (at_turn game 1 0 w v picture one_zero inv_too) (mem game picture 1).phase refl (still 1))
-        | inr h ↦ elim (resting (at_turn game 1 0 w v picture one_zero inv_too) (mem game picture 1).phase refl
+  pub at_rest : (v w : ℕ) (configuration : Configuration) → Inv game 0 1 v w configuration
+      → IsResting trial configuration
+      → (outcome_in world configuration ≡ Solved) × (doomed_in world configuration ≤ 1)
+  at_rest v w configuration inv still =
+      let inv_too : Inv game 1 0 w v configuration = swapped game 0 1 v w configuration inv in
+      elim (resting (at_turn game 0 1 v w configuration zero_one inv) (mem game configuration 0).phase refl (still 0)) [
+        | inl h ↦ solved_if 0 1 v w configuration zero_one inv h one_zero inv_too
+            (resting (at_turn game 1 0 w v configuration one_zero inv_too) (mem game configuration 1).phase refl
+            (still 1))
+        | inr h ↦ elim (resting (at_turn game 1 0 w v configuration one_zero inv_too)
+            (mem game configuration 1).phase refl
             (still 1)) [
-              | inl it ↦ solved_if 1 0 w v picture one_zero inv_too it zero_one inv (inr h)
-              | inr it ↦ absurd (not_both 0 1 v w picture zero_one inv h one_zero inv_too it)
+              | inl it ↦ solved_if 1 0 w v configuration one_zero inv_too it zero_one inv (inr h)
+              | inr it ↦ absurd (not_both 0 1 v w configuration zero_one inv h one_zero inv_too it)
             ]
       ]

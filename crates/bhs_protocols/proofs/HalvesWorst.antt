@@ -5,7 +5,7 @@ use Rattle.std.proofs.Common.{◌∷◌, ◌++◌, refl, sym, ap, ◌∙◌, sub
 use Rattle.std.proofs.lemmas.Bool.{lt-ltb, eq-eqb, cond-true, cond-false, le-ltb}
 use Rattle.bhs_model.proofs.StepLemmas.{by_cases}
 use Rattle.bhs_explore.specs.Schedules.{Trial}
-use Rattle.bhs_protocols.specs.Pictures.{Picture, blank, can_move_in, turn_in, turns_in}
+use Rattle.bhs_protocols.specs.Configurations.{Configuration, blank, can_move_in, turn_in, turns_in}
 use Rattle.bhs_protocols.specs.declared.halves.Memory.{Memory}
 use Rattle.bhs_protocols.specs.declared.halves.Phase.TheVariants.{Tries, Ends}
 use Rattle.bhs_protocols.specs.StandardRings.{standard_ways}
@@ -103,45 +103,49 @@ module _ (game : Game) where
   trial = trial_of game
 
   -- where agent s cannot move any more
-  record HasRun (s o : ℕ) (P : (v w : ℕ) → Picture → Type 0) (picture : Picture) : Type 0 where
+  record HasRun (s o : ℕ) (P : (v w : ℕ) → Configuration → Type 0) (configuration : Configuration) : Type 0 where
     schedule : List ℕ
     mark : ℕ
     mark_too : ℕ
-    inv : Inv game s o mark mark_too (turns_in trial picture schedule)
-    holds : P mark mark_too (turns_in trial picture schedule)
-    still : can_move_in trial (turns_in trial picture schedule) s ≡ false
+    inv : Inv game s o mark mark_too (turns_in trial configuration schedule)
+    holds : P mark mark_too (turns_in trial configuration schedule)
+    still : can_move_in trial (turns_in trial configuration schedule) s ≡ false
 
-  runs : (s o : ℕ) (P : (v w : ℕ) → Picture → Type 0) → Pair s o
-      → ((v w : ℕ) (picture : Picture) → Inv game s o v w picture → P v w picture
-      → (on : Onward game s o v w picture (turn_in trial picture s)) → P on.mark on.mark_too (turn_in trial picture s))
-      → (fuel v w : ℕ) (picture : Picture) → Inv game s o v w picture → P v w picture
-      → turns_due game s (mem game picture s) v picture.shown + turns_due game o (mem game picture o) w picture.shown
-      ≤ fuel → HasRun s o P picture
-  runs s o P pair keeps zero v w picture inv holds few =
-      by_cases (can_move_in trial picture s) (HasRun s o P picture)
+  runs : (s o : ℕ) (P : (v w : ℕ) → Configuration → Type 0) → Pair s o
+      → ((v w : ℕ) (configuration : Configuration) → Inv game s o v w configuration → P v w configuration
+      → (on : Onward game s o v w configuration (turn_in trial configuration s))
+      → P on.mark on.mark_too (turn_in trial configuration s))
+      → (fuel v w : ℕ) (configuration : Configuration) → Inv game s o v w configuration → P v w configuration
+      → turns_due game s (mem game configuration s) v configuration.shown + turns_due game o
+      (mem game configuration o) w configuration.shown
+      ≤ fuel → HasRun s o P configuration
+  runs s o P pair keeps zero v w configuration inv holds few =
+      by_cases (can_move_in trial configuration s) (HasRun s o P configuration)
       (λ moves.
-      let on : Onward game s o v w picture (turn_in trial picture s) =
-      any_turn (at_turn game s o v w picture pair inv) moves in
-      let fewer : turns_due game s (mem game (turn_in trial picture s) s) on.mark (turn_in trial picture s).shown
-      + turns_due game o (mem game (turn_in trial picture s) o) on.mark_too (turn_in trial picture s).shown
-      < turns_due game s (mem game picture s) v picture.shown
-      + turns_due game o (mem game picture o) w picture.shown =
+      let on : Onward game s o v w configuration (turn_in trial configuration s) =
+      any_turn (at_turn game s o v w configuration pair inv) moves in
+      let fewer : turns_due game s (mem game (turn_in trial configuration s) s) on.mark
+      (turn_in trial configuration s).shown
+      + turns_due game o (mem game (turn_in trial configuration s) o) on.mark_too (turn_in trial configuration s).shown
+      < turns_due game s (mem game configuration s) v configuration.shown
+      + turns_due game o (mem game configuration o) w configuration.shown =
       on.fewer in
       absurd (omega (arith, fewer, few)))
       (λ rests. record { schedule = []; mark = v; mark_too = w; inv = inv; holds = holds; still = rests })
-  runs s o P pair keeps (suc fuel) v w picture inv holds few =
-      by_cases (can_move_in trial picture s) (HasRun s o P picture)
+  runs s o P pair keeps (suc fuel) v w configuration inv holds few =
+      by_cases (can_move_in trial configuration s) (HasRun s o P configuration)
       (λ moves.
-      let on : Onward game s o v w picture (turn_in trial picture s) =
-      any_turn (at_turn game s o v w picture pair inv) moves in
-      let fewer : turns_due game s (mem game (turn_in trial picture s) s) on.mark (turn_in trial picture s).shown
-      + turns_due game o (mem game (turn_in trial picture s) o) on.mark_too (turn_in trial picture s).shown
-      < turns_due game s (mem game picture s) v picture.shown
-      + turns_due game o (mem game picture o) w picture.shown =
+      let on : Onward game s o v w configuration (turn_in trial configuration s) =
+      any_turn (at_turn game s o v w configuration pair inv) moves in
+      let fewer : turns_due game s (mem game (turn_in trial configuration s) s) on.mark
+      (turn_in trial configuration s).shown
+      + turns_due game o (mem game (turn_in trial configuration s) o) on.mark_too (turn_in trial configuration s).shown
+      < turns_due game s (mem game configuration s) v configuration.shown
+      + turns_due game o (mem game configuration o) w configuration.shown =
       on.fewer in
-      let after : HasRun s o P (turn_in trial picture s) =
-      runs s o P pair keeps fuel on.mark on.mark_too (turn_in trial picture s) on.inv
-      (keeps v w picture inv holds on) (omega (arith, fewer, few)) in
+      let after : HasRun s o P (turn_in trial configuration s) =
+      runs s o P pair keeps fuel on.mark on.mark_too (turn_in trial configuration s) on.inv
+      (keeps v w configuration inv holds on) (omega (arith, fewer, few)) in
       record {
         schedule = s ∷ after.schedule;
         mark = after.mark;
@@ -153,35 +157,36 @@ module _ (game : Game) where
       (λ rests. record { schedule = []; mark = v; mark_too = w; inv = inv; holds = holds; still = rests })
 
   -- all moves are made or owed
-  abbrev IsExact : (s o v w : ℕ) → Picture → Type 0
-  IsExact s o v w picture =
-      picture.moves + due game s (mem game picture s) v + due game o (mem game picture o) w ≡ most_moves n
+  abbrev IsExact : (s o v w : ℕ) → Configuration → Type 0
+  IsExact s o v w configuration =
+      configuration.moves + due game s (mem game configuration s) v + due game o (mem game configuration o) w
+      ≡ most_moves n
 
   -- ---- agent 0 runs into the black hole
 
-  record IsFirst (v w : ℕ) (picture : Picture) : Type 0 where
-    exact : IsExact 0 1 v w picture
-    part_is : part n (mem game picture 0) v ≡ n / 2
-    other : mem game picture 1 ≡ mem game blank 1
+  record IsFirst (v w : ℕ) (configuration : Configuration) : Type 0 where
+    exact : IsExact 0 1 v w configuration
+    part_is : part n (mem game configuration 0) v ≡ n / 2
+    other : mem game configuration 1 ≡ mem game blank 1
     unmarked : w ≡ 0
 
   module _ (near : right ≤ n / 2) where
-    first_keeps : (v w : ℕ) (picture : Picture) → Inv game 0 1 v w picture → IsFirst v w picture
-        → (on : Onward game 0 1 v w picture (turn_in trial picture 0))
-        → IsFirst on.mark on.mark_too (turn_in trial picture 0)
-    first_keeps v w picture inv it on =
-        let safe : (mem game picture 0).mine < right = inv.state.own.safe in
-        let part_is : part n (mem game picture 0) v ≡ n / 2 = it.part_is in
+    first_keeps : (v w : ℕ) (configuration : Configuration) → Inv game 0 1 v w configuration → IsFirst v w configuration
+        → (on : Onward game 0 1 v w configuration (turn_in trial configuration 0))
+        → IsFirst on.mark on.mark_too (turn_in trial configuration 0)
+    first_keeps v w configuration inv it on =
+        let safe : (mem game configuration 0).mine < right = inv.state.own.safe in
+        let part_is : part n (mem game configuration 0) v ≡ n / 2 = it.part_is in
         elim on.progress [
           | inl h ↦
-              let exactly : on.moved + due game 0 (mem game (turn_in trial picture 0) 0) on.mark
-              + due game 1 (mem game picture 1) on.mark_too
-              ≡ due game 0 (mem game picture 0) v + due game 1 (mem game picture 1) w = h.exactly in
-              let moves : (turn_in trial picture 0).moves ≡ picture.moves + on.moved = on.moves in
-              let same : due game 1 (mem game (turn_in trial picture 0) 1) on.mark_too
-              ≡ due game 1 (mem game picture 1) on.mark_too =
+              let exactly : on.moved + due game 0 (mem game (turn_in trial configuration 0) 0) on.mark
+              + due game 1 (mem game configuration 1) on.mark_too
+              ≡ due game 0 (mem game configuration 0) v + due game 1 (mem game configuration 1) w = h.exactly in
+              let moves : (turn_in trial configuration 0).moves ≡ configuration.moves + on.moved = on.moves in
+              let same : due game 1 (mem game (turn_in trial configuration 0) 1) on.mark_too
+              ≡ due game 1 (mem game configuration 1) on.mark_too =
               ap (λ (m : Memory). due game 1 m on.mark_too) on.other in
-              let was : IsExact 0 1 v w picture = it.exact in
+              let was : IsExact 0 1 v w configuration = it.exact in
               record {
                 exact = omega (arith, exactly, moves, same, was);
                 part_is = h.part_is ∙ it.part_is;
@@ -190,10 +195,10 @@ module _ (game : Game) where
               }
           | inr h ↦ elim h [
             | inl d ↦
-                let explored : part n (mem game picture 0) v ≡ (mem game picture 0).mine = d.explored in
+                let explored : part n (mem game configuration 0) v ≡ (mem game configuration 0).mine = d.explored in
                 absurd (omega (arith, explored, part_is, safe, near))
             | inr d ↦
-                let explored : part n (mem game picture 0) v ≡ (mem game picture 0).mine = d.explored in
+                let explored : part n (mem game configuration 0) v ≡ (mem game configuration 0).mine = d.explored in
                 absurd (omega (arith, explored, part_is, safe, near))
           ]
         ]
@@ -223,68 +228,74 @@ module _ (game : Game) where
 
     -- ---- agent 1 explores and divides all that is left
 
-    record IsSecond (v w : ℕ) (picture : Picture) : Type 0 where
-      exact : IsExact 1 0 v w picture
-      before : part n (mem game picture 1) v < left
-      worst : IsWorst (left - part n (mem game picture 1) v) (rounds (rest_of game 1 (mem game picture 1) v))
-      lost : (mem game picture 0).phase ≡ Tries
-      edge : (mem game picture 0).mine + 1 ≡ right
+    record IsSecond (v w : ℕ) (configuration : Configuration) : Type 0 where
+      exact : IsExact 1 0 v w configuration
+      before : part n (mem game configuration 1) v < left
+      worst : IsWorst (left - part n (mem game configuration 1) v) (rounds (rest_of game 1
+          (mem game configuration 1) v))
+      lost : (mem game configuration 0).phase ≡ Tries
+      edge : (mem game configuration 0).mine + 1 ≡ right
 
-    second_keeps : (v w : ℕ) (picture : Picture) → Inv game 1 0 v w picture → IsSecond v w picture
-        → (on : Onward game 1 0 v w picture (turn_in trial picture 1))
-        → IsSecond on.mark on.mark_too (turn_in trial picture 1)
-    second_keeps v w picture inv it on =
+    second_keeps : (v w : ℕ) (configuration : Configuration) → Inv game 1 0 v w configuration
+        → IsSecond v w configuration
+        → (on : Onward game 1 0 v w configuration (turn_in trial configuration 1))
+        → IsSecond on.mark on.mark_too (turn_in trial configuration 1)
+    second_keeps v w configuration inv it on =
         let sum : right + left ≡ n = search.sum in
-        let edge : (mem game picture 0).mine + 1 ≡ right = it.edge in
-        let before : part n (mem game picture 1) v < left = it.before in
-        let was : IsExact 1 0 v w picture = it.exact in
-        let moves : (turn_in trial picture 1).moves ≡ picture.moves + on.moved = on.moves in
-        let same : due game 0 (mem game (turn_in trial picture 1) 0) on.mark_too
-        ≡ due game 0 (mem game picture 0) on.mark_too =
+        let edge : (mem game configuration 0).mine + 1 ≡ right = it.edge in
+        let before : part n (mem game configuration 1) v < left = it.before in
+        let was : IsExact 1 0 v w configuration = it.exact in
+        let moves : (turn_in trial configuration 1).moves ≡ configuration.moves + on.moved = on.moves in
+        let same : due game 0 (mem game (turn_in trial configuration 1) 0) on.mark_too
+        ≡ due game 0 (mem game configuration 0) on.mark_too =
         ap (λ (m : Memory). due game 0 m on.mark_too) on.other in
-        let lost_too : (mem game (turn_in trial picture 1) 0).phase ≡ Tries =
+        let lost_too : (mem game (turn_in trial configuration 1) 0).phase ≡ Tries =
         ap (λ (m : Memory). m.phase) on.other ∙ it.lost in
-        let edge_too : (mem game (turn_in trial picture 1) 0).mine + 1 ≡ right =
+        let edge_too : (mem game (turn_in trial configuration 1) 0).mine + 1 ≡ right =
         ap (λ (m : Memory). m.mine + 1) on.other ∙ it.edge in
-        let rest_is : rest_of game 1 (mem game picture 1) v
-        ≡ n - 1 - part n (mem game picture 1) v - told (mem game picture 1) v =
-        cond-true _ _ _ (lt-ltb (part n (mem game picture 1) v) left before) in
+        let rest_is : rest_of game 1 (mem game configuration 1) v
+        ≡ n - 1 - part n (mem game configuration 1) v - told (mem game configuration 1) v =
+        cond-true _ _ _ (lt-ltb (part n (mem game configuration 1) v) left before) in
         elim on.progress [
           | inl h ↦
-              let exactly : on.moved + due game 1 (mem game (turn_in trial picture 1) 1) on.mark
-              + due game 0 (mem game picture 0) on.mark_too
-              ≡ due game 1 (mem game picture 1) v + due game 0 (mem game picture 0) w = h.exactly in
-              let rest_same : rest_of game 1 (mem game picture 1) v
-              ≡ rest_of game 1 (mem game (turn_in trial picture 1) 1) on.mark =
+              let exactly : on.moved + due game 1 (mem game (turn_in trial configuration 1) 1) on.mark
+              + due game 0 (mem game configuration 0) on.mark_too
+              ≡ due game 1 (mem game configuration 1) v + due game 0 (mem game configuration 0) w = h.exactly in
+              let rest_same : rest_of game 1 (mem game configuration 1) v
+              ≡ rest_of game 1 (mem game (turn_in trial configuration 1) 1) on.mark =
               λ i. if nat_lt (sym h.part_is i) left then n - 1 - sym h.part_is i - sym h.told_is i else 1 in
               record {
                 exact = omega (arith, exactly, moves, same, was);
                 before = subst (λ (k : ℕ). k < left) (sym h.part_is) before;
                 worst = subst (λ (k : ℕ). IsWorst (left - k)
-                    (rounds (rest_of game 1 (mem game (turn_in trial picture 1) 1) on.mark))) (sym h.part_is)
-                    (subst (λ (k : ℕ). IsWorst (left - part n (mem game picture 1) v) (rounds k)) rest_same it.worst);
+                    (rounds (rest_of game 1 (mem game (turn_in trial configuration 1) 1) on.mark))) (sym h.part_is)
+                    (subst (λ (k : ℕ). IsWorst (left - part n (mem game configuration 1) v)
+                    (rounds k)) rest_same it.worst);
                 lost = lost_too;
                 edge = edge_too;
               }
           | inr h ↦ elim h [
             | inl d ↦
-                let now : Memory = mem game (turn_in trial picture 1) 1 in
-                let mine : ℕ = (mem game picture 1).mine in
-                let all : mine + (mem game picture 0).mine + d.rest + 1 ≡ n = d.all in
+                let now : Memory = mem game (turn_in trial configuration 1) 1 in
+                let mine : ℕ = (mem game configuration 1).mine in
+                let all : mine + (mem game configuration 0).mine + d.rest + 1 ≡ n = d.all in
                 let more : 2 ≤ d.rest = d.more in
-                let explored : part n (mem game picture 1) v ≡ mine = d.explored in
+                let explored : part n (mem game configuration 1) v ≡ mine = d.explored in
                 let part_is : part n now on.mark ≡ mine + d.rest / 2 = d.part_is in
-                let told_is : told now on.mark ≡ (mem game picture 0).mine = d.told_is in
-                let left_is : left - part n (mem game picture 1) v ≡ d.rest = omega (arith, all, edge, sum, explored) in
-                let halved : IsHalved n d.rest (walks_at n (rest_of game 1 (mem game picture 1) v)) =
-                halved_by n d.rest (rounds (rest_of game 1 (mem game picture 1) v)) more
-                (subst (λ (k : ℕ). IsWorst k (rounds (rest_of game 1 (mem game picture 1) v))) left_is it.worst) in
-                let paid : walks_at n (rest_of game 1 (mem game picture 1) v)
+                let told_is : told now on.mark ≡ (mem game configuration 0).mine = d.told_is in
+                let left_is : left - part n (mem game configuration 1) v
+                ≡ d.rest = omega (arith, all, edge, sum, explored) in
+                let halved : IsHalved n d.rest (walks_at n (rest_of game 1 (mem game configuration 1) v)) =
+                halved_by n d.rest (rounds (rest_of game 1 (mem game configuration 1) v)) more
+                (subst (λ (k : ℕ). IsWorst k (rounds (rest_of game 1
+                (mem game configuration 1) v))) left_is it.worst) in
+                let paid : walks_at n (rest_of game 1 (mem game configuration 1) v)
                 ≡ 2 * (n - 1 - d.rest) + walks_at n (d.rest - d.rest / 2) = halved.paid in
                 let below : part n now on.mark < left = omega (arith, part_is, all, edge, sum, more) in
-                let exactly : on.moved + due game 1 now on.mark + due game 0 (mem game picture 0) on.mark_too
-                + walks_at n (rest_of game 1 (mem game picture 1) v)
-                ≡ due game 1 (mem game picture 1) v + due game 0 (mem game picture 0) w + 2 * (n - 1 - d.rest)
+                let exactly : on.moved + due game 1 now on.mark + due game 0 (mem game configuration 0) on.mark_too
+                + walks_at n (rest_of game 1 (mem game configuration 1) v)
+                ≡ due game 1 (mem game configuration 1) v + due game 0 (mem game configuration 0) w + 2 *
+                (n - 1 - d.rest)
                 + walks_at n (d.rest - d.rest / 2) = d.exactly below in
                 let rest_now : rest_of game 1 now on.mark ≡ n - 1 - part n now on.mark - told now on.mark =
                 cond-true _ _ _ (lt-ltb (part n now on.mark) left below) in
@@ -301,11 +312,12 @@ module _ (game : Game) where
                   edge = edge_too;
                 }
             | inr d ↦
-                let mine : ℕ = (mem game picture 1).mine in
-                let one : mine + (mem game picture 0).mine + 2 ≡ n = d.one in
-                let explored : part n (mem game picture 1) v ≡ mine = d.explored in
-                let unknown : mine + told (mem game picture 1) v + 3 ≤ n = d.unknown in
-                absurd (not_late (left - part n (mem game picture 1) v) (rest_of game 1 (mem game picture 1) v)
+                let mine : ℕ = (mem game configuration 1).mine in
+                let one : mine + (mem game configuration 0).mine + 2 ≡ n = d.one in
+                let explored : part n (mem game configuration 1) v ≡ mine = d.explored in
+                let unknown : mine + told (mem game configuration 1) v + 3 ≤ n = d.unknown in
+                absurd (not_late (left - part n (mem game configuration 1) v) (rest_of game 1
+                (mem game configuration 1) v)
                 (omega (arith, one, explored, edge, sum)) (omega (arith, rest_is, explored, unknown)) it.worst)
           ]
         ]
@@ -324,95 +336,101 @@ module _ (game : Game) where
 
     -- ---- both have run
 
-    second_is : (v w : ℕ) (picture : Picture) (inv : Inv game 0 1 v w picture) → IsFirst v w picture
-        → IsWorst (n / 2 + 1 - right) (rounds (n / 2)) → IsLost (at_turn game 0 1 v w picture zero_one inv)
-        → IsSecond w v picture
-    second_is v w picture inv it worst gone =
+    second_is : (v w : ℕ) (configuration : Configuration) (inv : Inv game 0 1 v w configuration)
+        → IsFirst v w configuration
+        → IsWorst (n / 2 + 1 - right) (rounds (n / 2)) → IsLost (at_turn game 0 1 v w configuration zero_one inv)
+        → IsSecond w v configuration
+    second_is v w configuration inv it worst gone =
         let sum : right + left ≡ n = search.sum in
         let three : 3 ≤ n = search.ring.three in
-        let parts : part n (mem game picture 0) v + part n (mem game picture 1) w + 1 ≡ n = inv.state.sum in
-        let part_is : part n (mem game picture 0) v ≡ n / 2 = it.part_is in
-        let below : part n (mem game picture 1) w < left = omega (arith, parts, part_is, near, sum, three) in
-        let told_is : told (mem game picture 1) w ≡ 0 = λ i. told (it.other i) (it.unmarked i) in
-        let rest_is : rest_of game 1 (mem game picture 1) w
-        ≡ n - 1 - part n (mem game picture 1) w - told (mem game picture 1) w =
-        cond-true _ _ _ (lt-ltb (part n (mem game picture 1) w) left below) in
-        let half : n / 2 ≡ rest_of game 1 (mem game picture 1) w =
+        let parts : part n (mem game configuration 0) v + part n (mem game configuration 1) w + 1 ≡ n = inv.state.sum in
+        let part_is : part n (mem game configuration 0) v ≡ n / 2 = it.part_is in
+        let below : part n (mem game configuration 1) w < left = omega (arith, parts, part_is, near, sum, three) in
+        let told_is : told (mem game configuration 1) w ≡ 0 = λ i. told (it.other i) (it.unmarked i) in
+        let rest_is : rest_of game 1 (mem game configuration 1) w
+        ≡ n - 1 - part n (mem game configuration 1) w - told (mem game configuration 1) w =
+        cond-true _ _ _ (lt-ltb (part n (mem game configuration 1) w) left below) in
+        let half : n / 2 ≡ rest_of game 1 (mem game configuration 1) w =
         omega (arith, rest_is, told_is, parts, part_is, three) in
-        let left_is : n / 2 + 1 - right ≡ left - part n (mem game picture 1) w =
+        let left_is : n / 2 + 1 - right ≡ left - part n (mem game configuration 1) w =
         omega (arith, parts, part_is, sum, near, three) in
-        let was : IsExact 0 1 v w picture = it.exact in
+        let was : IsExact 0 1 v w configuration = it.exact in
         record {
           exact = omega (arith, was);
           before = below;
-          worst = subst (λ (k : ℕ). IsWorst k (rounds (rest_of game 1 (mem game picture 1) w))) left_is
+          worst = subst (λ (k : ℕ). IsWorst k (rounds (rest_of game 1 (mem game configuration 1) w))) left_is
               (subst (λ (k : ℕ). IsWorst (n / 2 + 1 - right) (rounds k)) half worst);
           lost = gone.phase;
           edge = gone.edge;
         }
 
     -- agent 0 has not come round the ring
-    not_round : (v w : ℕ) (picture : Picture) → Inv game 0 1 v w picture → IsFirst v w picture
-        → (mem game picture 0).phase ≡ Ends → ⊥
-    not_round v w picture inv it is =
-        let placed = placed_as (at_turn game 0 1 v w picture zero_one inv) Ends is in
-        let all : (mem game picture 0).mine + (mem game picture 1).mine + 2 ≡ n = placed.1 in
-        let none : (mem game picture 1).mine ≡ 0 = ap (λ (m : Memory). m.mine) it.other in
-        let safe : (mem game picture 0).mine < right = inv.state.own.safe in
+    not_round : (v w : ℕ) (configuration : Configuration) → Inv game 0 1 v w configuration → IsFirst v w configuration
+        → (mem game configuration 0).phase ≡ Ends → ⊥
+    not_round v w configuration inv it is =
+        let placed = placed_as (at_turn game 0 1 v w configuration zero_one inv) Ends is in
+        let all : (mem game configuration 0).mine + (mem game configuration 1).mine + 2 ≡ n = placed.1 in
+        let none : (mem game configuration 1).mine ≡ 0 = ap (λ (m : Memory). m.mine) it.other in
+        let safe : (mem game configuration 0).mine < right = inv.state.own.safe in
         let three : 3 ≤ n = search.ring.three in
         omega (arith, all, none, safe, near, three)
 
     -- who is lost stays so
-    lost_still : (v w : ℕ) (picture : Picture) → Inv game 0 1 v w picture → (mem game picture 0).phase ≡ Tries
-        → (mem game picture 0).mine + 1 ≡ right → can_move_in trial picture 0 ≡ false
-    lost_still v w picture inv is edge =
-        let placed = placed_as (at_turn game 0 1 v w picture zero_one inv) Tries is in
-        let mine : ℕ = (mem game picture 0).mine in
+    lost_still : (v w : ℕ) (configuration : Configuration) → Inv game 0 1 v w configuration
+        → (mem game configuration 0).phase ≡ Tries
+        → (mem game configuration 0).mine + 1 ≡ right → can_move_in trial configuration 0 ≡ false
+    lost_still v w configuration inv is edge =
+        let placed = placed_as (at_turn game 0 1 v w configuration zero_one inv) Tries is in
+        let mine : ℕ = (mem game configuration 0).mine in
         let within : right < n = within_n game 0 (omega arith) in
         let target : ℕ = ways.node 0 (mine + 1) in
         let label : ℕ = 1 - ways.ahead 0 (mine + 1) in
         let far : world.net.far (ways.node 0 mine) (ways.ahead 0 mine) ≡ (target, label) =
         search.ring.out 0 mine (omega arith) (omega (arith, edge, within)) in
         let there : ways.node 0 right ≡ target = ap (ways.node 0) (sym edge) in
-        bound_moves (at_turn game 0 1 v w picture zero_one inv) (ways.node 0 mine) (ways.ahead 0 mine) placed.1
+        bound_moves (at_turn game 0 1 v w configuration zero_one inv) (ways.node 0 mine) (ways.ahead 0 mine) placed.1
         ∙ ap not (doomed_is game (ways.node 0 mine) (ways.ahead 0 mine) target label far
         ∙ eq-eqb (ways.node 0 right) target there)
 
     -- once agent 1 cannot move, nothing is owed
-    all_made : (v w : ℕ) (picture : Picture) (inv : Inv game 1 0 v w picture) → IsSecond v w picture
-        → can_move_in trial picture 1 ≡ false → picture.moves ≡ most_moves n
-    all_made v w picture inv it still =
-        let turn_of = at_turn game 1 0 v w picture one_zero inv in
-        let before : part n (mem game picture 1) v < left = it.before in
+    all_made : (v w : ℕ) (configuration : Configuration) (inv : Inv game 1 0 v w configuration)
+        → IsSecond v w configuration
+        → can_move_in trial configuration 1 ≡ false → configuration.moves ≡ most_moves n
+    all_made v w configuration inv it still =
+        let turn_of = at_turn game 1 0 v w configuration one_zero inv in
+        let before : part n (mem game configuration 1) v < left = it.before in
         let sum : right + left ≡ n = search.sum in
-        let edge : (mem game picture 0).mine + 1 ≡ right = it.edge in
-        elim (resting turn_of (mem game picture 1).phase refl still) [
+        let edge : (mem game configuration 0).mine + 1 ≡ right = it.edge in
+        elim (resting turn_of (mem game configuration 1).phase refl still) [
           | inl h ↦
               let placed = placed_as turn_of Ends h in
-              let mine : ℕ = (mem game picture 1).mine in
-              let all : mine + (mem game picture 0).mine + 2 ≡ n = placed.1 in
-              let parts : part n (mem game picture 1) v + part n (mem game picture 0) w + 1 ≡ n = inv.state.sum in
-              let none_last : last (part n (mem game picture 1) v) left ≡ 0 =
-              cond-true _ _ _ (lt-ltb (part n (mem game picture 1) v) left before) in
-              let over : nat_lt (part n (mem game picture 0) w) right ≡ false =
-              le-ltb (part n (mem game picture 0) w) right (omega (arith, before, parts, sum)) in
-              let one_last : last (part n (mem game picture 0) w) right ≡ 1 = cond-false _ _ _ over in
-              let rest_0 : rest_of game 0 (mem game picture 0) w ≡ 1 = cond-false _ _ _ over in
-              let walks_0 : walks_at n (rest_of game 0 (mem game picture 0) w) ≡ 0 = ap (walks_at n) rest_0 in
-              let own : due game 1 (mem game picture 1) v ≡ (nodes_due game 1 (mem game picture 1) v - 0) + 0 + 0 =
-              ap (owing (nodes_due game 1 (mem game picture 1) v)
-              (walks_at n (rest_of game 1 (mem game picture 1) v)) mine) h in
-              let other : due game 0 (mem game picture 0) w ≡ (nodes_due game 0 (mem game picture 0) w - 1) + 0
-              + walks_at n (rest_of game 0 (mem game picture 0) w) =
-              ap (owing (nodes_due game 0 (mem game picture 0) w)
-              (walks_at n (rest_of game 0 (mem game picture 0) w)) (mem game picture 0).mine) it.lost in
-              let exact : IsExact 1 0 v w picture = it.exact in
+              let mine : ℕ = (mem game configuration 1).mine in
+              let all : mine + (mem game configuration 0).mine + 2 ≡ n = placed.1 in
+              let parts : part n (mem game configuration 1) v + part n (mem game configuration 0) w + 1
+              ≡ n = inv.state.sum in
+              let none_last : last (part n (mem game configuration 1) v) left ≡ 0 =
+              cond-true _ _ _ (lt-ltb (part n (mem game configuration 1) v) left before) in
+              let over : nat_lt (part n (mem game configuration 0) w) right ≡ false =
+              le-ltb (part n (mem game configuration 0) w) right (omega (arith, before, parts, sum)) in
+              let one_last : last (part n (mem game configuration 0) w) right ≡ 1 = cond-false _ _ _ over in
+              let rest_0 : rest_of game 0 (mem game configuration 0) w ≡ 1 = cond-false _ _ _ over in
+              let walks_0 : walks_at n (rest_of game 0 (mem game configuration 0) w) ≡ 0 = ap (walks_at n) rest_0 in
+              let own : due game 1 (mem game configuration 1) v
+              ≡ (nodes_due game 1 (mem game configuration 1) v - 0) + 0 + 0 =
+              ap (owing (nodes_due game 1 (mem game configuration 1) v)
+              (walks_at n (rest_of game 1 (mem game configuration 1) v)) mine) h in
+              let other : due game 0 (mem game configuration 0) w
+              ≡ (nodes_due game 0 (mem game configuration 0) w - 1) + 0
+              + walks_at n (rest_of game 0 (mem game configuration 0) w) =
+              ap (owing (nodes_due game 0 (mem game configuration 0) w)
+              (walks_at n (rest_of game 0 (mem game configuration 0) w)) (mem game configuration 0).mine) it.lost in
+              let exact : IsExact 1 0 v w configuration = it.exact in
               omega (arith, exact, own, other, none_last, one_last, walks_0, all, edge, sum)
           | inr h ↦
               let placed = placed_as turn_of Tries h.phase in
-              let further : (mem game picture 1).mine < part n (mem game picture 1) v =
+              let further : (mem game configuration 1).mine < part n (mem game configuration 1) v =
               part_more turn_of placed.0 v refl in
-              let round : (mem game picture 1).mine + 1 ≡ left = h.edge in
+              let round : (mem game configuration 1).mine + 1 ≡ left = h.edge in
               absurd (omega (arith, further, round, before))
         ]
 
@@ -434,7 +452,7 @@ module _ (game : Game) where
     second_run : IsWorst (n / 2 + 1 - right) (rounds (n / 2)) → (one : HasRun 0 1 IsFirst blank)
         → HasRun 1 0 IsSecond (turns_in trial blank one.schedule)
     second_run worst one =
-        let middle : Picture = turns_in trial blank one.schedule in
+        let middle : Configuration = turns_in trial blank one.schedule in
         runs 1 0 IsSecond one_zero second_keeps
         (turns_due game 1 (mem game middle 1) one.mark_too middle.shown
         + turns_due game 0 (mem game middle 0) one.mark middle.shown)
@@ -444,7 +462,7 @@ module _ (game : Game) where
     attained : (one : HasRun 0 1 IsFirst blank) → HasRun 1 0 IsSecond (turns_in trial blank one.schedule)
         → IsAttained trial (most_moves n)
     attained one two =
-        let end : Picture = turns_in trial (turns_in trial blank one.schedule) two.schedule in
+        let end : Configuration = turns_in trial (turns_in trial blank one.schedule) two.schedule in
         let back : Inv game 0 1 two.mark_too two.mark end = swapped game 1 0 two.mark two.mark_too end two.inv in
         attained_by trial (one.schedule ++ two.schedule) (most_moves n) end
         (turns_in_append trial blank one.schedule two.schedule)
@@ -458,14 +476,14 @@ module _ (game : Game) where
 -- ---- on each ring
 
 pub halves_attain : HalvesAttain
-halves_attain world n other naps ways search room enough =
+halves_attain world n other wakeups ways search room enough =
     let it = worst_is n search.ring.three in
     attains (record {
       world = world;
       n = n;
       right = worst_distance n;
       left = other;
-      naps = naps;
+      wakeups = wakeups;
       ways = ways;
       search = search;
       room = room;
@@ -473,9 +491,9 @@ halves_attain world n other naps ways search room enough =
     }) it.1 it.2
 
 pub halves_attain_on_standard_rings : HalvesAttainOnStandardRings
-halves_attain_on_standard_rings n naps three =
+halves_attain_on_standard_rings n wakeups three =
     let within = worst_is_within n three in
-    halves_attain (worst_world n) n (n - worst_distance n) naps (standard_ways n)
+    halves_attain (worst_world n) n (n - worst_distance n) wakeups (standard_ways n)
     (is_search n (worst_distance n) (record {
       home = 0;
       holes = worst_distance n ∷ [];

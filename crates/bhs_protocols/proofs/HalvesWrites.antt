@@ -9,10 +9,10 @@ use Rattle.bhs_model.specs.declared.commands.Command.TheVariants.{Write}
 use Rattle.bhs_model.specs.declared.replies.Reply.TheVariants.{Written, Changed}
 use Rattle.bhs_model.specs.Runs.{At, changed}
 use Rattle.bhs_model.proofs.StepLemmas.{by_cases, changed_same, changed_other}
-use Rattle.bhs_explore.specs.declared.minds.Step.TheVariants.{Says}
-use Rattle.bhs_explore.specs.Minds.{Heard}
+use Rattle.bhs_explore.specs.declared.answers.Step.TheVariants.{Says}
+use Rattle.bhs_explore.specs.Strategies.{Heard}
 use Rattle.bhs_explore.specs.Schedules.{Trial}
-use Rattle.bhs_protocols.specs.Pictures.{turn_in}
+use Rattle.bhs_protocols.specs.Configurations.{turn_in}
 use Rattle.bhs_protocols.specs.declared.halves.Memory.{Memory}
 use Rattle.bhs_protocols.specs.declared.halves.Phase.{Phase}
 use Rattle.bhs_protocols.specs.declared.halves.Phase.TheVariants.{GoesOut, Writes, Follows, Passes, Tells, ComesHome}
@@ -31,16 +31,16 @@ use Rattle.bhs_protocols.proofs.HalvesArrivals.{learns, marked_here}
 
 module _ {game : Game} (on : Turn game) where
   open game use {world, n, right, left, ways, search, room}
-  open on use {s, o, v, w, picture, pair, inv}
+  open on use {s, o, v, w, configuration, pair, inv}
 
   abbrev trial : Trial
   trial = trial_of game
 
   abbrev M : Memory
-  M = mem game picture s
+  M = mem game configuration s
 
   abbrev O : Memory
-  O = mem game picture o
+  O = mem game configuration o
 
   abbrev B : ℕ
   B = nodes_due game s M v
@@ -107,18 +107,18 @@ module _ {game : Game} (on : Turn game) where
 
   -- what stays shown where another node's whiteboard is written
   pub shown_there : (side j k : ℕ) (put : List ℕ) → side < 2 → j < distance game side → k < distance game side → k ≢ j
-      → changed picture.shown (ways.node side j) put (ways.node side k) ≡ picture.shown (ways.node side k)
+      → changed configuration.shown (ways.node side j) put (ways.node side k) ≡ configuration.shown (ways.node side k)
   shown_there side j k put below before before_too other =
-      changed_other picture.shown (ways.node side j) (ways.node side k) put
+      changed_other configuration.shown (ways.node side j) (ways.node side k) put
       (ne_eqb (ways.node side k) (ways.node side j)
       (λ same. other (apart_on side below k j before_too before same)))
 
   pub shown_across : (side j k : ℕ) (put : List ℕ) → side < 2 → j < distance game side
       → k < distance game (opposite side)
-      → 0 < j + k → changed picture.shown (ways.node side j) put (ways.node (opposite side) k)
-      ≡ picture.shown (ways.node (opposite side) k)
+      → 0 < j + k → changed configuration.shown (ways.node side j) put (ways.node (opposite side) k)
+      ≡ configuration.shown (ways.node (opposite side) k)
   shown_across side j k put below before before_too some =
-      changed_other picture.shown (ways.node side j) (ways.node (opposite side) k) put
+      changed_other configuration.shown (ways.node side j) (ways.node (opposite side) k) put
       (ne_eqb (ways.node (opposite side) k) (ways.node side j)
       (λ same. crossed_on side below j k before before_too some (sym same)))
 
@@ -140,8 +140,8 @@ module _ {game : Game} (on : Turn game) where
 
   -- the other agent is where it was, with one more node known
   far_more : M.mine + 1 < distance game s → (phase : Phase)
-      → IsPlaced game o O M.mine w phase (picture.position o) (picture.accused o)
-      → IsPlaced game o O (M.mine + 1) w phase (picture.position o) (picture.accused o)
+      → IsPlaced game o O M.mine w phase (configuration.position o) (configuration.accused o)
+      → IsPlaced game o O (M.mine + 1) w phase (configuration.position o) (configuration.accused o)
   far_more next (Follows steps port) placed =
       let few : steps < M.mine = placed.1 in (placed.0, omega (arith, few), placed.2, placed.3, placed.4)
   far_more next (Passes steps) placed =
@@ -181,7 +181,8 @@ module _ {game : Game} (on : Turn game) where
   beside_more zero some = mark_first v (omega (arith, some))
   beside_more (suc k) some = refl
 
-  pub write_turn : (port : ℕ) → M.phase ≡ Writes port → Onward game s o v w picture (turn_in trial picture s)
+  pub write_turn : (port : ℕ) → M.phase ≡ Writes port
+      → Onward game s o v w configuration (turn_in trial configuration s)
   write_turn port is =
       let placed = placed_as on (Writes port) is in
       let more : M.mine < M.target = placed.0 in
@@ -194,17 +195,18 @@ module _ {game : Game} (on : Turn game) where
       let node : ℕ = ways.node s M.mine in
       let expect : List ℕ = text_by s M.own M.other in
       let put : List ℕ = text_by s 1 M.other in
-      let says : trial.minds s (picture.history s) ≡ Says (Write expect put) =
+      let says : trial.strategies s (configuration.history s) ≡ Says (Write expect put) =
       ap (does_in n M) is ∙ (λ i. Says (Write (text_by ((own_fit on).side i) M.own M.other)
       (text_by ((own_fit on).side i) 1 M.other))) in
       let length_of : length put ≤ 4 = text_fits s 1 M.other pair.own in
       let fits : length put ≤ world.board = omega (arith, length_of, room) in
-      let st : stale game s M M.phase picture.shown ≡ miss (bytes_eq (picture.shown node) expect) =
-      ap (λ (ph : Phase). stale game s M ph picture.shown) is in
-      by_cases (bytes_eq (picture.shown node) expect) (Onward game s o v w picture (turn_in trial picture s))
+      let st : stale game s M M.phase configuration.shown ≡ miss (bytes_eq (configuration.shown node) expect) =
+      ap (λ (ph : Phase). stale game s M ph configuration.shown) is in
+      by_cases (bytes_eq (configuration.shown node) expect) (Onward game s o v w configuration
+      (turn_in trial configuration s))
       (λ yes.
       let same : text_by s v (beside O.mine w M.mine) ≡ expect =
-      sym (marked_here on) ∙ same_bytes (picture.shown node) expect yes in
+      sym (marked_here on) ∙ same_bytes (configuration.shown node) expect yes in
       let own_is : M.own ≡ v =
       sym (read_own s M.own M.other pair.own) ∙ ap (own_in s) (sym same)
       ∙ read_own s v (beside O.mine w M.mine) pair.own in
@@ -214,7 +216,7 @@ module _ {game : Game} (on : Turn game) where
       let part_is : part n M v ≡ M.target = ap (part n M) (sym own_is) ∙ placed.4 in
       let told_is : told M v ≡ M.theirs = ap (told M) (sym own_is) ∙ placed.5 in
       let after : Memory = record M { mine = M.mine + 1; phase = GoesOut M.mine port } in
-      let shown : ℕ → List ℕ = changed picture.shown node put in
+      let shown : ℕ → List ℕ = changed configuration.shown node put in
       let two : part n M v + told M v + 2 ≤ n = (own_fit on).two in
       let half : n ≤ 2 * part n M v + 2 * told M v + 2 = (own_fit on).half in
       let known : M.theirs ≤ O.mine = (own_fit on).known in
@@ -228,10 +230,10 @@ module _ {game : Game} (on : Turn game) where
       let walks_are : walks_at n (rest_of game s after 0) ≡ W = ap (walks_at n) rests in
       let rounds_are : rounds (rest_of game s after 0) ≡ rounds (rest_of game s M v) = ap rounds rests in
       let small : stale game o O O.phase shown ≤ 1 = stale_small O.phase shown in
-      let st_is : stale game s M M.phase picture.shown ≡ 0 = st ∙ ap miss yes in
-      assembled game s o v w picture (turn_in trial picture s) after (At node came) (Heard Written) 1 0
-      (picture.accused s) 0 w shown picture.reached pair inv
-      (writes trial picture s (agents_two (sides search) s pair.own) node came expect put placed.3.at says
+      let st_is : stale game s M M.phase configuration.shown ≡ 0 = st ∙ ap miss yes in
+      assembled game s o v w configuration (turn_in trial configuration s) after (At node came) (Heard Written) 1 0
+      (configuration.accused s) 0 w shown configuration.reached pair inv
+      (writes trial configuration s (agents_two (sides search) s pair.own) node came expect put placed.3.at says
       (has_room on (omega (arith, p))) fits yes)
       (ap (λ (ph : Phase). after_in n M ph (Heard Written)) is)
       (record {
@@ -265,7 +267,7 @@ module _ {game : Game} (on : Turn game) where
           sum = omega (arith, sum, part_is);
           marked = λ k before. elim (eqb_tells k M.mine) [
             | inl h ↦
-                ap (λ (j : ℕ). shown (ways.node s j)) h.1 ∙ changed_same picture.shown node put
+                ap (λ (j : ℕ). shown (ways.node s j)) h.1 ∙ changed_same configuration.shown node put
                 ∙ (λ i. text_by s (sym (mark_before (M.mine + 1) 0 k (omega (arith, h.1))) i) (other_is i))
                 ∙ ap (λ (j : ℕ). text_by s (mark_at (M.mine + 1) 0 k) (beside O.mine w j)) (sym h.1)
             | inr h ↦
@@ -275,7 +277,7 @@ module _ {game : Game} (on : Turn game) where
           marked_too = λ k before. by_cases (nat_lt 0 (M.mine + k))
               (shown (ways.node o k) ≡ text_by o (mark_at O.mine w k) (beside (M.mine + 1) 0 k))
               (λ some.
-              subst (λ (side : ℕ). shown (ways.node side k) ≡ picture.shown (ways.node side k)) (sym pair.is)
+              subst (λ (side : ℕ). shown (ways.node side k) ≡ configuration.shown (ways.node side k)) (sym pair.is)
               (shown_across s M.mine k put pair.own safe (subst (λ (side : ℕ). k < distance game side) pair.is before)
               (ltb-true 0 (M.mine + k) some))
               ∙ inv.state.marked_too k before
@@ -288,7 +290,7 @@ module _ {game : Game} (on : Turn game) where
               ap (ways.node o) k_none ∙ search.ring.home o ∙ sym (search.ring.home s)
               ∙ ap (ways.node s) (sym mine_none) in
               let first : mark_at (M.mine + 1) 0 0 ≡ 1 = mark_before (M.mine + 1) 0 0 (omega arith) in
-              ap shown there ∙ changed_same picture.shown node put
+              ap shown there ∙ changed_same configuration.shown node put
               ∙ (λ i. text_by s (sym first i) ((other_is ∙ ap (beside O.mine w) mine_none) i))
               ∙ sym (text_other s o (mark_at (M.mine + 1) 0 0) (mark_at O.mine w 0) pair)
               ∙ ap (λ (j : ℕ). text_by o (mark_at O.mine w j) (beside (M.mine + 1) 0 j)) (sym k_none));
@@ -304,11 +306,11 @@ module _ {game : Game} (on : Turn game) where
         fewer = omega (arith, q, p, lasts, walks_are, rounds_are, next, small, st_is);
       }))
       (λ none.
-      let st_is : stale game s M M.phase picture.shown ≡ 1 = st ∙ ap miss none in
-      learns on (At node came) (Heard (Changed (picture.shown node))) 1 port came picture.reached
-      (writes_not trial picture s (agents_two (sides search) s pair.own) node came expect put placed.3.at says
+      let st_is : stale game s M M.phase configuration.shown ≡ 1 = st ∙ ap miss none in
+      learns on (At node came) (Heard (Changed (configuration.shown node))) 1 port came configuration.reached
+      (writes_not trial configuration s (agents_two (sides search) s pair.own) node came expect put placed.3.at says
       (has_room on (omega (arith, p))) fits none)
-      (ap (λ (ph : Phase). after_in n M ph (Heard (Changed (picture.shown node)))) is) refl more next placed.2
+      (ap (λ (ph : Phase). after_in n M ph (Heard (Changed (configuration.shown node)))) is) refl more next placed.2
       placed.6 (λ k was. was) (λ k some far. (own_fit on).reached k some (omega (arith, far, c))) (omega arith)
       (omega (arith, q)) (omega (arith, p, st_is)))
     where

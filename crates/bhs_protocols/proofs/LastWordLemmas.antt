@@ -22,58 +22,63 @@ use Rattle.bhs_referee.specs.declared.verdicts.Outcome.TheVariants.{Solved, Wron
 use Rattle.bhs_referee.specs.declared.verdicts.Verdict.{Verdict}
 use Rattle.bhs_referee.specs.Findings.{accused_by}
 use Rattle.bhs_referee.specs.Verdicts.{passes, accuses, is_right}
-use Rattle.bhs_explore.specs.Minds.{Minds}
-use Rattle.bhs_explore.specs.Schedules.{Trial, Deed, Makes, Wakes, Rests, deed_at, under}
+use Rattle.bhs_explore.specs.Strategies.{Strategies}
+use Rattle.bhs_explore.specs.Schedules.{Trial, Action, Makes, Wakes, Rests, action_at, under}
 use Rattle.bhs_explore.proofs.Turns.{verdict_is, IsOwn}
-use Rattle.bhs_protocols.specs.Pictures.{Picture, picture_of, blank, deed_in, answer_at, is_heard, told_at, refused_in}
-use Rattle.bhs_protocols.specs.Pictures.{said_in, arrived_in, delivered_in, done_in, turn_in, turns_in, found_in}
-use Rattle.bhs_protocols.specs.Pictures.{outcome_in}
+use Rattle.bhs_protocols.specs.Configurations.{Configuration, configuration_of, blank, deed_in, answer_at, is_heard}
+use Rattle.bhs_protocols.specs.Configurations.{told_at, refused_in}
+use Rattle.bhs_protocols.specs.Configurations.{said_in, arrived_in, delivered_in, done_in, turn_in, turns_in, found_in}
+use Rattle.bhs_protocols.specs.Configurations.{outcome_in}
 use Rattle.bhs_protocols.specs.LastWord.{searched, SolvesFor, AccusationsComeLast}
-use Rattle.bhs_protocols.proofs.PictureLemmas.{pictures_follow}
+use Rattle.bhs_protocols.proofs.ConfigurationLemmas.{configurations_follow}
 use Rattle.bhs_explore.proofs.Turns.{own_at}
 
 -- ---- what no turn undoes
 
 -- a node that was reached
-reached_told : (trial : Trial) (picture : Picture) (agent node : ℕ) (it : Deed) → picture.reached node ≡ true
-    → (done_in trial picture agent it).reached node ≡ true
-reached_told trial picture agent node (Makes (Tell other command)) was =
-    by_cases (is_heard trial.world picture other command)
-    ((said_in trial.world picture other command).reached node ≡ true)
-    (λ yes. ap (λ (p : Picture). p.reached node)
-    (cond-true _ (told_at trial.world picture other (picture.position other)
-    command) (refused_in picture other command) yes) ∙ was)
-    (λ none. ap (λ (p : Picture). p.reached node) (cond-false _ (told_at trial.world picture other
-    (picture.position other) command) (refused_in picture other command) none) ∙ was)
-reached_told trial picture agent node (Makes (Deliver other)) was = by_place (picture.position other)
+reached_told : (trial : Trial) (configuration : Configuration) (agent node : ℕ) (it : Action)
+    → configuration.reached node ≡ true
+    → (done_in trial configuration agent it).reached node ≡ true
+reached_told trial configuration agent node (Makes (Tell other command)) was =
+    by_cases (is_heard trial.world configuration other command)
+    ((said_in trial.world configuration other command).reached node ≡ true)
+    (λ yes. ap (λ (p : Configuration). p.reached node)
+    (cond-true _ (told_at trial.world configuration other (configuration.position other)
+    command) (refused_in configuration other command) yes) ∙ was)
+    (λ none. ap (λ (p : Configuration). p.reached node) (cond-false _ (told_at trial.world configuration other
+    (configuration.position other) command) (refused_in configuration other command) none) ∙ was)
+reached_told trial configuration agent node (Makes (Deliver other)) was = by_place (configuration.position other)
   where
-    kept : (target : ℕ) → changed picture.reached target true node ≡ true
+    kept : (target : ℕ) → changed configuration.reached target true node ≡ true
     kept target = elim (eqb_tells node target) [
       | inl h ↦ rw h.0 refl
       | inr h ↦ rw h.0 was
     ]
 
-    by_place : (position : Position) → (delivered_in trial.world picture other position).reached node ≡ true
+    by_place : (position : Position) → (delivered_in trial.world configuration other position).reached node ≡ true
     by_place (Bound start port) = by_cases (doomed trial.world start port)
-        ((delivered_in trial.world picture other (Bound start port)).reached node ≡ true)
-        (λ yes. ap (λ (p : Picture). p.reached node) (cond-true _ picture (arrived_in trial.world picture other
+        ((delivered_in trial.world configuration other (Bound start port)).reached node ≡ true)
+        (λ yes. ap (λ (p : Configuration). p.reached node) (cond-true _ configuration
+        (arrived_in trial.world configuration other
         (trial.world.net.far start port).0 (trial.world.net.far start port).1) yes) ∙ was)
-        (λ none. ap (λ (p : Picture). p.reached node) (cond-false _ picture (arrived_in trial.world picture other
+        (λ none. ap (λ (p : Configuration). p.reached node) (cond-false _ configuration
+        (arrived_in trial.world configuration other
         (trial.world.net.far start port).0 (trial.world.net.far start port).1) none)
         ∙ kept (trial.world.net.far start port).0)
     by_place Before = was
     by_place (At place came) = was
     by_place After = was
-reached_told trial picture agent node (Makes Close) was = was
-reached_told trial picture agent node Wakes was = was
-reached_told trial picture agent node Rests was = was
+reached_told trial configuration agent node (Makes Close) was = was
+reached_told trial configuration agent node Wakes was = was
+reached_told trial configuration agent node Rests was = was
 
-reached_later : (trial : Trial) (picture : Picture) (schedule : List ℕ) (node : ℕ) → picture.reached node ≡ true
-    → (turns_in trial picture schedule).reached node ≡ true
-reached_later trial picture [] node was = was
-reached_later trial picture (agent ∷ schedule) node was =
-    reached_later trial (turn_in trial picture agent) schedule node
-    (reached_told trial picture agent node (deed_in trial picture agent) was)
+reached_later : (trial : Trial) (configuration : Configuration) (schedule : List ℕ) (node : ℕ)
+    → configuration.reached node ≡ true
+    → (turns_in trial configuration schedule).reached node ≡ true
+reached_later trial configuration [] node was = was
+reached_later trial configuration (agent ∷ schedule) node was =
+    reached_later trial (turn_in trial configuration agent) schedule node
+    (reached_told trial configuration agent node (deed_in trial configuration agent) was)
 
 -- an accusation is the last that an agent does
 abbrev IsHonest : Position → Option (ℕ × ℕ) → Type 0
@@ -124,167 +129,182 @@ told_honest world After Look shown = inl refl
 told_honest world After Leave shown = inl refl
 told_honest world After Bad shown = inl refl
 
-abbrev IsHonestIn : (agent : ℕ) → Picture → Type 0
-IsHonestIn agent picture = IsHonest (picture.position agent) (picture.accused agent)
+abbrev IsHonestIn : (agent : ℕ) → Configuration → Type 0
+IsHonestIn agent configuration = IsHonest (configuration.position agent) (configuration.accused agent)
 
 -- an agent that says something
-said_honest : (world : World) (picture : Picture) (k : ℕ) (command : Command) → picture.accused k ≡ None
-    → IsHonestIn k (said_in world picture k command)
-said_honest world picture k command none = by_cases (is_heard world picture k command)
-    (IsHonestIn k (said_in world picture k command))
-    (λ yes. subst (IsHonestIn k) (sym (cond-true _ (told_at world picture k (picture.position k) command)
-    (refused_in picture k command) yes))
-    (told k picture.accused none))
-    (λ deaf. subst (IsHonestIn k) (sym (cond-false _ (told_at world picture k (picture.position k) command)
-    (refused_in picture k command) deaf)) (inl none))
+said_honest : (world : World) (configuration : Configuration) (k : ℕ) (command : Command)
+    → configuration.accused k ≡ None
+    → IsHonestIn k (said_in world configuration k command)
+said_honest world configuration k command none = by_cases (is_heard world configuration k command)
+    (IsHonestIn k (said_in world configuration k command))
+    (λ yes. subst (IsHonestIn k) (sym (cond-true _ (told_at world configuration k (configuration.position k) command)
+    (refused_in configuration k command) yes))
+    (told k configuration.accused none))
+    (λ deaf. subst (IsHonestIn k) (sym (cond-false _ (told_at world configuration k (configuration.position k) command)
+    (refused_in configuration k command) deaf)) (inl none))
   where
     told : (agent : ℕ) (accused : ℕ → Option (ℕ × ℕ)) → accused k ≡ None →
-        IsHonest (changed picture.position k (position_after world (picture.position k) command) k)
-        (changed accused k (accused_by (Some (answer_at world picture.shown (picture.position k) command)) command
-        (picture.position k) (accused k)) k)
+        IsHonest (changed configuration.position k (position_after world (configuration.position k) command) k)
+        (changed accused k (accused_by (Some (answer_at world configuration.shown
+        (configuration.position k) command)) command
+        (configuration.position k) (accused k)) k)
     told agent accused none =
-        subst (λ (p : Position). IsHonest p (changed accused k (accused_by (Some (answer_at world picture.shown
-        (picture.position k) command)) command (picture.position k) (accused k)) k))
-        (sym (changed_same picture.position k _))
-        (subst (λ (a : Option (ℕ × ℕ)). IsHonest (position_after world (picture.position k) command) a)
+        subst (λ (p : Position). IsHonest p (changed accused k (accused_by (Some (answer_at world configuration.shown
+        (configuration.position k) command)) command (configuration.position k) (accused k)) k))
+        (sym (changed_same configuration.position k _))
+        (subst (λ (a : Option (ℕ × ℕ)). IsHonest (position_after world (configuration.position k) command) a)
         (sym (changed_same accused k _
-        ∙ ap (λ (a : Option (ℕ × ℕ)). accused_by (Some (answer_at world picture.shown (picture.position k) command))
-        command (picture.position k) a) none))
-        (told_honest world (picture.position k) command picture.shown))
+        ∙ ap (λ (a : Option (ℕ
+        × ℕ)). accused_by (Some (answer_at world configuration.shown (configuration.position k) command))
+        command (configuration.position k) a) none))
+        (told_honest world (configuration.position k) command configuration.shown))
 
 -- nobody else's turn changes where an agent is and whom it has accused
-record IsUntouched (k : ℕ) (old new : Picture) : Type 0 where
+record IsUntouched (k : ℕ) (old new : Configuration) : Type 0 where
   position : new.position k ≡ old.position k
   accused : new.accused k ≡ old.accused k
 
-other_untouched : (trial : Trial) (picture : Picture) (agent k : ℕ) (it : Deed) → IsOwn agent it → (k == agent) ≡ false
-    → IsUntouched k picture (done_in trial picture agent it)
-other_untouched trial picture agent k (Makes (Tell other command)) own apart =
+other_untouched : (trial : Trial) (configuration : Configuration) (agent k : ℕ) (it : Action) → IsOwn agent it
+    → (k == agent) ≡ false
+    → IsUntouched k configuration (done_in trial configuration agent it)
+other_untouched trial configuration agent k (Makes (Tell other command)) own apart =
     let far : (k == other) ≡ false = subst (λ (j : ℕ). (k == j) ≡ false) (sym own) apart in
-    by_cases (is_heard trial.world picture other command)
-    (IsUntouched k picture (said_in trial.world picture other command))
-    (λ yes. subst (IsUntouched k picture) (sym (cond-true _ (told_at trial.world picture other (picture.position other)
-    command) (refused_in picture other command) yes)) (record {
-      position = changed_other picture.position other k _ far;
-      accused = changed_other picture.accused other k _ far;
+    by_cases (is_heard trial.world configuration other command)
+    (IsUntouched k configuration (said_in trial.world configuration other command))
+    (λ yes. subst (IsUntouched k configuration) (sym (cond-true _ (told_at trial.world configuration other
+    (configuration.position other)
+    command) (refused_in configuration other command) yes)) (record {
+      position = changed_other configuration.position other k _ far;
+      accused = changed_other configuration.accused other k _ far;
     }))
-    (λ deaf. subst (IsUntouched k picture)
-    (sym (cond-false _ (told_at trial.world picture other (picture.position other)
-    command) (refused_in picture other command) deaf)) (record { position = refl; accused = refl }))
-other_untouched trial picture agent k (Makes (Deliver other)) own apart =
+    (λ deaf. subst (IsUntouched k configuration)
+    (sym (cond-false _ (told_at trial.world configuration other (configuration.position other)
+    command) (refused_in configuration other command) deaf)) (record { position = refl; accused = refl }))
+other_untouched trial configuration agent k (Makes (Deliver other)) own apart =
     let far : (k == other) ≡ false = subst (λ (j : ℕ). (k == j) ≡ false) (sym own) apart in
-    by_place far (picture.position other)
+    by_place far (configuration.position other)
   where
     by_place : (k == other) ≡ false → (position : Position)
-        → IsUntouched k picture (delivered_in trial.world picture other position)
+        → IsUntouched k configuration (delivered_in trial.world configuration other position)
     by_place far (Bound start port) = by_cases (doomed trial.world start port)
-        (IsUntouched k picture (delivered_in trial.world picture other (Bound start port)))
-        (λ yes. subst (IsUntouched k picture) (sym (cond-true _ picture (arrived_in trial.world picture other
+        (IsUntouched k configuration (delivered_in trial.world configuration other (Bound start port)))
+        (λ yes. subst (IsUntouched k configuration) (sym (cond-true _ configuration
+        (arrived_in trial.world configuration other
         (trial.world.net.far start port).0 (trial.world.net.far start port).1) yes))
         (record { position = refl; accused = refl }))
-        (λ none. subst (IsUntouched k picture) (sym (cond-false _ picture (arrived_in trial.world picture other
+        (λ none. subst (IsUntouched k configuration) (sym (cond-false _ configuration
+        (arrived_in trial.world configuration other
         (trial.world.net.far start port).0 (trial.world.net.far start port).1) none))
-        (record { position = changed_other picture.position other k _ far; accused = refl }))
+        (record { position = changed_other configuration.position other k _ far; accused = refl }))
     by_place far Before = record { position = refl; accused = refl }
     by_place far (At place came) = record { position = refl; accused = refl }
     by_place far After = record { position = refl; accused = refl }
-other_untouched trial picture agent k (Makes Close) own apart = record { position = refl; accused = refl }
-other_untouched trial picture agent k Wakes own apart = record { position = refl; accused = refl }
-other_untouched trial picture agent k Rests own apart = record { position = refl; accused = refl }
+other_untouched trial configuration agent k (Makes Close) own apart = record { position = refl; accused = refl }
+other_untouched trial configuration agent k Wakes own apart = record { position = refl; accused = refl }
+other_untouched trial configuration agent k Rests own apart = record { position = refl; accused = refl }
 
-pub own_in : (trial : Trial) (picture : Picture) (agent : ℕ) → IsOwn agent (deed_in trial picture agent)
-own_in trial picture agent =
+pub own_in : (trial : Trial) (configuration : Configuration) (agent : ℕ)
+    → IsOwn agent (deed_in trial configuration agent)
+own_in trial configuration agent =
     either (IsOwn agent) (nat_lt agent trial.world.agents)
-    (deed_at trial.held trial.naps (picture.position agent) (picture.woken agent)
-    (trial.minds agent (picture.history agent)) agent) Rests
-    (own_at trial.held trial.naps (picture.position agent) (picture.woken agent)
-    (trial.minds agent (picture.history agent)) agent) tt
+    (action_at trial.held trial.wakeups (configuration.position agent) (configuration.woken agent)
+    (trial.strategies agent (configuration.history agent)) agent) Rests
+    (own_at trial.held trial.wakeups (configuration.position agent) (configuration.woken agent)
+    (trial.strategies agent (configuration.history agent)) agent) tt
 
 -- who has ended does nothing
-ended_rests : (trial : Trial) (picture : Picture) (k : ℕ) → picture.position k ≡ After
-    → turn_in trial picture k ≡ picture
-ended_rests trial picture k at =
-    ap (done_in trial picture k) ((λ i. if nat_lt k trial.world.agents
-    then deed_at trial.held trial.naps (at i) (picture.woken k) (trial.minds k (picture.history k)) k else Rests)
+ended_rests : (trial : Trial) (configuration : Configuration) (k : ℕ) → configuration.position k ≡ After
+    → turn_in trial configuration k ≡ configuration
+ended_rests trial configuration k at =
+    ap (done_in trial configuration k) ((λ i. if nat_lt k trial.world.agents
+    then action_at trial.held trial.wakeups (at i) (configuration.woken k) (trial.strategies k
+    (configuration.history k)) k else Rests)
     ∙ same (nat_lt k trial.world.agents))
   where
     same : (b : Bool) → (if b then Rests else Rests) ≡ Rests
     same true = refl
     same false = refl
 
-accused_delivered : (world : World) (picture : Picture) (other k : ℕ) (position : Position)
-    → (delivered_in world picture other position).accused k ≡ picture.accused k
-accused_delivered world picture other k (Bound start port) = by_cases (doomed world start port)
-    ((delivered_in world picture other (Bound start port)).accused k ≡ picture.accused k)
-    (λ yes. ap (λ (p : Picture). p.accused k) (cond-true _ picture (arrived_in world picture other
+accused_delivered : (world : World) (configuration : Configuration) (other k : ℕ) (position : Position)
+    → (delivered_in world configuration other position).accused k ≡ configuration.accused k
+accused_delivered world configuration other k (Bound start port) = by_cases (doomed world start port)
+    ((delivered_in world configuration other (Bound start port)).accused k ≡ configuration.accused k)
+    (λ yes. ap (λ (p : Configuration). p.accused k) (cond-true _ configuration (arrived_in world configuration other
     (world.net.far start port).0 (world.net.far start port).1) yes))
-    (λ none. ap (λ (p : Picture). p.accused k) (cond-false _ picture (arrived_in world picture other
+    (λ none. ap (λ (p : Configuration). p.accused k) (cond-false _ configuration (arrived_in world configuration other
     (world.net.far start port).0 (world.net.far start port).1) none))
-accused_delivered world picture other k position = refl
+accused_delivered world configuration other k position = refl
 
-own_honest : (trial : Trial) (picture : Picture) (k : ℕ) (it : Deed) → IsOwn k it → picture.accused k ≡ None
-    → IsHonestIn k (done_in trial picture k it)
-own_honest trial picture k (Makes (Tell other command)) own none =
-    subst (λ (j : ℕ). IsHonestIn k (said_in trial.world picture j command)) (sym own)
-    (said_honest trial.world picture k command none)
-own_honest trial picture k (Makes (Deliver other)) own none =
-    inl (accused_delivered trial.world picture other k (picture.position other) ∙ none)
-own_honest trial picture k (Makes Close) own none = absurd own
-own_honest trial picture k Wakes own none = inl none
-own_honest trial picture k Rests own none = inl none
+own_honest : (trial : Trial) (configuration : Configuration) (k : ℕ) (it : Action) → IsOwn k it
+    → configuration.accused k ≡ None
+    → IsHonestIn k (done_in trial configuration k it)
+own_honest trial configuration k (Makes (Tell other command)) own none =
+    subst (λ (j : ℕ). IsHonestIn k (said_in trial.world configuration j command)) (sym own)
+    (said_honest trial.world configuration k command none)
+own_honest trial configuration k (Makes (Deliver other)) own none =
+    inl (accused_delivered trial.world configuration other k (configuration.position other) ∙ none)
+own_honest trial configuration k (Makes Close) own none = absurd own
+own_honest trial configuration k Wakes own none = inl none
+own_honest trial configuration k Rests own none = inl none
 
-turn_honest : (trial : Trial) (picture : Picture) (agent k : ℕ) → IsHonestIn k picture
-    → IsHonestIn k (turn_in trial picture agent)
-turn_honest trial picture agent k honest = elim (eqb_tells k agent) [
+turn_honest : (trial : Trial) (configuration : Configuration) (agent k : ℕ) → IsHonestIn k configuration
+    → IsHonestIn k (turn_in trial configuration agent)
+turn_honest trial configuration agent k honest = elim (eqb_tells k agent) [
   | inl h ↦
-      let turned : IsHonestIn k (turn_in trial picture k) = elim honest [
-        | inl none ↦ own_honest trial picture k (deed_in trial picture k) (own_in trial picture k) none
-        | inr after ↦ inr (ap (λ (p : Picture). p.position k) (ended_rests trial picture k after) ∙ after)
+      let turned : IsHonestIn k (turn_in trial configuration k) = elim honest [
+        | inl none ↦ own_honest trial configuration k (deed_in trial configuration k)
+            (own_in trial configuration k) none
+        | inr after ↦ inr (ap (λ (p : Configuration). p.position k) (ended_rests trial configuration k after) ∙ after)
       ] in
-      subst (λ (j : ℕ). IsHonestIn k (turn_in trial picture j)) h.1 turned
+      subst (λ (j : ℕ). IsHonestIn k (turn_in trial configuration j)) h.1 turned
   | inr h ↦
-      let it : IsUntouched k picture (turn_in trial picture agent) =
-      other_untouched trial picture agent k (deed_in trial picture agent) (own_in trial picture agent) h.0 in
+      let it : IsUntouched k configuration (turn_in trial configuration agent) =
+      other_untouched trial configuration agent k (deed_in trial configuration agent)
+      (own_in trial configuration agent) h.0 in
       elim honest [
         | inl none ↦ inl (it.accused ∙ none)
         | inr after ↦ inr (it.position ∙ after)
       ]
 ]
 
-honest_later : (trial : Trial) (picture : Picture) (schedule : List ℕ) (k : ℕ) → IsHonestIn k picture
-    → IsHonestIn k (turns_in trial picture schedule)
-honest_later trial picture [] k honest = honest
-honest_later trial picture (agent ∷ schedule) k honest =
-    honest_later trial (turn_in trial picture agent) schedule k (turn_honest trial picture agent k honest)
+honest_later : (trial : Trial) (configuration : Configuration) (schedule : List ℕ) (k : ℕ) → IsHonestIn k configuration
+    → IsHonestIn k (turns_in trial configuration schedule)
+honest_later trial configuration [] k honest = honest
+honest_later trial configuration (agent ∷ schedule) k honest =
+    honest_later trial (turn_in trial configuration agent) schedule k (turn_honest trial configuration agent k honest)
 
 -- what an agent has accused stays
-record HasAccused (k : ℕ) (link : ℕ × ℕ) (picture : Picture) : Type 0 where
-  after : picture.position k ≡ After
-  accused : picture.accused k ≡ Some link
+record HasAccused (k : ℕ) (link : ℕ × ℕ) (configuration : Configuration) : Type 0 where
+  after : configuration.position k ≡ After
+  accused : configuration.accused k ≡ Some link
 
-turn_accused : (trial : Trial) (picture : Picture) (agent k : ℕ) (link : ℕ × ℕ) → HasAccused k link picture
-    → HasAccused k link (turn_in trial picture agent)
-turn_accused trial picture agent k link has = elim (eqb_tells k agent) [
-  | inl h ↦ subst (λ (j : ℕ). HasAccused k link (turn_in trial picture j)) h.1
-      (subst (HasAccused k link) (sym (ended_rests trial picture k has.after)) has)
+turn_accused : (trial : Trial) (configuration : Configuration) (agent k : ℕ) (link : ℕ × ℕ)
+    → HasAccused k link configuration
+    → HasAccused k link (turn_in trial configuration agent)
+turn_accused trial configuration agent k link has = elim (eqb_tells k agent) [
+  | inl h ↦ subst (λ (j : ℕ). HasAccused k link (turn_in trial configuration j)) h.1
+      (subst (HasAccused k link) (sym (ended_rests trial configuration k has.after)) has)
   | inr h ↦
-      let it : IsUntouched k picture (turn_in trial picture agent) =
-      other_untouched trial picture agent k (deed_in trial picture agent) (own_in trial picture agent) h.0 in
+      let it : IsUntouched k configuration (turn_in trial configuration agent) =
+      other_untouched trial configuration agent k (deed_in trial configuration agent)
+      (own_in trial configuration agent) h.0 in
       record { after = it.position ∙ has.after; accused = it.accused ∙ has.accused }
 ]
 
-accused_later : (trial : Trial) (picture : Picture) (schedule : List ℕ) (k : ℕ) (link : ℕ × ℕ)
-    → HasAccused k link picture → HasAccused k link (turns_in trial picture schedule)
-accused_later trial picture [] k link has = has
-accused_later trial picture (agent ∷ schedule) k link has =
-    accused_later trial (turn_in trial picture agent) schedule k link (turn_accused trial picture agent k link has)
+accused_later : (trial : Trial) (configuration : Configuration) (schedule : List ℕ) (k : ℕ) (link : ℕ × ℕ)
+    → HasAccused k link configuration → HasAccused k link (turns_in trial configuration schedule)
+accused_later trial configuration [] k link has = has
+accused_later trial configuration (agent ∷ schedule) k link has =
+    accused_later trial (turn_in trial configuration agent) schedule k link
+    (turn_accused trial configuration agent k link has)
 
 -- ---- an accusation is right where the match is solved
 
-pub turns_in_append : (trial : Trial) (picture : Picture) (xs ys : List ℕ)
-    → turns_in trial picture (xs ++ ys) ≡ turns_in trial (turns_in trial picture xs) ys
-turns_in_append trial picture [] ys = refl
-turns_in_append trial picture (x ∷ xs) ys = turns_in_append trial (turn_in trial picture x) xs ys
+pub turns_in_append : (trial : Trial) (configuration : Configuration) (xs ys : List ℕ)
+    → turns_in trial configuration (xs ++ ys) ≡ turns_in trial (turns_in trial configuration xs) ys
+turns_in_append trial configuration [] ys = refl
+turns_in_append trial configuration (x ∷ xs) ys = turns_in_append trial (turn_in trial configuration x) xs ys
 
 any_none : (test : ℕ → Bool) (start count k : ℕ) → list_any test (range_with_len start count) ≡ false → start ≤ k
     → k < start + count → test k ≡ false
@@ -304,13 +324,13 @@ not_wrong : (a : Bool) (x : Outcome) → (if a then Wrong else x) ≡ Solved →
 not_wrong true x h = cc
 not_wrong false x h = refl
 
-right_at_rest : (world : World) (picture : Picture) (k : ℕ) (link : ℕ × ℕ) → k < world.agents
-    → picture.accused k ≡ Some link → outcome_in world picture ≡ Solved → is_right world link ≡ true
-right_at_rest world picture k link within accused solved =
-    let none : accuses world (found_in picture) (λ l. not (is_right world l)) ≡ false =
-    not_wrong (accuses world (found_in picture) (λ l. not (is_right world l))) _ solved in
-    let here : passes (λ l. not (is_right world l)) (picture.accused k) ≡ false =
-    any_none (λ j. passes (λ l. not (is_right world l)) (picture.accused j)) 0 world.agents k none (omega arith)
+right_at_rest : (world : World) (configuration : Configuration) (k : ℕ) (link : ℕ × ℕ) → k < world.agents
+    → configuration.accused k ≡ Some link → outcome_in world configuration ≡ Solved → is_right world link ≡ true
+right_at_rest world configuration k link within accused solved =
+    let none : accuses world (found_in configuration) (λ l. not (is_right world l)) ≡ false =
+    not_wrong (accuses world (found_in configuration) (λ l. not (is_right world l))) _ solved in
+    let here : passes (λ l. not (is_right world l)) (configuration.accused k) ≡ false =
+    any_none (λ j. passes (λ l. not (is_right world l)) (configuration.accused j)) 0 world.agents k none (omega arith)
     (omega (arith, within)) in
     not_off (is_right world link) (sym (ap (passes (λ l. not (is_right world l))) accused) ∙ here)
   where
@@ -321,38 +341,40 @@ right_at_rest world picture k link within accused solved =
 pub right_after : (trial : Trial) (schedule : List ℕ) (k : ℕ) (link : ℕ × ℕ) → SolvesFor trial → k < trial.world.agents
     → (turns_in trial blank schedule).accused k ≡ Some link → is_right trial.world link ≡ true
 right_after trial schedule k link solves within accused =
-    let picture : Picture = turns_in trial blank schedule in
-    let honest : IsHonestIn k picture = honest_later trial blank schedule k (inl refl) in
-    let has : HasAccused k link picture = elim honest [
+    let configuration : Configuration = turns_in trial blank schedule in
+    let honest : IsHonestIn k configuration = honest_later trial blank schedule k (inl refl) in
+    let has : HasAccused k link configuration = elim honest [
       | inl none ↦ absurd (let both : None ≡ Some link = sym none ∙ accused in cc)
       | inr after ↦ record { after = after; accused = accused }
     ] in
     let more = solves.rests schedule in
     let whole : List ℕ = schedule ++ more.0 in
-    let at_end : picture_of trial (under trial whole) ≡ turns_in trial picture more.0 =
-    pictures_follow trial whole ∙ turns_in_append trial blank schedule more.0 in
-    let later : HasAccused k link (turns_in trial picture more.0) = accused_later trial picture more.0 k link has in
-    let last : (picture_of trial (under trial whole)).accused k ≡ Some link =
-    ap (λ (p : Picture). p.accused k) at_end ∙ later.accused in
-    let solved : outcome_in trial.world (picture_of trial (under trial whole)) ≡ Solved =
+    let at_end : configuration_of trial (under trial whole) ≡ turns_in trial configuration more.0 =
+    configurations_follow trial whole ∙ turns_in_append trial blank schedule more.0 in
+    let later : HasAccused k link (turns_in trial configuration more.0) =
+    accused_later trial configuration more.0 k link has in
+    let last : (configuration_of trial (under trial whole)).accused k ≡ Some link =
+    ap (λ (p : Configuration). p.accused k) at_end ∙ later.accused in
+    let solved : outcome_in trial.world (configuration_of trial (under trial whole)) ≡ Solved =
     sym (ap (λ (v : Verdict). v.outcome) (verdict_is trial (under trial whole)))
     ∙ (solves.solves whole more.1).outcome in
-    right_at_rest trial.world (picture_of trial (under trial whole)) k link within last solved
+    right_at_rest trial.world (configuration_of trial (under trial whole)) k link within last solved
 
 -- ---- the same happens where another node is the black hole, as long as nobody arrives there
 
-module _ (world : World) (held : Held) (naps : ℕ) (minds : Minds) (hole node : ℕ) where
+module _ (world : World) (held : Held) (wakeups : ℕ) (strategies : Strategies) (hole node : ℕ) where
   abbrev one : Trial
-  one = searched world held naps minds hole
+  one = searched world held wakeups strategies hole
 
   abbrev two : Trial
-  two = searched world held naps minds node
+  two = searched world held wakeups strategies node
 
   -- a turn makes the same of both, or nothing of the one
-  record IsAlike (picture : Picture) (agent : ℕ) : Type 0 where
-    either : (turn_in two picture agent ≡ turn_in one picture agent) ⊎ (turn_in one picture agent ≡ picture)
+  record IsAlike (configuration : Configuration) (agent : ℕ) : Type 0 where
+    either : (turn_in two configuration agent ≡ turn_in one configuration agent) ⊎ (turn_in one configuration agent
+        ≡ configuration)
 
-  pub doomed_is : (at start port : ℕ) → doomed (searched world held naps minds at).world start port
+  pub doomed_is : (at start port : ℕ) → doomed (searched world held wakeups strategies at).world start port
       ≡ (at == (world.net.far start port).0)
   doomed_is at start port = or_none (at == (world.net.far start port).0)
     where
@@ -360,84 +382,89 @@ module _ (world : World) (held : Held) (naps : ℕ) (minds : Minds) (hole node :
       or_none true = refl
       or_none false = refl
 
-  alike_by : (picture : Picture) (agent : ℕ) (it : Deed) → (done_in one picture agent it).reached node ≡ false →
-      (done_in two picture agent it ≡ done_in one picture agent it) ⊎ (done_in one picture agent it ≡ picture)
-  alike_by picture agent (Makes (Tell other command)) never = inl refl
-  alike_by picture agent (Makes (Deliver other)) never = by_place (picture.position other) never
+  alike_by : (configuration : Configuration) (agent : ℕ) (it : Action)
+      → (done_in one configuration agent it).reached node ≡ false →
+      (done_in two configuration agent it ≡ done_in one configuration agent it) ⊎ (done_in one configuration agent it
+      ≡ configuration)
+  alike_by configuration agent (Makes (Tell other command)) never = inl refl
+  alike_by configuration agent (Makes (Deliver other)) never = by_place (configuration.position other) never
     where
-      by_place : (position : Position) → (delivered_in one.world picture other position).reached node ≡ false →
-          (delivered_in two.world picture other position ≡ delivered_in one.world picture other position)
-          ⊎ (delivered_in one.world picture other position ≡ picture)
+      by_place : (position : Position) → (delivered_in one.world configuration other position).reached node ≡ false →
+          (delivered_in two.world configuration other position ≡ delivered_in one.world configuration other position)
+          ⊎ (delivered_in one.world configuration other position ≡ configuration)
       by_place (Bound start port) never = by_cases (doomed one.world start port)
-          ((delivered_in two.world picture other (Bound start port)
-          ≡ delivered_in one.world picture other (Bound start port))
-          ⊎ (delivered_in one.world picture other (Bound start port) ≡ picture))
+          ((delivered_in two.world configuration other (Bound start port)
+          ≡ delivered_in one.world configuration other (Bound start port))
+          ⊎ (delivered_in one.world configuration other (Bound start port) ≡ configuration))
           (λ yes. inr (cond-true _ _ _ yes))
           (λ none.
           let target : ℕ = (world.net.far start port).0 in
-          let arrived : Picture = arrived_in one.world picture other target (world.net.far start port).1 in
-          let is : delivered_in one.world picture other (Bound start port) ≡ arrived =
-          cond-false _ picture arrived none in
-          let apart : node ≢ target = λ same. true≢false (sym (ap (changed picture.reached target true) same
-          ∙ changed_same picture.reached target true)
-          ∙ (sym (ap (λ (p : Picture). p.reached node) is) ∙ never)) in
+          let arrived : Configuration = arrived_in one.world configuration other target (world.net.far start port).1 in
+          let is : delivered_in one.world configuration other (Bound start port) ≡ arrived =
+          cond-false _ configuration arrived none in
+          let apart : node ≢ target = λ same. true≢false (sym (ap (changed configuration.reached target true) same
+          ∙ changed_same configuration.reached target true)
+          ∙ (sym (ap (λ (p : Configuration). p.reached node) is) ∙ never)) in
           let safe : doomed two.world start port ≡ false =
           doomed_is node start port ∙ ne_eqb node target apart in
-          inl (cond-false _ picture arrived safe ∙ sym is))
+          inl (cond-false _ configuration arrived safe ∙ sym is))
       by_place Before never = inl refl
       by_place (At place came) never = inl refl
       by_place After never = inl refl
-  alike_by picture agent (Makes Close) never = inl refl
-  alike_by picture agent Wakes never = inl refl
-  alike_by picture agent Rests never = inl refl
+  alike_by configuration agent (Makes Close) never = inl refl
+  alike_by configuration agent Wakes never = inl refl
+  alike_by configuration agent Rests never = inl refl
 
-  pub record IsSameRun (picture : Picture) (schedule : List ℕ) : Type 0 where
+  pub record IsSameRun (configuration : Configuration) (schedule : List ℕ) : Type 0 where
     pub other : List ℕ
-    pub same : turns_in two picture other ≡ turns_in one picture schedule
+    pub same : turns_in two configuration other ≡ turns_in one configuration schedule
 
-  pub same_run : (schedule : List ℕ) (picture : Picture) → (turns_in one picture schedule).reached node ≡ false
-      → IsSameRun picture schedule
-  same_run [] picture never = record { other = []; same = refl }
-  same_run (agent ∷ schedule) picture never =
-      let rest : IsSameRun (turn_in one picture agent) schedule = same_run schedule (turn_in one picture agent) never in
-      let not_yet : (turn_in one picture agent).reached node ≡ false =
-      by_cases ((turn_in one picture agent).reached node) ((turn_in one picture agent).reached node ≡ false)
-      (λ was. absurd (true≢false (sym (reached_later one (turn_in one picture agent) schedule node was) ∙ never)))
+  pub same_run : (schedule : List ℕ) (configuration : Configuration)
+      → (turns_in one configuration schedule).reached node ≡ false
+      → IsSameRun configuration schedule
+  same_run [] configuration never = record { other = []; same = refl }
+  same_run (agent ∷ schedule) configuration never =
+      let rest : IsSameRun (turn_in one configuration agent) schedule =
+      same_run schedule (turn_in one configuration agent) never in
+      let not_yet : (turn_in one configuration agent).reached node ≡ false =
+      by_cases ((turn_in one configuration agent).reached node) ((turn_in one configuration agent).reached node ≡ false)
+      (λ was. absurd (true≢false (sym (reached_later one (turn_in one configuration agent) schedule node was) ∙ never)))
       (λ none. none) in
-      elim (alike_by picture agent (deed_in one picture agent) not_yet) [
+      elim (alike_by configuration agent (deed_in one configuration agent) not_yet) [
         | inl h ↦ record {
           other = agent ∷ rest.other;
-          same = ap (λ (p : Picture). turns_in two p rest.other) h ∙ rest.same;
+          same = ap (λ (p : Configuration). turns_in two p rest.other) h ∙ rest.same;
         }
         | inr h ↦ record {
           other = rest.other;
-          same = ap (λ (p : Picture). turns_in two p rest.other) (sym h) ∙ rest.same;
+          same = ap (λ (p : Configuration). turns_in two p rest.other) (sym h) ∙ rest.same;
         }
       ]
 
 pub last_word : AccusationsComeLast
-last_word world held naps minds solves hole below not_home schedule agent link within accused node below_too
+last_word world held wakeups strategies solves hole below not_home schedule agent link within accused node below_too
     not_home_too apart =
-    let trial : Trial = searched world held naps minds hole in
-    let other : Trial = searched world held naps minds node in
-    let follows : picture_of trial (under trial schedule) ≡ turns_in trial blank schedule =
-    pictures_follow trial schedule in
-    let picture : Picture = turns_in trial blank schedule in
-    by_cases (picture.reached node) ((picture_of trial (under trial schedule)).reached node ≡ true)
-    (λ was. ap (λ (p : Picture). p.reached node) follows ∙ was)
+    let trial : Trial = searched world held wakeups strategies hole in
+    let other : Trial = searched world held wakeups strategies node in
+    let follows : configuration_of trial (under trial schedule) ≡ turns_in trial blank schedule =
+    configurations_follow trial schedule in
+    let configuration : Configuration = turns_in trial blank schedule in
+    by_cases (configuration.reached node) ((configuration_of trial (under trial schedule)).reached node ≡ true)
+    (λ was. ap (λ (p : Configuration). p.reached node) follows ∙ was)
     (λ never.
-    let here : picture.accused agent ≡ Some link = ap (λ (p : Picture). p.accused agent) (sym follows) ∙ accused in
-    let run : IsSameRun world held naps minds hole node blank schedule =
-    same_run world held naps minds hole node schedule blank never in
+    let here : configuration.accused agent
+    ≡ Some link = ap (λ (p : Configuration). p.accused agent) (sym follows) ∙ accused in
+    let run : IsSameRun world held wakeups strategies hole node blank schedule =
+    same_run world held wakeups strategies hole node schedule blank never in
     let there : (turns_in other blank run.other).accused agent ≡ Some link =
-    ap (λ (p : Picture). p.accused agent) run.same ∙ here in
+    ap (λ (p : Configuration). p.accused agent) run.same ∙ here in
     let right : is_right trial.world link ≡ true =
     right_after trial schedule agent link (solves hole below not_home) within here in
     let right_too : is_right other.world link ≡ true =
     right_after other run.other agent link (solves node below_too not_home_too) within there in
     let target : ℕ = (world.net.far link.0 link.1).0 in
     let hole_is : hole ≡ target =
-    eqb-true hole target (sym (doomed_is world held naps minds hole node hole link.0 link.1) ∙ right) in
+    eqb-true hole target (sym (doomed_is world held wakeups strategies hole node hole link.0 link.1) ∙ right) in
     let node_is : node ≡ target =
-    eqb-true node target (sym (doomed_is world held naps minds hole node node link.0 link.1) ∙ right_too) in
+    eqb-true node target (sym (doomed_is world held wakeups strategies hole node node link.0 link.1) ∙ right_too) in
     absurd (apart (node_is ∙ sym hole_is)))

@@ -1,4 +1,4 @@
-pub mod PictureLemmas
+pub mod ConfigurationLemmas
 pub mod Principle
 pub mod TurnLemmas
 pub mod MovingLemmas

@@ -19,14 +19,15 @@ use Rattle.bhs_model.specs.Runs.{Position, Before, At, Bound, After, changed, is
 use Rattle.bhs_model.proofs.StepLemmas.{by_cases, changed_same}
 use Rattle.bhs_referee.specs.declared.verdicts.Outcome.TheVariants.{Solved}
 use Rattle.bhs_referee.specs.declared.verdicts.Verdict.{Verdict}
-use Rattle.bhs_explore.specs.Minds.{Minds}
-use Rattle.bhs_explore.specs.Schedules.{Trial, Scene, opening, state_of, Deed, Makes, Wakes, Rests, deed, done}
+use Rattle.bhs_explore.specs.Strategies.{Strategies}
+use Rattle.bhs_explore.specs.Schedules.{Trial, Scene, opening, state_of, Action, Makes, Wakes, Rests, deed, done}
 use Rattle.bhs_explore.specs.Schedules.{turn, turns, under, verdict}
 use Rattle.bhs_explore.proofs.Closed.{IsKept, kept_by_turns, under_each}
 use Rattle.bhs_explore.proofs.Schedules.{turns_append}
 use Rattle.bhs_explore.proofs.Turns.{IsOwn, lost_more, verdict_is}
-use Rattle.bhs_protocols.specs.Pictures.{Picture, picture_of, blank, deed_in, is_heard, told_at, refused_in, arrived_in}
-use Rattle.bhs_protocols.specs.Pictures.{said_in, delivered_in, done_in, turn_in, turns_in, outcome_in}
+use Rattle.bhs_protocols.specs.Configurations.{Configuration, configuration_of, blank, deed_in, is_heard, told_at}
+use Rattle.bhs_protocols.specs.Configurations.{refused_in, arrived_in}
+use Rattle.bhs_protocols.specs.Configurations.{said_in, delivered_in, done_in, turn_in, turns_in, outcome_in}
 use Rattle.bhs_protocols.specs.LastWord.{searched, SolvesFor}
 use Rattle.bhs_protocols.specs.Losses.{LosesOne, EachBlackHoleDestroys, ALossIsNeeded, ALossIsNeededOnNetworks}
 use Rattle.bhs_protocols.specs.Losses.{TheHalvesSolveEverywhere}
@@ -34,7 +35,7 @@ use Rattle.bhs_protocols.specs.Invariants.{IsSolved}
 use Rattle.bhs_protocols.specs.Halving.{most_moves}
 use Rattle.bhs_protocols.specs.Halves.{halves_trial}
 use Rattle.bhs_protocols.specs.HalvesLaws.{halves_bounds}
-use Rattle.bhs_protocols.proofs.PictureLemmas.{pictures_follow, open_turn}
+use Rattle.bhs_protocols.proofs.ConfigurationLemmas.{configurations_follow, open_turn}
 use Rattle.bhs_protocols.proofs.AloneLemmas.{IsThird, third, unreached_unsolved}
 use Rattle.bhs_protocols.proofs.HalvesRings.{halves_solve_all_rings}
 use Rattle.bhs_protocols.proofs.LastWordLemmas.{IsSameRun, same_run, own_in, doomed_is}
@@ -65,66 +66,70 @@ number_is : (p : ℕ → Bool) (xs : List ℕ) → number_of p xs ≡ count_by p
 unfolding number_of
 number_is p xs = is_count_by (number_of p) p refl (λ x others. refl) xs
 
-module _ (world : World) (held : Held) (naps : ℕ) (minds : Minds) (hole node : ℕ) where
+module _ (world : World) (held : Held) (wakeups : ℕ) (strategies : Strategies) (hole node : ℕ) where
   abbrev one : Trial
-  one = searched world held naps minds hole
+  one = searched world held wakeups strategies hole
 
   abbrev two : Trial
-  two = searched world held naps minds node
+  two = searched world held wakeups strategies node
 
   -- ---- where a node is reached, some turn is the first to reach it
 
-  record IsFirstTurn (picture : Picture) : Type 0 where
+  record IsFirstTurn (configuration : Configuration) : Type 0 where
     schedule : List ℕ
     agent : ℕ
-    never : (turns_in one picture schedule).reached node ≡ false
-    comes : (turn_in one (turns_in one picture schedule) agent).reached node ≡ true
+    never : (turns_in one configuration schedule).reached node ≡ false
+    comes : (turn_in one (turns_in one configuration schedule) agent).reached node ≡ true
 
-  first_turn : (schedule : List ℕ) (picture : Picture) → picture.reached node ≡ false
-      → (turns_in one picture schedule).reached node ≡ true → IsFirstTurn picture
-  first_turn [] picture never was = absurd (true≢false (sym was ∙ never))
-  first_turn (agent ∷ schedule) picture never was =
-      by_cases ((turn_in one picture agent).reached node) (IsFirstTurn picture)
+  first_turn : (schedule : List ℕ) (configuration : Configuration) → configuration.reached node ≡ false
+      → (turns_in one configuration schedule).reached node ≡ true → IsFirstTurn configuration
+  first_turn [] configuration never was = absurd (true≢false (sym was ∙ never))
+  first_turn (agent ∷ schedule) configuration never was =
+      by_cases ((turn_in one configuration agent).reached node) (IsFirstTurn configuration)
       (λ yes. record { schedule = []; agent = agent; never = never; comes = yes })
       (λ none.
-      let rest : IsFirstTurn (turn_in one picture agent) = first_turn schedule (turn_in one picture agent) none was in
+      let rest : IsFirstTurn (turn_in one configuration agent) =
+      first_turn schedule (turn_in one configuration agent) none was in
       record { schedule = agent ∷ rest.schedule; agent = rest.agent; never = rest.never; comes = rest.comes })
 
   -- that is an arrival: an agent on a link that leads there is delivered
-  record IsComing (picture : Picture) (agent : ℕ) : Type 0 where
+  record IsComing (configuration : Configuration) (agent : ℕ) : Type 0 where
     start : ℕ
     port : ℕ
-    on : picture.position agent ≡ Bound start port
+    on : configuration.position agent ≡ Bound start port
     to : node ≡ (world.net.far start port).0
-    delivers : deed_in one picture agent ≡ Makes (Deliver agent)
+    delivers : deed_in one configuration agent ≡ Makes (Deliver agent)
 
-  coming_by : (picture : Picture) (agent : ℕ) (it : Deed) → IsOwn agent it → deed_in one picture agent ≡ it
-      → picture.reached node ≡ false → (done_in one picture agent it).reached node ≡ true → IsComing picture agent
-  coming_by picture agent (Makes (Tell other command)) own is never comes =
-      absurd (true≢false (sym comes ∙ by_cases (is_heard world picture other command)
-      ((said_in one.world picture other command).reached node ≡ false)
-      (λ yes. ap (λ (p : Picture). p.reached node) (cond-true _ (told_at one.world picture other
-      (picture.position other) command) (refused_in picture other command) yes) ∙ never)
-      (λ none. ap (λ (p : Picture). p.reached node) (cond-false _ (told_at one.world picture other
-      (picture.position other) command) (refused_in picture other command) none) ∙ never)))
-  coming_by picture agent (Makes (Deliver other)) own is never comes = by_place (picture.position other) refl comes
+  coming_by : (configuration : Configuration) (agent : ℕ) (it : Action) → IsOwn agent it
+      → deed_in one configuration agent ≡ it
+      → configuration.reached node ≡ false → (done_in one configuration agent it).reached node ≡ true
+      → IsComing configuration agent
+  coming_by configuration agent (Makes (Tell other command)) own is never comes =
+      absurd (true≢false (sym comes ∙ by_cases (is_heard world configuration other command)
+      ((said_in one.world configuration other command).reached node ≡ false)
+      (λ yes. ap (λ (p : Configuration). p.reached node) (cond-true _ (told_at one.world configuration other
+      (configuration.position other) command) (refused_in configuration other command) yes) ∙ never)
+      (λ none. ap (λ (p : Configuration). p.reached node) (cond-false _ (told_at one.world configuration other
+      (configuration.position other) command) (refused_in configuration other command) none) ∙ never)))
+  coming_by configuration agent (Makes (Deliver other)) own is never comes =
+      by_place (configuration.position other) refl comes
     where
-      by_place : (position : Position) → picture.position other ≡ position
-          → (delivered_in one.world picture other position).reached node ≡ true → IsComing picture agent
-      by_place (Bound start port) at comes = by_cases (doomed one.world start port) (IsComing picture agent)
-          (λ yes. absurd (true≢false (sym comes ∙ (ap (λ (p : Picture). p.reached node) (cond-true _ picture
-          (arrived_in one.world picture other (world.net.far start port).0 (world.net.far start port).1) yes)
+      by_place : (position : Position) → configuration.position other ≡ position
+          → (delivered_in one.world configuration other position).reached node ≡ true → IsComing configuration agent
+      by_place (Bound start port) at comes = by_cases (doomed one.world start port) (IsComing configuration agent)
+          (λ yes. absurd (true≢false (sym comes ∙ (ap (λ (p : Configuration). p.reached node) (cond-true _ configuration
+          (arrived_in one.world configuration other (world.net.far start port).0 (world.net.far start port).1) yes)
           ∙ never))))
           (λ none.
           let target : ℕ = (world.net.far start port).0 in
-          let now : changed picture.reached target true node ≡ true =
-          sym (ap (λ (p : Picture). p.reached node) (cond-false _ picture
-          (arrived_in one.world picture other target (world.net.far start port).1) none)) ∙ comes in
+          let now : changed configuration.reached target true node ≡ true =
+          sym (ap (λ (p : Configuration). p.reached node) (cond-false _ configuration
+          (arrived_in one.world configuration other target (world.net.far start port).1) none)) ∙ comes in
           elim (eqb_tells node target) [
             | inl h ↦ record {
               start = start;
               port = port;
-              on = ap picture.position (sym own) ∙ at;
+              on = ap configuration.position (sym own) ∙ at;
               to = h.1;
               delivers = is ∙ ap (λ (k : ℕ). Makes (Deliver k)) own;
             }
@@ -133,9 +138,9 @@ module _ (world : World) (held : Held) (naps : ℕ) (minds : Minds) (hole node :
       by_place Before at comes = absurd (true≢false (sym comes ∙ never))
       by_place (At place came) at comes = absurd (true≢false (sym comes ∙ never))
       by_place After at comes = absurd (true≢false (sym comes ∙ never))
-  coming_by picture agent (Makes Close) own is never comes = absurd own
-  coming_by picture agent Wakes own is never comes = absurd (true≢false (sym comes ∙ never))
-  coming_by picture agent Rests own is never comes = absurd (true≢false (sym comes ∙ never))
+  coming_by configuration agent (Makes Close) own is never comes = absurd own
+  coming_by configuration agent Wakes own is never comes = absurd (true≢false (sym comes ∙ never))
+  coming_by configuration agent Rests own is never comes = absurd (true≢false (sym comes ∙ never))
 
   -- ---- where that node is the black hole, it destroys the agent
 
@@ -143,15 +148,15 @@ module _ (world : World) (held : Held) (naps : ℕ) (minds : Minds) (hole node :
   IsLostIn agent scene = lost two.world scene.events agent ≡ true
 
   destroyed : (scene : Scene) (agent : ℕ) → (state_of two scene).closed ≡ false
-      → IsComing (picture_of two scene) agent → IsLostIn agent (turn two scene agent)
+      → IsComing (configuration_of two scene) agent → IsLostIn agent (turn two scene agent)
   destroyed scene agent is_open it =
       let marks : ℕ → Bool = lost two.world scene.events in
       let doom : doomed two.world it.start it.port ≡ true =
-      doomed_is world held naps minds hole node node it.start it.port
+      doomed_is world held wakeups strategies hole node node it.start it.port
       ∙ eq-eqb node (world.net.far it.start it.port).0 it.to in
       let is : destroys two.world (state_of two scene) agent ≡ true =
       (λ i. not (is_open i) && is_doomed two.world (it.on i)) ∙ doom in
-      ap (λ (d : Deed). lost two.world (done two scene agent d).events agent) it.delivers
+      ap (λ (d : Action). lost two.world (done two scene agent d).events agent) it.delivers
       ∙ ap (λ (m : ℕ → Bool). m agent) (lost_more two.world scene.events (Deliver agent))
       ∙ ap (λ (b : Bool). (if b then changed marks agent true else marks) agent) is ∙ changed_same marks agent true
 
@@ -173,7 +178,7 @@ module _ (world : World) (held : Held) (naps : ℕ) (minds : Minds) (hole node :
       either_way true = marked
       either_way false = was
 
-  lost_later : (scene : Scene) (agent k : ℕ) (it : Deed) → IsLostIn agent scene → IsLostIn agent (done two scene k it)
+  lost_later : (scene : Scene) (agent k : ℕ) (it : Action) → IsLostIn agent scene → IsLostIn agent (done two scene k it)
   lost_later scene agent k (Makes event) was =
       ap (λ (m : ℕ → Bool). m agent) (lost_more two.world scene.events event) ∙ lost_after_event scene agent event was
   lost_later scene agent k Wakes was = was
@@ -187,17 +192,19 @@ module _ (world : World) (held : Held) (naps : ℕ) (minds : Minds) (hole node :
       (record { turned = open_turn two }) refl
 
   -- who is delivered is an agent of the match
-  is_agent : (picture : Picture) (agent : ℕ) → deed_in one picture agent ≡ Makes (Deliver agent) → agent < world.agents
-  is_agent picture agent delivers = by_cases (nat_lt agent world.agents) (agent < world.agents)
+  is_agent : (configuration : Configuration) (agent : ℕ) → deed_in one configuration agent ≡ Makes (Deliver agent)
+      → agent < world.agents
+  is_agent configuration agent delivers = by_cases (nat_lt agent world.agents) (agent < world.agents)
       (ltb-true agent world.agents)
       (λ none. let rests : Rests ≡ Makes (Deliver agent) = sym (cond-false _ _ _ none) ∙ delivers in cc)
 
-  loses_by : (picture : Picture) (agent : ℕ) (schedule : List ℕ) → turns_in two blank schedule ≡ picture
-      → IsComing picture agent → SolvesFor two → LosesOne two
-  loses_by picture agent schedule same it solves =
+  loses_by : (configuration : Configuration) (agent : ℕ) (schedule : List ℕ)
+      → turns_in two blank schedule ≡ configuration
+      → IsComing configuration agent → SolvesFor two → LosesOne two
+  loses_by configuration agent schedule same it solves =
       let scene : Scene = under two schedule in
-      let is : picture ≡ picture_of two scene = sym same ∙ sym (pictures_follow two schedule) in
-      let here : IsComing (picture_of two scene) agent = subst (λ (p : Picture). IsComing p agent) is it in
+      let is : configuration ≡ configuration_of two scene = sym same ∙ sym (configurations_follow two schedule) in
+      let here : IsComing (configuration_of two scene) agent = subst (λ (p : Configuration). IsComing p agent) is it in
       let gone : IsLostIn agent (turn two scene agent) = destroyed scene agent (always_open schedule) here in
       let first : List ℕ = schedule ++ agent ∷ [] in
       let there : under two first ≡ turn two scene agent = turns_append two opening schedule (agent ∷ []) in
@@ -210,7 +217,7 @@ module _ (world : World) (held : Held) (naps : ℕ) (minds : Minds) (hole node :
       (subst (IsLostIn agent) (sym there) gone)) in
       let marks : ℕ → Bool = lost two.world (under two whole).events in
       let some : 0 < number_of marks (range_with_len 0 world.agents) =
-      some_counted marks 0 world.agents agent (omega arith) (omega (arith, is_agent picture agent it.delivers))
+      some_counted marks 0 world.agents agent (omega arith) (omega (arith, is_agent configuration agent it.delivers))
       at_end in
       let number : number_of marks (range_with_len 0 world.agents) ≡ count_by marks (range_with_len 0 world.agents) =
       number_is marks (range_with_len 0 world.agents) in
@@ -224,7 +231,8 @@ module _ (world : World) (held : Held) (naps : ℕ) (minds : Minds) (hole node :
   loses below not_home apart solves solves_too =
       let more = solves.rests [] in
       let schedule : List ℕ = more.0 in
-      let follows : picture_of one (under one schedule) ≡ turns_in one blank schedule = pictures_follow one schedule in
+      let follows : configuration_of one (under one schedule)
+      ≡ turns_in one blank schedule = configurations_follow one schedule in
       let solved : outcome_in one.world (turns_in one blank schedule) ≡ Solved =
       ap (outcome_in one.world) (sym follows)
       ∙ sym (ap (λ (v : Verdict). v.outcome) (verdict_is one (under one schedule)))
@@ -232,41 +240,42 @@ module _ (world : World) (held : Held) (naps : ℕ) (minds : Minds) (hole node :
       by_cases ((turns_in one blank schedule).reached node) (LosesOne two)
       (λ yes.
       let turn_is : IsFirstTurn blank = first_turn schedule blank refl yes in
-      let picture : Picture = turns_in one blank turn_is.schedule in
-      let coming : IsComing picture turn_is.agent =
-      coming_by picture turn_is.agent (deed_in one picture turn_is.agent) (own_in one picture turn_is.agent) refl
+      let configuration : Configuration = turns_in one blank turn_is.schedule in
+      let coming : IsComing configuration turn_is.agent =
+      coming_by configuration turn_is.agent (deed_in one configuration turn_is.agent)
+      (own_in one configuration turn_is.agent) refl
       turn_is.never turn_is.comes in
-      let run : IsSameRun world held naps minds hole node blank turn_is.schedule =
-      same_run world held naps minds hole node turn_is.schedule blank turn_is.never in
-      loses_by picture turn_is.agent run.other run.same coming solves_too)
+      let run : IsSameRun world held wakeups strategies hole node blank turn_is.schedule =
+      same_run world held wakeups strategies hole node turn_is.schedule blank turn_is.never in
+      loses_by configuration turn_is.agent run.other run.same coming solves_too)
       (λ never.
       absurd (unreached_unsolved world hole node (turns_in one blank schedule) below not_home apart never solved))
 
 pub each_black_hole_destroys : EachBlackHoleDestroys
-each_black_hole_destroys world held naps minds three solves hole below not_home =
+each_black_hole_destroys world held wakeups strategies three solves hole below not_home =
     let other : IsThird world.home hole = third world.home hole in
-    loses world held naps minds other.it hole below not_home other.second
+    loses world held wakeups strategies other.it hole below not_home other.second
     (solves other.it (omega (arith, other.small, three)) other.first) (solves hole below not_home)
 
 pub a_loss_is_needed : ALossIsNeeded
-a_loss_is_needed world held naps minds three solves hole moves below not_home spared =
-    let one : LosesOne (searched world held naps minds hole) =
-    each_black_hole_destroys world held naps minds three solves hole below not_home in
+a_loss_is_needed world held wakeups strategies three solves hole moves below not_home spared =
+    let one : LosesOne (searched world held wakeups strategies hole) =
+    each_black_hole_destroys world held wakeups strategies three solves hole below not_home in
     let few = (spared one.schedule one.rest).lost in
     omega (arith, one.lost, few)
 
 pub a_loss_is_needed_on_networks : ALossIsNeededOnNetworks
-a_loss_is_needed_on_networks net setup held naps minds is solves hole below not_home =
-    each_black_hole_destroys (world_of net setup) held naps minds is.labelled.few solves hole below not_home
+a_loss_is_needed_on_networks net setup held wakeups strategies is solves hole below not_home =
+    each_black_hole_destroys (world_of net setup) held wakeups strategies is.labelled.few solves hole below not_home
 
 -- ---- the search by halves is such a team
 
 pub the_halves_solve_everywhere : TheHalvesSolveEverywhere
-the_halves_solve_everywhere net setup first naps is room enough hole below not_home =
+the_halves_solve_everywhere net setup first wakeups is room enough hole below not_home =
     let n : ℕ = nodes_of net in
     let here : Setup = record setup { holes = hole ∷ []; dark = [] } in
-    let solved : IsSolved (halves_trial (world_of net here) naps n) (halves_bounds n) =
-    halves_solve_all_rings net here hole naps (record {
+    let solved : IsSolved (halves_trial (world_of net here) wakeups n) (halves_bounds n) =
+    halves_solve_all_rings net here hole wakeups (record {
       network = is.network;
       two = is.two;
       home = is.home;

@@ -19,7 +19,7 @@ use Rattle.bhs_model.proofs.StepLemmas.{by_cases}
 use Rattle.bhs_protocols.specs.Rings.{IsRing}
 use Rattle.bhs_protocols.specs.Shuttle.{round_trips, commands_on}
 use Rattle.bhs_explore.specs.Schedules.{Trial}
-use Rattle.bhs_protocols.specs.Invariants.{Bounds, IsSolved}
+use Rattle.bhs_protocols.specs.Invariants.{CostBounds, IsSolved}
 use Rattle.bhs_protocols.specs.Laws.{shuttle_trial, shuttle_bounds}
 use Rattle.bhs_protocols.specs.AllRings.{IsSetOn, onward, gone_on, ways_of, IsAway, RingsAreRings, ring_bounds}
 use Rattle.bhs_protocols.specs.AllRings.{ShuttleSolvesAllRings}
@@ -434,7 +434,7 @@ two_within one other most first second (suc (suc k)) =
     omega (arith, none)
 
 -- what is solved within bounds is solved within greater ones
-pub within_more : (trial : Trial) (bounds more : Bounds) → bounds.moves ≤ more.moves → bounds.lost ≤ more.lost
+pub within_more : (trial : Trial) (bounds more : CostBounds) → bounds.moves ≤ more.moves → bounds.lost ≤ more.lost
     → ((agent : ℕ) → bounds.commands agent ≤ more.commands agent) → bounds.turns ≤ more.turns
     → IsSolved trial bounds → IsSolved trial more
 within_more trial bounds more moves lost commands turns it = record {
@@ -491,13 +491,13 @@ quota_enough n one other quota sum some some_too enough =
     (omega (arith, trips, sum, enough), omega (arith, trips, sum, enough))
 
 pub shuttle_solves_all_rings : ShuttleSolvesAllRings
-shuttle_solves_all_rings net setup hole naps is room enough =
+shuttle_solves_all_rings net setup hole wakeups is room enough =
     let away : IsAway net setup hole = is_away net setup hole is in
     let n : ℕ = nodes_of net in
     let sum : away.one + away.other ≡ n = away.search.sum in
     let some : 0 < away.one = away.search.not_home in
     let some_too : 0 < away.other = away.search.nor_around in
     let both_enough = quota_enough n away.one away.other setup.quota sum some some_too enough in
-    solved_wherever (shuttle_trial (world_of net setup) naps n) n away.one away.other sum some some_too
-    (shuttle_solves (world_of net setup) n away.one away.other naps (ways_of net setup.home)
+    solved_wherever (shuttle_trial (world_of net setup) wakeups n) n away.one away.other sum some some_too
+    (shuttle_solves (world_of net setup) n away.one away.other wakeups (ways_of net setup.home)
     away.search room both_enough.0 both_enough.1)

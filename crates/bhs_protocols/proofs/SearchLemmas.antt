@@ -17,7 +17,7 @@ use Rattle.bhs_referee.specs.Verdicts.{passes, accuses, is_dark_accused, is_hole
 use Rattle.bhs_referee.specs.Verdicts.{is_silent, is_present, is_unfinished, is_unreached, first_unreached}
 use Rattle.bhs_referee.specs.Verdicts.{guess_or_solved}
 use Rattle.bhs_explore.specs.Schedules.{Trial}
-use Rattle.bhs_protocols.specs.Pictures.{Picture, can_move_in, doomed_in, found_in, outcome_in, turn_in}
+use Rattle.bhs_protocols.specs.Configurations.{Configuration, can_move_in, doomed_in, found_in, outcome_in, turn_in}
 use Rattle.bhs_protocols.specs.Invariants.{GoesOn}
 use Rattle.bhs_protocols.specs.Rings.{Ways, IsSearch}
 use Rattle.bhs_protocols.specs.Shuttle.{board_text, right_in, left_in, other_in, text_by}
@@ -68,19 +68,27 @@ pub one_zero : Pair 1 0
 one_zero = swapped_pair 0 1 zero_one
 
 -- An invariant that is the same seen from either agent goes on, whoever takes the turn.
-pub either_goes_on : (trial : Trial) (Holds : (s o : ℕ) → Picture → (left : ℕ) → Type 0)
-    → ((s o : ℕ) (picture : Picture) (left : ℕ) → Pair s o → Holds s o picture left → Holds o s picture left)
-    → ((s o : ℕ) (picture : Picture) (left : ℕ) → Pair s o → can_move_in trial picture s ≡ true
-    → Holds s o picture left → GoesOn (Holds s o) left (turn_in trial picture s)) → (picture : Picture)
-    (left agent : ℕ) → agent < 2 → can_move_in trial picture agent ≡ true → Holds 0 1 picture left
-    → GoesOn (Holds 0 1) left (turn_in trial picture agent)
-either_goes_on trial Holds turned goes_on picture left zero below moves held =
-    goes_on 0 1 picture left zero_one moves held
-either_goes_on trial Holds turned goes_on picture left (suc zero) below moves held =
-    let on : GoesOn (Holds 1 0) left (turn_in trial picture 1) =
-    goes_on 1 0 picture left one_zero moves (turned 0 1 picture left zero_one held) in
-    record { rest = on.rest; fewer = on.fewer; holds = turned 1 0 (turn_in trial picture 1) on.rest one_zero on.holds }
-either_goes_on trial Holds turned goes_on picture left (suc (suc k)) below moves held = absurd (omega (arith, below))
+pub either_goes_on : (trial : Trial) (Holds : (s o : ℕ) → Configuration → (left : ℕ) → Type 0)
+    → ((s o : ℕ) (configuration : Configuration) (left : ℕ) → Pair s o → Holds s o configuration left
+    → Holds o s configuration left)
+    → ((s o : ℕ) (configuration : Configuration) (left : ℕ) → Pair s o → can_move_in trial configuration s ≡ true
+    → Holds s o configuration left → GoesOn (Holds s o) left (turn_in trial configuration s))
+    → (configuration : Configuration)
+    (left agent : ℕ) → agent < 2 → can_move_in trial configuration agent ≡ true → Holds 0 1 configuration left
+    → GoesOn (Holds 0 1) left (turn_in trial configuration agent)
+either_goes_on trial Holds turned goes_on configuration left zero below moves held =
+    goes_on 0 1 configuration left zero_one moves held
+either_goes_on trial Holds turned goes_on configuration left (suc zero) below moves held =
+    let on : GoesOn (Holds 1 0) left (turn_in trial configuration 1) =
+    goes_on 1 0 configuration left one_zero moves (turned 0 1 configuration left zero_one held) in
+    record {
+      rest = on.rest;
+      fewer = on.fewer;
+      holds =
+          turned 1 0 (turn_in trial configuration 1) on.rest one_zero on.holds;
+    }
+either_goes_on trial Holds turned goes_on configuration left (suc (suc k)) below moves held =
+    absurd (omega (arith, below))
 
 -- what holds of 0 and of 1 holds of both agents
 pub both : (P : ℕ → Type 0) → P 0 → P 1 → (s : ℕ) → s < 2 → P s
@@ -228,42 +236,45 @@ module _ {world : World} {n right left : ℕ} {node_at : (side place : ℕ) → 
   or_true true = refl
   or_true false = refl
 
-  accuses_two : (picture : Picture) (test : ℕ × ℕ → Bool) → accuses world (found_in picture) test
-      ≡ (passes test (picture.accused 0) || (passes test (picture.accused 1) || false))
-  accuses_two picture test =
-      ap (λ (k : ℕ). list_any (λ agent. passes test (picture.accused agent)) (range_with_len 0 k)) search.agents
+  accuses_two : (configuration : Configuration) (test : ℕ × ℕ → Bool) → accuses world (found_in configuration) test
+      ≡ (passes test (configuration.accused 0) || (passes test (configuration.accused 1) || false))
+  accuses_two configuration test =
+      ap (λ (k : ℕ). list_any (λ agent. passes test (configuration.accused agent)) (range_with_len 0 k)) search.agents
 
-  accuses_by : (picture : Picture) (test : ℕ × ℕ → Bool) (s : ℕ) → s < 2 → passes test (picture.accused s) ≡ true
-      → accuses world (found_in picture) test ≡ true
-  accuses_by picture test s below =
-      both (λ (k : ℕ). passes test (picture.accused k) ≡ true → accuses world (found_in picture) test ≡ true)
-      (λ h. accuses_two picture test ∙ ap (λ (b : Bool). b || (passes test (picture.accused 1) || false)) h)
-      (λ h. accuses_two picture test
-      ∙ ap (λ (b : Bool). passes test (picture.accused 0) || (b || false)) h
-      ∙ or_true (passes test (picture.accused 0)))
+  accuses_by : (configuration : Configuration) (test : ℕ × ℕ → Bool) (s : ℕ) → s < 2
+      → passes test (configuration.accused s) ≡ true
+      → accuses world (found_in configuration) test ≡ true
+  accuses_by configuration test s below =
+      both (λ (k : ℕ). passes test (configuration.accused k) ≡ true
+      → accuses world (found_in configuration) test ≡ true)
+      (λ h. accuses_two configuration test ∙ ap (λ (b : Bool). b || (passes test (configuration.accused 1) || false)) h)
+      (λ h. accuses_two configuration test
+      ∙ ap (λ (b : Bool). passes test (configuration.accused 0) || (b || false)) h
+      ∙ or_true (passes test (configuration.accused 0)))
       s below
 
-  accuses_none : (picture : Picture) (test : ℕ × ℕ → Bool)
-      → ((s : ℕ) → s < 2 → passes test (picture.accused s) ≡ false)
-      → accuses world (found_in picture) test ≡ false
-  accuses_none picture test none =
-      accuses_two picture test ∙ (λ i. none 0 (omega arith) i || (none 1 (omega arith) i || false))
+  accuses_none : (configuration : Configuration) (test : ℕ × ℕ → Bool)
+      → ((s : ℕ) → s < 2 → passes test (configuration.accused s) ≡ false)
+      → accuses world (found_in configuration) test ≡ false
+  accuses_none configuration test none =
+      accuses_two configuration test ∙ (λ i. none 0 (omega arith) i || (none 1 (omega arith) i || false))
 
-  unfinished_none : (picture : Picture) → ((s : ℕ) → s < 2 → is_present (picture.position s) ≡ false)
-      → is_unfinished world picture.position ≡ false
-  unfinished_none picture none =
-      ap (λ (k : ℕ). list_any (λ agent. is_present (picture.position agent)) (range_with_len 0 k)) search.agents
+  unfinished_none : (configuration : Configuration) → ((s : ℕ) → s < 2 → is_present (configuration.position s) ≡ false)
+      → is_unfinished world configuration.position ≡ false
+  unfinished_none configuration none =
+      ap (λ (k : ℕ). list_any (λ agent. is_present (configuration.position agent)) (range_with_len 0 k)) search.agents
       ∙ (λ i. none 0 (omega arith) i || (none 1 (omega arith) i || false))
 
-  solved_by : (picture : Picture) → accuses world (found_in picture) (λ link. not (is_right world link)) ≡ false
-      → is_silent world (found_in picture) ≡ false → is_unfinished world picture.position ≡ false
-      → first_unreached world (found_in picture) ≡ None → outcome_in world picture ≡ Solved
-  solved_by picture right_ones spoken finished reached =
+  solved_by : (configuration : Configuration)
+      → accuses world (found_in configuration) (λ link. not (is_right world link)) ≡ false
+      → is_silent world (found_in configuration) ≡ false → is_unfinished world configuration.position ≡ false
+      → first_unreached world (found_in configuration) ≡ None → outcome_in world configuration ≡ Solved
+  solved_by configuration right_ones spoken finished reached =
       cond-false _ _ _ right_ones ∙ cond-false _ _ _ spoken ∙ cond-false _ _ _ finished
-      ∙ either_way (accuses world (found_in picture) (λ link. not (is_over_dark world link)))
+      ∙ either_way (accuses world (found_in configuration) (λ link. not (is_over_dark world link)))
     where
       either_way : (b : Bool)
-          → (if b then guess_or_solved (first_unreached world (found_in picture)) else Solved) ≡ Solved
+          → (if b then guess_or_solved (first_unreached world (found_in configuration)) else Solved) ≡ Solved
       either_way true = ap guess_or_solved reached
       either_way false = refl
 
@@ -277,15 +288,16 @@ module _ {world : World} {n right left : ℕ} {node_at : (side place : ℕ) → 
       ∙ find_none test (start + 1) count (λ k after before. none k (omega (arith, after)) (omega (arith, before)))
 
   -- all nodes of both sides but the black hole are known to be safe
-  record IsAllKnown (picture : Picture) : Type 0 where
-    known : (s k : ℕ) → s < 2 → 0 < k → k < distance s → picture.reached (node_at s k) ≡ true
+  record IsAllKnown (configuration : Configuration) : Type 0 where
+    known : (s k : ℕ) → s < 2 → 0 < k → k < distance s → configuration.reached (node_at s k) ≡ true
 
-  reached_all : (picture : Picture) → IsAllKnown picture → first_unreached world (found_in picture) ≡ None
-  reached_all picture all =
-      ap (λ (k : ℕ). find (is_unreached world (found_in picture)) (range_with_len 0 k)) search.size
-      ∙ find_none (is_unreached world (found_in picture)) 0 n (λ node after before.
+  reached_all : (configuration : Configuration) → IsAllKnown configuration
+      → first_unreached world (found_in configuration) ≡ None
+  reached_all configuration all =
+      ap (λ (k : ℕ). find (is_unreached world (found_in configuration)) (range_with_len 0 k)) search.size
+      ∙ find_none (is_unreached world (found_in configuration)) 0 n (λ node after before.
       let it = search.all node (omega (arith, before)) in
-      subst (λ (k : ℕ). is_unreached world (found_in picture) k ≡ false) it.2 (by_steps it.0 it.1))
+      subst (λ (k : ℕ). is_unreached world (found_in configuration) k ≡ false) it.2 (by_steps it.0 it.1))
     where
       none_by_home : (a b c : Bool) → a ≡ true → (not a && (not b && not c)) ≡ false
       none_by_home a b c h = ap (λ (x : Bool). not x && (not b && not c)) h
@@ -302,25 +314,25 @@ module _ {world : World} {n right left : ℕ} {node_at : (side place : ℕ) → 
       or_false : (b : Bool) → b ≡ true → (b || false) ≡ true
       or_false b h = ap (λ (x : Bool). x || false) h
 
-      by_steps : (steps : ℕ) → steps < n → is_unreached world (found_in picture) (node_at 0 steps) ≡ false
+      by_steps : (steps : ℕ) → steps < n → is_unreached world (found_in configuration) (node_at 0 steps) ≡ false
       by_steps zero within = none_by_home (node_at 0 zero == world.home) _ _
           (eq-eqb (node_at 0 zero) world.home (search.home 0))
       by_steps (suc k) within = elim (eqb_tells (suc k) right) [
         | inl h ↦ none_by_hole (node_at 0 (suc k) == world.home) (is_hole world.holes (node_at 0 (suc k)))
-            (picture.reached (node_at 0 (suc k)))
+            (configuration.reached (node_at 0 (suc k)))
             (ap (λ (holes : List ℕ). is_hole holes (node_at 0 (suc k))) search.hole
             ∙ or_false (node_at 0 right == node_at 0 (suc k))
             (eq-eqb (node_at 0 right) (node_at 0 (suc k)) (ap (node_at 0) (sym h.1))))
         | inr h ↦ none_by_arrival (node_at 0 (suc k) == world.home) (is_hole world.holes (node_at 0 (suc k)))
-            (picture.reached (node_at 0 (suc k)))
-            (by_cases (nat_lt (suc k) right) (picture.reached (node_at 0 (suc k)) ≡ true)
+            (configuration.reached (node_at 0 (suc k)))
+            (by_cases (nat_lt (suc k) right) (configuration.reached (node_at 0 (suc k)) ≡ true)
             (λ yes. all.known 0 (suc k) (omega arith) (omega arith) (ltb-true (suc k) right yes))
             (λ none.
             let sum : right + left ≡ n = search.sum in
             let first : 0 < right = search.not_home in
             let not_below : (suc k < right) → ⊥ = λ b. true≢false (sym (lt-ltb (suc k) right b) ∙ none) in
             let above : right < suc k = omega (arith, not_below, h.1) in
-            ap picture.reached (sym (search.around (n - suc k) (suc k) (omega (arith, within))
+            ap configuration.reached (sym (search.around (n - suc k) (suc k) (omega (arith, within))
             (omega (arith, within)) (omega arith)))
             ∙ all.known 1 (n - suc k) (omega arith) (omega (arith, within)) (omega (arith, sum, above, within))))
       ]
@@ -346,13 +358,14 @@ module _ {world : World} {n right left : ℕ} {node_at : (side place : ℕ) → 
   unfolding number_of
   number_is p xs = is_count_by (number_of p) p refl (λ x others. refl) xs
 
-  few_doomed : (picture : Picture) (s : ℕ) → s < 2 → picture.position s ≡ After → doomed_in world picture ≤ 1
-  few_doomed picture s below at =
-      let test : ℕ → Bool = λ agent. is_doomed world (picture.position agent) in
+  few_doomed : (configuration : Configuration) (s : ℕ) → s < 2 → configuration.position s ≡ After
+      → doomed_in world configuration ≤ 1
+  few_doomed configuration s below at =
+      let test : ℕ → Bool = λ agent. is_doomed world (configuration.position agent) in
       let spared : test s ≡ false = ap (is_doomed world) at in
       let either_one : (test 0 ≡ false) ⊎ (test 1 ≡ false) =
       both (λ (k : ℕ). test k ≡ false → (test 0 ≡ false) ⊎ (test 1 ≡ false)) (λ h. inl h) (λ h. inr h) s below spared in
-      let same : doomed_in world picture ≡ count_by test (0 ∷ 1 ∷ []) =
+      let same : doomed_in world configuration ≡ count_by test (0 ∷ 1 ∷ []) =
       ap (λ (k : ℕ). count_by test (range_with_len 0 k)) search.agents in
       let number : number_of test (0 ∷ 1 ∷ []) ≡ count_by test (0 ∷ 1 ∷ []) = number_is test (0 ∷ 1 ∷ []) in
       let few : number_of test (0 ∷ 1 ∷ []) ≤ 1 = counted_two test either_one in
@@ -366,18 +379,18 @@ module _ {world : World} {n right left : ℕ} {node_at : (side place : ℕ) → 
       mine (subst P pair.is theirs)
 
   -- an agent has accused a link that leads to the black hole
-  pub record IsAccuser (s : ℕ) (picture : Picture) : Type 0 where
+  pub record IsAccuser (s : ℕ) (configuration : Configuration) : Type 0 where
     pub start : ℕ
     pub port : ℕ
     pub label : ℕ
     pub far : world.net.far start port ≡ (node_at 0 right, label)
-    pub accused : picture.accused s ≡ Some (start, port)
+    pub accused : configuration.accused s ≡ Some (start, port)
 
   -- so it is if that link leads to the next node of a side of whose nodes no other is left
-  pub accuser : (picture : Picture) (agent s mine start port label : ℕ) → s < 2 → mine + 1 ≡ distance s
-      → world.net.far start port ≡ (node_at s (mine + 1), label) → picture.accused agent ≡ Some (start, port)
-      → IsAccuser agent picture
-  accuser picture agent s mine start port label below edge far accused = record {
+  pub accuser : (configuration : Configuration) (agent s mine start port label : ℕ) → s < 2 → mine + 1 ≡ distance s
+      → world.net.far start port ≡ (node_at s (mine + 1), label) → configuration.accused agent ≡ Some (start, port)
+      → IsAccuser agent configuration
+  accuser configuration agent s mine start port label below edge far accused = record {
     start = start;
     port = port;
     label = label;
@@ -386,71 +399,73 @@ module _ {world : World} {n right left : ℕ} {node_at : (side place : ℕ) → 
   }
 
   -- an agent at rest has accused nobody, or the black hole
-  abbrev pub HasAccused : (s : ℕ) → Picture → Type 0
-  HasAccused s picture = (picture.accused s ≡ None) ⊎ IsAccuser s picture
+  abbrev pub HasAccused : (s : ℕ) → Configuration → Type 0
+  HasAccused s configuration = (configuration.accused s ≡ None) ⊎ IsAccuser s configuration
 
-  never_wrong : (picture : Picture) (s : ℕ) → HasAccused s picture
-      → passes (λ link. not (is_right world link)) (picture.accused s) ≡ false
-  never_wrong picture s has = elim has [
+  never_wrong : (configuration : Configuration) (s : ℕ) → HasAccused s configuration
+      → passes (λ link. not (is_right world link)) (configuration.accused s) ≡ false
+  never_wrong configuration s has = elim has [
     | inl h ↦ ap (passes (λ link. not (is_right world link))) h
     | inr h ↦ ap (passes (λ link. not (is_right world link))) h.accused
         ∙ ap not (doomed_is h.start h.port (node_at 0 right) h.label h.far
         ∙ eq-eqb (node_at 0 right) (node_at 0 right) refl)
   ]
 
-  not_silent : (picture : Picture) (s : ℕ) → s < 2 → IsAccuser s picture → is_silent world (found_in picture) ≡ false
-  not_silent picture s below it =
-      let some : accuses world (found_in picture) (λ link. true) ≡ true =
-      accuses_by picture (λ link. true) s below (ap (passes (λ link. true)) it.accused) in
+  not_silent : (configuration : Configuration) (s : ℕ) → s < 2 → IsAccuser s configuration
+      → is_silent world (found_in configuration) ≡ false
+  not_silent configuration s below it =
+      let some : accuses world (found_in configuration) (λ link. true) ≡ true =
+      accuses_by configuration (λ link. true) s below (ap (passes (λ link. true)) it.accused) in
       let test : ℕ × ℕ → Bool = λ link. node_at 0 right == (world.net.far link.0 link.1).0 in
-      let hole : is_hole_accused world (found_in picture) (node_at 0 right) ≡ true =
-      accuses_by picture test s below (ap (passes test) it.accused
+      let hole : is_hole_accused world (found_in configuration) (node_at 0 right) ≡ true =
+      accuses_by configuration test s below (ap (passes test) it.accused
       ∙ ap (λ (f : ℕ × ℕ). node_at 0 right == f.0) it.far ∙ eq-eqb (node_at 0 right) (node_at 0 right) refl) in
-      (λ i. not (accuses world (found_in picture) (λ link. true))
-      || list_any (λ h. not (is_hole_accused world (found_in picture) h)) (search.hole i)
-      || list_any (λ e. not (is_dark_accused world (found_in picture) e)) (search.none_dark i))
+      (λ i. not (accuses world (found_in configuration) (λ link. true))
+      || list_any (λ h. not (is_hole_accused world (found_in configuration) h)) (search.hole i)
+      || list_any (λ e. not (is_dark_accused world (found_in configuration) e)) (search.none_dark i))
       ∙ (λ i. not (some i) || (not (hole i) || false) || false)
 
   -- an agent at rest: it is at no node, and has come to this many nodes of its side
-  pub record HasCome (s far : ℕ) (picture : Picture) : Type 0 where
-    pub accused : HasAccused s picture
-    pub away : is_present (picture.position s) ≡ false
-    pub reached : (k : ℕ) → 0 < k → k ≤ far → picture.reached (node_at s k) ≡ true
+  pub record HasCome (s far : ℕ) (configuration : Configuration) : Type 0 where
+    pub accused : HasAccused s configuration
+    pub away : is_present (configuration.position s) ≡ false
+    pub reached : (k : ℕ) → 0 < k → k ≤ far → configuration.reached (node_at s k) ≡ true
 
   -- both are at rest, agent s has accused and ended, and all nodes but the black hole were reached
-  pub record IsDone (s o far far_too : ℕ) (picture : Picture) : Type 0 where
-    pub accuses : IsAccuser s picture
-    pub ended : picture.position s ≡ After
-    pub own : HasCome s far picture
-    pub other : HasCome o far_too picture
+  pub record IsDone (s o far far_too : ℕ) (configuration : Configuration) : Type 0 where
+    pub accuses : IsAccuser s configuration
+    pub ended : configuration.position s ≡ After
+    pub own : HasCome s far configuration
+    pub other : HasCome o far_too configuration
     pub all : distance s ≤ far + 1
     pub all_too : distance o ≤ far_too + 1
 
-  pub solved_once : (s o far far_too : ℕ) (picture : Picture) → Pair s o → IsDone s o far far_too picture
-      → (outcome_in world picture ≡ Solved) × (doomed_in world picture ≤ 1)
-  solved_once s o far far_too picture pair it = (
-    solved_by picture
-        (accuses_none picture (λ link. not (is_right world link)) (λ k below. never_wrong picture k
-        (each s o pair (λ (j : ℕ). HasAccused j picture) it.own.accused it.other.accused k below)))
-        (not_silent picture s pair.own it.accuses)
-        (unfinished_none picture (each s o pair (λ (j : ℕ). is_present (picture.position j) ≡ false)
+  pub solved_once : (s o far far_too : ℕ) (configuration : Configuration) → Pair s o
+      → IsDone s o far far_too configuration
+      → (outcome_in world configuration ≡ Solved) × (doomed_in world configuration ≤ 1)
+  solved_once s o far far_too configuration pair it = (
+    solved_by configuration
+        (accuses_none configuration (λ link. not (is_right world link)) (λ k below. never_wrong configuration k
+        (each s o pair (λ (j : ℕ). HasAccused j configuration) it.own.accused it.other.accused k below)))
+        (not_silent configuration s pair.own it.accuses)
+        (unfinished_none configuration (each s o pair (λ (j : ℕ). is_present (configuration.position j) ≡ false)
         it.own.away it.other.away))
-        (reached_all picture (record {
+        (reached_all configuration (record {
           known = λ k place below some before.
-              each s o pair (λ (j : ℕ). place < distance j → picture.reached (node_at j place) ≡ true)
+              each s o pair (λ (j : ℕ). place < distance j → configuration.reached (node_at j place) ≡ true)
               (λ less. it.own.reached place some (omega (arith, less, it.all)))
               (λ less. it.other.reached place some (omega (arith, less, it.all_too))) k below before;
         })),
-    few_doomed picture s pair.own it.ended,
+    few_doomed configuration s pair.own it.ended,
   )
 
 -- on a ring it is so if that link is ahead of the last safe node of a side
 pub ring_accuser : {world : World} {n right left : ℕ} {ways : Ways} (search : IsSearch world n right left ways)
-    (picture : Picture) (agent side steps : ℕ) → side < 2 → steps + 1 ≡ distance (sides search) side
-    → picture.accused agent ≡ Some (ways.node side steps, ways.ahead side steps)
-    → IsAccuser (sides search) agent picture
-ring_accuser {ways = ways} search picture agent side steps below edge accused =
+    (configuration : Configuration) (agent side steps : ℕ) → side < 2 → steps + 1 ≡ distance (sides search) side
+    → configuration.accused agent ≡ Some (ways.node side steps, ways.ahead side steps)
+    → IsAccuser (sides search) agent configuration
+ring_accuser {ways = ways} search configuration agent side steps below edge accused =
     let within = within_n (sides search) side below in
-    accuser (sides search) picture agent side steps (ways.node side steps) (ways.ahead side steps)
+    accuser (sides search) configuration agent side steps (ways.node side steps) (ways.ahead side steps)
     (1 - ways.ahead side (steps + 1)) below edge (search.ring.out side steps below (omega (arith, edge, within)))
     accused

@@ -7,9 +7,9 @@ use Rattle.bhs_model.specs.declared.commands.Command.TheVariants.{Depart, Accuse
 use Rattle.bhs_model.specs.declared.replies.Reply.{Reply}
 use Rattle.bhs_model.specs.declared.replies.Reply.TheVariants.{Here, Written, Changed, Gone, Noted}
 use Rattle.bhs_model.specs.Worlds.{World}
-use Rattle.bhs_explore.specs.declared.minds.Step.TheVariants.{Says}
-use Rattle.bhs_explore.specs.Minds.{Heard, History}
-use Rattle.bhs_protocols.specs.Programs.{held_after, minds_by}
+use Rattle.bhs_explore.specs.declared.answers.Step.TheVariants.{Says}
+use Rattle.bhs_explore.specs.Strategies.{Heard, History}
+use Rattle.bhs_protocols.specs.Programs.{held_after, strategies_by}
 use Rattle.bhs_protocols.specs.Rings.{Ways, IsSearch}
 use Rattle.bhs_protocols.specs.declared.shuttle.Memory.{Memory}
 use Rattle.bhs_protocols.specs.declared.shuttle.Phase.{Phase}
@@ -70,7 +70,7 @@ module _ {world : World} {n right left : ℕ} {ways : Ways} (search : IsSearch w
       → held s (Heard reply ∷ past) ≡ after_in (held s past) phase (Heard reply)
   heard s past reply phase is = ap (λ (ph : Phase). after_in (held s past) ph (Heard reply)) is
 
-  pub explorers : AreExplorers n (minds_by (shuttle n)) held (way_on ways)
+  pub explorers : AreExplorers n (strategies_by (shuttle n)) held (way_on ways)
   explorers = record {
     starts = λ s. refl;
     does = λ s past. does_as n ways (held s past) (held s past).phase;
@@ -111,15 +111,15 @@ module _ {world : World} {n right left : ℕ} {ways : Ways} (search : IsSearch w
       came_as s m board zero = refl
       came_as s m board (suc k) = refl
 
-abbrev pub shuttle_game : (world : World) (n right left naps : ℕ) (ways : Ways) → IsSearch world n right left ways
+abbrev pub shuttle_game : (world : World) (n right left wakeups : ℕ) (ways : Ways) → IsSearch world n right left ways
     → 4 ≤ world.board → commands_on n right ≤ world.quota → commands_on n left ≤ world.quota → Game
-shuttle_game world n right left naps ways search room enough enough_too = record {
+shuttle_game world n right left wakeups ways search room enough enough_too = record {
   world = world;
   n = n;
   right = right;
   left = left;
-  naps = naps;
-  minds = minds_by (shuttle n);
+  wakeups = wakeups;
+  strategies = strategies_by (shuttle n);
   holds = held_after (shuttle n);
   node = ways.node;
   way_to = way_on ways;
@@ -136,5 +136,5 @@ shuttle_game world n right left naps ways search room enough enough_too = record
 }
 
 pub shuttle_solves : ShuttleSolves
-shuttle_solves world n right left naps ways search room enough enough_too =
-    explorers_solve (shuttle_game world n right left naps ways search room enough enough_too)
+shuttle_solves world n right left wakeups ways search room enough enough_too =
+    explorers_solve (shuttle_game world n right left wakeups ways search room enough enough_too)

@@ -16,14 +16,16 @@ use Rattle.bhs_model.proofs.LegalLemmas.{either}
 use Rattle.bhs_referee.specs.declared.verdicts.Outcome.TheVariants.{Solved}
 use Rattle.bhs_referee.specs.declared.verdicts.Verdict.{Verdict}
 use Rattle.bhs_referee.specs.Verdicts.{passes, accuses, is_right, is_silent}
-use Rattle.bhs_explore.specs.Minds.{Minds}
-use Rattle.bhs_explore.specs.Schedules.{Trial, Deed, Makes, Wakes, Rests, under}
+use Rattle.bhs_explore.specs.Strategies.{Strategies}
+use Rattle.bhs_explore.specs.Schedules.{Trial, Action, Makes, Wakes, Rests, under}
 use Rattle.bhs_explore.proofs.Turns.{verdict_is}
-use Rattle.bhs_protocols.specs.Pictures.{Picture, picture_of, blank, deed_in, is_heard, told_at, refused_in, said_in}
-use Rattle.bhs_protocols.specs.Pictures.{arrived_in, delivered_in, done_in, turn_in, turns_in, found_in, outcome_in}
+use Rattle.bhs_protocols.specs.Configurations.{Configuration, configuration_of, blank, deed_in, is_heard, told_at}
+use Rattle.bhs_protocols.specs.Configurations.{refused_in, said_in}
+use Rattle.bhs_protocols.specs.Configurations.{arrived_in, delivered_in, done_in, turn_in, turns_in, found_in}
+use Rattle.bhs_protocols.specs.Configurations.{outcome_in}
 use Rattle.bhs_protocols.specs.LastWord.{SolvesFor}
-use Rattle.bhs_protocols.specs.Sizes.{ring_net, Terms, played_on, NoTeamSolvesTwoSizes}
-use Rattle.bhs_protocols.proofs.PictureLemmas.{pictures_follow}
+use Rattle.bhs_protocols.specs.Sizes.{ring_net, Limits, played_on, NoTeamSolvesTwoSizes}
+use Rattle.bhs_protocols.proofs.ConfigurationLemmas.{configurations_follow}
 use Rattle.bhs_protocols.proofs.LastWordLemmas.{right_after}
 use Rattle.bhs_protocols.proofs.AloneLemmas.{silent_unsolved}
 
@@ -43,14 +45,14 @@ any_some test start (suc count) any = by_cases (test start) (IsSome test start (
     let before : rest.place < start + 1 + count = rest.before in
     record { place = rest.place; before = omega (arith, before); passed = rest.passed })
 
-module _ (n : ℕ) (three : 3 ≤ n) (terms : Terms) (minds : Minds) (hole : ℕ) (beyond : n - 1 ≤ hole)
+module _ (n : ℕ) (three : 3 ≤ n) (terms : Limits) (strategies : Strategies) (hole : ℕ) (beyond : n - 1 ≤ hole)
   where
     -- the ring of n nodes whose last node is the black hole, and that of one node more
     abbrev small : Trial
-    small = played_on (ring_net n) terms minds 0 (n - 1)
+    small = played_on (ring_net n) terms strategies 0 (n - 1)
 
     abbrev great : Trial
-    great = played_on (ring_net (n + 1)) terms minds 0 hole
+    great = played_on (ring_net (n + 1)) terms strategies 0 hole
 
     -- nobody is where the two differ
     abbrev IsInside : Position → Type 0
@@ -58,8 +60,8 @@ module _ (n : ℕ) (three : 3 ≤ n) (terms : Terms) (minds : Minds) (hole : ℕ
     IsInside (Bound node port) = node < n - 1
     IsInside position = Unit {0}
 
-    abbrev AreInside : Picture → Type 0
-    AreInside picture = (k : ℕ) → IsInside (picture.position k)
+    abbrev AreInside : Configuration → Type 0
+    AreInside configuration = (k : ℕ) → IsInside (configuration.position k)
 
     doomed_small : (node port : ℕ) → doomed small.world node port ≡ (n - 1 == (small.world.net.far node port).0)
     doomed_small node port = or_none (n - 1 == (small.world.net.far node port).0)
@@ -116,9 +118,9 @@ module _ (n : ℕ) (three : 3 ≤ n) (terms : Terms) (minds : Minds) (hole : ℕ
 
     -- ---- one turn
 
-    record IsAlike (picture after : Picture) (in_great : Picture) : Type 0 where
+    record IsAlike (configuration after : Configuration) (in_great : Configuration) : Type 0 where
       inside : AreInside after
-      either_way : (in_great ≡ after) ⊎ (after ≡ picture)
+      either_way : (in_great ≡ after) ⊎ (after ≡ configuration)
 
     told_inside : (place : Position) (command : Command) → IsInside place
         → IsInside (position_after small.world place command)
@@ -143,84 +145,88 @@ module _ (n : ℕ) (three : 3 ≤ n) (terms : Terms) (minds : Minds) (hole : ℕ
         → IsInside place → (k : ℕ) → IsInside (changed position agent place k)
     changed_inside position agent place all here k = either IsInside (k == agent) place (position k) here (all k)
 
-    said_alike : (picture : Picture) (agent : ℕ) (command : Command) → AreInside picture →
-        IsAlike picture (said_in small.world picture agent command) (said_in great.world picture agent command)
-    said_alike picture agent command inside = record {
-      inside = by_cases (is_heard small.world picture agent command)
-          ((k : ℕ) → IsInside ((said_in small.world picture agent command).position k))
-          (λ yes k. subst (λ (p : Picture). IsInside (p.position k))
-          (sym (cond-true _ (told_at small.world picture agent (picture.position agent) command)
-          (refused_in picture agent command) yes))
-          (changed_inside picture.position agent (position_after small.world (picture.position agent) command) inside
-          (told_inside (picture.position agent) command (inside agent)) k))
-          (λ deaf k. subst (λ (p : Picture). IsInside (p.position k))
-          (sym (cond-false _ (told_at small.world picture agent (picture.position agent) command)
-          (refused_in picture agent command) deaf)) (inside k));
+    said_alike : (configuration : Configuration) (agent : ℕ) (command : Command) → AreInside configuration →
+        IsAlike configuration (said_in small.world configuration agent command)
+        (said_in great.world configuration agent command)
+    said_alike configuration agent command inside = record {
+      inside = by_cases (is_heard small.world configuration agent command)
+          ((k : ℕ) → IsInside ((said_in small.world configuration agent command).position k))
+          (λ yes k. subst (λ (p : Configuration). IsInside (p.position k))
+          (sym (cond-true _ (told_at small.world configuration agent (configuration.position agent) command)
+          (refused_in configuration agent command) yes))
+          (changed_inside configuration.position agent (position_after small.world
+          (configuration.position agent) command) inside
+          (told_inside (configuration.position agent) command (inside agent)) k))
+          (λ deaf k. subst (λ (p : Configuration). IsInside (p.position k))
+          (sym (cond-false _ (told_at small.world configuration agent (configuration.position agent) command)
+          (refused_in configuration agent command) deaf)) (inside k));
       either_way = inl refl;
     }
 
-    delivered_alike : (picture : Picture) (agent : ℕ) (position : Position) → AreInside picture → IsInside position →
-        IsAlike picture (delivered_in small.world picture agent position)
-        (delivered_in great.world picture agent position)
-    delivered_alike picture agent (Bound node port) inside here = by_cases (doomed small.world node port)
-        (IsAlike picture (delivered_in small.world picture agent (Bound node port))
-        (delivered_in great.world picture agent (Bound node port)))
+    delivered_alike : (configuration : Configuration) (agent : ℕ) (position : Position) → AreInside configuration
+        → IsInside position →
+        IsAlike configuration (delivered_in small.world configuration agent position)
+        (delivered_in great.world configuration agent position)
+    delivered_alike configuration agent (Bound node port) inside here = by_cases (doomed small.world node port)
+        (IsAlike configuration (delivered_in small.world configuration agent (Bound node port))
+        (delivered_in great.world configuration agent (Bound node port)))
         (λ yes.
-        let is : delivered_in small.world picture agent (Bound node port) ≡ picture = cond-true _ _ _ yes in
+        let is : delivered_in small.world configuration agent (Bound node port) ≡ configuration = cond-true _ _ _ yes in
         record {
-          inside = λ k. subst (λ (p : Picture). IsInside (p.position k)) (sym is) (inside k);
+          inside = λ k. subst (λ (p : Configuration). IsInside (p.position k)) (sym is) (inside k);
           either_way = inr is;
         })
         (λ none.
         let it = same_far node port here none in
         let target : ℕ = (small.world.net.far node port).0 in
         let label : ℕ = (small.world.net.far node port).1 in
-        let arrived : Picture = arrived_in small.world picture agent target label in
-        let is : delivered_in small.world picture agent (Bound node port) ≡ arrived =
-        cond-false _ picture arrived none in
+        let arrived : Configuration = arrived_in small.world configuration agent target label in
+        let is : delivered_in small.world configuration agent (Bound node port) ≡ arrived =
+        cond-false _ configuration arrived none in
         let far_off : hole ≢ target = λ same. omega (arith, it.1, beyond, same) in
         let safe : doomed great.world node port ≡ false =
         doomed_great node port ∙ ap (λ (e : ℕ × ℕ). hole == e.0) it.0 ∙ ne_eqb hole target far_off in
-        let in_great : delivered_in great.world picture agent (Bound node port) ≡ arrived =
-        cond-false _ _ _ safe ∙ ap (λ (e : ℕ × ℕ). arrived_in small.world picture agent e.0 e.1) it.0 in
+        let in_great : delivered_in great.world configuration agent (Bound node port) ≡ arrived =
+        cond-false _ _ _ safe ∙ ap (λ (e : ℕ × ℕ). arrived_in small.world configuration agent e.0 e.1) it.0 in
         record {
-          inside = λ k. subst (λ (p : Picture). IsInside (p.position k)) (sym is)
-              (changed_inside picture.position agent (At target (Some label)) inside it.1 k);
+          inside = λ k. subst (λ (p : Configuration). IsInside (p.position k)) (sym is)
+              (changed_inside configuration.position agent (At target (Some label)) inside it.1 k);
           either_way = inl (in_great ∙ sym is);
         })
-    delivered_alike picture agent Before inside here = record { inside = inside; either_way = inl refl }
-    delivered_alike picture agent (At place came) inside here = record { inside = inside; either_way = inl refl }
-    delivered_alike picture agent After inside here = record { inside = inside; either_way = inl refl }
+    delivered_alike configuration agent Before inside here = record { inside = inside; either_way = inl refl }
+    delivered_alike configuration agent (At place came) inside here = record { inside = inside; either_way = inl refl }
+    delivered_alike configuration agent After inside here = record { inside = inside; either_way = inl refl }
 
-    done_alike : (picture : Picture) (agent : ℕ) (it : Deed) → AreInside picture →
-        IsAlike picture (done_in small picture agent it) (done_in great picture agent it)
-    done_alike picture agent (Makes (Tell other command)) inside = said_alike picture other command inside
-    done_alike picture agent (Makes (Deliver other)) inside =
-        delivered_alike picture other (picture.position other) inside (inside other)
-    done_alike picture agent (Makes Close) inside = record { inside = inside; either_way = inl refl }
-    done_alike picture agent Wakes inside = record { inside = inside; either_way = inl refl }
-    done_alike picture agent Rests inside = record { inside = inside; either_way = inl refl }
+    done_alike : (configuration : Configuration) (agent : ℕ) (it : Action) → AreInside configuration →
+        IsAlike configuration (done_in small configuration agent it) (done_in great configuration agent it)
+    done_alike configuration agent (Makes (Tell other command)) inside = said_alike configuration other command inside
+    done_alike configuration agent (Makes (Deliver other)) inside =
+        delivered_alike configuration other (configuration.position other) inside (inside other)
+    done_alike configuration agent (Makes Close) inside = record { inside = inside; either_way = inl refl }
+    done_alike configuration agent Wakes inside = record { inside = inside; either_way = inl refl }
+    done_alike configuration agent Rests inside = record { inside = inside; either_way = inl refl }
 
     -- ---- and a schedule
 
-    record IsSameRun (picture : Picture) (schedule : List ℕ) : Type 0 where
+    record IsSameRun (configuration : Configuration) (schedule : List ℕ) : Type 0 where
       other : List ℕ
-      same : turns_in great picture other ≡ turns_in small picture schedule
+      same : turns_in great configuration other ≡ turns_in small configuration schedule
 
-    same_run : (schedule : List ℕ) (picture : Picture) → AreInside picture → IsSameRun picture schedule
-    same_run [] picture inside = record { other = []; same = refl }
-    same_run (agent ∷ schedule) picture inside =
-        let it = done_alike picture agent (deed_in small picture agent) inside in
-        let rest : IsSameRun (turn_in small picture agent) schedule =
-        same_run schedule (turn_in small picture agent) it.inside in
+    same_run : (schedule : List ℕ) (configuration : Configuration) → AreInside configuration
+        → IsSameRun configuration schedule
+    same_run [] configuration inside = record { other = []; same = refl }
+    same_run (agent ∷ schedule) configuration inside =
+        let it = done_alike configuration agent (deed_in small configuration agent) inside in
+        let rest : IsSameRun (turn_in small configuration agent) schedule =
+        same_run schedule (turn_in small configuration agent) it.inside in
         elim it.either_way [
           | inl h ↦ record {
             other = agent ∷ rest.other;
-            same = ap (λ (p : Picture). turns_in great p rest.other) h ∙ rest.same;
+            same = ap (λ (p : Configuration). turns_in great p rest.other) h ∙ rest.same;
           }
           | inr h ↦ record {
             other = rest.other;
-            same = ap (λ (p : Picture). turns_in great p rest.other) (sym h) ∙ rest.same;
+            same = ap (λ (p : Configuration). turns_in great p rest.other) (sym h) ∙ rest.same;
           }
         ]
 
@@ -230,18 +236,19 @@ module _ (n : ℕ) (three : 3 ≤ n) (terms : Terms) (minds : Minds) (hole : ℕ
     right_in_great schedule k link solves within accused =
         let run : IsSameRun blank schedule = same_run schedule blank (λ j. tt) in
         let here : (turns_in great blank run.other).accused k ≡ Some link =
-        ap (λ (p : Picture). p.accused k) run.same ∙ accused in
+        ap (λ (p : Configuration). p.accused k) run.same ∙ accused in
         let right : is_right great.world link ≡ true = right_after great run.other k link solves within here in
         eqb-true hole (great.world.net.far link.0 link.1).0 (sym (doomed_great link.0 link.1) ∙ right)
 
 -- who has solved has accused
-spoken_at_rest : (world : World) (picture : Picture) → outcome_in world picture ≡ Solved
-    → accuses world (found_in picture) (λ link. true) ≡ true
-spoken_at_rest world picture solved =
-    by_cases (accuses world (found_in picture) (λ link. true)) (accuses world (found_in picture) (λ link. true) ≡ true)
+spoken_at_rest : (world : World) (configuration : Configuration) → outcome_in world configuration ≡ Solved
+    → accuses world (found_in configuration) (λ link. true) ≡ true
+spoken_at_rest world configuration solved =
+    by_cases (accuses world (found_in configuration) (λ link. true)) (accuses world (found_in configuration)
+    (λ link. true) ≡ true)
     (λ yes. yes)
-    (λ none. absurd (silent_unsolved (accuses world (found_in picture) (λ link. not (is_right world link)))
-    (is_silent world (found_in picture)) _ (silent _ _ _ none) solved))
+    (λ none. absurd (silent_unsolved (accuses world (found_in configuration) (λ link. not (is_right world link)))
+    (is_silent world (found_in configuration)) _ (silent _ _ _ none) solved))
   where
     silent : (a b c : Bool) → a ≡ false → (not a || b || c) ≡ true
     silent true b c h = cc
@@ -256,13 +263,13 @@ has_link None h = cc
 has_link (Some link) h = record { link = link; is = refl }
 
 pub no_team_solves_two_sizes : NoTeamSolvesTwoSizes
-no_team_solves_two_sizes n terms minds three one two =
-    let trial : Trial = played_on (ring_net n) terms minds 0 (n - 1) in
+no_team_solves_two_sizes n terms strategies three one two =
+    let trial : Trial = played_on (ring_net n) terms strategies 0 (n - 1) in
     let solves : SolvesFor trial = one (n - 1) (omega (arith, three)) (omega (arith, three)) in
     let rest = solves.rests [] in
     let schedule : List ℕ = rest.0 in
-    let follows : picture_of trial (under trial schedule) ≡ turns_in trial blank schedule =
-    pictures_follow trial schedule in
+    let follows : configuration_of trial (under trial schedule) ≡ turns_in trial blank schedule =
+    configurations_follow trial schedule in
     let solved : outcome_in trial.world (turns_in trial blank schedule) ≡ Solved =
     ap (outcome_in trial.world) (sym follows)
     ∙ sym (ap (λ (v : Verdict). v.outcome) (verdict_is trial (under trial schedule)))
@@ -275,9 +282,9 @@ no_team_solves_two_sizes n terms minds three one two =
     let before : some.place < 0 + terms.agents = some.before in
     let within : some.place < terms.agents = omega (arith, before) in
     let last : n - 1 ≡ ((ring_net (n + 1)).far accuser.link.0 accuser.link.1).0 =
-    right_in_great n three terms minds (n - 1) (omega arith) schedule some.place accuser.link
+    right_in_great n three terms strategies (n - 1) (omega arith) schedule some.place accuser.link
     (two (n - 1) (omega (arith, three)) (omega (arith, three))) within accuser.is in
     let very_last : n ≡ ((ring_net (n + 1)).far accuser.link.0 accuser.link.1).0 =
-    right_in_great n three terms minds n (omega arith) schedule some.place accuser.link
+    right_in_great n three terms strategies n (omega arith) schedule some.place accuser.link
     (two n (omega (arith, three)) (omega arith)) within accuser.is in
     omega (arith, last, very_last, three)

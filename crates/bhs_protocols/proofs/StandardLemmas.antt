@@ -136,8 +136,8 @@ pub standard_rings : StandardRings
 standard_rings n hole setup is = is_search n hole setup is
 
 pub shuttle_solves_standard_rings : ShuttleSolvesStandardRings
-shuttle_solves_standard_rings n hole naps setup is room enough enough_too =
-    shuttle_solves (world_of (standard_ring n) setup) n hole (n - hole) naps (standard_ways n)
+shuttle_solves_standard_rings n hole wakeups setup is room enough enough_too =
+    shuttle_solves (world_of (standard_ring n) setup) n hole (n - hole) wakeups (standard_ways n)
     (is_search n hole setup is) room enough enough_too
 
 trips_are : (k : ℕ) → round_trips k ≡ k * k + k

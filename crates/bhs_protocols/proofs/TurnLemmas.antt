@@ -1,4 +1,4 @@
--- What a turn makes of a picture, by what the agent does: one lemma for each command, and one for an arrival.
+-- What a turn makes of a configuration, by what the agent does: one lemma for each command, and one for an arrival.
 use Rattle.std.proofs.Common.{ℕ, ◌+◌, ◌<◌, ◌≤◌, ◌≡◌, Bool, true, false, ◌==◌, Option, Some, None, List, ◌∷◌, length}
 use Rattle.std.proofs.Common.{refl, sym, ap, ◌∙◌, subst, if◌then◌else◌, nat_lt, inl, inr, arith}
 use Rattle.std.specs.Prelude.{nat_le, bytes_eq}
@@ -13,15 +13,16 @@ use Rattle.bhs_model.specs.Standings.{standing_at}
 use Rattle.bhs_model.specs.Worlds.{doomed}
 use Rattle.bhs_model.specs.Runs.{Position, Before, At, Bound, After, changed}
 use Rattle.bhs_model.proofs.StepLemmas.{changed_same, changed_other}
-use Rattle.bhs_explore.specs.declared.minds.Step.TheVariants.{Says}
-use Rattle.bhs_explore.specs.Minds.{Item, Heard}
-use Rattle.bhs_explore.specs.Schedules.{Trial, Makes, Rests, deed_at}
-use Rattle.bhs_protocols.specs.Pictures.{Picture, deed_in, is_heard, told_at, arrived_in, delivered_in}
-use Rattle.bhs_protocols.specs.Pictures.{done_in, turn_in}
+use Rattle.bhs_explore.specs.declared.answers.Step.TheVariants.{Says}
+use Rattle.bhs_explore.specs.Strategies.{Observation, Heard}
+use Rattle.bhs_explore.specs.Schedules.{Trial, Makes, Rests, action_at}
+use Rattle.bhs_protocols.specs.Configurations.{Configuration, deed_in, is_heard, told_at, arrived_in, delivered_in}
+use Rattle.bhs_protocols.specs.Configurations.{done_in, turn_in}
 
--- What a turn of an agent makes of a picture: where the agent is then, what it has heard, what it has used and whom it
--- has accused, how many moves were made, what whiteboards show and which nodes were reached. Nothing else changes.
-pub record Becomes (old new : Picture) (agent : ℕ) (there : Position) (item : Item) (cost moved : ℕ)
+-- What a turn of an agent makes of a configuration: where the agent is then, what it has heard, what it has used and
+-- whom it has accused, how many moves were made, what whiteboards show and which nodes were reached. Nothing else
+-- changes.
+pub record Becomes (old new : Configuration) (agent : ℕ) (there : Position) (item : Observation) (cost moved : ℕ)
     (accusation : Option (ℕ × ℕ)) (showing : ℕ → List ℕ) (seen : ℕ → Bool) : Type 0 where
   pub place : new.position agent ≡ there
   pub news : new.history agent ≡ item ∷ old.history agent
@@ -35,147 +36,162 @@ pub record Becomes (old new : Picture) (agent : ℕ) (there : Position) (item : 
   pub other_used : (k : ℕ) → (k == agent) ≡ false → new.used k ≡ old.used k
   pub other_accused : (k : ℕ) → (k == agent) ≡ false → new.accused k ≡ old.accused k
 
-module _ (trial : Trial) (picture : Picture) (agent : ℕ) (within : agent < trial.world.agents) where
+module _ (trial : Trial) (configuration : Configuration) (agent : ℕ) (within : agent < trial.world.agents) where
   within_true : nat_lt agent trial.world.agents ≡ true
   within_true = lt-ltb agent trial.world.agents within
 
-  -- an agent at a node says what its mind says
-  said : (place : Position) (command : Command) → picture.position agent ≡ place
-      → deed_at trial.held trial.naps place (picture.woken agent) (Says command) agent ≡ Makes (Tell agent command)
-      → trial.minds agent (picture.history agent) ≡ Says command
-      → accepts (standing_at place) (nat_lt (picture.used agent) trial.world.quota) command ≡ true
-      → turn_in trial picture agent ≡ told_at trial.world picture agent place command
+  -- an agent at a node says what its strategy says
+  said : (place : Position) (command : Command) → configuration.position agent ≡ place
+      → action_at trial.held trial.wakeups place (configuration.woken agent) (Says command) agent
+      ≡ Makes (Tell agent command)
+      → trial.strategies agent (configuration.history agent) ≡ Says command
+      → accepts (standing_at place) (nat_lt (configuration.used agent) trial.world.quota) command ≡ true
+      → turn_in trial configuration agent ≡ told_at trial.world configuration agent place command
   said place command at makes says hears =
-      let it : deed_in trial picture agent ≡ Makes (Tell agent command) =
-      (λ i. if within_true i then deed_at trial.held trial.naps (at i) (picture.woken agent) (says i) agent else Rests)
+      let it : deed_in trial configuration agent ≡ Makes (Tell agent command) =
+      (λ i. if within_true i then action_at trial.held trial.wakeups (at i) (configuration.woken agent)
+      (says i) agent else Rests)
       ∙ makes in
-      let is : is_heard trial.world picture agent command ≡ true =
-      ap (λ (p : Position). accepts (standing_at p) (nat_lt (picture.used agent) trial.world.quota) command) at
+      let is : is_heard trial.world configuration agent command ≡ true =
+      ap (λ (p : Position). accepts (standing_at p) (nat_lt (configuration.used agent) trial.world.quota) command) at
       ∙ hears in
-      ap (done_in trial picture agent) it ∙ cond-true _ _ _ is
-      ∙ ap (λ (p : Position). told_at trial.world picture agent p command) at
+      ap (done_in trial configuration agent) it ∙ cond-true _ _ _ is
+      ∙ ap (λ (p : Position). told_at trial.world configuration agent p command) at
 
-  pub enters : picture.position agent ≡ Before → trial.minds agent (picture.history agent) ≡ Says Enter →
-      Becomes picture (turn_in trial picture agent) agent (At trial.world.home None)
-      (Heard (Here (trial.world.net.degree trial.world.home) None (picture.shown trial.world.home))) 0 0
-      (picture.accused agent) picture.shown picture.reached
+  pub enters : configuration.position agent ≡ Before
+      → trial.strategies agent (configuration.history agent) ≡ Says Enter →
+      Becomes configuration (turn_in trial configuration agent) agent (At trial.world.home None)
+      (Heard (Here (trial.world.net.degree trial.world.home) None (configuration.shown trial.world.home))) 0 0
+      (configuration.accused agent) configuration.shown configuration.reached
   enters at says =
-      let is : turn_in trial picture agent ≡ told_at trial.world picture agent Before Enter =
+      let is : turn_in trial configuration agent ≡ told_at trial.world configuration agent Before Enter =
       said Before Enter at refl says refl in
-      subst (λ (new : Picture). Becomes picture new agent (At trial.world.home None)
-      (Heard (Here (trial.world.net.degree trial.world.home) None (picture.shown trial.world.home))) 0 0
-      (picture.accused agent) picture.shown picture.reached) (sym is) (record {
-        place = changed_same picture.position agent _;
-        news = changed_same picture.history agent _;
-        used = changed_same picture.used agent _ ∙ omega arith;
-        accused = changed_same picture.accused agent _;
+      subst (λ (new : Configuration). Becomes configuration new agent (At trial.world.home None)
+      (Heard (Here (trial.world.net.degree trial.world.home) None (configuration.shown trial.world.home))) 0 0
+      (configuration.accused agent) configuration.shown configuration.reached) (sym is) (record {
+        place = changed_same configuration.position agent _;
+        news = changed_same configuration.history agent _;
+        used = changed_same configuration.used agent _ ∙ omega arith;
+        accused = changed_same configuration.accused agent _;
         moves = omega arith;
         shown = refl;
         reached = refl;
-        other_place = λ k apart. changed_other picture.position agent k _ apart;
-        other_news = λ k apart. changed_other picture.history agent k _ apart;
-        other_used = λ k apart. changed_other picture.used agent k _ apart;
-        other_accused = λ k apart. changed_other picture.accused agent k _ apart;
+        other_place = λ k apart. changed_other configuration.position agent k _ apart;
+        other_news = λ k apart. changed_other configuration.history agent k _ apart;
+        other_used = λ k apart. changed_other configuration.used agent k _ apart;
+        other_accused = λ k apart. changed_other configuration.accused agent k _ apart;
       })
 
-  pub departs : (node port : ℕ) (came : Option ℕ) → picture.position agent ≡ At node came
-      → trial.minds agent (picture.history agent) ≡ Says (Depart port) → picture.used agent < trial.world.quota
+  pub departs : (node port : ℕ) (came : Option ℕ) → configuration.position agent ≡ At node came
+      → trial.strategies agent (configuration.history agent) ≡ Says (Depart port)
+      → configuration.used agent < trial.world.quota
       → port < trial.world.net.degree node →
-      Becomes picture (turn_in trial picture agent) agent (Bound node port) (Heard Gone) 1 1 (picture.accused agent)
-      picture.shown picture.reached
+      Becomes configuration (turn_in trial configuration agent) agent (Bound node port) (Heard Gone) 1 1
+      (configuration.accused agent)
+      configuration.shown configuration.reached
   departs node port came at says room there =
-      let is : turn_in trial picture agent ≡ told_at trial.world picture agent (At node came) (Depart port) =
-      said (At node came) (Depart port) at refl says (lt-ltb (picture.used agent) trial.world.quota room) in
+      let is : turn_in trial configuration agent
+      ≡ told_at trial.world configuration agent (At node came) (Depart port) =
+      said (At node came) (Depart port) at refl says (lt-ltb (configuration.used agent) trial.world.quota room) in
       let fits : nat_lt port (trial.world.net.degree node) ≡ true = lt-ltb port (trial.world.net.degree node) there in
-      subst (λ (new : Picture). Becomes picture new agent (Bound node port) (Heard Gone) 1 1 (picture.accused agent)
-      picture.shown picture.reached) (sym is) (rw fits (record {
-        place = changed_same picture.position agent _;
-        news = changed_same picture.history agent _;
-        used = changed_same picture.used agent _;
-        accused = changed_same picture.accused agent _;
+      subst (λ (new : Configuration). Becomes configuration new agent (Bound node port) (Heard Gone) 1 1
+      (configuration.accused agent)
+      configuration.shown configuration.reached) (sym is) (rw fits (record {
+        place = changed_same configuration.position agent _;
+        news = changed_same configuration.history agent _;
+        used = changed_same configuration.used agent _;
+        accused = changed_same configuration.accused agent _;
         moves = refl;
         shown = refl;
         reached = refl;
-        other_place = λ k apart. changed_other picture.position agent k _ apart;
-        other_news = λ k apart. changed_other picture.history agent k _ apart;
-        other_used = λ k apart. changed_other picture.used agent k _ apart;
-        other_accused = λ k apart. changed_other picture.accused agent k _ apart;
+        other_place = λ k apart. changed_other configuration.position agent k _ apart;
+        other_news = λ k apart. changed_other configuration.history agent k _ apart;
+        other_used = λ k apart. changed_other configuration.used agent k _ apart;
+        other_accused = λ k apart. changed_other configuration.accused agent k _ apart;
       }))
 
-  pub accuses : (node port : ℕ) (came : Option ℕ) → picture.position agent ≡ At node came
-      → trial.minds agent (picture.history agent) ≡ Says (Accuse port) → picture.used agent < trial.world.quota
+  pub accuses : (node port : ℕ) (came : Option ℕ) → configuration.position agent ≡ At node came
+      → trial.strategies agent (configuration.history agent) ≡ Says (Accuse port)
+      → configuration.used agent < trial.world.quota
       → port < trial.world.net.degree node →
-      Becomes picture (turn_in trial picture agent) agent After (Heard Noted) 1 0 (Some (node, port))
-      picture.shown picture.reached
+      Becomes configuration (turn_in trial configuration agent) agent After (Heard Noted) 1 0 (Some (node, port))
+      configuration.shown configuration.reached
   accuses node port came at says room there =
-      let is : turn_in trial picture agent ≡ told_at trial.world picture agent (At node came) (Accuse port) =
-      said (At node came) (Accuse port) at refl says (lt-ltb (picture.used agent) trial.world.quota room) in
+      let is : turn_in trial configuration agent
+      ≡ told_at trial.world configuration agent (At node came) (Accuse port) =
+      said (At node came) (Accuse port) at refl says (lt-ltb (configuration.used agent) trial.world.quota room) in
       let fits : nat_lt port (trial.world.net.degree node) ≡ true = lt-ltb port (trial.world.net.degree node) there in
-      subst (λ (new : Picture). Becomes picture new agent After (Heard Noted) 1 0 (Some (node, port))
-      picture.shown picture.reached) (sym is) (rw fits (record {
-        place = changed_same picture.position agent _;
-        news = changed_same picture.history agent _;
-        used = changed_same picture.used agent _;
-        accused = changed_same picture.accused agent _;
+      subst (λ (new : Configuration). Becomes configuration new agent After (Heard Noted) 1 0 (Some (node, port))
+      configuration.shown configuration.reached) (sym is) (rw fits (record {
+        place = changed_same configuration.position agent _;
+        news = changed_same configuration.history agent _;
+        used = changed_same configuration.used agent _;
+        accused = changed_same configuration.accused agent _;
         moves = omega arith;
         shown = refl;
         reached = refl;
-        other_place = λ k apart. changed_other picture.position agent k _ apart;
-        other_news = λ k apart. changed_other picture.history agent k _ apart;
-        other_used = λ k apart. changed_other picture.used agent k _ apart;
-        other_accused = λ k apart. changed_other picture.accused agent k _ apart;
+        other_place = λ k apart. changed_other configuration.position agent k _ apart;
+        other_news = λ k apart. changed_other configuration.history agent k _ apart;
+        other_used = λ k apart. changed_other configuration.used agent k _ apart;
+        other_accused = λ k apart. changed_other configuration.accused agent k _ apart;
       }))
 
   -- the text that is expected is shown
-  pub writes : (node : ℕ) (came : Option ℕ) (expect put : List ℕ) → picture.position agent ≡ At node came
-      → trial.minds agent (picture.history agent) ≡ Says (Write expect put)
-      → picture.used agent < trial.world.quota → length put ≤ trial.world.board
-      → bytes_eq (picture.shown node) expect ≡ true →
-      Becomes picture (turn_in trial picture agent) agent (At node came) (Heard Written) 1 0 (picture.accused agent)
-      (changed picture.shown node put) picture.reached
+  pub writes : (node : ℕ) (came : Option ℕ) (expect put : List ℕ) → configuration.position agent ≡ At node came
+      → trial.strategies agent (configuration.history agent) ≡ Says (Write expect put)
+      → configuration.used agent < trial.world.quota → length put ≤ trial.world.board
+      → bytes_eq (configuration.shown node) expect ≡ true →
+      Becomes configuration (turn_in trial configuration agent) agent (At node came) (Heard Written) 1 0
+      (configuration.accused agent)
+      (changed configuration.shown node put) configuration.reached
   writes node came expect put at says room fits same =
-      let is : turn_in trial picture agent ≡ told_at trial.world picture agent (At node came) (Write expect put) =
-      said (At node came) (Write expect put) at refl says (lt-ltb (picture.used agent) trial.world.quota room) in
+      let is : turn_in trial configuration agent
+      ≡ told_at trial.world configuration agent (At node came) (Write expect put) =
+      said (At node came) (Write expect put) at refl says (lt-ltb (configuration.used agent) trial.world.quota room) in
       let short : nat_le (length put) trial.world.board ≡ true = le-leb (length put) trial.world.board fits in
-      subst (λ (new : Picture). Becomes picture new agent (At node came) (Heard Written) 1 0 (picture.accused agent)
-      (changed picture.shown node put) picture.reached) (sym is) (rw (short, same) (record {
-        place = changed_same picture.position agent _;
-        news = changed_same picture.history agent _;
-        used = changed_same picture.used agent _;
-        accused = changed_same picture.accused agent _;
+      subst (λ (new : Configuration). Becomes configuration new agent (At node came) (Heard Written) 1 0
+      (configuration.accused agent)
+      (changed configuration.shown node put) configuration.reached) (sym is) (rw (short, same) (record {
+        place = changed_same configuration.position agent _;
+        news = changed_same configuration.history agent _;
+        used = changed_same configuration.used agent _;
+        accused = changed_same configuration.accused agent _;
         moves = omega arith;
         shown = refl;
         reached = refl;
-        other_place = λ k apart. changed_other picture.position agent k _ apart;
-        other_news = λ k apart. changed_other picture.history agent k _ apart;
-        other_used = λ k apart. changed_other picture.used agent k _ apart;
-        other_accused = λ k apart. changed_other picture.accused agent k _ apart;
+        other_place = λ k apart. changed_other configuration.position agent k _ apart;
+        other_news = λ k apart. changed_other configuration.history agent k _ apart;
+        other_used = λ k apart. changed_other configuration.used agent k _ apart;
+        other_accused = λ k apart. changed_other configuration.accused agent k _ apart;
       }))
 
   -- another text is shown
-  pub writes_not : (node : ℕ) (came : Option ℕ) (expect put : List ℕ) → picture.position agent ≡ At node came
-      → trial.minds agent (picture.history agent) ≡ Says (Write expect put)
-      → picture.used agent < trial.world.quota → length put ≤ trial.world.board
-      → bytes_eq (picture.shown node) expect ≡ false →
-      Becomes picture (turn_in trial picture agent) agent (At node came) (Heard (Changed (picture.shown node))) 1 0
-      (picture.accused agent) picture.shown picture.reached
+  pub writes_not : (node : ℕ) (came : Option ℕ) (expect put : List ℕ) → configuration.position agent ≡ At node came
+      → trial.strategies agent (configuration.history agent) ≡ Says (Write expect put)
+      → configuration.used agent < trial.world.quota → length put ≤ trial.world.board
+      → bytes_eq (configuration.shown node) expect ≡ false →
+      Becomes configuration (turn_in trial configuration agent) agent (At node came) (Heard (Changed
+      (configuration.shown node))) 1 0
+      (configuration.accused agent) configuration.shown configuration.reached
   writes_not node came expect put at says room fits other =
-      let is : turn_in trial picture agent ≡ told_at trial.world picture agent (At node came) (Write expect put) =
-      said (At node came) (Write expect put) at refl says (lt-ltb (picture.used agent) trial.world.quota room) in
+      let is : turn_in trial configuration agent
+      ≡ told_at trial.world configuration agent (At node came) (Write expect put) =
+      said (At node came) (Write expect put) at refl says (lt-ltb (configuration.used agent) trial.world.quota room) in
       let short : nat_le (length put) trial.world.board ≡ true = le-leb (length put) trial.world.board fits in
-      subst (λ (new : Picture). Becomes picture new agent (At node came) (Heard (Changed (picture.shown node))) 1 0
-      (picture.accused agent) picture.shown picture.reached) (sym is) (rw (short, other) (record {
-        place = changed_same picture.position agent _;
-        news = changed_same picture.history agent _;
-        used = changed_same picture.used agent _;
-        accused = changed_same picture.accused agent _;
+      subst (λ (new : Configuration). Becomes configuration new agent (At node came) (Heard (Changed
+      (configuration.shown node))) 1 0
+      (configuration.accused agent) configuration.shown configuration.reached) (sym is) (rw (short, other) (record {
+        place = changed_same configuration.position agent _;
+        news = changed_same configuration.history agent _;
+        used = changed_same configuration.used agent _;
+        accused = changed_same configuration.accused agent _;
         moves = omega arith;
-        shown = λ i k. changed_itself picture.shown node k i;
+        shown = λ i k. changed_itself configuration.shown node k i;
         reached = refl;
-        other_place = λ k apart. changed_other picture.position agent k _ apart;
-        other_news = λ k apart. changed_other picture.history agent k _ apart;
-        other_used = λ k apart. changed_other picture.used agent k _ apart;
-        other_accused = λ k apart. changed_other picture.accused agent k _ apart;
+        other_place = λ k apart. changed_other configuration.position agent k _ apart;
+        other_news = λ k apart. changed_other configuration.history agent k _ apart;
+        other_used = λ k apart. changed_other configuration.used agent k _ apart;
+        other_accused = λ k apart. changed_other configuration.accused agent k _ apart;
       }))
     where
       changed_itself : {A : Type 0} (f : ℕ → A) (place other : ℕ) → changed f place (f place) other ≡ f other
@@ -185,34 +201,36 @@ module _ (trial : Trial) (picture : Picture) (agent : ℕ) (within : agent < tri
       ]
 
   -- it arrives
-  pub arrives : (node port : ℕ) → picture.position agent ≡ Bound node port → trial.held node port ≡ false
+  pub arrives : (node port : ℕ) → configuration.position agent ≡ Bound node port → trial.held node port ≡ false
       → doomed trial.world node port ≡ false →
-      Becomes picture (turn_in trial picture agent) agent
+      Becomes configuration (turn_in trial configuration agent) agent
       (At (trial.world.net.far node port).0 (Some (trial.world.net.far node port).1))
       (Heard (Here (trial.world.net.degree (trial.world.net.far node port).0) (Some (trial.world.net.far node port).1)
-      (picture.shown (trial.world.net.far node port).0))) 0 0 (picture.accused agent) picture.shown
-      (changed picture.reached (trial.world.net.far node port).0 true)
+      (configuration.shown (trial.world.net.far node port).0))) 0 0 (configuration.accused agent) configuration.shown
+      (changed configuration.reached (trial.world.net.far node port).0 true)
   arrives node port at free safe =
       let there : ℕ = (trial.world.net.far node port).0 in
       let label : ℕ = (trial.world.net.far node port).1 in
-      let it : deed_in trial picture agent ≡ Makes (Deliver agent) =
-      (λ i. if within_true i then deed_at trial.held trial.naps (at i) (picture.woken agent)
-      (trial.minds agent (picture.history agent)) agent else Rests)
+      let it : deed_in trial configuration agent ≡ Makes (Deliver agent) =
+      (λ i. if within_true i then action_at trial.held trial.wakeups (at i) (configuration.woken agent)
+      (trial.strategies agent (configuration.history agent)) agent else Rests)
       ∙ cond-false _ _ _ free in
-      let is : turn_in trial picture agent ≡ arrived_in trial.world picture agent there label =
-      ap (done_in trial picture agent) it ∙ ap (delivered_in trial.world picture agent) at ∙ cond-false _ _ _ safe in
-      subst (λ (new : Picture). Becomes picture new agent (At there (Some label))
-      (Heard (Here (trial.world.net.degree there) (Some label) (picture.shown there))) 0 0 (picture.accused agent)
-      picture.shown (changed picture.reached there true)) (sym is) (record {
-        place = changed_same picture.position agent _;
-        news = changed_same picture.history agent _;
+      let is : turn_in trial configuration agent ≡ arrived_in trial.world configuration agent there label =
+      ap (done_in trial configuration agent) it ∙ ap (delivered_in trial.world configuration agent) at
+      ∙ cond-false _ _ _ safe in
+      subst (λ (new : Configuration). Becomes configuration new agent (At there (Some label))
+      (Heard (Here (trial.world.net.degree there) (Some label) (configuration.shown there))) 0 0
+      (configuration.accused agent)
+      configuration.shown (changed configuration.reached there true)) (sym is) (record {
+        place = changed_same configuration.position agent _;
+        news = changed_same configuration.history agent _;
         used = omega arith;
         accused = refl;
         moves = omega arith;
         shown = refl;
         reached = refl;
-        other_place = λ k apart. changed_other picture.position agent k _ apart;
-        other_news = λ k apart. changed_other picture.history agent k _ apart;
+        other_place = λ k apart. changed_other configuration.position agent k _ apart;
+        other_news = λ k apart. changed_other configuration.history agent k _ apart;
         other_used = λ k apart. refl;
         other_accused = λ k apart. refl;
       })

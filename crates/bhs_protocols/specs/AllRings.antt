@@ -4,7 +4,7 @@ use Rattle.bhs_net.specs.Links.{End}
 use Rattle.bhs_net.specs.Network.{Network, IsNetwork, nodes_of, degree_of, far_of}
 use Rattle.bhs_model.specs.declared.setups.Setup.{Setup}
 use Rattle.bhs_model.specs.Setups.{world_of}
-use Rattle.bhs_protocols.specs.Invariants.{Bounds, IsSolved}
+use Rattle.bhs_protocols.specs.Invariants.{CostBounds, IsSolved}
 use Rattle.bhs_protocols.specs.Rings.{Ways, IsSearch}
 use Rattle.bhs_protocols.specs.Laws.{shuttle_trial}
 
@@ -45,7 +45,7 @@ abbrev pub RingsAreRings : Type 0
 RingsAreRings = (net : Network) (setup : Setup) (hole : ℕ) → IsSetOn net setup hole → IsAway net setup hole
 
 -- what the shuttle costs on a ring of n nodes, wherever the black hole is
-abbrev pub ring_bounds : (n : ℕ) → Bounds
+abbrev pub ring_bounds : (n : ℕ) → CostBounds
 ring_bounds n = record {
   moves = (n - 1) * (n - 1);
   lost = 1;
@@ -55,6 +55,6 @@ ring_bounds n = record {
 
 -- The shuttle solves each ring of a file, however its ports are numbered, from each home base and with each black hole.
 abbrev pub ShuttleSolvesAllRings : Type 0
-ShuttleSolvesAllRings = (net : Network) (setup : Setup) (hole naps : ℕ) → IsSetOn net setup hole → 4 ≤ setup.board
+ShuttleSolvesAllRings = (net : Network) (setup : Setup) (hole wakeups : ℕ) → IsSetOn net setup hole → 4 ≤ setup.board
     → (nodes_of net - 2) * (nodes_of net - 1) + 2 * nodes_of net ≤ setup.quota
-    → IsSolved (shuttle_trial (world_of net setup) naps (nodes_of net)) (ring_bounds (nodes_of net))
+    → IsSolved (shuttle_trial (world_of net setup) wakeups (nodes_of net)) (ring_bounds (nodes_of net))

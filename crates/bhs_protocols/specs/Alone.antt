@@ -5,17 +5,17 @@ use Rattle.bhs_model.specs.declared.setups.Setup.{Setup}
 use Rattle.bhs_model.specs.Setups.{world_of}
 use Rattle.bhs_model.specs.Worlds.{World}
 use Rattle.bhs_model.specs.Examples.{none_held}
-use Rattle.bhs_explore.specs.Minds.{Minds}
+use Rattle.bhs_explore.specs.Strategies.{Strategies}
 use Rattle.bhs_explore.specs.Schedules.{Trial, under, IsAtRest}
 use Rattle.bhs_explore.specs.Everywhere.{Fails}
 
 -- a match of one agent, where this node is the only black hole and nothing is dark
-abbrev pub alone : World → (naps : ℕ) → Minds → (hole : ℕ) → Trial
-alone world naps minds hole = record {
+abbrev pub alone : World → (wakeups : ℕ) → Strategies → (hole : ℕ) → Trial
+alone world wakeups strategies hole = record {
   world = record world { holes = hole ∷ []; dark = []; agents = 1 };
   held = none_held;
-  naps = naps;
-  minds = minds;
+  wakeups = wakeups;
+  strategies = strategies;
 }
 
 -- a network of three nodes at least, where the links of the home base lead to other nodes
@@ -26,25 +26,26 @@ pub record HasThree (world : World) : Type 0 where
   pub away : (port : ℕ) → port < world.net.degree world.home → (world.net.far world.home port).0 ≢ world.home
 
 -- a node other than the home base that can be the black hole so that the agent fails under some schedule
-pub record FailsSomewhere (world : World) (naps : ℕ) (minds : Minds) : Type 0 where
+pub record FailsSomewhere (world : World) (wakeups : ℕ) (strategies : Strategies) : Type 0 where
   pub hole : ℕ
   pub within : hole < world.net.nodes
   pub not_home : hole ≢ world.home
   pub schedule : List ℕ
-  pub fails : Fails (alone world naps minds hole) schedule
+  pub fails : Fails (alone world wakeups strategies hole) schedule
 
 -- Whatever the agent does: if it comes to rest where some node is the black hole, then there is a black hole with which
 -- it comes to rest and has not solved the match.
 abbrev pub OneAloneFails : Type 0
-OneAloneFails = (world : World) (naps : ℕ) (minds : Minds) (hole : ℕ) (schedule : List ℕ) → HasThree world
+OneAloneFails = (world : World) (wakeups : ℕ) (strategies : Strategies) (hole : ℕ) (schedule : List ℕ) → HasThree world
     → hole < world.net.nodes → hole ≢ world.home
-    → IsAtRest (alone world naps minds hole) (under (alone world naps minds hole) schedule)
-    → FailsSomewhere world naps minds
+    → IsAtRest (alone world wakeups strategies hole) (under (alone world wakeups strategies hole) schedule)
+    → FailsSomewhere world wakeups strategies
 
 -- so it is on each network of a file, from each home base
 abbrev pub OneAloneFailsOnNetworks : Type 0
-OneAloneFailsOnNetworks = (net : Network) (setup : Setup) (naps : ℕ) (minds : Minds) (hole : ℕ) (schedule : List ℕ)
+OneAloneFailsOnNetworks =
+    (net : Network) (setup : Setup) (wakeups : ℕ) (strategies : Strategies) (hole : ℕ) (schedule : List ℕ)
     → IsNetwork net → setup.home < nodes_of net → hole < nodes_of net → hole ≢ setup.home
-    → IsAtRest (alone (world_of net setup) naps minds hole)
-    (under (alone (world_of net setup) naps minds hole) schedule)
-    → FailsSomewhere (world_of net setup) naps minds
+    → IsAtRest (alone (world_of net setup) wakeups strategies hole)
+    (under (alone (world_of net setup) wakeups strategies hole) schedule)
+    → FailsSomewhere (world_of net setup) wakeups strategies

@@ -34,21 +34,21 @@ pub record IsAttainedOn (net : Network) (setup : Setup) (trial_in : World → Tr
 -- On each ring, however its ports are numbered, and wherever the black hole is: with it at these distances from the
 -- home base some schedule makes all the moves that there may be.
 abbrev pub ShuttleAttains : Type 0
-ShuttleAttains = (world : World) (n one other naps : ℕ) (ways : Ways) → IsSearch world n one other ways
+ShuttleAttains = (world : World) (n one other wakeups : ℕ) (ways : Ways) → IsSearch world n one other ways
     → 4 ≤ world.board → commands_on n one ≤ world.quota → commands_on n other ≤ world.quota
-    → IsAttained (shuttle_trial world naps n) (moves_on one + moves_on other - 1)
+    → IsAttained (shuttle_trial world wakeups n) (moves_on one + moves_on other - 1)
 
 -- with a black hole next to the home base these are (n - 1)^2
 abbrev pub ShuttleAttainsSquares : Type 0
-ShuttleAttainsSquares = (world : World) (n naps : ℕ) (ways : Ways) → IsSearch world n 1 (n - 1) ways
+ShuttleAttainsSquares = (world : World) (n wakeups : ℕ) (ways : Ways) → IsSearch world n 1 (n - 1) ways
     → 4 ≤ world.board → (n - 2) * (n - 1) + 2 * n ≤ world.quota
-    → IsAttained (shuttle_trial world naps n) ((n - 1) * (n - 1))
+    → IsAttained (shuttle_trial world wakeups n) ((n - 1) * (n - 1))
 
 -- so it is on each ring of a file, from each home base
 abbrev pub ShuttleAttainsOnAllRings : Type 0
-ShuttleAttainsOnAllRings = (net : Network) (setup : Setup) (hole naps : ℕ) → IsSetOn net setup hole → 4 ≤ setup.board
+ShuttleAttainsOnAllRings = (net : Network) (setup : Setup) (hole wakeups : ℕ) → IsSetOn net setup hole → 4 ≤ setup.board
     → (nodes_of net - 2) * (nodes_of net - 1) + 2 * nodes_of net ≤ setup.quota
-    → IsAttainedOn net setup (λ world. shuttle_trial world naps (nodes_of net))
+    → IsAttainedOn net setup (λ world. shuttle_trial world wakeups (nodes_of net))
     ((nodes_of net - 1) * (nodes_of net - 1))
 
 -- ---- the search by halves
@@ -71,14 +71,14 @@ WorstIsWithin = (n : ℕ) → 3 ≤ n → (0 < worst_distance n) × (worst_dista
 -- Whatever the ring, however its ports are numbered: with the black hole at that distance some schedule makes all the
 -- moves that there may be.
 abbrev pub HalvesAttain : Type 0
-HalvesAttain = (world : World) (n other naps : ℕ) (ways : Ways) → IsSearch world n (worst_distance n) other ways
-    → 4 ≤ world.board → most_turns n ≤ world.quota → IsAttained (halves_trial world naps n) (most_moves n)
+HalvesAttain = (world : World) (n other wakeups : ℕ) (ways : Ways) → IsSearch world n (worst_distance n) other ways
+    → 4 ≤ world.board → most_turns n ≤ world.quota → IsAttained (halves_trial world wakeups n) (most_moves n)
 
 -- so it is on each ring of a file, from each home base, with some black hole
 abbrev pub HalvesAttainOnAllRings : Type 0
-HalvesAttainOnAllRings = (net : Network) (setup : Setup) (hole naps : ℕ) → IsSetOn net setup hole → 4 ≤ setup.board
+HalvesAttainOnAllRings = (net : Network) (setup : Setup) (hole wakeups : ℕ) → IsSetOn net setup hole → 4 ≤ setup.board
     → most_turns (nodes_of net) ≤ setup.quota
-    → IsAttainedOn net setup (λ world. halves_trial world naps (nodes_of net)) (most_moves (nodes_of net))
+    → IsAttainedOn net setup (λ world. halves_trial world wakeups (nodes_of net)) (most_moves (nodes_of net))
 
 -- these distances, on the rings of 3 to 18 nodes
 abbrev pub WorstDistances : Type 0
@@ -100,4 +100,5 @@ worst_world n = record {
 
 -- so the bound is attained for each size
 abbrev pub HalvesAttainOnStandardRings : Type 0
-HalvesAttainOnStandardRings = (n naps : ℕ) → 3 ≤ n → IsAttained (halves_trial (worst_world n) naps n) (most_moves n)
+HalvesAttainOnStandardRings = (n wakeups : ℕ) → 3 ≤ n
+    → IsAttained (halves_trial (worst_world n) wakeups n) (most_moves n)

@@ -8,9 +8,9 @@ use Rattle.bhs_model.specs.declared.commands.Command.TheVariants.{Enter, Write, 
 use Rattle.bhs_model.specs.declared.replies.Reply.TheVariants.{Here, Written, Changed, Gone, Noted}
 use Rattle.bhs_model.specs.Examples.{none_held}
 use Rattle.bhs_model.specs.Worlds.{World}
-use Rattle.bhs_explore.specs.declared.minds.Step.{Step}
-use Rattle.bhs_explore.specs.declared.minds.Step.TheVariants.{Says, Stops}
-use Rattle.bhs_explore.specs.Minds.{Item, Heard}
+use Rattle.bhs_explore.specs.declared.answers.Step.{Step}
+use Rattle.bhs_explore.specs.declared.answers.Step.TheVariants.{Says, Stops}
+use Rattle.bhs_explore.specs.Strategies.{Observation, Heard}
 use Rattle.bhs_explore.specs.Schedules.{Trial}
 use Rattle.bhs_protocols.specs.declared.halves.Memory.{Memory}
 use Rattle.bhs_protocols.specs.declared.halves.Phase.{Phase}
@@ -18,7 +18,7 @@ use Rattle.bhs_protocols.specs.declared.halves.Phase.TheVariants.{Begins, GoesOu
 use Rattle.bhs_protocols.specs.declared.halves.Phase.TheVariants.{Writes}
 use Rattle.bhs_protocols.specs.declared.halves.Phase.TheVariants.{GoesHome, NearsHome, Follows, Passes, Tells}
 use Rattle.bhs_protocols.specs.declared.halves.Phase.TheVariants.{ComesHome, NearsBack, Ends}
-use Rattle.bhs_protocols.specs.Programs.{Program, minds_by}
+use Rattle.bhs_protocols.specs.Programs.{Program, strategies_by}
 use Rattle.bhs_protocols.specs.Shuttle.{right_in, left_in, other_in, text_by}
 
 -- ---- the whiteboard
@@ -114,7 +114,7 @@ divided n m steps port = goes_back (record m {
 }) steps (1 - port)
 
 -- what an agent holds after something has happened
-abbrev pub after_in : (n : ℕ) → Memory → Phase → Item → Memory
+abbrev pub after_in : (n : ℕ) → Memory → Phase → Observation → Memory
 after_in n m Begins (Heard (Here ports came board)) = record m { phase = GoesOut 0 m.side }
 after_in n m (GoesOut steps port) (Heard Gone) = left_from m steps
 after_in n m (GoesOut steps port) (Heard Noted) = record m { phase = Ends }
@@ -154,8 +154,14 @@ halves n = record {
 }
 
 -- two agents that run it on a ring of n nodes, where no link is held
-abbrev pub halves_trial : World → (naps n : ℕ) → Trial
-halves_trial world naps n = record { world = world; held = none_held; naps = naps; minds = minds_by (halves n) }
+abbrev pub halves_trial : World → (wakeups n : ℕ) → Trial
+halves_trial world wakeups n = record {
+  world = world;
+  held = none_held;
+  wakeups = wakeups;
+  strategies =
+      strategies_by (halves n);
+}
 
 -- ---- values that the contracts of the program name
 

@@ -3,7 +3,7 @@ use Rattle.std.specs.Prelude.{ℕ, ◌≡◌, List, [], ◌∷◌, replicate}
 use Rattle.bhs_model.specs.Setups.{network_of}
 use Rattle.bhs_model.specs.Worlds.{World}
 use Rattle.bhs_referee.specs.declared.verdicts.Outcome.TheVariants.{Solved}
-use Rattle.bhs_protocols.specs.Pictures.{blank, turns_in, outcome_in}
+use Rattle.bhs_protocols.specs.Configurations.{blank, turns_in, outcome_in}
 use Rattle.bhs_protocols.specs.StandardRings.{standard_ring}
 use Rattle.bhs_protocols.specs.Halving.{most_moves}
 use Rattle.bhs_protocols.specs.Halves.{halves_trial}

@@ -3,19 +3,19 @@ use Rattle.std.specs.Prelude.{ℕ, ◌+◌, ◌-◌, ◌≡◌, ◌≤◌, ◌==
 use Rattle.bhs_model.specs.Worlds.{World}
 use Rattle.bhs_model.specs.Examples.{none_held}
 use Rattle.bhs_explore.specs.Schedules.{Trial, under}
-use Rattle.bhs_protocols.specs.Pictures.{Picture, picture_of, blank, turns_in}
-use Rattle.bhs_protocols.specs.Invariants.{Bounds, IsInvariant, IsSolved}
-use Rattle.bhs_protocols.specs.Programs.{minds_by}
+use Rattle.bhs_protocols.specs.Configurations.{Configuration, configuration_of, blank, turns_in}
+use Rattle.bhs_protocols.specs.Invariants.{CostBounds, IsInvariant, IsSolved}
+use Rattle.bhs_protocols.specs.Programs.{strategies_by}
 use Rattle.bhs_protocols.specs.Rings.{Ways, IsSearch}
 use Rattle.bhs_protocols.specs.Shuttle.{shuttle, moves_on, commands_on}
 
--- the picture of what a schedule comes to is what its turns make of the blank picture
-abbrev pub PicturesFollow : Type 0
-PicturesFollow = (trial : Trial) (schedule : List ℕ)
-    → picture_of trial (under trial schedule) ≡ turns_in trial blank schedule
+-- the configuration of what a schedule comes to is what its turns make of the blank configuration
+abbrev pub ConfigurationsFollow : Type 0
+ConfigurationsFollow = (trial : Trial) (schedule : List ℕ)
+    → configuration_of trial (under trial schedule) ≡ turns_in trial blank schedule
 
 -- what the shuttle costs if the black hole is `one` steps from the home base on side 0 and `other` steps on side 1
-abbrev pub shuttle_bounds : (n one other : ℕ) → Bounds
+abbrev pub shuttle_bounds : (n one other : ℕ) → CostBounds
 shuttle_bounds n one other = record {
   moves = moves_on one + moves_on other - 1;
   lost = 1;
@@ -25,18 +25,24 @@ shuttle_bounds n one other = record {
 }
 
 -- two agents that run the shuttle on a ring of n nodes, where no link is held
-abbrev pub shuttle_trial : World → (naps n : ℕ) → Trial
-shuttle_trial world naps n = record { world = world; held = none_held; naps = naps; minds = minds_by (shuttle n) }
+abbrev pub shuttle_trial : World → (wakeups n : ℕ) → Trial
+shuttle_trial world wakeups n = record {
+  world = world;
+  held = none_held;
+  wakeups = wakeups;
+  strategies =
+      strategies_by (shuttle n);
+}
 
 -- On each ring, whatever its size, however its ports are numbered, and wherever the black hole is, the shuttle solves
 -- the match under every schedule.
 abbrev pub ShuttleSolves : Type 0
-ShuttleSolves = (world : World) (n one other naps : ℕ) (ways : Ways) → IsSearch world n one other ways
+ShuttleSolves = (world : World) (n one other wakeups : ℕ) (ways : Ways) → IsSearch world n one other ways
     → 4 ≤ world.board → commands_on n one ≤ world.quota → commands_on n other ≤ world.quota
-    → IsSolved (shuttle_trial world naps n) (shuttle_bounds n one other)
+    → IsSolved (shuttle_trial world wakeups n) (shuttle_bounds n one other)
 
 -- A match with an invariant is solved. The invariant is a test here, a function to Bool; of invariants of any kind a
 -- lemma says the same.
 abbrev pub InvariantsSolve : Type 0
-InvariantsSolve = (trial : Trial) (bounds : Bounds) (test : Picture → (left : ℕ) → Bool)
-    → IsInvariant trial bounds (λ picture left. test picture left ≡ true) → IsSolved trial bounds
+InvariantsSolve = (trial : Trial) (bounds : CostBounds) (test : Configuration → (left : ℕ) → Bool)
+    → IsInvariant trial bounds (λ configuration left. test configuration left ≡ true) → IsSolved trial bounds

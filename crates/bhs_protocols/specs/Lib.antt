@@ -1,4 +1,4 @@
-pub mod Pictures
+pub mod Configurations
 pub mod Invariants
 pub mod Programs
 pub mod Rings

@@ -7,10 +7,10 @@ use Rattle.bhs_model.specs.Setups.{world_of}
 use Rattle.bhs_model.specs.Worlds.{World}
 use Rattle.bhs_model.specs.Draws.{Held}
 use Rattle.bhs_model.specs.Examples.{none_held}
-use Rattle.bhs_explore.specs.Minds.{Minds}
+use Rattle.bhs_explore.specs.Strategies.{Strategies}
 use Rattle.bhs_explore.specs.Schedules.{Trial, under, IsAtRest, verdict}
 use Rattle.bhs_explore.specs.Everywhere.{EveryScheduleSolves}
-use Rattle.bhs_protocols.specs.Programs.{minds_by}
+use Rattle.bhs_protocols.specs.Programs.{strategies_by}
 use Rattle.bhs_protocols.specs.AllRings.{IsSetOn}
 use Rattle.bhs_protocols.specs.Halving.{most_turns}
 use Rattle.bhs_protocols.specs.Halves.{halves}
@@ -25,25 +25,26 @@ pub record LosesOne (trial : Trial) : Type 0 where
 -- Take a network of three nodes or more, held links, and a team that solves the match whichever node other than the
 -- home base is the only black hole. Then each of these black holes destroys an agent under some schedule.
 abbrev pub EachBlackHoleDestroys : Type 0
-EachBlackHoleDestroys = (world : World) (held : Held) (naps : ℕ) (minds : Minds) → 3 ≤ world.net.nodes
-    → SolvesEverywhere world held naps minds → (hole : ℕ) → hole < world.net.nodes → hole ≢ world.home
-    → LosesOne (searched world held naps minds hole)
+EachBlackHoleDestroys = (world : World) (held : Held) (wakeups : ℕ) (strategies : Strategies) → 3 ≤ world.net.nodes
+    → SolvesEverywhere world held wakeups strategies → (hole : ℕ) → hole < world.net.nodes → hole ≢ world.home
+    → LosesOne (searched world held wakeups strategies hole)
 
 -- so it does not solve any of these matches with no agent lost
 abbrev pub ALossIsNeeded : Type 0
-ALossIsNeeded = (world : World) (held : Held) (naps : ℕ) (minds : Minds) → 3 ≤ world.net.nodes
-    → SolvesEverywhere world held naps minds → (hole moves : ℕ) → hole < world.net.nodes → hole ≢ world.home
-    → EveryScheduleSolves (searched world held naps minds hole) moves 0 → ⊥
+ALossIsNeeded = (world : World) (held : Held) (wakeups : ℕ) (strategies : Strategies) → 3 ≤ world.net.nodes
+    → SolvesEverywhere world held wakeups strategies → (hole moves : ℕ) → hole < world.net.nodes → hole ≢ world.home
+    → EveryScheduleSolves (searched world held wakeups strategies hole) moves 0 → ⊥
 
 -- a network of a file has three nodes
 abbrev pub ALossIsNeededOnNetworks : Type 0
-ALossIsNeededOnNetworks = (net : Network) (setup : Setup) (held : Held) (naps : ℕ) (minds : Minds) → IsNetwork net
-    → SolvesEverywhere (world_of net setup) held naps minds → (hole : ℕ) → hole < (world_of net setup).net.nodes
-    → hole ≢ setup.home → LosesOne (searched (world_of net setup) held naps minds hole)
+ALossIsNeededOnNetworks = (net : Network) (setup : Setup) (held : Held) (wakeups : ℕ) (strategies : Strategies)
+    → IsNetwork net
+    → SolvesEverywhere (world_of net setup) held wakeups strategies → (hole : ℕ) → hole < (world_of net setup).net.nodes
+    → hole ≢ setup.home → LosesOne (searched (world_of net setup) held wakeups strategies hole)
 
 -- Two agents that search by halves are such a team, on each ring of a file and from each home base. They lose one at
 -- most, so on rings one loss is needed and suffices.
 abbrev pub TheHalvesSolveEverywhere : Type 0
-TheHalvesSolveEverywhere = (net : Network) (setup : Setup) (hole naps : ℕ) → IsSetOn net setup hole → 4 ≤ setup.board
+TheHalvesSolveEverywhere = (net : Network) (setup : Setup) (hole wakeups : ℕ) → IsSetOn net setup hole → 4 ≤ setup.board
     → most_turns (nodes_of net) ≤ setup.quota
-    → SolvesEverywhere (world_of net setup) none_held naps (minds_by (halves (nodes_of net)))
+    → SolvesEverywhere (world_of net setup) none_held wakeups (strategies_by (halves (nodes_of net)))

@@ -1,12 +1,12 @@
 -- Agents that run a program whose memory is of any kind.
 use Rattle.std.specs.Prelude.{ℕ, [], ◌∷◌}
-use Rattle.bhs_explore.specs.declared.minds.Step.{Step}
-use Rattle.bhs_explore.specs.Minds.{Item, History, Minds}
+use Rattle.bhs_explore.specs.declared.answers.Step.{Step}
+use Rattle.bhs_explore.specs.Strategies.{Observation, History, Strategies}
 
 -- what an agent holds at the start, what it holds after something has happened to it, and what it does by what it holds
 pub record Program (M : Type 0) : Type 0 where
   pub start : (agent : ℕ) → M
-  pub after : M → Item → M
+  pub after : M → Observation → M
   pub does : M → Step
 
 -- what an agent holds after this history, the newest first
@@ -14,6 +14,6 @@ abbrev pub held_after : {M : Type 0} → Program M → (agent : ℕ) → History
 held_after program agent [] = program.start agent
 held_after program agent (item ∷ history) = program.after (held_after program agent history) item
 
--- the minds of agents that run a program
-abbrev pub minds_by : {M : Type 0} → Program M → Minds
-minds_by program agent history = program.does (held_after program agent history)
+-- the strategies of agents that run a program
+abbrev pub strategies_by : {M : Type 0} → Program M → Strategies
+strategies_by program agent history = program.does (held_after program agent history)

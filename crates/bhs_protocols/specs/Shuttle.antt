@@ -7,9 +7,9 @@ use Rattle.std.specs.Prelude.{[], ◌∷◌, if◌then◌else◌}
 use Rattle.bhs_model.specs.declared.commands.Command.{Command}
 use Rattle.bhs_model.specs.declared.commands.Command.TheVariants.{Enter, Write, Depart, Accuse}
 use Rattle.bhs_model.specs.declared.replies.Reply.TheVariants.{Here, Written, Changed, Gone, Noted}
-use Rattle.bhs_explore.specs.declared.minds.Step.{Step}
-use Rattle.bhs_explore.specs.declared.minds.Step.TheVariants.{Says, Stops}
-use Rattle.bhs_explore.specs.Minds.{Item, Heard}
+use Rattle.bhs_explore.specs.declared.answers.Step.{Step}
+use Rattle.bhs_explore.specs.declared.answers.Step.TheVariants.{Says, Stops}
+use Rattle.bhs_explore.specs.Strategies.{Observation, Heard}
 use Rattle.bhs_protocols.specs.declared.shuttle.Memory.{Memory}
 use Rattle.bhs_protocols.specs.declared.shuttle.Phase.{Phase}
 use Rattle.bhs_protocols.specs.declared.shuttle.Phase.TheVariants.{Begins, GoesOut, Leaves, ComesBack, Returns, Writes}
@@ -69,7 +69,7 @@ came_back memory zero label board = record memory { phase = Writes; theirs = oth
 came_back memory (suc steps) label board = record memory { phase = ComesBack (suc steps) (1 - label) }
 
 -- what an agent holds after something has happened
-abbrev pub after_in : Memory → Phase → Item → Memory
+abbrev pub after_in : Memory → Phase → Observation → Memory
 after_in memory Begins (Heard (Here ports came board)) =
     record memory { theirs = other_in memory.side board; phase = GoesOut 0 memory.side }
 after_in memory (GoesOut steps port) (Heard Gone) = record memory { phase = Leaves steps }

@@ -2,7 +2,7 @@
 use Rattle.std.specs.Prelude.{ℕ, ◌+◌, ◌==◌, ◌<◌, ◌≤◌, [], ◌∷◌, if◌then◌else◌}
 use Rattle.bhs_model.specs.Worlds.{Network}
 use Rattle.bhs_model.specs.Examples.{none_held}
-use Rattle.bhs_explore.specs.Minds.{Minds}
+use Rattle.bhs_explore.specs.Strategies.{Strategies}
 use Rattle.bhs_explore.specs.Schedules.{Trial}
 use Rattle.bhs_protocols.specs.LastWord.{SolvesFor}
 use Rattle.bhs_protocols.specs.StandardRings.{next_node, node_before}
@@ -17,14 +17,14 @@ ring_net n = record {
 
 -- how many agents play, how many commands each may use, how many bytes a whiteboard holds, and how often a
 -- sleeper may wake although nothing has changed
-pub record Terms : Type 0 where
+pub record Limits : Type 0 where
   pub agents : ℕ
   pub quota : ℕ
   pub board : ℕ
-  pub naps : ℕ
+  pub wakeups : ℕ
 
-abbrev pub played_on : Network → Terms → Minds → (home hole : ℕ) → Trial
-played_on net terms minds home hole = record {
+abbrev pub played_on : Network → Limits → Strategies → (home hole : ℕ) → Trial
+played_on net terms strategies home hole = record {
   world = record {
     net = net;
     home = home;
@@ -35,16 +35,16 @@ played_on net terms minds home hole = record {
     board = terms.board;
   };
   held = none_held;
-  naps = terms.naps;
-  minds = minds;
+  wakeups = terms.wakeups;
+  strategies = strategies;
 }
 
 -- a team solves the standard ring of n nodes, whichever node but the home base is the black hole
-abbrev pub SolvesSize : (n : ℕ) → Terms → Minds → Type 0
-SolvesSize n terms minds =
-    (hole : ℕ) → 0 < hole → hole < n → SolvesFor (played_on (ring_net n) terms minds 0 hole)
+abbrev pub SolvesSize : (n : ℕ) → Limits → Strategies → Type 0
+SolvesSize n terms strategies =
+    (hole : ℕ) → 0 < hole → hole < n → SolvesFor (played_on (ring_net n) terms strategies 0 hole)
 
 -- No team solves the rings of two sizes that follow each other, if it is the same team and is not told which it is.
 abbrev pub NoTeamSolvesTwoSizes : Type 0
-NoTeamSolvesTwoSizes = (n : ℕ) (terms : Terms) (minds : Minds) → 3 ≤ n → SolvesSize n terms minds
-    → SolvesSize (n + 1) terms minds → ⊥
+NoTeamSolvesTwoSizes = (n : ℕ) (terms : Limits) (strategies : Strategies) → 3 ≤ n → SolvesSize n terms strategies
+    → SolvesSize (n + 1) terms strategies → ⊥

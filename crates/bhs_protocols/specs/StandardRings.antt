@@ -49,9 +49,9 @@ StandardRings = (n hole : ℕ) (setup : Setup) → IsSetUp n hole setup
 
 -- so the shuttle solves each standard ring
 abbrev pub ShuttleSolvesStandardRings : Type 0
-ShuttleSolvesStandardRings = (n hole naps : ℕ) (setup : Setup) → IsSetUp n hole setup → 4 ≤ setup.board
+ShuttleSolvesStandardRings = (n hole wakeups : ℕ) (setup : Setup) → IsSetUp n hole setup → 4 ≤ setup.board
     → commands_on n hole ≤ setup.quota → commands_on n (n - hole) ≤ setup.quota
-    → IsSolved (shuttle_trial (world_of (standard_ring n) setup) naps n) (shuttle_bounds n hole (n - hole))
+    → IsSolved (shuttle_trial (world_of (standard_ring n) setup) wakeups n) (shuttle_bounds n hole (n - hole))
 
 -- in fewer moves than the squares of the two distances of the black hole make together
 abbrev pub MovesAreSquares : Type 0

@@ -2,7 +2,7 @@
 
 ghost use Rattle.std.specs.Prelude.{◌≡◌, ◌<◌, ◌≤◌, ◌+◌, ◌-◌, ◌/◌, Some, None, IfOk};
 ghost use Rattle.bhs_model.specs.declared.replies.Reply.TheVariants.{Here, Written, Changed, Gone, Noted};
-ghost use Rattle.bhs_explore.specs.Minds.{Heard};
+ghost use Rattle.bhs_explore.specs.Strategies.{Heard};
 ghost use Rattle.bhs_protocols.specs.Halves as specs;
 
 use crate::shuttle::{left_in, other_in, right_in, text_by};

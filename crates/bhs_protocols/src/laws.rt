@@ -13,14 +13,14 @@ ghost use Rattle.bhs_protocols.specs.Halving.{WaysArePaid};
 ghost use Rattle.bhs_protocols.specs.LastWord.{AccusationsComeLast};
 ghost use Rattle.bhs_protocols.specs.Losses.{ALossIsNeeded, ALossIsNeededOnNetworks, EachBlackHoleDestroys};
 ghost use Rattle.bhs_protocols.specs.Losses.{TheHalvesSolveEverywhere};
-ghost use Rattle.bhs_protocols.specs.Laws.{InvariantsSolve, PicturesFollow, ShuttleSolves};
+ghost use Rattle.bhs_protocols.specs.Laws.{InvariantsSolve, ConfigurationsFollow, ShuttleSolves};
 ghost use Rattle.bhs_protocols.specs.Sizes.{NoTeamSolvesTwoSizes};
 ghost use Rattle.bhs_protocols.specs.StandardRings.{MovesAreSquares, ShuttleSolvesStandardRings, StandardRings};
 ghost use Rattle.bhs_protocols.specs.StandardRings.{TheTriangleIsSolved};
 
 /// A match that is played can be followed without its events and without pasts.
-pub fn pictures_follow()
-    ensures { PicturesFollow }
+pub fn configurations_follow()
+    ensures { ConfigurationsFollow }
 {}
 
 /// An invariant with a number that falls shows that agents solve a match under every schedule.

@@ -1,7 +1,7 @@
 //! The shuttle as a program: what an agent holds, what it does, and what it holds after a reply.
 
 ghost use Rattle.std.specs.Prelude.{◌≡◌, ◌<◌, ◌≤◌, ◌+◌, ◌/◌, ◌%◌, ◌++◌, [], ◌∷◌, IfOk, OnOk, string_bytes};
-ghost use Rattle.bhs_explore.specs.Minds.{Heard};
+ghost use Rattle.bhs_explore.specs.Strategies.{Heard};
 ghost use Rattle.bhs_protocols.specs.Shuttle as specs;
 
 use bhs_explore::Step;

@@ -27,7 +27,7 @@ use Rattle.bhs_deal.specs.Drawing.{IsPlayedIf, event_of, delivery_of}
 use Rattle.bhs_deal.specs.Drawing as drawing
 use Rattle.bhs_deal.proofs.DrawLemmas.{draws_are_those}
 use Rattle.bhs_rehearsal.specs.Games.{Game, played, reply_to, drawn, delivered}
-use Rattle.bhs_rehearsal.specs.Takings.{Drawn, after_draw, mark_at, told_to}
+use Rattle.bhs_rehearsal.specs.Takings.{DrawResult, after_draw, mark_at, told_to}
 
 -- a match and its held links
 abbrev pub game_in : Play → List (ℕ × ℕ) → Game
@@ -106,7 +106,7 @@ one_drawn old new held word agent found told is played_if this read =
     ∙ ap (after_draw (game_in old held)) (sym event)
 
 -- a match with what its agent is told
-abbrev told_of : Play → List (ℕ × ℕ) → (agent : ℕ) → Option Reply → Drawn
+abbrev told_of : Play → List (ℕ × ℕ) → (agent : ℕ) → Option Reply → DrawResult
 told_of new held agent told =
     record { game = game_in new held; arrival = option_map (λ (reply : Reply). (agent, reply)) told }
 
@@ -149,7 +149,7 @@ one_delivered old new held agent told played_if read =
     go false false is = done is
 
 -- whom a draw tells what, by what it makes of the match
-pub told_drawn : (one other : Drawn) (before : List ℕ) → one ≡ other
+pub told_drawn : (one other : DrawResult) (before : List ℕ) → one ≡ other
     → (one.game ≡ other.game) × (told_to before one.arrival ≡ told_to before other.arrival)
 told_drawn one other before same =
-    (ap (λ (drawn : Drawn). drawn.game) same, ap (λ (drawn : Drawn). told_to before drawn.arrival) same)
+    (ap (λ (drawn : DrawResult). drawn.game) same, ap (λ (drawn : DrawResult). told_to before drawn.arrival) same)

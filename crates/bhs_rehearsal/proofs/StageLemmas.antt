@@ -20,14 +20,14 @@ use Rattle.bhs_lineup.specs.declared.lineups.Ready.{Ready}
 use Rattle.bhs_rehearsal.specs.declared.choices.Choice.{Choice}
 use Rattle.bhs_rehearsal.specs.Choices.{chosen}
 use Rattle.bhs_rehearsal.specs.Games.{Game}
-use Rattle.bhs_rehearsal.specs.Connections.{Connection, unfed, shut, Taken, taken, after}
+use Rattle.bhs_rehearsal.specs.Connections.{Connection, unfed, shut, TakenItems, taken, after}
 use Rattle.bhs_rehearsal.specs.Stages.{Stage, Stepped, game_at, connection_at, with_game, plays, waits_in, shut_in}
 use Rattle.bhs_rehearsal.specs.Stages.{delivers, has_seat, nothing, tells_arrival}
 use Rattle.bhs_rehearsal.specs.declared.outs.Out.{Out}
 use Rattle.bhs_session.specs.Texts.{text_of}
 use Rattle.std.specs.List.{position}
 use Rattle.bhs_rehearsal.specs.Rehearsing.{Rehearsing, stage_of, game_of, team_of, on_stage, sent_once, IsSeated}
-use Rattle.bhs_rehearsal.specs.Takings.{IsMoved, IsDrawn, IsStepped, Drawn, after_draw, told_to}
+use Rattle.bhs_rehearsal.specs.Takings.{IsMoved, IsDrawn, IsStepped, DrawResult, after_draw, told_to}
 
 -- what the fields of a rehearsal show
 abbrev pub rehearsing : List Ready → List Seat → List Connection → Bool → Rehearsing
@@ -117,9 +117,9 @@ draws_lemma ready keys connections failed place choice one new before text (Ok a
     (chosen (game_at (stage_of ready keys connections) place) choice) =
     ap (λ (game : Game). after_draw game (chosen game choice))
     (sym (game_read ready keys connections place one within read)) in (
-      is.1 ∙ ap (λ (drawn : Drawn). told_to before drawn.arrival) same,
+      is.1 ∙ ap (λ (drawn : DrawResult). told_to before drawn.arrival) same,
       with_ready ready keys connections failed place one new _ read
-          (is.0 ∙ ap (λ (drawn : Drawn). drawn.game) same) team,
+          (is.0 ∙ ap (λ (drawn : DrawResult). drawn.game) same) team,
     )
 draws_lemma ready keys connections failed place choice one new before text (Err memory) within read is team = tt
 
@@ -236,12 +236,12 @@ plays_lemma ready keys connections failed conn seat one new before changed told 
     ap (λ (game : Game). taken game seat.1 before.queue)
     (sym (game_read ready keys connections seat.0 one game_within game_is))
     ∙ ap (λ (one : Connection). taken (game_at (stage_of ready keys connections) seat.0) seat.1 one.queue) (sym at) in (
-      more ∙ ap (λ (taken : Taken). told ++ taken.text) same,
+      more ∙ ap (λ (taken : TakenItems). told ++ taken.text) same,
       same_parts keys failed _ _ _ _ _ _
           (map-set game_of ready seat.0 new ∙ ap (λ (one : Game). slice_set (map game_of ready) seat.0 one)
-          (game ∙ ap (λ (taken : Taken). taken.game) same))
+          (game ∙ ap (λ (taken : TakenItems). taken.game) same))
           (ap (λ (one : Connection). slice_set connections conn one)
-          (connection ∙ ap (λ (one : Taken). after (record before { seat = Some seat }) one) same
+          (connection ∙ ap (λ (one : TakenItems). after (record before { seat = Some seat }) one) same
           ∙ ap (λ (one : Connection). after (record one { seat = Some seat })
           (taken (game_at (stage_of ready keys connections) seat.0) seat.1
           (connection_at (stage_of ready keys connections) conn).queue)) (sym at)))

@@ -9,19 +9,19 @@ use Rattle.bhs_session.specs.Port.{Tells}
 use Rattle.bhs_session.specs.Machine.{Ask, Asks}
 use Rattle.bhs_session.specs.Texts.{command_by}
 use Rattle.bhs_rehearsal.specs.Games.{Game, played, reply_to, is_away}
-use Rattle.bhs_rehearsal.specs.Connections.{Item, Says, Ends, Taken, taken, leaves, answers}
+use Rattle.bhs_rehearsal.specs.Connections.{Item, Says, Ends, TakenItems, taken, leaves, answers}
 
 -- what is asked for a later line
 pub same_command : (one two : Command) → ◌≡◌ {A = Ask} (Asks (Tells one)) (Asks (Tells two)) → one ≡ two
 same_command one two same = cc
 
-if_away : (away : Bool) (here there : Taken) → away ≡ false → (if away then here else there) ≡ there
+if_away : (away : Bool) (here there : TakenItems) → away ≡ false → (if away then here else there) ≡ there
 if_away true here there is = absurd (cc_false is) where
   cc_false : true ≡ false → ⊥
   cc_false is = cc
 if_away false here there is = refl
 
-if_here : (away : Bool) (here there : Taken) → away ≡ true → (if away then here else there) ≡ here
+if_here : (away : Bool) (here there : TakenItems) → away ≡ true → (if away then here else there) ≡ here
 if_here true here there is = refl
 if_here false here there is = absurd (cc_true is) where
   cc_true : false ≡ true → ⊥

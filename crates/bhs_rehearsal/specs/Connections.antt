@@ -36,7 +36,7 @@ shut connection = record connection { unfinished = Some []; queue = []; ended = 
 -- ---- taking items
 
 -- what taking the items of an agent's connection comes to
-pub record Taken : Type 0 where
+pub record TakenItems : Type 0 where
   -- the match after it
   pub game : Game
   -- whether the connection is done
@@ -54,12 +54,12 @@ abbrev pub is_last : Reply → Bool
 is_last reply = is_finished (behind_text (answered reply))
 
 -- no item is taken
-abbrev pub leaves : Game → List Item → Taken
+abbrev pub leaves : Game → List Item → TakenItems
 leaves game items = record { game = game; is_done = false; left = items; text = [] }
 
 -- the text of a reply, and what the other items come to where it is not the last. Each command is answered: the
 -- first line never comes
-abbrev pub answers : Option Reply → Game → Taken → Taken
+abbrev pub answers : Option Reply → Game → TakenItems → TakenItems
 answers None game others = others
 answers (Some reply) game others =
     if is_last reply
@@ -68,7 +68,7 @@ answers (Some reply) game others =
 
 -- Items are taken in order until the agent is away or the connection is done. A line tells its command. The end
 -- tells Leave, whose answer is not sent.
-abbrev pub taken : Game → (agent : ℕ) → List Item → Taken
+abbrev pub taken : Game → (agent : ℕ) → List Item → TakenItems
 taken game agent [] = leaves game []
 taken game agent (Says line ∷ items) =
     let event = Tell agent (command_by (said_by line)) in
@@ -81,6 +81,6 @@ taken game agent (Ends ∷ items) =
     else record { game = played game (Tell agent Leave); is_done = true; left = []; text = [] }
 
 -- the connection after its items were taken so
-abbrev pub after : Connection → Taken → Connection
+abbrev pub after : Connection → TakenItems → Connection
 after connection taken =
     if taken.is_done then shut connection else record connection { queue = taken.left }

@@ -58,18 +58,18 @@ has_seat seat connection = sits seat connection.seat where
 -- ---- one connection's move
 
 -- what the first item of a connection that was not let in comes to
-pub data Entry : Type 0 where
+pub data EntryResult : Type 0 where
   -- there is none
-  Waits : Entry
+  Waits : EntryResult
   -- it is let in, to play this agent of this match
-  Sits : (seat : ℕ × ℕ) → Entry
+  Sits : (seat : ℕ × ℕ) → EntryResult
   -- it is denied
-  IsDenied : Denial → Entry
+  IsDenied : Denial → EntryResult
   -- its input has ended
-  Goes : Entry
+  Goes : EntryResult
 
 -- whom a key lets in: nobody knows it, or a match of it; it was used before; or the agent is played from now on
-abbrev pub let_in : Stage → Option (ℕ × ℕ) → Entry
+abbrev pub let_in : Stage → Option (ℕ × ℕ) → EntryResult
 let_in stage None = IsDenied denials.Key
 let_in stage (Some seat) =
     if nat_lt seat.0 (length stage.games)
@@ -78,17 +78,17 @@ let_in stage (Some seat) =
 
 -- what comes of that which a session asks for its first line. It asks for a key or denies the client: nothing else
 -- comes
-abbrev pub entry_of : Stage → Ask → Entry
+abbrev pub entry_of : Stage → Ask → EntryResult
 entry_of stage (Asks (Enters key)) = let_in stage (seat_at key stage.keys)
 entry_of stage (Asks (Tells command)) = Waits
 entry_of stage (Asks News) = Waits
 entry_of stage (Denies denial) = IsDenied denial
 entry_of stage Rests = Waits
 
-abbrev pub entry_by : Stage → First → Entry
+abbrev pub entry_by : Stage → First → EntryResult
 entry_by stage first = entry_of stage (ask Fresh first)
 
-abbrev pub entry : Stage → List Item → Entry
+abbrev pub entry : Stage → List Item → EntryResult
 entry stage [] = Waits
 entry stage (Says line ∷ items) = entry_by stage (said_by line)
 entry stage (Ends ∷ items) = Goes
@@ -113,7 +113,7 @@ plays stage conn seat =
 abbrev pub shuts : Stage → (conn : ℕ) → (text : List ℕ) → Moved
 shuts stage conn text = record { stage = with_connection stage conn (shut (connection_at stage conn)); text = text }
 
-abbrev pub enters : Stage → (conn : ℕ) → Entry → Moved
+abbrev pub enters : Stage → (conn : ℕ) → EntryResult → Moved
 enters stage conn Waits = record { stage = stage; text = [] }
 enters stage conn (Sits seat) = plays stage conn seat
 enters stage conn (IsDenied denial) = shuts stage conn (denial_text denial)

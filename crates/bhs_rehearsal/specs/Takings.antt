@@ -10,20 +10,20 @@ use Rattle.bhs_model.specs.declared.marks.Mark.{Mark}
 use Rattle.bhs_model.specs.declared.replies.Reply.{Reply}
 use Rattle.bhs_session.specs.Texts.{text_of}
 use Rattle.bhs_rehearsal.specs.Games.{Game, played, reply_to}
-use Rattle.bhs_rehearsal.specs.Connections.{Item, Taken, taken}
-use Rattle.bhs_rehearsal.specs.Stages.{Entry, Waits, Sits, IsDenied, Goes, Moved, Stepped, with_game}
+use Rattle.bhs_rehearsal.specs.Connections.{Item, TakenItems, taken}
+use Rattle.bhs_rehearsal.specs.Stages.{EntryResult, Waits, Sits, IsDenied, Goes, Moved, Stepped, with_game}
 use Rattle.bhs_rehearsal.specs.Rehearsing.{Rehearsing, on_stage}
-use Rattle.bhs_rehearsal.specs.declared.entries.Entry.{Entry as EntryOfCode}
-use Rattle.bhs_rehearsal.specs.declared.entries.Entry.TheVariants as entries
+use Rattle.bhs_rehearsal.specs.declared.entries.EntryResult.{EntryResult as EntryOfCode}
+use Rattle.bhs_rehearsal.specs.declared.entries.EntryResult.TheVariants as entries
 use Rattle.bhs_rehearsal.specs.declared.faults.RehearsalFault.{RehearsalFault}
 use Rattle.bhs_rehearsal.specs.declared.faults.RehearsalFault.TheVariants.{Memory}
 
 -- with this text before the text of what is taken
-abbrev pub behind : List ℕ → Taken → Taken
+abbrev pub behind : List ℕ → TakenItems → TakenItems
 behind text taken = record taken { text = text ++ taken.text }
 
 -- after this text the connection is done, or goes on with these items
-abbrev pub goes_on : (is_done : Bool) → Game → (agent : ℕ) → List Item → (text : List ℕ) → Taken
+abbrev pub goes_on : (is_done : Bool) → Game → (agent : ℕ) → List Item → (text : List ℕ) → TakenItems
 goes_on true game agent items text = record { game = game; is_done = true; left = []; text = text }
 goes_on false game agent items text = behind text (taken game agent items)
 
@@ -32,7 +32,7 @@ abbrev pub left_if : (is_done : Bool) → List Item → List Item
 left_if is_done items = if is_done then [] else items
 
 -- an entry of the code
-abbrev pub seen_entry : EntryOfCode → Entry
+abbrev pub seen_entry : EntryOfCode → EntryResult
 seen_entry entries.Waits = Waits
 seen_entry (entries.Sits seat) = Sits seat
 seen_entry (entries.Denied denial) = IsDenied denial
@@ -56,11 +56,11 @@ IsConcluded old (Ok outs) result new = (result ≡ Ok outs) × (new ≡ old)
 IsConcluded old (Err memory) result new = (result ≡ Err Memory) × (new.has_failed ≡ true)
 
 -- a match after an event that was drawn, if one was, and the arrival that is told
-pub record Drawn : Type 0 where
+pub record DrawResult : Type 0 where
   pub game : Game
   pub arrival : Option (ℕ × Reply)
 
-abbrev pub after_draw : Game → Option Event → Drawn
+abbrev pub after_draw : Game → Option Event → DrawResult
 after_draw game (Some (Deliver agent)) =
     record {
       game = played game (Deliver agent);
@@ -75,7 +75,7 @@ told_to before None = (None, before)
 told_to before (Some arrival) = (Some arrival.0, before ++ text_of arrival.1)
 
 -- what a draw makes of a rehearsal and of a text, and gives
-abbrev pub IsDrawn : Rehearsing → (game : ℕ) → Drawn → (before : List ℕ) → Result (Option ℕ) AllocError
+abbrev pub IsDrawn : Rehearsing → (game : ℕ) → DrawResult → (before : List ℕ) → Result (Option ℕ) AllocError
     → (text : List ℕ) → Rehearsing → Type 0
 IsDrawn old game drawn before (Ok agent) text new =
     ((agent, text) ≡ told_to before drawn.arrival) × (new ≡ on_stage old (with_game old.stage game drawn.game))

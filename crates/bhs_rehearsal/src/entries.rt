@@ -14,7 +14,7 @@ use bhs_wire::{Denial, First, LineReader};
 
 // What the first item of a connection that was not let in comes to.
 #[derive(Clone, Copy)]
-pub(crate) enum Entry {
+pub(crate) enum EntryResult {
     // There is none.
     Waits,
     // It is let in, to play this agent of this match.
@@ -32,14 +32,14 @@ pub(crate) fn first_entry(
     keys: &Keys,
     connections: &[Connection<'_>],
     conn: usize,
-) -> Result<Entry, Memory>
+) -> Result<EntryResult, Memory>
     requires { conn < length connections.now }
     ensures { (stage : Stage) → length stage.games ≡ games → stage.keys ≡ keys.now → stage.connections ≡ connections.now
         → IfOk result (λ found. seen_entry found ≡ entry stage (connection_at stage conn).queue) }
 {
     match connections[conn].first() {
-        None => Ok(Entry::Waits),
-        Some(Item::Ends) => Ok(Entry::Goes),
+        None => Ok(EntryResult::Waits),
+        Some(Item::Ends) => Ok(EntryResult::Goes),
         Some(Item::Says(line)) => {
             let first = line.said(line_reader)?;
             Ok(entry_by(games, keys, connections, first))
@@ -48,30 +48,30 @@ pub(crate) fn first_entry(
 }
 
 // What the first line comes to.
-fn entry_by(games: usize, keys: &Keys, connections: &[Connection<'_>], first: First) -> Entry
+fn entry_by(games: usize, keys: &Keys, connections: &[Connection<'_>], first: First) -> EntryResult
     ensures { (stage : Stage) → length stage.games ≡ games → stage.keys ≡ keys.now → stage.connections ≡ connections.now
         → seen_entry result ≡ entry_by stage first }
 {
     match key_in(first) {
         Ok(key) => let_in(games, connections, keys.find(key.as_str())),
-        Err(denial) => Entry::Denied(denial),
+        Err(denial) => EntryResult::Denied(denial),
     }
 }
 
 // Whom a key lets in that belongs to this seat.
-fn let_in(games: usize, connections: &[Connection<'_>], seat: Option<(u32, u16)>) -> Entry
+fn let_in(games: usize, connections: &[Connection<'_>], seat: Option<(u32, u16)>) -> EntryResult
     ensures { (stage : Stage) → length stage.games ≡ games → stage.connections ≡ connections.now
         → seen_entry result ≡ let_in stage seat }
 {
     let Some(seat) = seat else {
-        return Entry::Denied(Denial::Key);
+        return EntryResult::Denied(Denial::Key);
     };
     if seat.0 as usize >= games {
-        Entry::Denied(Denial::Key)
+        EntryResult::Denied(Denial::Key)
     } else if is_taken(connections, seat) {
-        Entry::Denied(Denial::Taken)
+        EntryResult::Denied(Denial::Taken)
     } else {
-        Entry::Sits(seat)
+        EntryResult::Sits(seat)
     }
 }
 

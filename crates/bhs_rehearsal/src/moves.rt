@@ -6,7 +6,7 @@ ghost use Rattle.bhs_rehearsal.specs.Rehearsing.{on_stage};
 ghost use Rattle.bhs_rehearsal.specs.Stages.{moves, enters, entry, has_seat, plays, shuts, connection_at};
 ghost use Rattle.bhs_rehearsal.specs.Takings.{IsMoved};
 
-use crate::entries::{Entry, first_entry};
+use crate::entries::{EntryResult, first_entry};
 use crate::rehearsals::Rehearsal;
 use bhs_net::Memory;
 use bhs_session::push_denial;
@@ -46,13 +46,13 @@ impl<'s> Rehearsal<'s> {
             usize::from(conn),
         )?;
         match entry {
-            Entry::Waits => Ok(()),
-            Entry::Sits(seat) => self.sits(alloc, conn, seat, text),
-            Entry::Denied(denial) => {
+            EntryResult::Waits => Ok(()),
+            EntryResult::Sits(seat) => self.sits(alloc, conn, seat, text),
+            EntryResult::Denied(denial) => {
                 self.shuts(alloc, conn);
                 push_denial(denial, text)
             }
-            Entry::Goes => {
+            EntryResult::Goes => {
                 self.shuts(alloc, conn);
                 Ok(())
             }

@@ -12,7 +12,7 @@ use Rattle.bhs_world.specs.Tables.{keeps_next, log_after}
 use Rattle.bhs_match.specs.Matches.{Play, world_in, state_of}
 use Rattle.bhs_replay.specs.declared.faults.ReplayFault.TheVariants as fault
 use Rattle.bhs_replay.specs.EventLine.{event_line}
-use Rattle.bhs_replay.specs.Stages.{Stage, Goes, Wrong, after_event}
+use Rattle.bhs_replay.specs.Stages.{ReadState, Goes, Wrong, after_event}
 
 -- the last of a log
 last_of : (log : List Kept) (it one : Kept) → get_or (log ++ it ∷ []) (length log) one ≡ it
@@ -26,7 +26,7 @@ kept_by true n place b none is same given = sym (ap is_some is) ∙ (same ∙ ap
 kept_by false n place b none is same given = sym (ap is_some is) ∙ (same ∙ ap not given)
 
 module _ (play : Play) (line : List ℕ) (event : Event) where
-  abbrev judged : ℕ → (closed keep same : Bool) → Stage
+  abbrev judged : ℕ → (closed keep same : Bool) → ReadState
   judged count closed keep same =
       if closed then Wrong (fault.Line (count + 2))
       else (if not keep then Wrong (fault.Event (count + 2))

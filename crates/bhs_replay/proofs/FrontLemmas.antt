@@ -9,7 +9,7 @@ use Rattle.bhs_wire.specs.Lines.{rest_after}
 use Rattle.bhs_replay.specs.declared.faults.ReplayFault.{ReplayFault}
 use Rattle.bhs_replay.specs.Parts.{FrontsAreParts}
 use Rattle.bhs_replay.specs.Reading.{IsSound}
-use Rattle.bhs_replay.specs.Stages.{Stage, Opens, Goes, Ends, Wrong, Leads, begins, follows, ended, ended_after}
+use Rattle.bhs_replay.specs.Stages.{ReadState, Opens, Goes, Ends, Wrong, Leads, begins, follows, ended, ended_after}
 use Rattle.bhs_replay.proofs.OneReading.{one_reading}
 use Rattle.bhs_replay.proofs.ReaderLemmas.{comes_wrong}
 use Rattle.bhs_replay.proofs.TextLines.{ended-append}
@@ -24,8 +24,8 @@ nothing_behind front x xs same =
     let none : 0 ≡ length (front ++ x ∷ xs) = ap length same in omega (arith, none, length-append front (x ∷ xs))
 
 -- the first of some lines lead to a stage
-leads_front : (front all : List (List ℕ)) (stage : Stage) → Leads all stage → (back : List (List ℕ))
-    → all ≡ front ++ back → (here : Stage) × Leads front here
+leads_front : (front all : List (List ℕ)) (stage : ReadState) → Leads all stage → (back : List (List ℕ))
+    → all ≡ front ++ back → (here : ReadState) × Leads front here
 leads_front front all stage led [] same =
     (stage, subst (λ (lines : List (List ℕ)). Leads lines stage) (same ∙ append-nil front) led)
 leads_front front all stage begins (x ∷ xs) same = absurd (nothing_behind front x xs same)
@@ -35,7 +35,7 @@ leads_front front all stage (follows before line from to leads next) (x ∷ xs) 
     (same ∙ ap (λ (ys : List (List ℕ)). front ++ ys) found.2 ∙ sym (append_assoc front found.0 (found.1 ∷ []))) in
     leads_front front before from leads found.0 parts.0
 
-sound_unless : (stage : Stage) → ((found : ReplayFault) → stage ≡ Wrong found → ⊥) → IsSound stage
+sound_unless : (stage : ReadState) → ((found : ReplayFault) → stage ≡ Wrong found → ⊥) → IsSound stage
 sound_unless Opens none = tt
 sound_unless (Goes net setup events) none = tt
 sound_unless (Ends net setup events) none = tt
@@ -53,5 +53,5 @@ fronts_are_parts_lemma front more net setup events comes =
       found.1,
       sound_unless found.0 (λ fault is. apart net setup events fault
           (one_reading (front ++ more) (Ends net setup events) (Wrong fault) comes
-          (comes_wrong front more fault (subst (λ (s : Stage). Leads (ended front) s) is found.1)))),
+          (comes_wrong front more fault (subst (λ (s : ReadState). Leads (ended front) s) is found.1)))),
     )

@@ -13,7 +13,7 @@ use Rattle.bhs_replay.specs.declared.heads.Version.{Version}
 use Rattle.bhs_replay.specs.declared.heads.Version.TheVariants.{One, Two, Three}
 use Rattle.bhs_replay.specs.Head.{links_of, whole, listed, link_data, end_data, hole_data, listing_data, head_data}
 use Rattle.bhs_replay.specs.Head.{head_line, CanSay}
-use Rattle.bhs_replay.specs.HeadReading.{Says, each, number_in, pair_in, link_in, says_in}
+use Rattle.bhs_replay.specs.HeadReading.{HeadFields, each, number_in, pair_in, link_in, says_in}
 use Rattle.bhs_replay.proofs.Flat.{IsFlat}
 use Rattle.bhs_replay.proofs.LineData.{IsOfLine, AreOfLine, HaveOfLine, wide, read-line, line_flat, line_utf8}
 
@@ -126,7 +126,7 @@ link_back : (link : Link) → IsSmallLink link → link_in (link_data link) ≡ 
 link_back link fits = rw (small link.v fits.0, small link.p fits.1.0, small link.w fits.1.1.0, small link.q fits.1.1.1)
     refl
 
-abbrev pub said : Version → Network → Setup → Says
+abbrev pub said : Version → Network → Setup → HeadFields
 said version net setup = record { version = version; nodes = nodes_of net; links = links_of net; setup = setup }
 
 -- ---- version 1
@@ -134,7 +134,7 @@ said version net setup = record { version = version; nodes = nodes_of net; links
 one_more_is_two : (n : ℕ) → suc (suc n) ≤ 1 → ⊥
 one_more_is_two n few = omega arith
 
-abbrev told_with : Network → Setup → List ℕ → List (ℕ × ℕ) → Says
+abbrev told_with : Network → Setup → List ℕ → List (ℕ × ℕ) → HeadFields
 told_with net setup holes dark = said One net (record setup { holes = holes; dark = dark })
 
 says_none : (net : Network) (setup : Setup) → HeadFits net setup → setup.holes ≡ []

@@ -24,7 +24,7 @@ use Rattle.bhs_world.proofs.JudgeLemmas.{all_fit}
 use Rattle.bhs_match.specs.Matches.{Play}
 use Rattle.bhs_replay.specs.declared.heads.Version.{Version}
 use Rattle.bhs_replay.specs.Head.{links_of, head_data, head_line, CanSay}
-use Rattle.bhs_replay.specs.HeadReading.{Says, says_in, head_says}
+use Rattle.bhs_replay.specs.HeadReading.{HeadFields, says_in, head_says}
 use Rattle.bhs_replay.specs.Opening.{IsHead, OpensAs, Starts}
 use Rattle.bhs_replay.proofs.HeadReads.{HeadFits, read-head_line, head_utf8, said, says_in-head}
 use Rattle.bhs_replay.proofs.FitLemmas.{head_fits}
@@ -51,7 +51,7 @@ says-head line version net setup fits can is =
     sym (says-read line (head_data version net setup) (subst IsUtf8 (sym is) (head_utf8 net setup fits version))
     (ap read is ∙ read-head_line net setup fits version)) ∙ says_in-head version net setup fits can
 
-pub same_says : (says other : Says) → Some says ≡ Some other → says ≡ other
+pub same_says : (says other : HeadFields) → Some says ≡ Some other → says ≡ other
 same_says says other is = ap (λ o. unwrap_or o says) is
 
 -- ---- the match that was started
@@ -127,7 +127,7 @@ no_says line none net setup head =
     none ∙ says-head line head.version net setup fits head.can_say head.spelled in
     absurd (cc)
 
-module _ (line : List ℕ) (says : Says) (is : Some says ≡ head_says line) where
+module _ (line : List ℕ) (says : HeadFields) (is : Some says ≡ head_says line) where
   -- what it says, where it is a head
   says_of : (net : Network) (setup : Setup) (head : IsHead line net setup) → says ≡ said head.version net setup
   says_of net setup head =

@@ -13,7 +13,8 @@ use Rattle.bhs_replay.specs.declared.faults.ReplayFault.TheVariants as fault
 use Rattle.bhs_replay.specs.declared.reader.Playing.{Playing}
 use Rattle.bhs_replay.specs.Opening.{OpensAs}
 use Rattle.bhs_replay.specs.Spelling.{spelled}
-use Rattle.bhs_replay.specs.Stages.{Stage, Goes, Wrong, after_line, after_other, after_spelled, Follows, opens, no_head}
+use Rattle.bhs_replay.specs.Stages.{ReadState, Goes, Wrong, after_line, after_other, after_spelled, Follows, opens}
+use Rattle.bhs_replay.specs.Stages.{no_head}
 use Rattle.bhs_replay.specs.Stages.{goes, goes_past}
 use Rattle.bhs_replay.specs.Reading.{stage_of}
 use Rattle.bhs_replay.specs.Readers.{stage_by}
@@ -23,7 +24,7 @@ module _ (line : List ℕ) where
   past_end game over is = subst (λ b. Follows (stage_of game b) line (Wrong fault.End)) (sym is)
       (goes_past line game.net game.setup (events_of game.log))
 
-  pub on_line : (game : Play) (over : Bool) (to : Stage) → over ≡ false
+  pub on_line : (game : Play) (over : Bool) (to : ReadState) → over ≡ false
       → to ≡ after_line game.net game.setup (events_of game.log) line → Follows (stage_of game over) line to
   on_line game over to is next = subst (λ b. Follows (stage_of game b) line to) (sym is)
       (goes line game.net game.setup (events_of game.log) to next)

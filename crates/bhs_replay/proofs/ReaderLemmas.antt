@@ -8,7 +8,7 @@ use Rattle.bhs_replay.specs.declared.faults.ReplayFault.{ReplayFault}
 use Rattle.bhs_replay.specs.declared.faults.ReplayFault.TheVariants as fault
 use Rattle.bhs_replay.specs.declared.reader.Playing.{Playing}
 use Rattle.bhs_replay.specs.declared.reader.Reader.{Reader}
-use Rattle.bhs_replay.specs.Stages.{Stage, Wrong, Follows, stays, Leads, follows, with_rest, Comes, ended}
+use Rattle.bhs_replay.specs.Stages.{ReadState, Wrong, Follows, stays, Leads, follows, with_rest, Comes, ended}
 use Rattle.bhs_replay.specs.Reading.{stage_of}
 use Rattle.bhs_replay.specs.Readers.{stage_by, stage_in, IsOver, Stands, Holds, IsPast}
 use Rattle.bhs_replay.proofs.TextLines.{ended-append, rest-flat, ended-flat, rest-line, ended-line}
@@ -40,7 +40,7 @@ comes_wrong text more found leads = record {
 -- ---- the next line
 
 module _ (text : List ℕ) (reader : Reader) (stands : Stands text reader) where
-  pub leads_on : (end : List ℕ) (to : Stage) → list_any is_line_feed end ≡ false
+  pub leads_on : (end : List ℕ) (to : ReadState) → list_any is_line_feed end ≡ false
       → Follows (stage_in reader) (reader.line.items ++ end) to → Leads (ended (text ++ (end ++ 10 ∷ []))) to
   leads_on end to flat next =
       subst (λ lines. Leads lines to)

@@ -21,7 +21,7 @@ use Rattle.bhs_replay.specs.EventLine.{event_line}
 use Rattle.bhs_replay.specs.Spelling.{spelled}
 use Rattle.bhs_replay.specs.Replay.{end_line, event_lines, body_lines, with_feeds, replay}
 use Rattle.bhs_replay.specs.Opening.{IsHead}
-use Rattle.bhs_replay.specs.Stages.{ended_after, ended, next_number, is_end_line, Stage, Opens, Goes, Ends, Wrong}
+use Rattle.bhs_replay.specs.Stages.{ended_after, ended, next_number, is_end_line, ReadState, Opens, Goes, Ends, Wrong}
 use Rattle.bhs_replay.specs.Stages.{after_spelled, Follows, opens, no_head, goes, goes_past, stays, Leads, begins}
 use Rattle.bhs_replay.specs.Stages.{follows, with_rest, Comes}
 
@@ -59,7 +59,7 @@ pub record IsWhole (lines : List (List ℕ)) (net : Network) (setup : Setup) (ev
   pub going : IsGoing before net setup events
   pub lines_are : lines ≡ before ++ end_line (length events) ∷ []
 
-abbrev Shows : List (List ℕ) → Stage → Type 0
+abbrev Shows : List (List ℕ) → ReadState → Type 0
 Shows lines Opens = lines ≡ []
 Shows lines (Goes net setup events) = IsGoing lines net setup events
 Shows lines (Ends net setup events) = IsWhole lines net setup events
@@ -104,7 +104,8 @@ first_shows : (before : List (List ℕ)) (line : List ℕ) (net : Network) (setu
 first_shows before line net setup none head =
     record { head = line; is_head = head; lines_are = ap (λ (lines : List (List ℕ)). lines ++ line ∷ []) none }
 
-follows_shows : (before : List (List ℕ)) (line : List ℕ) (from to : Stage) → Follows from line to → Shows before from
+follows_shows : (before : List (List ℕ)) (line : List ℕ) (from to : ReadState) → Follows from line to
+    → Shows before from
     → Shows (before ++ line ∷ []) to
 follows_shows before line from to (opens same net setup head) shown = first_shows before same net setup shown head
 follows_shows before line from to (no_head same none) shown = tt
@@ -113,7 +114,7 @@ follows_shows before line from to (goes same net setup events next is) shown =
 follows_shows before line from to (goes_past same net setup events) shown = tt
 follows_shows before line from to (stays same found) shown = tt
 
-leads_shows : (lines : List (List ℕ)) (stage : Stage) → Leads lines stage → Shows lines stage
+leads_shows : (lines : List (List ℕ)) (stage : ReadState) → Leads lines stage → Shows lines stage
 leads_shows lines stage begins = refl
 leads_shows lines stage (follows before line from to leads next) =
     follows_shows before line from to next (leads_shows before from leads)
@@ -137,7 +138,7 @@ text_whole : (line bytes : List ℕ) → with_feeds (ended_after line bytes) ++ 
 text_whole line [] = sym (append-nil line)
 text_whole line (byte ∷ bytes) = text_at line bytes byte (is_line_feed byte) refl (λ l. text_whole l bytes)
 
-ends_quiet : (bytes : List ℕ) (stage : Stage) (net : Network) (setup : Setup) (events : List Event)
+ends_quiet : (bytes : List ℕ) (stage : ReadState) (net : Network) (setup : Setup) (events : List Event)
     → Ends net setup events ≡ with_rest bytes stage → (bytes ≡ []) × (stage ≡ Ends net setup events)
 ends_quiet [] stage net setup events is = (refl, sym is)
 ends_quiet (byte ∷ bytes) Opens net setup events is = absurd (cc)

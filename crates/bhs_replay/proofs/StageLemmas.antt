@@ -11,7 +11,8 @@ use Rattle.bhs_wire.specs.Lines.{rest}
 use Rattle.bhs_replay.specs.declared.faults.ReplayFault.{ReplayFault}
 use Rattle.bhs_replay.specs.declared.faults.ReplayFault.TheVariants as fault
 use Rattle.bhs_replay.specs.Spelling.{spelled}
-use Rattle.bhs_replay.specs.Stages.{Stage, Opens, Goes, Ends, Wrong, next_number, is_end_line, after_spelled, Follows}
+use Rattle.bhs_replay.specs.Stages.{ReadState, Opens, Goes, Ends, Wrong, next_number, is_end_line, after_spelled}
+use Rattle.bhs_replay.specs.Stages.{Follows}
 use Rattle.bhs_replay.specs.Stages.{opens, no_head, goes, goes_past, stays, Leads, begins, follows, with_rest, Comes}
 use Rattle.bhs_replay.specs.Stages.{ended}
 
@@ -23,7 +24,7 @@ IsOfText fault.Turns = ⊥
 IsOfText found = Unit {0}
 
 -- the end line stands behind a close, and a fault is one of the text
-abbrev pub IsProper : Stage → Type 0
+abbrev pub IsProper : ReadState → Type 0
 IsProper Opens = Unit {0}
 IsProper (Goes net setup events) = Unit {0}
 IsProper (Ends net setup events) = (run (world_of net setup) events).closed ≡ true
@@ -54,7 +55,7 @@ module _ (net : Network) (setup : Setup) (events : List Event) (line : List ℕ)
   spelled_proper (Some (event, answer)) = event_proper event _ _ _
   spelled_proper None = other_proper _ _ (is_end_line line) refl
 
-follows_proper : (from to : Stage) (line : List ℕ) → Follows from line to → IsProper from → IsProper to
+follows_proper : (from to : ReadState) (line : List ℕ) → Follows from line to → IsProper from → IsProper to
 follows_proper from to line (opens same net setup head) proper = tt
 follows_proper from to line (no_head same none) proper = tt
 follows_proper from to line (goes same net setup events next is) proper =
@@ -62,18 +63,18 @@ follows_proper from to line (goes same net setup events next is) proper =
 follows_proper from to line (goes_past same net setup events) proper = tt
 follows_proper from to line (stays same found) proper = proper
 
-pub leads_proper : (lines : List (List ℕ)) (stage : Stage) → Leads lines stage → IsProper stage
+pub leads_proper : (lines : List (List ℕ)) (stage : ReadState) → Leads lines stage → IsProper stage
 leads_proper lines stage begins = tt
 leads_proper lines stage (follows before line from to leads next) =
     follows_proper from to line next (leads_proper before from leads)
 
-rest_proper : (bytes : List ℕ) (stage : Stage) → IsProper stage → IsProper (with_rest bytes stage)
+rest_proper : (bytes : List ℕ) (stage : ReadState) → IsProper stage → IsProper (with_rest bytes stage)
 rest_proper [] stage proper = proper
 rest_proper (byte ∷ bytes) Opens proper = tt
 rest_proper (byte ∷ bytes) (Goes net setup events) proper = tt
 rest_proper (byte ∷ bytes) (Ends net setup events) proper = tt
 rest_proper (byte ∷ bytes) (Wrong found) proper = proper
 
-pub comes_proper : (text : List ℕ) (stage : Stage) → Comes text stage → IsProper stage
+pub comes_proper : (text : List ℕ) (stage : ReadState) → Comes text stage → IsProper stage
 comes_proper text stage comes = subst IsProper (sym comes.same)
     (rest_proper (rest text) comes.lines (leads_proper (ended text) comes.lines comes.leads))

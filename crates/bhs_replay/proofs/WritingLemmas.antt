@@ -1,6 +1,6 @@
 -- A text that goes out line by line.
 use Rattle.std.proofs.Common.{◌≡◌, ℕ, List, [], ◌++◌, sym, subst, append-nil, Result, Ok, Err, IfErr, OnOk, IsErrAnd}
-use Rattle.bhs_stream.specs.Streams.{Taken}
+use Rattle.bhs_stream.specs.Streams.{WriteAnswer}
 use Rattle.bhs_stream.specs.Sending.{PutsAll}
 use Rattle.bhs_stream.proofs.PutsLemmas.{IsSentUpTo, sent_none, sent_more, sent_all, sent_part, sent_some}
 use Rattle.bhs_replay.specs.declared.faults.WritingFault.{WritingFault}
@@ -13,7 +13,7 @@ pub fault_is : {T : Type 0} (r : Result T WritingFault) (fault : WritingFault) (
 fault_is (Ok x) fault P is holds = tt
 fault_is (Err e) fault P is holds = subst P (sym is) holds
 
-module _ {O : Type 0} (takes : O → List ℕ → Taken → O → Type 0) where
+module _ {O : Type 0} (takes : O → List ℕ → WriteAnswer → O → Type 0) where
   pub breaks_at : (a b c : O) (text bytes left : List ℕ) (fault : WritingFault)
       → IsSentUpTo takes a b text (bytes ++ left) → Breaks takes b bytes fault c → Breaks takes a text fault c
   breaks_at a b c text bytes left Write so_far part = sent_part takes a b c text bytes left so_far part

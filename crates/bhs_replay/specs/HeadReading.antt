@@ -12,7 +12,7 @@ use Rattle.bhs_replay.specs.declared.heads.Version.{Version}
 use Rattle.bhs_replay.specs.declared.heads.Version.TheVariants.{One, Two, Three}
 
 -- what a head says
-pub record Says : Type 0 where
+pub record HeadFields : Type 0 where
   pub version : Version
   pub nodes : ℕ
   pub links : List Link
@@ -75,17 +75,17 @@ abbrev pub setup_in : Version → Data → Option Setup
 setup_in version value = option_and_then (λ holes. option_and_then (λ dark. setup_with holes dark value)
     (dark_in version value)) (holes_in version value)
 
-abbrev pub says_with : Version → List Link → Data → Setup → Option Says
+abbrev pub says_with : Version → List Link → Data → Setup → Option HeadFields
 says_with version links value setup = option_map
     (λ nodes. record { version = version; nodes = nodes; links = links; setup = setup }) (port_at (codes "nodes") value)
 
-abbrev pub says_as : Data → Version → Option Says
+abbrev pub says_as : Data → Version → Option HeadFields
 says_as value version = option_and_then (λ links. option_and_then (says_with version links value)
     (setup_in version value)) (list_at link_in (codes "links") value)
 
-abbrev pub says_in : Data → Option Says
+abbrev pub says_in : Data → Option HeadFields
 says_in value = option_and_then (says_as value) (version_in value)
 
 -- what a line says
-abbrev pub head_says : List ℕ → Option Says
+abbrev pub head_says : List ℕ → Option HeadFields
 head_says line = option_and_then says_in (if is_utf8 line then read line else None)

@@ -1,6 +1,6 @@
 -- What a head says, without where it lies in memory.
-use Rattle.bhs_replay.specs.declared.head_parts.Says.{Says as Kept}
-use Rattle.bhs_replay.specs.HeadReading.{Says}
+use Rattle.bhs_replay.specs.declared.head_parts.HeadFields.{HeadFields as Kept}
+use Rattle.bhs_replay.specs.HeadReading.{HeadFields}
 
-abbrev pub seen : Kept → Says
+abbrev pub seen : Kept → HeadFields
 seen says = record { version = says.version; nodes = says.nodes; links = says.links.items; setup = says.setup }

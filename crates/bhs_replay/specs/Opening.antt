@@ -7,7 +7,7 @@ use Rattle.bhs_world.specs.Faults.{first_fault}
 use Rattle.bhs_match.specs.Matches.{Play}
 use Rattle.bhs_replay.specs.declared.heads.Version.{Version}
 use Rattle.bhs_replay.specs.Head.{head_line, links_of, CanSay}
-use Rattle.bhs_replay.specs.HeadReading.{Says}
+use Rattle.bhs_replay.specs.HeadReading.{HeadFields}
 
 -- a line is the head of this network and this setup, in one of the versions: its links make the network, and the setup
 -- has no fault and is in normal form
@@ -25,7 +25,7 @@ OpensAs line None = (net : Network) (setup : Setup) → ¬ IsHead line net setup
 OpensAs line (Some play) = IsHead line play.net play.setup × (play.log ≡ [])
 
 -- the match that nodes, links and a setup make, if they make one
-abbrev pub Starts : Says → Option Play → Type 0
+abbrev pub Starts : HeadFields → Option Play → Type 0
 Starts says None = (net : Network) → Makes says.nodes says.links net → first_fault net says.setup ≢ None
 Starts says (Some play) =
     Makes says.nodes says.links play.net × (first_fault play.net says.setup ≡ None)

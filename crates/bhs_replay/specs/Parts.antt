@@ -11,7 +11,7 @@ use Rattle.bhs_match.specs.Matches.{Play}
 use Rattle.bhs_stream.specs.Streams.{Chunk, End}
 use Rattle.bhs_stream.specs.Reading.{Closes}
 use Rattle.bhs_replay.specs.Reading.{IsSound}
-use Rattle.bhs_replay.specs.Stages.{Stage, Goes, Ends, Leads, Comes, ended}
+use Rattle.bhs_replay.specs.Stages.{ReadState, Goes, Ends, Leads, Comes, ended}
 
 -- the events of a match that is closed after these, if it was not
 abbrev pub closed_events : Network → Setup → List Event → List Event
@@ -19,7 +19,7 @@ closed_events net setup events =
     if not (run (world_of net setup) events).closed then events ++ Close ∷ [] else events
 
 -- the match of the lines so far, closed where they stop
-abbrev pub IsClosedAt : Stage → Play → Type 0
+abbrev pub IsClosedAt : ReadState → Play → Type 0
 IsClosedAt (Goes net setup events) play =
     (play.net ≡ net) × (play.setup ≡ setup) × (events_of play.log ≡ closed_events net setup events)
 IsClosedAt (Ends net setup events) play =
@@ -29,7 +29,7 @@ IsClosedAt stage play = ⊥
 -- the match is that of the whole lines of a text, closed where they stop: what stands behind the last line feed counts
 -- for nothing
 pub record IsPartOf (text : List ℕ) (play : Play) : Type 0 where
-  pub stage : Stage
+  pub stage : ReadState
   pub leads : Leads (ended text) stage
   pub closed : IsClosedAt stage play
 
@@ -47,4 +47,4 @@ pub record ReadsPart {I : Type 0} (gives : I → Chunk → I → Type 0) (old : 
 -- Each front of a replay, cut anywhere, is a part: its whole lines lead to a stage at which nothing is wrong.
 abbrev pub FrontsAreParts : Type 0
 FrontsAreParts = (front more : List ℕ) (net : Network) (setup : Setup) (events : List Event)
-    → Comes (front ++ more) (Ends net setup events) → (stage : Stage) × Leads (ended front) stage × IsSound stage
+    → Comes (front ++ more) (Ends net setup events) → (stage : ReadState) × Leads (ended front) stage × IsSound stage

@@ -9,17 +9,17 @@ use Rattle.bhs_replay.specs.declared.faults.ReplayFault.{ReplayFault}
 use Rattle.bhs_replay.specs.declared.faults.ReplayFault.TheVariants as fault
 use Rattle.bhs_replay.specs.declared.reader.Playing.{Playing}
 use Rattle.bhs_replay.specs.declared.reader.Reader.{Reader}
-use Rattle.bhs_replay.specs.Stages.{Stage, Opens, Leads, ended}
+use Rattle.bhs_replay.specs.Stages.{ReadState, Opens, Leads, ended}
 use Rattle.bhs_replay.specs.Reading.{stage_of}
 
-abbrev pub stage_at : Playing → Stage
+abbrev pub stage_at : Playing → ReadState
 stage_at playing = stage_of playing.game playing.is_over
 
-abbrev pub stage_by : Option Playing → Stage
+abbrev pub stage_by : Option Playing → ReadState
 stage_by None = Opens
 stage_by (Some playing) = stage_at playing
 
-abbrev pub stage_in : Reader → Stage
+abbrev pub stage_in : Reader → ReadState
 stage_in reader = stage_by reader.playing
 
 -- the end line came

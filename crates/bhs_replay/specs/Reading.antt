@@ -6,20 +6,20 @@ use Rattle.bhs_stream.specs.Streams.{Chunk, Bytes, End, Fails}
 use Rattle.bhs_stream.specs.Reading.{Gathers, Closes}
 use Rattle.bhs_replay.specs.declared.faults.ReplayFault.{ReplayFault}
 use Rattle.bhs_replay.specs.declared.faults.ReplayFault.TheVariants as fault
-use Rattle.bhs_replay.specs.Stages.{Stage, Opens, Goes, Ends, Wrong, Comes}
+use Rattle.bhs_replay.specs.Stages.{ReadState, Opens, Goes, Ends, Wrong, Comes}
 
 -- the stage of a match, before or behind the end line
-abbrev pub stage_of : Play → (is_over : Bool) → Stage
+abbrev pub stage_of : Play → (is_over : Bool) → ReadState
 stage_of play is_over = if is_over then Ends play.net play.setup (events_of play.log) else Goes play.net play.setup
     (events_of play.log)
 
 -- nothing is wrong yet
-abbrev pub IsSound : Stage → Type 0
+abbrev pub IsSound : ReadState → Type 0
 IsSound (Wrong found) = ⊥
 IsSound stage = Unit {0}
 
 -- what is wrong with a text that ends here
-abbrev pub fault_at_end : Stage → Option ReplayFault
+abbrev pub fault_at_end : ReadState → Option ReplayFault
 fault_at_end Opens = Some fault.Head
 fault_at_end (Goes net setup events) = Some fault.End
 fault_at_end (Ends net setup events) = None
@@ -35,7 +35,7 @@ pub record ReadsWhole {I : Type 0} (gives : I → Chunk → I → Type 0) (old :
 -- the bytes that reads brought, in which nothing was wrong
 pub record ReadsSound {I : Type 0} (gives : I → Chunk → I → Type 0) (old : I) (reads : ℕ) (bytes : List ℕ)
     (here : I) : Type 0 where
-  pub stage : Stage
+  pub stage : ReadState
   pub gathered : Gathers gives old reads bytes here
   pub comes : Comes bytes stage
   pub sound : IsSound stage
@@ -44,7 +44,7 @@ pub record ReadsSound {I : Type 0} (gives : I → Chunk → I → Type 0) (old :
 pub record StopsSound {I : Type 0} (gives : I → Chunk → I → Type 0) (old : I) (turns : ℕ) (chunk : Chunk)
     (new : I) : Type 0 where
   pub bytes : List ℕ
-  pub stage : Stage
+  pub stage : ReadState
   pub closes : Closes gives old (length bytes) turns bytes chunk new
   pub comes : Comes bytes stage
   pub sound : IsSound stage
@@ -53,7 +53,7 @@ pub record StopsSound {I : Type 0} (gives : I → Chunk → I → Type 0) (old :
 pub record EndsShort {I : Type 0} (gives : I → Chunk → I → Type 0) (old : I) (turns : ℕ) (found : ReplayFault)
     (new : I) : Type 0 where
   pub text : List ℕ
-  pub stage : Stage
+  pub stage : ReadState
   pub closes : Closes gives old (length text) turns text End new
   pub comes : Comes text stage
   pub short : fault_at_end stage ≡ Some found
@@ -63,7 +63,7 @@ pub record MeetsFault {I : Type 0} (gives : I → Chunk → I → Type 0) (old :
     (new : I) : Type 0 where
   pub bytes : List ℕ
   pub piece : List ℕ
-  pub stage : Stage
+  pub stage : ReadState
   pub closes : Closes gives old (length bytes) turns bytes (Bytes piece) new
   pub comes : Comes bytes stage
   pub sound : IsSound stage

@@ -47,22 +47,22 @@ is_end_line line =
 
 -- ---- what the lines of a text come to
 
-pub data Stage : Type 0 where
+pub data ReadState : Type 0 where
   -- no line has ended
-  Opens : Stage
+  Opens : ReadState
   -- the first line is the head of this, and the others are the lines of these events
-  Goes : Network → Setup → List Event → Stage
+  Goes : Network → Setup → List Event → ReadState
   -- and then the end line came
-  Ends : Network → Setup → List Event → Stage
+  Ends : Network → Setup → List Event → ReadState
   -- this is the first fault
-  Wrong : ReplayFault → Stage
+  Wrong : ReplayFault → ReadState
 
 -- the number of the line behind the head and the lines of these events
 abbrev pub next_number : List Event → ℕ
 next_number events = length events + 2
 
 -- a line that spells an event. Its reply is another than that of the match if the line is not the line of that.
-abbrev pub after_event : Network → Setup → List Event → (line : List ℕ) → Event → Stage
+abbrev pub after_event : Network → Setup → List Event → (line : List ℕ) → Event → ReadState
 after_event net setup events line event =
     let world = world_of net setup in
     if (run world events).closed then Wrong (fault.Line (next_number events))
@@ -73,45 +73,45 @@ after_event net setup events line event =
     else Wrong (fault.Differs (next_number events))))
 
 -- a line that spells no event
-abbrev pub after_other : Network → Setup → List Event → (line : List ℕ) → Stage
+abbrev pub after_other : Network → Setup → List Event → (line : List ℕ) → ReadState
 after_other net setup events line =
     if (run (world_of net setup) events).closed && bytes_eq line (end_line (length events)) then Ends net setup events
     else Wrong (if is_end_line line then fault.End else fault.Line (next_number events))
 
-abbrev pub after_spelled : Network → Setup → List Event → (line : List ℕ) → Option (Event × Option Reply) → Stage
+abbrev pub after_spelled : Network → Setup → List Event → (line : List ℕ) → Option (Event × Option Reply) → ReadState
 after_spelled net setup events line (Some found) = after_event net setup events line found.0
 after_spelled net setup events line None = after_other net setup events line
 
 -- what a line behind the head leads to
-abbrev pub after_line : Network → Setup → List Event → (line : List ℕ) → Stage
+abbrev pub after_line : Network → Setup → List Event → (line : List ℕ) → ReadState
 after_line net setup events line = after_spelled net setup events line (spelled line)
 
 -- what a line leads to
-pub data Follows : Stage → List ℕ → Stage → Type 0 where
+pub data Follows : ReadState → List ℕ → ReadState → Type 0 where
   opens : (line : List ℕ) (net : Network) (setup : Setup) → IsHead line net setup
       → Follows Opens line (Goes net setup [])
   no_head : (line : List ℕ) → ((net : Network) (setup : Setup) → ¬ IsHead line net setup)
       → Follows Opens line (Wrong fault.Head)
-  goes : (line : List ℕ) (net : Network) (setup : Setup) (events : List Event) (to : Stage) → to
+  goes : (line : List ℕ) (net : Network) (setup : Setup) (events : List Event) (to : ReadState) → to
       ≡ after_line net setup events line → Follows (Goes net setup events) line to
   goes_past : (line : List ℕ) (net : Network) (setup : Setup) (events : List Event)
       → Follows (Ends net setup events) line (Wrong fault.End)
   stays : (line : List ℕ) (found : ReplayFault) → Follows (Wrong found) line (Wrong found)
 
 -- what the lines of a text lead to
-pub data Leads : List (List ℕ) → Stage → Type 0 where
+pub data Leads : List (List ℕ) → ReadState → Type 0 where
   begins : Leads [] Opens
-  follows : (lines : List (List ℕ)) (line : List ℕ) (from to : Stage) → Leads lines from → Follows from line to
+  follows : (lines : List (List ℕ)) (line : List ℕ) (from to : ReadState) → Leads lines from → Follows from line to
       → Leads (lines ++ line ∷ []) to
 
 -- bytes without a line feed behind the lines: nothing may stand behind the end line
-abbrev pub with_rest : List ℕ → Stage → Stage
+abbrev pub with_rest : List ℕ → ReadState → ReadState
 with_rest [] stage = stage
 with_rest (byte ∷ bytes) (Ends net setup events) = Wrong fault.End
 with_rest (byte ∷ bytes) stage = stage
 
 -- what the bytes of a text, as far as they came, lead to
-pub record Comes (bytes : List ℕ) (stage : Stage) : Type 0 where
-  pub lines : Stage
+pub record Comes (bytes : List ℕ) (stage : ReadState) : Type 0 where
+  pub lines : ReadState
   pub leads : Leads (ended bytes) lines
   pub same : stage ≡ with_rest (rest bytes) lines

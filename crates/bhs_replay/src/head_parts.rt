@@ -17,7 +17,7 @@ use std::alloc::Global;
 
 /// What a head says.
 #[derive(Drop)]
-pub(crate) struct Says {
+pub(crate) struct HeadFields {
     pub version: Version,
     pub nodes: u16,
     pub links: Vec<Link>,
@@ -25,7 +25,7 @@ pub(crate) struct Says {
 }
 
 /// What a line says, given without its line feed; None if it can be no head. Its spelling is not judged here.
-pub(crate) fn head_says(alloc: Global, line: &[u8]) -> Result<Option<Says>, Memory>
+pub(crate) fn head_says(alloc: Global, line: &[u8]) -> Result<Option<HeadFields>, Memory>
     ensures { IfOk result (λ found. option_map seen found ≡ head_says line.now) }
 {
     match Value::from_slice(alloc, line) {
@@ -35,7 +35,7 @@ pub(crate) fn head_says(alloc: Global, line: &[u8]) -> Result<Option<Says>, Memo
     }
 }
 
-fn says_in(alloc: Global, value: &Value) -> Result<Option<Says>, Memory>
+fn says_in(alloc: Global, value: &Value) -> Result<Option<HeadFields>, Memory>
     ensures { IfOk result (λ found. option_map seen found ≡ says_in (view value.now)) }
 {
     match version_in(value) {
@@ -44,7 +44,7 @@ fn says_in(alloc: Global, value: &Value) -> Result<Option<Says>, Memory>
     }
 }
 
-fn says_as(alloc: Global, value: &Value, version: Version) -> Result<Option<Says>, Memory>
+fn says_as(alloc: Global, value: &Value, version: Version) -> Result<Option<HeadFields>, Memory>
     ensures { IfOk result (λ found. option_map seen found ≡ says_as (view value.now) version) }
 {
     let Some(links) = links_in(alloc, value)? else {
@@ -56,11 +56,11 @@ fn says_as(alloc: Global, value: &Value, version: Version) -> Result<Option<Says
     Ok(says_with(version, links, value, setup))
 }
 
-fn says_with(version: Version, links: Vec<Link>, value: &Value, setup: Setup) -> Option<Says>
+fn says_with(version: Version, links: Vec<Link>, value: &Value, setup: Setup) -> Option<HeadFields>
     ensures { option_map seen result ≡ says_with version links.items (view value.now) setup }
 {
     let nodes = port_of(value, "nodes")?;
-    Some(Says {
+    Some(HeadFields {
         version,
         nodes,
         links,

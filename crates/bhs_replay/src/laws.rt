@@ -9,7 +9,7 @@ ghost use Rattle.bhs_replay.specs.Played.{HasEnded};
 ghost use Rattle.bhs_replay.specs.EventLine.{event_line};
 ghost use Rattle.bhs_replay.specs.Example.{triangle, short_setup, short_match};
 ghost use Rattle.bhs_replay.specs.Replay.{replay};
-ghost use Rattle.bhs_replay.specs.Stages.{Stage, Ends, Comes};
+ghost use Rattle.bhs_replay.specs.Stages.{ReadState, Ends, Comes};
 ghost use Rattle.bhs_replay.specs.Spelling.{spelled, may_stand, EventFits, ReplyFits};
 
 use crate::heads::Version;
@@ -50,7 +50,7 @@ pub fn a_match_has_ended()
 
 /// A text comes to one stage, so none is read as two matches, or as a match and as a fault.
 pub fn one_reading()
-    ensures { (text : List ℕ) (one other : Stage) → Comes text one → Comes text other → one ≡ other }
+    ensures { (text : List ℕ) (one other : ReadState) → Comes text one → Comes text other → one ≡ other }
 {}
 
 /// Each front of a replay, cut anywhere, is read as a part: nothing is wrong with its whole lines.

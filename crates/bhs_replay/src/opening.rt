@@ -2,11 +2,11 @@
 
 ghost use Rattle.std.specs.Prelude.{◌≡◌, ◌≢◌, ◌↔◌, ◌≤◌, [], length, if◌then◌else◌, Some, None, IfOk, OnOk, IsTrue};
 ghost use Rattle.bhs_replay.specs.Head.{CanSay};
-ghost use Rattle.bhs_replay.specs.HeadReading.{Says as Said, head_says};
+ghost use Rattle.bhs_replay.specs.HeadReading.{HeadFields as Said, head_says};
 ghost use Rattle.bhs_replay.specs.HeadSeen.{seen};
 ghost use Rattle.bhs_replay.specs.Opening.{OpensAs, Starts};
 
-use crate::head_parts::{Says, head_says};
+use crate::head_parts::{HeadFields, head_says};
 use crate::heads::{Version, head_line};
 use bhs_match::Match;
 use bhs_model::{Setup, is_small};
@@ -25,7 +25,7 @@ pub(crate) fn opened(alloc: Global, line: &[u8]) -> Result<Option<Match>, Memory
 }
 
 // The match that a line opens, if it says this.
-fn opened_by(alloc: Global, line: &[u8], says: Says) -> Result<Option<Match>, Memory>
+fn opened_by(alloc: Global, line: &[u8], says: HeadFields) -> Result<Option<Match>, Memory>
     requires { Some (seen says) ≡ head_says line.now }
     ensures { IfOk result (OpensAs line.now) }
 {
@@ -64,10 +64,10 @@ fn is_head(alloc: Global, line: &[u8], version: Version, game: &Match) -> Result
     Ok(line == text.as_bytes())
 }
 
-fn started(alloc: Global, says: Says) -> Result<Option<Match>, Memory>
+fn started(alloc: Global, says: HeadFields) -> Result<Option<Match>, Memory>
     ensures { IfOk result (Starts (seen says)) }
 {
-    let Says {
+    let HeadFields {
         nodes,
         links,
         setup,

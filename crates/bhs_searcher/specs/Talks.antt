@@ -6,12 +6,12 @@ use Rattle.bhs_model.specs.declared.replies.Reply.{Reply}
 use Rattle.bhs_model.specs.declared.replies.Reply.TheVariants.{Here, Written, Changed, Gone, Noted, Bye, Over, No}
 use Rattle.bhs_wire.specs.First.{first_of}
 use Rattle.bhs_wire.specs.Lines.{is_line_feed}
-use Rattle.bhs_explore.specs.declared.minds.Step.{Step}
-use Rattle.bhs_explore.specs.declared.minds.Step.TheVariants as step
-use Rattle.bhs_explore.specs.Minds.{History, Heard, Mind}
-use Rattle.bhs_searcher.specs.declared.playing.Ended.{Ended}
-use Rattle.bhs_searcher.specs.declared.playing.Ended.TheVariants.{Accused}
-use Rattle.bhs_searcher.specs.declared.playing.Ended.TheVariants as ended
+use Rattle.bhs_explore.specs.declared.answers.Step.{Step}
+use Rattle.bhs_explore.specs.declared.answers.Step.TheVariants as step
+use Rattle.bhs_explore.specs.Strategies.{History, Heard, Strategy}
+use Rattle.bhs_searcher.specs.declared.playing.PlayEnd.{PlayEnd}
+use Rattle.bhs_searcher.specs.declared.playing.PlayEnd.TheVariants.{Accused}
+use Rattle.bhs_searcher.specs.declared.playing.PlayEnd.TheVariants as ended
 use Rattle.bhs_searcher.specs.CommandLines.{meant}
 use Rattle.bhs_searcher.specs.ReplyLines.{reply_on}
 
@@ -31,20 +31,20 @@ Says says key step.Fails old new = old ≡ new
 abbrev pub Hears : {W : Type 0} → (hears : W → List ℕ → W → Type 0) → Reply → (old new : W) → Type 0
 Hears hears reply old new = (line : List ℕ) × (reply_on line ≡ Some reply) × hears old line new
 
--- An agent with this mind has said all that its mind says, line by line, and has heard this, the newest first. A
--- connection that was at `start` is now at the last place: `says` and `hears` say what a line that is written or read
+-- An agent with this strategy has said all that its strategy says, line by line, and has heard this, the newest first.
+-- A connection that was at `start` is now at the last place: `says` and `hears` say what a line that is written or read
 -- makes of it.
-pub data Talks {W : Type 0} (says hears : W → List ℕ → W → Type 0) (mind : Mind) (key : List ℕ) (start : W)
+pub data Talks {W : Type 0} (says hears : W → List ℕ → W → Type 0) (strategy : Strategy) (key : List ℕ) (start : W)
     : History → W → Type 0 where
-  begins : Talks says hears mind key start [] start
+  begins : Talks says hears strategy key start [] start
   goes_on : (history : History) (reply : Reply) (here told next : W)
-      → Talks says hears mind key start history here
-      → Says says key (mind history) here told
+      → Talks says hears strategy key start history here
+      → Says says key (strategy history) here told
       → Hears hears reply told next
-      → Talks says hears mind key start (Heard reply ∷ history) next
+      → Talks says hears strategy key start (Heard reply ∷ history) next
 
 -- how an agent ends that is told this, if it ends
-abbrev pub ended_by : Reply → Option Ended
+abbrev pub ended_by : Reply → Option PlayEnd
 ended_by Noted = Some Accused
 ended_by Bye = Some ended.Over
 ended_by Over = Some ended.Over
@@ -55,11 +55,11 @@ ended_by Gone = None
 ended_by (No why) = None
 
 -- the last that it was told has ended it so
-pub record Ends {W : Type 0} (says hears : W → List ℕ → W → Type 0) (mind : Mind) (key : List ℕ) (old : W)
-    (how : Ended) (new : W) : Type 0 where
+pub record Ends {W : Type 0} (says hears : W → List ℕ → W → Type 0) (strategy : Strategy) (key : List ℕ) (old : W)
+    (how : PlayEnd) (new : W) : Type 0 where
   pub history : History
   pub reply : Reply
-  pub talks : Talks says hears mind key old (Heard reply ∷ history) new
+  pub talks : Talks says hears strategy key old (Heard reply ∷ history) new
   pub last : ended_by reply ≡ Some how
 
 -- A read gave no line, or a line by which the agent does not go on. `loses` says what a read makes of the connection
@@ -78,10 +78,11 @@ pub data BreaksOff {W : Type 0} (says hears cuts : W → List ℕ → W → Type
   unheard : (told new : W) → Says says key doing here told → HearsNone hears loses told new
       → BreaksOff says hears cuts loses key doing here new
 
--- It breaks off: all that it had said and heard until then is what its mind says, and so is the last that it began.
-pub record Breaks {W : Type 0} (says hears cuts : W → List ℕ → W → Type 0) (loses : W → W → Type 0) (mind : Mind)
+-- It breaks off: all that it had said and heard until then is what its strategy says, and so is the last that it began.
+pub record Breaks {W : Type 0} (says hears cuts : W → List ℕ → W → Type 0) (loses : W → W
+    → Type 0) (strategy : Strategy)
     (key : List ℕ) (old new : W) : Type 0 where
   pub history : History
   pub here : W
-  pub talks : Talks says hears mind key old history here
-  pub off : BreaksOff says hears cuts loses key (mind history) here new
+  pub talks : Talks says hears strategy key old history here
+  pub off : BreaksOff says hears cuts loses key (strategy history) here new

@@ -2,13 +2,13 @@
 #![tactic(auto)]
 
 mod commands;
-mod holding;
 mod laws;
 mod playing;
+mod protocol_memory;
 mod replies;
 
 pub use commands::line_of;
-pub use holding::{Held, HoldFault, Protocol, after, begun, step_of};
 pub use laws::replies_are_read;
-pub use playing::{Connection, Ended, Lost, PlayFault, Player, play};
+pub use playing::{Lost, PlayEnd, PlayFault, Player, ServerConnection, play};
+pub use protocol_memory::{MemoryFault, Protocol, ProtocolMemory, after, begun, step_of};
 pub use replies::reply_of;

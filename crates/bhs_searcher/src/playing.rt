@@ -2,11 +2,11 @@
 
 ghost use Rattle.std.specs.Prelude.{◌≡◌, ℕ, List, ⊤, string_bytes, IfOk, OnOk, OnErr};
 ghost use Rattle.bhs_searcher.specs.declared.playing.PlayFault.{PlayFault};
-ghost use Rattle.bhs_searcher.specs.Protocols.{minds_of};
+ghost use Rattle.bhs_searcher.specs.Protocols.{strategies_of};
 ghost use Rattle.bhs_searcher.specs.Talks.{Breaks, BreaksOff, Ends, Hears, HearsNone, Says, ended_by};
 
 use crate::commands::line_of;
-use crate::holding::{HoldFault, Protocol, after, begun, step_of};
+use crate::protocol_memory::{MemoryFault, Protocol, after, begun, step_of};
 use crate::replies::reply_of;
 use bhs_explore::Step;
 use bhs_model::{Reply, Why};
@@ -14,7 +14,7 @@ use std::alloc::{AllocError, Global};
 use thiserror::Error;
 
 /// A connection to a server, line by line. Contracts see what a line that is written or read makes of it.
-pub trait Connection {
+pub trait ServerConnection {
     // In the first state this line may be written whole, and the connection is then in the second state.
     ghost says: { Self → List ℕ → Self → Type 0 };
     // The same of a line that is read, without its line feed.
@@ -51,7 +51,7 @@ pub struct Player<'k> {
 
 /// How an agent ended that has played to its end.
 #[derive(Clone, Copy, Debug, PartialEq, Eq, Drop)]
-pub enum Ended {
+pub enum PlayEnd {
     /// It has accused a link.
     Accused,
     /// It was told that the match is over.
@@ -91,32 +91,33 @@ impl From<AllocError> for PlayFault {
     }
 }
 
-impl From<HoldFault> for PlayFault {
+impl From<MemoryFault> for PlayFault {
     ghost from_gives = { λ _ _. ⊤ };
 
-    fn from(fault: HoldFault) -> PlayFault {
+    fn from(fault: MemoryFault) -> PlayFault {
         match fault {
-            HoldFault::Size => PlayFault::Size,
-            HoldFault::Memory => PlayFault::Memory,
+            MemoryFault::Size => PlayFault::Size,
+            MemoryFault::Memory => PlayFault::Memory,
         }
     }
 }
 
 /// Plays a protocol until the agent has accused, or is told that its match is over. At most `turns` replies are heard.
 ///
-/// The agent says what the minds of the protocol's theorem say of all that it was told, line by line, and nothing else.
-/// If it breaks off, what it had said by then is what they say, and of its last line a front may have been written.
-pub fn play<C: Connection>(
+/// The agent says what the strategies of the protocol's theorem say of all that it was told, line by line, and nothing
+/// else. If it breaks off, what it had said by then is what they say, and of its last line a front may have been
+/// written.
+pub fn play<C: ServerConnection>(
     alloc: Global,
     connection: &mut C,
     player: Player<'_>,
     turns: u64,
-) -> Result<Ended, PlayFault>
+) -> Result<PlayEnd, PlayFault>
     ensures ended { IfOk result (λ ended. Ends C.says C.hears
-        (minds_of player.entry.protocol player.entry.nodes player.entry.agent) player.entry.key.now
+        (strategies_of player.entry.protocol player.entry.nodes player.entry.agent) player.entry.key.now
         connection.old ended connection.new) }
     ensures broken { OnErr result (Breaks C.says C.hears C.cuts C.loses
-        (minds_of player.entry.protocol player.entry.nodes player.entry.agent) player.entry.key.now
+        (strategies_of player.entry.protocol player.entry.nodes player.entry.agent) player.entry.key.now
         connection.old connection.new) }
 {
     let mut held = begun(player.protocol, player.nodes, player.agent);
@@ -136,7 +137,7 @@ pub fn play<C: Connection>(
 }
 
 // Says the command of a step, if there is one.
-fn say<C: Connection>(
+fn say<C: ServerConnection>(
     alloc: Global,
     connection: &mut C,
     key: &str,
@@ -156,7 +157,7 @@ fn say<C: Connection>(
 }
 
 // Hears a reply.
-fn hear<C: Connection>(alloc: Global, connection: &mut C) -> Result<Reply, PlayFault>
+fn hear<C: ServerConnection>(alloc: Global, connection: &mut C) -> Result<Reply, PlayFault>
     ensures heard { IfOk result (λ reply. Hears C.hears reply connection.old connection.new) }
     ensures broken { OnErr result (HearsNone C.hears C.loses connection.old connection.new) }
 {
@@ -168,12 +169,12 @@ fn hear<C: Connection>(alloc: Global, connection: &mut C) -> Result<Reply, PlayF
 }
 
 // How an agent ends that is told this, if it ends.
-fn ended_by(reply: &Reply) -> Option<Ended>
+fn ended_by(reply: &Reply) -> Option<PlayEnd>
     ensures { result ≡ ended_by reply.now }
 {
     match reply {
-        Reply::Noted => Some(Ended::Accused),
-        Reply::Over | Reply::Bye => Some(Ended::Over),
+        Reply::Noted => Some(PlayEnd::Accused),
+        Reply::Over | Reply::Bye => Some(PlayEnd::Over),
         Reply::Here {
             ports: _,
             came: _,

@@ -4,14 +4,15 @@ use Rattle.std.proofs.Common.{length-append}
 use Rattle.bhs_model.specs.declared.replies.Reply.{Reply}
 use Rattle.bhs_wire.specs.declared.commands.First.{First}
 use Rattle.bhs_wire.specs.Lines.{Line, lines, said_by}
-use Rattle.bhs_stream.specs.Streams.{Chunk, Bytes, End, Fails, Taken}
+use Rattle.bhs_stream.specs.Streams.{Chunk, Bytes, End, Fails, WriteAnswer}
 use Rattle.bhs_session.specs.declared.endings.Ended.{Ended as Ending}
 use Rattle.bhs_session.specs.declared.endings.Ended.TheVariants as endings
-use Rattle.bhs_session.specs.Port.{Asked, Heard}
+use Rattle.bhs_session.specs.Port.{PortRequest, PortAnswer}
 use Rattle.bhs_session.specs.Phase.{Phase, Fresh, Ready, Awaits, Owes, Leaves, Finished, answered_by, stopped}
 use Rattle.bhs_session.specs.Phase.{Sends, all as goes_out, part as is_cut, none as is_kept_back}
 use Rattle.bhs_session.specs.Machine.{Asks, ask, hear}
-use Rattle.bhs_session.specs.Session.{Point, Step, Session, opens, reads, steps, asks, denies, awaits, sends, lacks}
+use Rattle.bhs_session.specs.Session.{Point, SessionStep, Session, opens, reads, steps, asks, denies, awaits, sends}
+use Rattle.bhs_session.specs.Session.{lacks}
 use Rattle.bhs_session.specs.Session.{tires, leaves, TakesLines, after_read}
 use Rattle.bhs_server.specs.Written.{is_between}
 
@@ -34,11 +35,12 @@ plain_drained phase read taken plain = grind arith
 plain_answer : (waits : Bool) (reply : Reply) → IsPlain (answered_by waits reply)
 plain_answer waits reply = grind arith
 
-heard_drained : (phase : Phase) (heard : Heard) (first : First) (asked : Asked) (read : List ℕ) (taken : List Line)
+heard_drained : (phase : Phase) (heard : PortAnswer) (first : First) (asked : PortRequest) (read : List ℕ)
+    (taken : List Line)
     → ask phase first ≡ Asks asked → Drained (hear phase heard) read taken
 heard_drained phase heard first asked read taken is = grind (arith, plain_answer)
 
-news_drained : (heard : Heard) (read : List ℕ) (taken : List Line) → Drained (hear Awaits heard) read taken
+news_drained : (heard : PortAnswer) (read : List ℕ) (taken : List Line) → Drained (hear Awaits heard) read taken
 news_drained heard read taken = grind (arith, plain_answer)
 
 -- a session is stopped otherwise
@@ -60,7 +62,7 @@ line_stop phase cause read taken takes every = grind arith
 lines_drained : (phase : Phase) (read : List ℕ) (taken : List Line) → TakesLines phase → Drained phase read taken
 lines_drained phase read taken takes = grind arith
 
-sent_drained : {O : Type 0} (takes : O → List ℕ → Taken → O → Type 0) (old new : O) (phase next : Phase)
+sent_drained : {O : Type 0} (takes : O → List ℕ → WriteAnswer → O → Type 0) (old new : O) (phase next : Phase)
     (some read : List ℕ) (taken : List Line) → Sends takes old phase some new next → Drained phase read taken
     → Drained next read taken
 sent_drained takes old _ _ _ _ read taken (goes_out text next new puts) drained = plain_drained next read taken drained
@@ -69,11 +71,12 @@ sent_drained takes old _ _ _ _ read taken (is_cut text next new some) drained =
 sent_drained takes old _ _ _ _ read taken (is_kept_back text next) drained =
     plain_stop next endings.Memory read taken refl (plain_drained next read taken drained)
 
-module _ {O P : Type 0} (takes : O → List ℕ → Taken → O → Type 0) (calls : P → Asked → Heard → P → Type 0) where
+module _ {O P : Type 0} (takes : O → List ℕ → WriteAnswer → O → Type 0) (calls : P → PortRequest → PortAnswer → P
+    → Type 0) where
   abbrev IsDrained : Point O P → Type 0
   IsDrained p = Drained p.phase p.read p.taken
 
-  step_drained : (p q : Point O P) → Step takes calls p q → IsDrained p → IsDrained q
+  step_drained : (p q : Point O P) → SessionStep takes calls p q → IsDrained p → IsDrained q
   step_drained _ _ (asks p line asked heard new says next called) h =
       heard_drained p.phase heard (said_by line) asked p.read (p.taken ++ line ∷ []) says
   step_drained _ _ (denies p line denial says next) h = refl

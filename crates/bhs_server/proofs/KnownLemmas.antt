@@ -12,7 +12,7 @@ use Rattle.bhs_model.specs.declared.replies.Reply.{Reply}
 use Rattle.bhs_model.specs.declared.replies.Reply.TheVariants as replies
 use Rattle.bhs_model.specs.declared.replies.Why.{Why}
 use Rattle.bhs_wire.specs.Lines.{Line}
-use Rattle.bhs_stream.specs.Streams.{Taken}
+use Rattle.bhs_stream.specs.Streams.{WriteAnswer}
 use Rattle.bhs_lock.specs.declared.model.Receipt.{Receipt}
 use Rattle.bhs_lock.specs.Passes.{Passed, tally_in}
 use Rattle.bhs_lock.specs.Recording.{is_unheard, refusal_by, IsSubmitted}
@@ -26,7 +26,7 @@ use Rattle.bhs_session.specs.Machine.{behind_text}
 use Rattle.bhs_session.specs.Session.{TakesLines}
 use Rattle.bhs_session.specs.Answering.{IsLastLine, MayLack, IsUnwritten}
 use Rattle.bhs_session.proofs.LackLemmas.{lacks_none}
-use Rattle.bhs_server.specs.declared.ports.Played.{Played}
+use Rattle.bhs_server.specs.declared.ports.SessionAgent.{SessionAgent}
 use Rattle.bhs_server.specs.Ports.{Seated, IsOfCell, IsNewsIn, IsToldBy, Calls}
 use Rattle.bhs_server.specs.Exchanges.{Exchange, Took, Refused, Came, reply_in, text_if}
 use Rattle.bhs_server.specs.Exchanges.{session_text, commands_in, receipts_in, kept_in, arrivals_in, phase_after}
@@ -109,12 +109,12 @@ pub record Alone (written : List ℕ) (taken : List Line) (phase : Phase) : Type
   pub is_unwritten : IsUnwritten phase unwritten
   pub stands : StandsOutside (behind_text phase) last taken
 
-abbrev pub Known : List ℕ → List Line → Phase → Option Played → Type 0
+abbrev pub Known : List ℕ → List Line → Phase → Option SessionAgent → Type 0
 Known written taken phase None = Alone written taken phase
 Known written taken phase (Some played) = Talks written taken phase played.pass
 
 -- the pass that is played by is one of its match
-abbrev pub IsPlayedOn : List Given → Option Played → Type 0
+abbrev pub IsPlayedOn : List Given → Option SessionAgent → Type 0
 IsPlayedOn cells None = Unit {0}
 IsPlayedOn cells (Some played) = IsOfCell cells played.game played.pass
 
@@ -301,7 +301,7 @@ news_at (first ∷ cells) zero pass pass' given below there reply is =
 news_at (first ∷ cells) (suc game) pass pass' given below there reply is =
     news_at cells game pass pass' given (omega (arith, below)) there reply is
 
-pub news_called : (inside old : Seated) (played : Played) (pass' : Passed) (given : Given)
+pub news_called : (inside old : Seated) (played : SessionAgent) (pass' : Passed) (given : Given)
     (result : Result Reply AllocError) → inside ≡ old → inside.played ≡ Some played → played.game < length inside.cells
     → given ≡ get_or inside.cells played.game given → IfOk result (λ reply. IsNews given played.pass reply pass')
     → OnErr result (pass' ≡ played.pass) →
@@ -340,7 +340,8 @@ news_answered written taken pass pass' (replies.No why) a is = absurd is
 -- ---- stops
 
 -- between two lines
-pub stopped_known : (written : List ℕ) (taken : List Line) (phase : Phase) (played : Option Played) (cause : Ending)
+pub stopped_known : (written : List ℕ) (taken : List Line) (phase : Phase) (played : Option SessionAgent)
+    (cause : Ending)
     → MayLeave cause → ((now : Phase) → TakesLines now → Ends cause now None [] []) → TakesLines phase →
     Known written taken phase played → Known written taken (stopped phase cause) played
 stopped_known written taken Fresh None cause leave ends takes k = record {
@@ -465,8 +466,9 @@ module _ (written text : List ℕ) (taken : List Line) where
       go (Leaves ended) stands = absurd stands
       go (Finished ended) stands = with_phase (Finished ended) (lacks_none ended) stands
 
-pub sent_known : {O : Type 0} (takes : O → List ℕ → Taken → O → Type 0) (written : List ℕ) (taken : List Line)
-    (played : Option Played) (old new : O) (phase next : Phase) (some : List ℕ) → Sends takes old phase some new next →
+pub sent_known : {O : Type 0} (takes : O → List ℕ → WriteAnswer → O → Type 0) (written : List ℕ) (taken : List Line)
+    (played : Option SessionAgent) (old new : O) (phase next : Phase) (some : List ℕ)
+    → Sends takes old phase some new next →
     Known written taken phase played → Known (written ++ some) taken next played
 sent_known takes written taken None old _ _ _ _ (goes_out text next new puts) k = out_alone written text taken next k
 sent_known takes written taken None old _ _ _ _ (is_cut text next new some) k =

@@ -11,7 +11,7 @@ use Rattle.bhs_wire.specs.declared.commands.First.TheVariants as firsts
 use Rattle.bhs_wire.specs.declared.denials.Denial.{Denial}
 use Rattle.bhs_wire.specs.declared.denials.Denial.TheVariants as denials
 use Rattle.bhs_wire.specs.Lines.{Line, said_by}
-use Rattle.bhs_stream.specs.Streams.{Chunk, Bytes, End, Fails, Taken}
+use Rattle.bhs_stream.specs.Streams.{Chunk, Bytes, End, Fails, WriteAnswer}
 use Rattle.bhs_lineup.specs.KeyTable.{Seat}
 use Rattle.bhs_lock.specs.declared.model.Receipt.{Receipt}
 use Rattle.bhs_lock.specs.Passes.{Passed}
@@ -21,14 +21,15 @@ use Rattle.bhs_lock.specs.Unclaimed.{IsFresh}
 use Rattle.bhs_session.specs.declared.endings.Ended.{Ended as Ending}
 use Rattle.bhs_session.specs.declared.endings.Ended.TheVariants as endings
 use Rattle.bhs_session.specs.declared.port.Entered.TheVariants as entered
-use Rattle.bhs_session.specs.Port.{Asked, Enters, Tells, News, Heard, LetIn, Answers, NoMemory}
+use Rattle.bhs_session.specs.Port.{PortRequest, Enters, Tells, News, PortAnswer, LetIn, Answers, NoMemory}
 use Rattle.bhs_session.specs.Phase.{Phase, Fresh, Ready, Awaits, Owes, Leaves, Finished, denied}
 use Rattle.bhs_session.specs.Texts.{denial_text, command_by, command_of}
 use Rattle.bhs_session.specs.Machine.{Asks, Denies, ask, hear}
-use Rattle.bhs_session.specs.Session.{Point, Step, Session, opens, reads, steps, asks, denies, awaits, sends, lacks}
+use Rattle.bhs_session.specs.Session.{Point, SessionStep, Session, opens, reads, steps, asks, denies, awaits, sends}
+use Rattle.bhs_session.specs.Session.{lacks}
 use Rattle.bhs_session.specs.Session.{tires, leaves, fresh, TakesLines, after_read, Serves}
 use Rattle.bhs_session.proofs.SessionLaws.{InOrder-session}
-use Rattle.bhs_server.specs.declared.ports.Played.{Played}
+use Rattle.bhs_server.specs.declared.ports.SessionAgent.{SessionAgent}
 use Rattle.bhs_server.specs.Ports.{Seated, IsOfCell, IsToldBy, Calls}
 use Rattle.bhs_server.specs.Exchanges.{session_text, receipts_in, kept_in}
 use Rattle.bhs_server.specs.Exchanges.{phase_from, AreInTurn}
@@ -82,12 +83,13 @@ finished_without written taken line pass a =
     k.heard tt tt
 
 -- a port by its parts
-abbrev seated : List Seat → List Given → Option Played → Seated
+abbrev seated : List Seat → List Given → Option SessionAgent → Seated
 seated keys cells played = record { keys = keys; cells = cells; played = played }
 
 module _ (written : List ℕ) (taken : List Line) (keys : List Seat) (cells : List Given) where
   -- the first line
-  first_heard : (line : Line) (key : List ℕ) (heard : Heard) (new : Seated) (says : said_by line ≡ firsts.Enter key) →
+  first_heard : (line : Line) (key : List ℕ) (heard : PortAnswer) (new : Seated) (says : said_by line
+      ≡ firsts.Enter key) →
       Calls (seated keys cells None) (Enters key) heard new → Alone written taken Fresh
       → Known written (taken ++ line ∷ []) (hear Fresh heard) new.played
   first_heard line key (LetIn entered.Key) new says called k =
@@ -111,7 +113,7 @@ module _ (written : List ℕ) (taken : List Line) (keys : List Seat) (cells : Li
   first_heard line key (Answers reply) new says called k = absurd called
 
   -- a later line
-  later_heard : (line : Line) (played : Played) (heard : Heard) (new : Seated) →
+  later_heard : (line : Line) (played : SessionAgent) (heard : PortAnswer) (new : Seated) →
       Calls (seated keys cells (Some played)) (Tells (command_of line)) heard new
       → Talks written taken Ready played.pass
       → Known written (taken ++ line ∷ []) (hear Ready heard) new.played
@@ -127,7 +129,7 @@ module _ (written : List ℕ) (taken : List Line) (keys : List Seat) (cells : Li
   later_heard line played (LetIn answer) new called k = absurd called
 
   -- news
-  news_heard : (played : Played) (heard : Heard) (new : Seated) →
+  news_heard : (played : SessionAgent) (heard : PortAnswer) (new : Seated) →
       Calls (seated keys cells (Some played)) News heard new → Talks written taken Awaits played.pass
       → Known written taken (hear Awaits heard) new.played
   news_heard played (Answers reply) new called k =
@@ -195,7 +197,7 @@ module _ (written : List ℕ) (taken : List Line) (keys : List Seat) (cells : Li
       (ap (λ (one : Passed). one.quota) is.gains) (ap (λ (one : Passed). one.receipts) is.gains)
       (ap (λ (one : Passed). one.commands) is.gains) (ap (λ (one : Passed). one.arrivals) is.gains)
 
-  leave_heard : (ended : Ending) (played : Played) (heard : Heard) (new : Seated) →
+  leave_heard : (ended : Ending) (played : SessionAgent) (heard : PortAnswer) (new : Seated) →
       Calls (seated keys cells (Some played)) (Tells commands.Leave) heard new
       → Talks written taken (Leaves ended) played.pass → Known written taken (Finished ended) new.played
   leave_heard ended played (Answers reply) new called k =
@@ -207,16 +209,18 @@ module _ (written : List ℕ) (taken : List Line) (keys : List Seat) (cells : Li
   leave_heard ended played (LetIn answer) new called k = absurd called
 
   -- a line
-  first_known : (line : Line) (asked : Asked) (heard : Heard) (new : Seated) (first : First) → said_by line ≡ first →
+  first_known : (line : Line) (asked : PortRequest) (heard : PortAnswer) (new : Seated) (first : First)
+      → said_by line ≡ first →
       ask Fresh first ≡ Asks asked → Calls (seated keys cells None) asked heard new → Alone written taken Fresh
       → Known written (taken ++ line ∷ []) (hear Fresh heard) new.played
   first_known line asked heard new (firsts.Enter key) says is called k =
       let same : asked ≡ Enters key = cc in
       first_heard line key heard new says
-      (subst (λ (one : Asked). Calls (seated keys cells None) one heard new) same called) k
+      (subst (λ (one : PortRequest). Calls (seated keys cells None) one heard new) same called) k
   first_known line asked heard new (firsts.Tell command) says is called k = absurd (cc)
 
-  asked_known : (phase : Phase) (played : Option Played) (line : Line) (asked : Asked) (heard : Heard) (new : Seated) →
+  asked_known : (phase : Phase) (played : Option SessionAgent) (line : Line) (asked : PortRequest) (heard : PortAnswer)
+      (new : Seated) →
       ask phase (said_by line) ≡ Asks asked → Calls (seated keys cells played) asked heard new →
       Known written taken phase played → Known written (taken ++ line ∷ []) (hear phase heard) new.played
   asked_known Fresh None line asked heard new is called k =
@@ -226,13 +230,13 @@ module _ (written : List ℕ) (taken : List Line) (keys : List Seat) (cells : Li
   asked_known Ready (Some played) line asked heard new is called k =
       let same : asked ≡ Tells (command_of line) = cc in
       later_heard line played heard new
-      (subst (λ (one : Asked). Calls (seated keys cells (Some played)) one heard new) same called) k
+      (subst (λ (one : PortRequest). Calls (seated keys cells (Some played)) one heard new) same called) k
   asked_known Awaits played line asked heard new is called k = absurd (cc)
   asked_known (Owes text next) played line asked heard new is called k = absurd (cc)
   asked_known (Leaves ended) played line asked heard new is called k = absurd (cc)
   asked_known (Finished ended) played line asked heard new is called k = absurd (cc)
 
-  denied_known : (phase : Phase) (played : Option Played) (line : Line) (denial : Denial) →
+  denied_known : (phase : Phase) (played : Option SessionAgent) (line : Line) (denial : Denial) →
       ask phase (said_by line) ≡ Denies denial → Known written taken phase played
       → Known written (taken ++ line ∷ []) (denied denial) played
   denied_known Fresh None line denial is k = denied_alone written taken (taken ++ line ∷ []) denial k
@@ -243,12 +247,13 @@ module _ (written : List ℕ) (taken : List Line) (keys : List Seat) (cells : Li
   denied_known (Leaves ended) played line denial is k = absurd (cc)
   denied_known (Finished ended) played line denial is k = absurd (cc)
 
-  news_known : (played : Option Played) (heard : Heard) (new : Seated) → Calls (seated keys cells played) News heard new
+  news_known : (played : Option SessionAgent) (heard : PortAnswer) (new : Seated)
+      → Calls (seated keys cells played) News heard new
       → Known written taken Awaits played → Known written taken (hear Awaits heard) new.played
   news_known None heard new called k = absurd k.stands
   news_known (Some played) heard new called k = news_heard played heard new called k
 
-  left_known : (ended : Ending) (played : Option Played) (heard : Heard) (new : Seated) →
+  left_known : (ended : Ending) (played : Option SessionAgent) (heard : PortAnswer) (new : Seated) →
       Calls (seated keys cells played) (Tells commands.Leave) heard new → Known written taken (Leaves ended) played
       → Known written taken (Finished ended) new.played
   left_known ended None heard new called k = absurd k.stands
@@ -256,11 +261,11 @@ module _ (written : List ℕ) (taken : List Line) (keys : List Seat) (cells : Li
 
 -- ---- sessions
 
-module _ {O : Type 0} (takes : O → List ℕ → Taken → O → Type 0) where
+module _ {O : Type 0} (takes : O → List ℕ → WriteAnswer → O → Type 0) where
   abbrev At : Point O Seated → Type 0
   At p = Known p.written p.taken p.phase p.port.played
 
-  step_known : (p q : Point O Seated) → Step takes Calls p q → At p → At q
+  step_known : (p q : Point O Seated) → SessionStep takes Calls p q → At p → At q
   step_known _ _ (asks p line asked heard new says next called) k =
       asked_known p.written p.taken p.port.keys p.port.cells p.phase p.port.played line asked heard new says called k
   step_known _ _ (denies p line denial says next) k =
@@ -355,7 +360,7 @@ stays_as : (cells : List Given) (new old : Seated) → new ≡ old → StaysOn c
 stays_as cells new old is stays = subst (StaysOn cells) (sym is) stays
 
 module _ (keys : List Seat) (cells : List Given) where
-  stays_after : (asked : Asked) (heard : Heard) (played : Option Played) (new : Seated) →
+  stays_after : (asked : PortRequest) (heard : PortAnswer) (played : Option SessionAgent) (new : Seated) →
       Calls (seated keys cells played) asked heard new → IsPlayedOn cells played → StaysOn cells new
   stays_after (Enters key) (LetIn entered.Key) played new called on =
       stays_as cells new (seated keys cells played) called.0 (record { same = refl; plays = on })
@@ -395,14 +400,15 @@ module _ (keys : List Seat) (cells : List Given) where
       stays_as cells new (seated keys cells played) called (record { same = refl; plays = on })
 
 -- of a port by itself
-stays_called : (cells : List Given) (asked : Asked) (heard : Heard) (old new : Seated) → Calls old asked heard new
+stays_called : (cells : List Given) (asked : PortRequest) (heard : PortAnswer) (old new : Seated)
+    → Calls old asked heard new
     → StaysOn cells old → StaysOn cells new
 stays_called cells asked heard old new called stays =
     let P : List Given → Type 0 = λ own. Calls (seated old.keys own old.played) asked heard new in
     stays_after old.keys cells asked heard old.played new (subst P stays.same called) stays.plays
 
-module _ {O : Type 0} (takes : O → List ℕ → Taken → O → Type 0) (cells : List Given) where
-  stays_step : (p q : Point O Seated) → Step takes Calls p q → StaysOn cells p.port → StaysOn cells q.port
+module _ {O : Type 0} (takes : O → List ℕ → WriteAnswer → O → Type 0) (cells : List Given) where
+  stays_step : (p q : Point O Seated) → SessionStep takes Calls p q → StaysOn cells p.port → StaysOn cells q.port
   stays_step _ _ (asks p line asked heard new says next called) on =
       stays_called cells asked heard p.port new called on
   stays_step _ _ (denies p line denial says next) on = on
@@ -428,7 +434,8 @@ module _ {O : Type 0} (takes : O → List ℕ → Taken → O → Type 0) (cells
   stays_session gives from start _ _ (steps input p q session step) on =
       stays_step p q step (stays_session gives from start input p session on)
 
-ended_known : (cells : List Given) (written : List ℕ) (taken : List Line) (ended : Ending) (played : Option Played)
+ended_known : (cells : List Given) (written : List ℕ) (taken : List Line) (ended : Ending)
+    (played : Option SessionAgent)
     → IsPlayedOn cells played → Known written taken (Finished ended) played
     → IsWrittenFor cells played (map command_of taken) written ended
 ended_known cells written taken ended None on k = record {
@@ -460,7 +467,7 @@ ended_known cells written taken ended (Some played) on k = (
 )
 
 -- what a session on a cell's port wrote, by the pass that it played by
-pub served_lemma : {I O : Type 0} (gives : I → Chunk → I → Type 0) (takes : O → List ℕ → Taken → O → Type 0)
+pub served_lemma : {I O : Type 0} (gives : I → Chunk → I → Type 0) (takes : O → List ℕ → WriteAnswer → O → Type 0)
     (keys : List Seat) (cells : List Given) (from input : I) (old output : O) (last : Seated) (turns : ℕ)
     (ended : Ending)
     (serves : Serves gives takes Calls from input old output (seated keys cells None) last turns (Finished ended)) →
@@ -479,9 +486,9 @@ served_lemma gives takes keys cells from input old output last turns ended serve
     }))
 
 -- the same of a port that begins as a new one
-pub attended_lemma : {I O : Type 0} (gives : I → Chunk → I → Type 0) (takes : O → List ℕ → Taken → O → Type 0)
+pub attended_lemma : {I O : Type 0} (gives : I → Chunk → I → Type 0) (takes : O → List ℕ → WriteAnswer → O → Type 0)
     (keys : List Seat) (cells : List Given) (from input : I) (old output : O) (first last : Seated) (turns : ℕ)
-    (played : Option Played) (ended : Ending) → first ≡ seated keys cells None → played ≡ last.played →
+    (played : Option SessionAgent) (ended : Ending) → first ≡ seated keys cells None → played ≡ last.played →
     Serves gives takes Calls from input old output first last turns (Finished ended)
     → IsAttended gives takes keys cells from input old output turns played ended
 attended_lemma gives takes keys cells from input old output first last turns played ended is plays serves =
@@ -493,7 +500,8 @@ attended_lemma gives takes keys cells from input old output first last turns pla
       last = last;
       plays = sym plays;
       serves = whole;
-      written = subst (λ (one : Option Played). IsWrittenFor cells one (map command_of whole.taken) whole.written ended)
+      written = subst (λ (one : Option SessionAgent). IsWrittenFor cells one
+          (map command_of whole.taken) whole.written ended)
           (sym plays) (served_lemma gives takes keys cells from input old output last turns ended whole);
       more = order.0;
       in_order = order.1;

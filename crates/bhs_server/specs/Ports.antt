@@ -6,19 +6,19 @@ use Rattle.bhs_model.specs.declared.replies.Reply.{Reply}
 use Rattle.bhs_model.specs.declared.replies.Reply.TheVariants.{Over, No}
 use Rattle.bhs_model.specs.declared.replies.Why.TheVariants.{Agent}
 use Rattle.bhs_session.specs.declared.port.Entered.TheVariants.{Key, Taken, In}
-use Rattle.bhs_session.specs.Port.{Asked, Enters, Tells, News, Heard, LetIn, Answers, NoMemory}
+use Rattle.bhs_session.specs.Port.{PortRequest, Enters, Tells, News, PortAnswer, LetIn, Answers, NoMemory}
 use Rattle.bhs_lineup.specs.KeyTable.{Seat, seat_at}
 use Rattle.bhs_lock.specs.Passes.{Passed}
 use Rattle.bhs_lock.specs.Unclaimed.{IsFresh}
 use Rattle.bhs_lock.specs.Recording.{IsSubmitted}
 use Rattle.bhs_lock.specs.Cells.{Given, IsNews}
-use Rattle.bhs_server.specs.declared.ports.Played.{Played}
+use Rattle.bhs_server.specs.declared.ports.SessionAgent.{SessionAgent}
 
 -- the keys, the matches as they were given, and the agent that is played, once there is one
 pub record Seated : Type 0 where
   pub keys : List Seat
   pub cells : List Given
-  pub played : Option Played
+  pub played : Option SessionAgent
 
 -- the key lets in no agent, or one of no match
 abbrev pub IsUnknown : (keys : List Seat) → (games : ℕ) → (key : List ℕ) → Type 0
@@ -82,15 +82,15 @@ IsNewsIn cells game pass reply pass' = IsNewsBy (slice_get cells game) where
   IsNewsBy (Some given) = IsNews given pass reply pass'
 
 -- the agent's pass comes from one to the other; without an agent the match is over, and nothing changes
-abbrev pub Plays : (Played → Reply → Passed → Type 0) → (old : Seated) → Reply → (new : Seated) → Type 0
+abbrev pub Plays : (SessionAgent → Reply → Passed → Type 0) → (old : Seated) → Reply → (new : Seated) → Type 0
 Plays does old reply new = PlaysBy old.played where
-  PlaysBy : Option Played → Type 0
+  PlaysBy : Option SessionAgent → Type 0
   PlaysBy None = (reply ≡ Over) × (new ≡ old)
   PlaysBy (Some played) =
       (pass : Passed) × does played reply pass × (new ≡ record old { played = Some (record played { pass = pass }) })
 
 -- What a port is asked and answers. What is not listed never comes.
-abbrev pub Calls : Seated → Asked → Heard → Seated → Type 0
+abbrev pub Calls : Seated → PortRequest → PortAnswer → Seated → Type 0
 Calls old (Enters key) (LetIn Key) new = (new ≡ old) × IsUnknown old.keys (length old.cells) key
 Calls old (Enters key) (LetIn Taken) new =
     (new ≡ old) × ((game : ℕ) × ((agent : ℕ) × IsKeyOf old.keys (length old.cells) key game agent))

@@ -11,12 +11,12 @@ use Rattle.bhs_session.specs.declared.endings.Ended.{Ended}
 use Rattle.bhs_session.specs.declared.endings.Ended.TheVariants as endings
 use Rattle.bhs_lineup.specs.KeyTable.{Seat}
 use Rattle.bhs_wire.specs.Lines.{Line, lines}
-use Rattle.bhs_stream.specs.Streams.{Chunk, Taken}
+use Rattle.bhs_stream.specs.Streams.{Chunk, WriteAnswer}
 use Rattle.bhs_session.specs.Texts.{text_of, command_of}
 use Rattle.bhs_session.specs.Phase.{Phase, Fresh, Finished}
 use Rattle.bhs_session.specs.Session.{TakesLines, Serves}
 use Rattle.bhs_session.specs.Answering.{IsLastLine, MayLack}
-use Rattle.bhs_server.specs.declared.ports.Played.{Played}
+use Rattle.bhs_server.specs.declared.ports.SessionAgent.{SessionAgent}
 use Rattle.bhs_server.specs.Ports.{Calls, Seated, IsOfCell}
 use Rattle.bhs_server.specs.Exchanges.{Exchange, session_text, commands_in, receipts_in, kept_in, arrivals_in}
 use Rattle.bhs_server.specs.Exchanges.{phase_from, AreInTurn}
@@ -73,7 +73,7 @@ pub record IsOutside (written : List ℕ) (ended : Ended) : Type 0 where
   pub heard : written ++ unwritten ≡ last
   pub is_unwritten : MayLack ended unwritten
 
-abbrev pub IsWrittenFor : List Given → Option Played → List Command → (written : List ℕ) → Ended → Type 0
+abbrev pub IsWrittenFor : List Given → Option SessionAgent → List Command → (written : List ℕ) → Ended → Type 0
 IsWrittenFor cells (Some played) commands written ended =
     IsOfCell cells played.game played.pass × IsWrittenBy played.pass commands written ended
 IsWrittenFor cells None commands written ended = IsOutside written ended
@@ -87,9 +87,9 @@ is_between ended = false
 
 -- What `attend` makes of a reader and a writer: a session, by the port's calls, and what it wrote by the pass that
 -- comes back.
-pub record IsAttended {I O : Type 0} (gives : I → Chunk → I → Type 0) (takes : O → List ℕ → Taken → O → Type 0)
+pub record IsAttended {I O : Type 0} (gives : I → Chunk → I → Type 0) (takes : O → List ℕ → WriteAnswer → O → Type 0)
     (keys : List Seat) (cells : List Given) (input_old input_new : I) (output_old output_new : O) (turns : ℕ)
-    (played : Option Played) (ended : Ended) : Type 0 where
+    (played : Option SessionAgent) (ended : Ended) : Type 0 where
   pub last : Seated
   pub plays : last.played ≡ played
   pub serves : Serves gives takes Calls input_old input_new output_old output_new

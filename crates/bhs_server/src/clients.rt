@@ -23,7 +23,7 @@ const OUTSIDE: usize = 512;
 
 // A client whose agent has entered.
 #[derive(Drop)]
-struct Entrant {
+struct EnteredClient {
     session: u32,
     socket: Arc<TcpStream, Global>,
 }
@@ -36,7 +36,7 @@ pub(crate) struct Clients {
     /// The socket of each, at the same place.
     sockets: Vec<Arc<TcpStream, Global>>,
     /// Those whose agents have entered.
-    entrants: Vec<Entrant>,
+    entrants: Vec<EnteredClient>,
     /// The addresses from which agents have entered.
     origins: Vec<Origin>,
     /// How many agents may have entered at most.
@@ -177,7 +177,7 @@ impl Clients {
         }
         let origin = self.known.remove(place).origin;
         let socket = self.sockets.remove(place);
-        let _ = self.entrants.push(Entrant { session, socket });
+        let _ = self.entrants.push(EnteredClient { session, socket });
         if !self.origins.iter().any(|one| *one == origin) {
             let _ = self.origins.push(origin);
         }

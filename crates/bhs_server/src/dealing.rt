@@ -3,7 +3,7 @@
 ghost use Rattle.std.specs.Prelude.{ℕ, ◌≡◌, ◌<◌, ◌-◌, ◌^◌, IsTrue, false};
 ghost use Rattle.bhs_server.specs.Dealing.{moved_by, MayClose};
 
-use crate::pacing::{Pace, Step};
+use crate::pacing::{Pace, PaceStep};
 use bhs_deal::Dealer;
 use bhs_lock::Cell;
 use std::sync::Wait;
@@ -42,8 +42,8 @@ pub fn deal<R: Wait, P: Pace>(
     dealer: &mut Dealer,
 ) -> u32
     ensures words { dealer.new ≡ moved_by result dealer.old }
-    ensures paced { (turn : ℕ) → turn < result → P.says pace.now game turn Step.Turn }
-    ensures closes { MayClose (P.says pace.now game result Step.Close) early cell.now result }
+    ensures paced { (turn : ℕ) → turn < result → P.says pace.now game turn PaceStep.Turn }
+    ensures closes { MayClose (P.says pace.now game result PaceStep.Close) early cell.now result }
 {
     let mut turns = 0;
     while goes_on(rt, pace, early, game, cell, turns) {
@@ -63,15 +63,15 @@ fn goes_on<R: Wait, P: Pace>(
     cell: &Cell,
     turns: u32,
 ) -> bool
-    ensures paced { IsTrue result → P.says pace.now game turns Step.Turn }
+    ensures paced { IsTrue result → P.says pace.now game turns PaceStep.Turn }
     ensures more { IsTrue result → turns < 2 ^ 32 - 1 }
-    ensures closes { result ≡ false → MayClose (P.says pace.now game turns Step.Close) early cell.now turns }
+    ensures closes { result ≡ false → MayClose (P.says pace.now game turns PaceStep.Close) early cell.now turns }
 {
     if turns == u32::MAX || (early && cell.is_decided(rt)) {
         return false;
     }
     match pace.next(game, turns) {
-        Step::Turn => true,
-        Step::Close => false,
+        PaceStep::Turn => true,
+        PaceStep::Close => false,
     }
 }

@@ -19,7 +19,7 @@ const EVERY: u64 = 500;
 
 // What is still going on in a contest.
 #[derive(Drop)]
-struct Going {
+struct ContestProgress {
     /// How many matches are open.
     open: usize,
     /// How many sessions whose agents enter are waited for once all matches are closed: those that have ended are not.
@@ -34,7 +34,7 @@ struct Going {
 /// What the threads of a contest share to end it.
 #[derive(Drop)]
 pub(crate) struct Ending {
-    going: Mutex<Going>,
+    going: Mutex<ContestProgress>,
     changed: Condvar,
     is_over: AtomicBool,
 }
@@ -48,7 +48,7 @@ impl Ending {
         most: u32,
     ) -> Result<Ending, Memory> {
         Ok(Ending {
-            going: Mutex::new(Going {
+            going: Mutex::new(ContestProgress {
                 open: matches,
                 awaited,
                 is_over: false,

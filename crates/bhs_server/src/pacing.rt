@@ -1,11 +1,11 @@
 //! When the turns of a match come.
 
 ghost use Rattle.std.specs.Prelude.{ℕ};
-ghost use Rattle.bhs_server.specs.declared.pacing.Step.{Step as DealerStep};
+ghost use Rattle.bhs_server.specs.declared.pacing.PaceStep.{PaceStep as DealerStep};
 
 /// What a match's dealer does next.
 #[derive(Clone, Copy, Debug, PartialEq, Eq)]
-pub enum Step {
+pub enum PaceStep {
     /// It takes a turn: draws with its next word.
     Turn,
     /// It closes the match.
@@ -18,7 +18,7 @@ pub trait Pace {
     ghost says: { Self → ℕ → ℕ → DealerStep → Type 0 };
 
     /// What the dealer of match `game` does after this number of turns.
-    fn next(&self, game: u32, turn: u32) -> Step
+    fn next(&self, game: u32, turn: u32) -> PaceStep
         ensures { says self.now game turn result };
 
     /// Whether match `game` still waits for its agents to enter, before its turns begin.

@@ -15,7 +15,7 @@ use std::sync::Wait;
 
 /// The agent that a session plays: the number of its match, and its pass.
 #[derive(Debug, Drop)]
-pub struct Played {
+pub struct SessionAgent {
     pub game: u32,
     pub pass: Pass,
 }
@@ -28,7 +28,7 @@ pub struct CellPort<'a, R, G, H> {
     hooks: &'a H,
     cells: &'a [Cell],
     keys: &'a Keys,
-    played: Option<Played>,
+    played: Option<SessionAgent>,
 }
 
 // Contracts see a port as the keys, the matches as they were given, and the agent that is played, once there is one.
@@ -62,7 +62,7 @@ impl<'a, R: Wait, G: Gate, H: SessionHooks> CellPort<'a, R, G, H> {
     }
 
     /// The agent that was played, if one has entered.
-    pub fn into_played(self) -> Option<Played>
+    pub fn into_played(self) -> Option<SessionAgent>
         ensures { result ≡ self.entry.played }
     {
         let CellPort {
@@ -105,14 +105,14 @@ impl<R: Wait, G: Gate, H: SessionHooks> Port for CellPort<'_, R, G, H> {
         self.hooks.let_in(game, agent);
         // The proof needs that each receipt has its command.
         let _paired = pass.receipts();
-        let mut played = Played { game, pass };
+        let mut played = SessionAgent { game, pass };
         let answer = cell.submit(self.rt, self.gate, &mut played.pass, Command::Enter);
         self.played = Some(played);
         Ok(Entered::In(agreed(answer?.reply)))
     }
 
     fn tell(&mut self, command: Command) -> Result<Reply, Memory> {
-        let Some(Played { game, pass }) = &mut self.played else {
+        let Some(SessionAgent { game, pass }) = &mut self.played else {
             return Ok(Reply::Over);
         };
         let Some(cell) = self.cells.get(*game as usize) else {
@@ -128,7 +128,7 @@ impl<R: Wait, G: Gate, H: SessionHooks> Port for CellPort<'_, R, G, H> {
     }
 
     fn news(&mut self) -> Result<Reply, Memory> {
-        let Some(Played { game, pass }) = &mut self.played else {
+        let Some(SessionAgent { game, pass }) = &mut self.played else {
             return Ok(Reply::Over);
         };
         let Some(cell) = self.cells.get(*game as usize) else {

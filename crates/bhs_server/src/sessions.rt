@@ -1,6 +1,6 @@
 //! The sessions of a contest: those whose agents were let in.
 
-use crate::ports::Played;
+use crate::ports::SessionAgent;
 use bhs_net::Memory;
 use bhs_session::Ended;
 use std::alloc::Global;
@@ -10,7 +10,7 @@ use std::sync::{Mutex, Wait};
 #[derive(Debug, Drop)]
 pub(crate) struct Session {
     pub(crate) ended: Ended,
-    pub(crate) played: Played,
+    pub(crate) played: SessionAgent,
 }
 
 /// The sessions that have ended, in the order of their ends.

@@ -3,7 +3,7 @@
 ghost use Rattle.std.specs.Prelude.{◌≡◌, IfOk, MatchOption, length, map, option_map, slice_get, vec_len};
 ghost use Rattle.bhs_server.specs.Settling.{HasFared, HaveFared, IsAstray, IsTimely, at_start};
 
-use crate::ports::Played;
+use crate::ports::SessionAgent;
 use crate::sessions::Session;
 use bhs_deal::{Dealer, Schedule, Untimely, first_untimely};
 use bhs_lock::{Cell, Pass, Settlement, settle};
@@ -56,8 +56,8 @@ pub(crate) fn by_match(
 }
 
 // Lays a pass to those of its match.
-fn hand_in(passes: &mut Vec<Vec<Pass>>, played: Played) -> Result<(), Memory> {
-    let Played { game, pass } = played;
+fn hand_in(passes: &mut Vec<Vec<Pass>>, played: SessionAgent) -> Result<(), Memory> {
+    let SessionAgent { game, pass } = played;
     if let Some(own) = passes.get_mut(game as usize) {
         own.push(pass)?;
     }

@@ -3,7 +3,7 @@
 ghost use Rattle.bhs_server.specs.Written.{IsAttended};
 
 use crate::connections::SessionHooks;
-use crate::ports::{CellPort, Played};
+use crate::ports::{CellPort, SessionAgent};
 use bhs_lineup::Keys;
 use bhs_lock::{Cell, Gate};
 use bhs_session::{Ended, serve};
@@ -16,9 +16,9 @@ pub const TURNS: u32 = 16_777_216;
 
 /// A session that has ended: how, and the agent that it played, if it was let in.
 #[derive(Debug, Drop)]
-pub struct Visit {
+pub struct EndedSession {
     pub ended: Ended,
-    pub played: Option<Played>,
+    pub played: Option<SessionAgent>,
 }
 
 /// Serves one client to its end, on the match of the agent that its key lets in. Meanwhile `hooks` are called.
@@ -31,13 +31,13 @@ pub fn attend<I: Input, O: Output, H: SessionHooks, R: Wait, G: Gate>(
     cells: &[Cell],
     keys: &Keys,
     gate: &G,
-) -> Visit
+) -> EndedSession
     ensures { IsAttended I.gives O.takes keys.now cells.now reader.old reader.new writer.old writer.new TURNS
         result.played result.ended }
 {
     let mut port = CellPort::new(rt, gate, hooks, cells, keys);
     let ended = serve(alloc, reader, writer, &mut port, TURNS);
-    Visit {
+    EndedSession {
         ended,
         played: port.into_played(),
     }

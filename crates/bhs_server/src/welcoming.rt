@@ -4,7 +4,7 @@ use crate::connections::{Connection, Guest, Incoming};
 use crate::ending::Ending;
 use crate::sessions::{Session, Sessions};
 use crate::unserved::{Unserved, turn_away};
-use crate::visits::{Visit, attend};
+use crate::visits::{EndedSession, attend};
 use crate::watching::{Outside, Watch};
 use bhs_lineup::Keys;
 use bhs_lock::{Cell, Gate};
@@ -61,8 +61,8 @@ impl<R: Wait + Clock, G: Gate, W: Watch> Reception<'_, R, G, W> {
     }
 
     // Ends the session of a visit.
-    fn part(&self, session: u32, connection: &Connection, visit: Visit) {
-        let Visit { ended, played } = visit;
+    fn part(&self, session: u32, connection: &Connection, visit: EndedSession) {
+        let EndedSession { ended, played } = visit;
         let denial = connection.denial();
         if denial.is_some() {
             // it counts no more once it knows that it is denied

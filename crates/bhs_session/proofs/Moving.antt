@@ -2,33 +2,36 @@
 use Rattle.std.proofs.Common.{◌≡◌, ℕ, ◌<◌, Bool, true, false, List, [], ◌∷◌, ◌++◌, length, Ok, Err, IfErr, sym, ap}
 use Rattle.std.proofs.Common.{subst, append_assoc, append-nil, arith, length-append}
 use Rattle.std.specs.declared.result.Result.{Result}
-use Rattle.bhs_stream.specs.Streams.{Taken}
+use Rattle.bhs_stream.specs.Streams.{WriteAnswer}
 use Rattle.bhs_model.specs.declared.replies.Reply.{Reply}
 use Rattle.bhs_wire.specs.Lines.{Line}
 use Rattle.bhs_session.specs.declared.endings.Ended.{Ended}
 use Rattle.bhs_session.specs.declared.endings.Stop.{Stop}
 use Rattle.bhs_session.specs.declared.endings.Stop.TheVariants as stops
-use Rattle.bhs_session.specs.Port.{Asked, Heard}
+use Rattle.bhs_session.specs.Port.{PortRequest, PortAnswer}
 use Rattle.bhs_session.specs.Phase.{Phase, Ready, Owes, answered_by, waiting, reached, phase_of, stopped, between}
 use Rattle.bhs_session.specs.Texts.{text_of}
-use Rattle.bhs_session.specs.Session.{Point, Step, Talk, begins, goes_on, sends, TakesLines, IsNext}
+use Rattle.bhs_session.specs.Session.{Point, SessionStep, Talk, begins, goes_on, sends, TakesLines, IsNext}
 use Rattle.bhs_session.specs.Moves.{Moves, Ends, StopsAtLines, IsCauseOfLines}
 use Rattle.bhs_session.proofs.Writing.{Wrote, waiting-false}
 
-pub Talk-trans : {O P : Type 0} {takes : O → List ℕ → Taken → O → Type 0} {calls : P → Asked → Heard → P → Type 0}
+pub Talk-trans : {O P : Type 0} {takes : O → List ℕ → WriteAnswer → O → Type 0} {calls : P → PortRequest → PortAnswer
+    → P → Type 0}
     {p q r : Point O P} → Talk takes calls p q → Talk takes calls q r → Talk takes calls p r
 Talk-trans a begins = a
 Talk-trans a (goes_on q r b step) = goes_on q r (Talk-trans a b) step
 
-pub Talk-step : {O P : Type 0} {takes : O → List ℕ → Taken → O → Type 0} {calls : P → Asked → Heard → P → Type 0}
-    {p q : Point O P} → Step takes calls p q → Talk takes calls p q
+pub Talk-step : {O P : Type 0} {takes : O → List ℕ → WriteAnswer → O → Type 0} {calls : P → PortRequest → PortAnswer → P
+    → Type 0}
+    {p q : Point O P} → SessionStep takes calls p q → Talk takes calls p q
 Talk-step {p = p} {q = q} step = goes_on p q begins step
 
-module _ {O P : Type 0} (takes : O → List ℕ → Taken → O → Type 0) (calls : P → Asked → Heard → P → Type 0)
+module _ {O P : Type 0} (takes : O → List ℕ → WriteAnswer → O → Type 0) (calls : P → PortRequest → PortAnswer → P
+    → Type 0)
     (p : Point O P) where
   -- a step that writes nothing
   pub Moves-step : (port : P) (taken : List Line) (phase : Phase)
-      → Step takes calls p (record p { port = port; taken = taken; phase = phase })
+      → SessionStep takes calls p (record p { port = port; taken = taken; phase = phase })
       → Moves takes calls p p.output port taken phase
   Moves-step port taken phase step = record {
     more = [];
@@ -84,7 +87,8 @@ module _ {O P : Type 0} (takes : O → List ℕ → Taken → O → Type 0) (cal
       (second.0, (second.1.0, Moves-trans b c port1 port2 taken1 second.1.0 phase1 (phase_of stop) first second.1.1))
 
 -- the line of an answer that is not the news of another
-module _ {O P T : Type 0} (takes : O → List ℕ → Taken → O → Type 0) (calls : P → Asked → Heard → P → Type 0) (b : O)
+module _ {O P T : Type 0} (takes : O → List ℕ → WriteAnswer → O → Type 0) (calls : P → PortRequest → PortAnswer → P
+    → Type 0) (b : O)
     (p : Point O P) (reply : Reply) where
   pub Ends-news : (result : Result T Stop) → p.phase ≡ Owes (text_of reply) (answered_by false reply)
       → Wrote takes p.output b (Owes (text_of reply) (answered_by false reply)) (reached (waiting false reply) result)
@@ -104,9 +108,10 @@ module _ {O P T : Type 0} (takes : O → List ℕ → Taken → O → Type 0) (c
   )
 
 -- a step that writes nothing, and then what is written
-module _ {O P T : Type 0} (takes : O → List ℕ → Taken → O → Type 0) (calls : P → Asked → Heard → P → Type 0) (b : O)
+module _ {O P T : Type 0} (takes : O → List ℕ → WriteAnswer → O → Type 0) (calls : P → PortRequest → PortAnswer → P
+    → Type 0) (b : O)
     (p : Point O P) (port : P) (taken : List Line) (phase : Phase)
-    (step : Step takes calls p (record p { port = port; taken = taken; phase = phase })) where
+    (step : SessionStep takes calls p (record p { port = port; taken = taken; phase = phase })) where
   pub Ends-step : (next : T → Phase) (port2 : P) (taken2 : List Line) (result : Result T Stop)
       → ((written : List ℕ) → Ends takes calls
       (record p { port = port; taken = taken; written = written; phase = phase }) b port2 taken2 next result)
@@ -117,9 +122,10 @@ module _ {O P T : Type 0} (takes : O → List ℕ → Taken → O → Type 0) (c
       (second (p.written ++ first.more))
 
 -- the same, where the text is the last thing that is written
-module _ {O P : Type 0} (takes : O → List ℕ → Taken → O → Type 0) (calls : P → Asked → Heard → P → Type 0) (b : O)
+module _ {O P : Type 0} (takes : O → List ℕ → WriteAnswer → O → Type 0) (calls : P → PortRequest → PortAnswer → P
+    → Type 0) (b : O)
     (p : Point O P) (port : P) (taken : List Line) (phase : Phase)
-    (step : Step takes calls p (record p { port = port; taken = taken; phase = phase })) where
+    (step : SessionStep takes calls p (record p { port = port; taken = taken; phase = phase })) where
   pub Stops-step : (stop : Stop) → Wrote takes p.output b phase (phase_of stop)
       → Moves takes calls p b port taken (phase_of stop)
   Stops-step stop wrote =

@@ -1,12 +1,12 @@
 -- A whole session, read by read.
 use Rattle.std.proofs.Common.{◌≡◌, ℕ, ◌-◌, ◌<◌, Bool, List, ◌++◌, refl, arith, length-append}
-use Rattle.bhs_stream.specs.Streams.{Chunk, Bytes, End, Fails, Taken}
+use Rattle.bhs_stream.specs.Streams.{Chunk, Bytes, End, Fails, WriteAnswer}
 use Rattle.bhs_stream.specs.Reading.{IsPiece}
 use Rattle.bhs_model.specs.declared.commands.Command.TheVariants as commands
 use Rattle.bhs_wire.specs.Lines.{Line, lines}
 use Rattle.bhs_session.specs.declared.endings.Ended.{Ended}
 use Rattle.bhs_session.specs.declared.endings.Ended.TheVariants as endings
-use Rattle.bhs_session.specs.Port.{Asked, Tells, Heard}
+use Rattle.bhs_session.specs.Port.{PortRequest, Tells, PortAnswer}
 use Rattle.bhs_session.specs.Phase.{Phase, Leaves, Finished, between, stopped}
 use Rattle.bhs_session.specs.Session.{Point, Session, Talk, Serves, begins, goes_on, reads, steps, lacks, tires, leaves}
 use Rattle.bhs_session.specs.Session.{fresh, IsChunk, after_read}
@@ -27,15 +27,16 @@ waits output port left read written has_entered =
       phase = between has_entered;
     }
 
-pub Session-talks : {I O P : Type 0} (gives : I → Chunk → I → Type 0) (takes : O → List ℕ → Taken → O → Type 0)
-    (calls : P → Asked → Heard → P → Type 0) (from input : I) (start p q : Point O P)
+pub Session-talks : {I O P : Type 0} (gives : I → Chunk → I → Type 0) (takes : O → List ℕ → WriteAnswer → O → Type 0)
+    (calls : P → PortRequest → PortAnswer → P → Type 0) (from input : I) (start p q : Point O P)
     → Session gives takes calls from start input p → Talk takes calls p q → Session gives takes calls from start input q
 Session-talks gives takes calls from input start p q session begins = session
 Session-talks gives takes calls from input start p q session (goes_on r s talk step) =
     steps input r s (Session-talks gives takes calls from input start p r session talk) step
 
-module _ {I O P : Type 0} (gives : I → Chunk → I → Type 0) (takes : O → List ℕ → Taken → O → Type 0)
-    (calls : P → Asked → Heard → P → Type 0) (from input next : I) (old output : O) (first port : P) (turns left : ℕ)
+module _ {I O P : Type 0} (gives : I → Chunk → I → Type 0) (takes : O → List ℕ → WriteAnswer → O → Type 0)
+    (calls : P → PortRequest → PortAnswer → P
+    → Type 0) (from input next : I) (old output : O) (first port : P) (turns left : ℕ)
     (read written : List ℕ) (has_entered : Bool)
     (session : Session gives takes calls from (fresh old first turns) input
     (waits output port left read written has_entered)) where
@@ -136,9 +137,10 @@ module _ {I O P : Type 0} (gives : I → Chunk → I → Type 0) (takes : O → 
   )
 
 -- the agent leaves
-pub Serves-leaves : {I O P : Type 0} (gives : I → Chunk → I → Type 0) (takes : O → List ℕ → Taken → O → Type 0)
-    (calls : P → Asked → Heard → P → Type 0) (from input : I) (old output : O) (first port new : P) (turns : ℕ)
-    (ended : Ended) (heard : Heard)
+pub Serves-leaves : {I O P : Type 0} (gives : I → Chunk → I → Type 0) (takes : O → List ℕ → WriteAnswer → O → Type 0)
+    (calls : P → PortRequest → PortAnswer → P
+    → Type 0) (from input : I) (old output : O) (first port new : P) (turns : ℕ)
+    (ended : Ended) (heard : PortAnswer)
     → Serves gives takes calls from input old output first port turns (Leaves ended)
     → calls port (Tells commands.Leave) heard new → Serves gives takes calls from input old output first new turns
     (Finished ended)

@@ -3,12 +3,13 @@ use Rattle.std.proofs.Common.{◌≡◌, ◌∙◌, ℕ, List, [], ◌∷◌, �
 use Rattle.std.proofs.Common.{inr, ◌⊎◌}
 use Rattle.bhs_wire.specs.Lines.{Line, lines, found_in, held_of}
 use Rattle.bhs_wire.proofs.StreamLaws.{lines-append}
-use Rattle.bhs_stream.specs.Streams.{Chunk, Bytes, End, Fails, Taken}
+use Rattle.bhs_stream.specs.Streams.{Chunk, Bytes, End, Fails, WriteAnswer}
 use Rattle.bhs_session.specs.declared.endings.Ended.{Ended}
 use Rattle.bhs_session.specs.declared.endings.Ended.TheVariants as endings
-use Rattle.bhs_session.specs.Port.{Asked, Heard}
+use Rattle.bhs_session.specs.Port.{PortRequest, PortAnswer}
 use Rattle.bhs_session.specs.Phase.{Phase, Fresh, Finished, Sends, stopped}
-use Rattle.bhs_session.specs.Session.{Point, Step, Session, opens, reads, steps, asks, denies, awaits, sends, lacks}
+use Rattle.bhs_session.specs.Session.{Point, SessionStep, Session, opens, reads, steps, asks, denies, awaits, sends}
+use Rattle.bhs_session.specs.Session.{lacks}
 use Rattle.bhs_session.specs.Session.{tires, leaves, fresh, IsNext, TakesLines, after_read}
 use Rattle.bhs_session.proofs.Moving.{IsNext-some}
 
@@ -22,8 +23,9 @@ InOrder-next : (read : List ℕ) (taken : List Line) (line : Line) → IsNext re
     × (lines read ≡ (taken ++ line ∷ []) ++ left)
 InOrder-next read taken line next = (next.0, next.1 ∙ sym (append_assoc taken (line ∷ []) next.0))
 
-InOrder-step : {O P : Type 0} {takes : O → List ℕ → Taken → O → Type 0} {calls : P → Asked → Heard → P → Type 0}
-    {p q : Point O P} → Step takes calls p q → InOrder p → InOrder q
+InOrder-step : {O P : Type 0} {takes : O → List ℕ → WriteAnswer → O → Type 0} {calls : P → PortRequest → PortAnswer → P
+    → Type 0}
+    {p q : Point O P} → SessionStep takes calls p q → InOrder p → InOrder q
 InOrder-step (asks p line asked heard port says next called) h = InOrder-next p.read p.taken line next
 InOrder-step (denies p line denial says next) h = InOrder-next p.read p.taken line next
 InOrder-step (awaits p heard port at called) h = h
@@ -42,8 +44,8 @@ InOrder-read p (Bytes piece) all h = (
 InOrder-read p End all h = h
 InOrder-read p Fails all h = h
 
-pub InOrder-session : {I O P : Type 0} {gives : I → Chunk → I → Type 0} {takes : O → List ℕ → Taken → O → Type 0}
-    {calls : P → Asked → Heard → P → Type 0} {from : I} {start : Point O P} {input : I} {q : Point O P}
+pub InOrder-session : {I O P : Type 0} {gives : I → Chunk → I → Type 0} {takes : O → List ℕ → WriteAnswer → O → Type 0}
+    {calls : P → PortRequest → PortAnswer → P → Type 0} {from : I} {start : Point O P} {input : I} {q : Point O P}
     → Session gives takes calls from start input q → InOrder start → InOrder q
 InOrder-session opens h = h
 InOrder-session (reads input next p chunk session takes all more is_chunk given) h =
@@ -66,7 +68,8 @@ no_line : (read : List ℕ) (taken : List Line) (line : Line) → read ≡ [] �
 no_line read taken line empty next = let none = ap length empty in let some = IsNext-some read taken line next in
     omega (arith, none, some)
 
-owes_no_text : {O : Type 0} {takes : O → List ℕ → Taken → O → Type 0} (a b : O) (phase next : Phase) (bytes : List ℕ)
+owes_no_text : {O : Type 0} {takes : O → List ℕ → WriteAnswer → O
+    → Type 0} (a b : O) (phase next : Phase) (bytes : List ℕ)
     → (phase ≡ Fresh) ⊎ (phase ≡ Finished endings.Turns) → Sends takes a phase bytes b next → ⊥
 owes_no_text {takes = takes} a b phase next bytes (inl e) sent =
     elim (subst (λ (q : Phase). Sends takes a q bytes b next) e sent) [ ]
@@ -78,8 +81,10 @@ ends_by_turns : (phase : Phase) (cause : Ended) → (phase ≡ Fresh) ⊎ (phase
 ends_by_turns phase cause (inl e) takes is = ap (λ (q : Phase). stopped q cause) e ∙ ap Finished is
 ends_by_turns phase cause (inr e) takes is = absurd (subst TakesLines e takes)
 
-Idle-step : {I O P : Type 0} {takes : O → List ℕ → Taken → O → Type 0} {calls : P → Asked → Heard → P → Type 0}
-    {from input : I} {output : O} {start : P} {p q : Point O P} → Step takes calls p q → Idle from output start input p
+Idle-step : {I O P : Type 0} {takes : O → List ℕ → WriteAnswer → O → Type 0} {calls : P → PortRequest → PortAnswer → P
+    → Type 0}
+    {from input : I} {output : O} {start : P} {p q : Point O P} → SessionStep takes calls p q
+    → Idle from output start input p
     → Idle from output start input q
 Idle-step (asks p line asked heard port says next called) h = absurd (no_line p.read p.taken line h.read next)
 Idle-step (denies p line denial says next) h = absurd (no_line p.read p.taken line h.read next)
@@ -98,8 +103,8 @@ Idle-step (tires p takes all none) h =
     }
 Idle-step (leaves p ended heard port at called) h = elim h.phase [ inl e ↦ absurd (cc) | inr e ↦ absurd (cc) ]
 
-Idle-session : {I O P : Type 0} {gives : I → Chunk → I → Type 0} {takes : O → List ℕ → Taken → O → Type 0}
-    {calls : P → Asked → Heard → P → Type 0} {from : I} {output : O} {start : P} {s : Point O P}
+Idle-session : {I O P : Type 0} {gives : I → Chunk → I → Type 0} {takes : O → List ℕ → WriteAnswer → O → Type 0}
+    {calls : P → PortRequest → PortAnswer → P → Type 0} {from : I} {output : O} {start : P} {s : Point O P}
     {input : I} {q : Point O P}
     → Session gives takes calls from s input q → Idle from output start from s → Idle from output start input q
 Idle-session opens h = h
@@ -112,8 +117,9 @@ turns_alone : (phase : Phase) (ended : Ended) → (phase ≡ Fresh) ⊎ (phase �
 turns_alone phase ended (inl e) is = absurd (cc)
 turns_alone phase ended (inr e) is = cc
 
-pub no_turns_lem : {I O P : Type 0} (gives : I → Chunk → I → Type 0) (takes : O → List ℕ → Taken → O → Type 0)
-    (calls : P → Asked → Heard → P → Type 0) (from input : I) (output : O) (start : P) (p : Point O P) (ended : Ended)
+pub no_turns_lem : {I O P : Type 0} (gives : I → Chunk → I → Type 0) (takes : O → List ℕ → WriteAnswer → O → Type 0)
+    (calls : P → PortRequest → PortAnswer → P
+    → Type 0) (from input : I) (output : O) (start : P) (p : Point O P) (ended : Ended)
     → Session gives takes calls from (fresh output start 0) input p → p.phase ≡ Finished ended
     → (ended ≡ endings.Turns) × (input ≡ from) × (p.output ≡ output) × (p.port ≡ start)
     × (p.written ≡ []) × (p.read ≡ [])

@@ -3,7 +3,7 @@ use Rattle.std.proofs.Common.{◌≡◌, ℕ, Bool, true, false, List, [], None,
 use Rattle.std.specs.declared.option.Option.{Option}
 use Rattle.bhs_model.specs.declared.replies.Reply.{Reply}
 use Rattle.bhs_model.specs.declared.replies.Reply.TheVariants as replies
-use Rattle.bhs_stream.specs.Streams.{Taken}
+use Rattle.bhs_stream.specs.Streams.{WriteAnswer}
 use Rattle.bhs_stream.specs.Sending.{PutsAll}
 use Rattle.bhs_session.specs.declared.endings.Ended.{Ended}
 use Rattle.bhs_session.specs.declared.endings.Ended.TheVariants as endings
@@ -12,14 +12,14 @@ use Rattle.bhs_session.specs.Phase.{finished_or}
 use Rattle.bhs_session.specs.Sent.{SentBut}
 
 -- bytes that the output took, and that lead from one phase to another
-abbrev pub Wrote : {O : Type 0} → (O → List ℕ → Taken → O → Type 0) → O → O → Phase → Phase → Type 0
+abbrev pub Wrote : {O : Type 0} → (O → List ℕ → WriteAnswer → O → Type 0) → O → O → Phase → Phase → Type 0
 Wrote takes a b phase next = (more : List ℕ) × Sends takes a phase more b next
 
-pub Wrote-all : {O : Type 0} (takes : O → List ℕ → Taken → O → Type 0) (a b : O) (text : List ℕ) (next : Phase)
+pub Wrote-all : {O : Type 0} (takes : O → List ℕ → WriteAnswer → O → Type 0) (a b : O) (text : List ℕ) (next : Phase)
     → PutsAll takes a text b → Wrote takes a b (Owes text next) next
 Wrote-all takes a b text next whole = (text, all text next b whole)
 
-pub Wrote-but : {O : Type 0} (takes : O → List ℕ → Taken → O → Type 0) (cause : Ended) (a b : O) (text : List ℕ)
+pub Wrote-but : {O : Type 0} (takes : O → List ℕ → WriteAnswer → O → Type 0) (cause : Ended) (a b : O) (text : List ℕ)
     (next : Phase) → SentBut takes cause a text b → Wrote takes a b (Owes text next) (stopped next cause)
 Wrote-but takes endings.Memory a b text next kept =
     subst (λ (o : _). Wrote takes a o (Owes text next) (stopped next endings.Memory)) (sym kept) ([], none text next)
@@ -59,7 +59,7 @@ stopped-waiting waits (replies.No why) cause = refl
 
 -- ---- the same, by the ending that the code found
 
-module _ {O : Type 0} (takes : O → List ℕ → Taken → O → Type 0) (a b : O) (text : List ℕ) (next : Phase)
+module _ {O : Type 0} (takes : O → List ℕ → WriteAnswer → O → Type 0) (a b : O) (text : List ℕ) (next : Phase)
     (ending : Option Ended) where
   pub Wrote-answer : None ≡ ending → PutsAll takes a text b → Wrote takes a b (Owes text (finished_or ending next)) next
   Wrote-answer goes whole = subst (λ (o : Option Ended). Wrote takes a b (Owes text (finished_or o next)) next) goes

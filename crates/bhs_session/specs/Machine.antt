@@ -6,13 +6,13 @@ use Rattle.bhs_wire.specs.declared.commands.First.TheVariants.{Enter, Tell}
 use Rattle.bhs_wire.specs.declared.denials.Denial.{Denial}
 use Rattle.bhs_wire.specs.declared.denials.Denial.TheVariants as denials
 use Rattle.bhs_session.specs.Texts.{command_by}
-use Rattle.bhs_session.specs.Port.{Asked, Enters, Tells, Heard}
+use Rattle.bhs_session.specs.Port.{PortRequest, Enters, Tells, PortAnswer}
 use Rattle.bhs_session.specs.Phase.{Phase, Fresh, Ready, Awaits, Owes, Finished, after_enter, after_answer}
 
 -- what a line comes to
 pub data Ask : Type 0 where
   -- the port is asked this
-  Asks : Asked → Ask
+  Asks : PortRequest → Ask
   -- the client is denied
   Denies : Denial → Ask
   -- no line is taken
@@ -26,7 +26,7 @@ ask Ready first = Asks (Tells (command_by first))
 ask phase first = Rests
 
 -- the phase after what is heard, which owes the text of the answer
-abbrev pub hear : Phase → Heard → Phase
+abbrev pub hear : Phase → PortAnswer → Phase
 hear Fresh heard = after_enter heard
 hear Ready heard = after_answer true heard
 hear Awaits heard = after_answer false heard

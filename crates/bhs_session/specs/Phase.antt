@@ -5,7 +5,7 @@ use Rattle.bhs_model.specs.declared.replies.Reply.{Reply}
 use Rattle.bhs_model.specs.declared.replies.Reply.TheVariants as replies
 use Rattle.bhs_wire.specs.declared.denials.Denial.{Denial}
 use Rattle.bhs_wire.specs.declared.denials.Denial.TheVariants as denials
-use Rattle.bhs_stream.specs.Streams.{Taken}
+use Rattle.bhs_stream.specs.Streams.{WriteAnswer}
 use Rattle.bhs_stream.specs.Sending.{PutsAll, PutsPart}
 use Rattle.bhs_session.specs.declared.endings.Ended.{Ended}
 use Rattle.bhs_session.specs.declared.endings.Ended.TheVariants as endings
@@ -13,7 +13,7 @@ use Rattle.bhs_session.specs.declared.endings.Stop.{Stop}
 use Rattle.bhs_session.specs.declared.endings.Stop.TheVariants as stops
 use Rattle.bhs_session.specs.declared.port.Entered.TheVariants as entries
 use Rattle.bhs_session.specs.Texts.{text_of, denial_text}
-use Rattle.bhs_session.specs.Port.{Heard, LetIn, Answers, NoMemory}
+use Rattle.bhs_session.specs.Port.{PortAnswer, LetIn, Answers, NoMemory}
 
 pub data Phase : Type 0 where
   -- no line was taken
@@ -63,7 +63,7 @@ answered_by waits reply = finished_or (ended_by reply) (waiting waits reply)
 
 -- the phase after a call of `tell`, or of `news` where it does not wait. Neither lets anyone in: the last line never
 -- comes
-abbrev pub after_answer : (waits : Bool) → Heard → Phase
+abbrev pub after_answer : (waits : Bool) → PortAnswer → Phase
 after_answer waits (Answers reply) = Owes (text_of reply) (answered_by waits reply)
 after_answer waits NoMemory = Leaves endings.Memory
 after_answer waits (LetIn answer) = Leaves endings.Memory
@@ -72,7 +72,7 @@ abbrev pub denied : Denial → Phase
 denied denial = Owes (denial_text denial) (Finished endings.Denied)
 
 -- the phase after a call of `enter`, which gives no plain answer: the last line never comes
-abbrev pub after_enter : Heard → Phase
+abbrev pub after_enter : PortAnswer → Phase
 after_enter (LetIn entries.Key) = denied denials.Key
 after_enter (LetIn entries.Taken) = denied denials.Taken
 after_enter (LetIn (entries.In reply)) = Owes (text_of reply) (answered_by true reply)
@@ -94,7 +94,7 @@ stopped (Finished ended) cause = Finished cause
 
 -- In this phase these bytes are written, the output going from one state to the next, and this phase follows: the
 -- whole text, less of it if a write failed or took nothing, or none if there is no memory for it.
-pub data Sends {O : Type 0} (takes : O → List ℕ → Taken → O → Type 0) (old : O) : Phase → List ℕ → O → Phase →
+pub data Sends {O : Type 0} (takes : O → List ℕ → WriteAnswer → O → Type 0) (old : O) : Phase → List ℕ → O → Phase →
     Type 0 where
   all : (text : List ℕ) (next : Phase) (new : O) → PutsAll takes old text new →
       Sends takes old (Owes text next) text new next

@@ -6,25 +6,25 @@ use Rattle.bhs_model.specs.declared.commands.Command.{Command}
 use Rattle.bhs_model.specs.declared.replies.Reply.{Reply}
 use Rattle.bhs_session.specs.declared.port.Entered.{Entered}
 
-pub data Asked : Type 0 where
-  Enters : (key : List ℕ) → Asked
-  Tells : Command → Asked
-  News : Asked
+pub data PortRequest : Type 0 where
+  Enters : (key : List ℕ) → PortRequest
+  Tells : Command → PortRequest
+  News : PortRequest
 
-pub data Heard : Type 0 where
+pub data PortAnswer : Type 0 where
   -- what it hears of a key
-  LetIn : Entered → Heard
+  LetIn : Entered → PortAnswer
   -- the reply to a command, or the news
-  Answers : Reply → Heard
+  Answers : Reply → PortAnswer
   -- there was no memory for the call
-  NoMemory : Heard
+  NoMemory : PortAnswer
 
 -- what `enter` answered
-abbrev pub entered : Result Entered AllocError → Heard
+abbrev pub entered : Result Entered AllocError → PortAnswer
 entered (Ok answer) = LetIn answer
 entered (Err error) = NoMemory
 
 -- what `tell` or `news` answered
-abbrev pub answered : Result Reply AllocError → Heard
+abbrev pub answered : Result Reply AllocError → PortAnswer
 answered (Ok reply) = Answers reply
 answered (Err error) = NoMemory

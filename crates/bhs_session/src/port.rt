@@ -1,6 +1,6 @@
 //! Where a session plays its agent.
 
-ghost use Rattle.bhs_session.specs.Port.{Asked, Enters, Tells, News, Heard, entered, answered};
+ghost use Rattle.bhs_session.specs.Port.{PortRequest, Enters, Tells, News, PortAnswer, entered, answered};
 
 use bhs_model::{Command, Reply};
 use bhs_net::Memory;
@@ -21,7 +21,7 @@ pub enum Entered {
 /// with what was asked and what was heard.
 pub trait Port {
     // From the first state the port may be asked this and answer that, and is then in the second state.
-    ghost calls: { Self → Asked → Heard → Self → Type 0 };
+    ghost calls: { Self → PortRequest → PortAnswer → Self → Type 0 };
 
     /// Lets the agent of a key enter. This is the first call, and none follows a `Key` or a `Taken`.
     fn enter(&mut self, key: &str) -> Result<Entered, Memory>

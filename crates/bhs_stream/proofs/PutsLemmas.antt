@@ -2,7 +2,7 @@
 use Rattle.std.proofs.Common.{◌≡◌, ◌∙◌, ℕ, ◌+◌, ◌<◌, List, [], ◌++◌, length, refl, sym, ap, subst, arith, append_assoc}
 use Rattle.std.proofs.Common.{append-nil, length-append, length-drop}
 use Rattle.std.proofs.Math.Seq.{drop-append-le, drop-append-add}
-use Rattle.bhs_stream.specs.Streams.{Taken}
+use Rattle.bhs_stream.specs.Streams.{WriteAnswer}
 use Rattle.bhs_stream.specs.Sending.{IsOffered, Puts, begins, goes_on, PutsAll, PutsPart}
 
 -- bytes were left if some are offered
@@ -33,7 +33,7 @@ offered-rest front rest sent offered is_offered = record {
   some = is_offered.some;
 }
 
-module _ {O : Type 0} (takes : O → List ℕ → Taken → O → Type 0) (front rest : List ℕ) where
+module _ {O : Type 0} (takes : O → List ℕ → WriteAnswer → O → Type 0) (front rest : List ℕ) where
   pub Puts-front : (old new : O) (sent : ℕ) → Puts takes old front sent new → Puts takes old (front ++ rest) sent new
   Puts-front old new sent begins = begins
   Puts-front old new sent (goes_on before count offered here next puts is_offered more within took) =
@@ -80,13 +80,13 @@ module _ {O : Type 0} (takes : O → List ℕ → Taken → O → Type 0) (front
 -- ---- a loop that sends a text piece by piece
 
 -- an output took the front of a text, and this of it is left
-pub record IsSentUpTo {O : Type 0} (takes : O → List ℕ → Taken → O → Type 0) (old new : O)
+pub record IsSentUpTo {O : Type 0} (takes : O → List ℕ → WriteAnswer → O → Type 0) (old new : O)
     (text left : List ℕ) : Type 0 where
   pub front : List ℕ
   pub sent : PutsAll takes old front new
   pub whole : front ++ left ≡ text
 
-module _ {O : Type 0} (takes : O → List ℕ → Taken → O → Type 0) where
+module _ {O : Type 0} (takes : O → List ℕ → WriteAnswer → O → Type 0) where
   pub sent_none : (a : O) (text : List ℕ) → IsSentUpTo takes a a text text
   sent_none a text = record { front = []; sent = begins; whole = refl }
 

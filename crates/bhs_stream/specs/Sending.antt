@@ -1,6 +1,6 @@
 -- The writes of a text, one by one.
 use Rattle.std.specs.Prelude.{◌≡◌, ℕ, ◌+◌, ◌<◌, ◌≤◌, ◌⊎◌, List, ◌++◌, length, drop}
-use Rattle.bhs_stream.specs.Streams.{Taken, Takes, Refuses}
+use Rattle.bhs_stream.specs.Streams.{WriteAnswer, Takes, Refuses}
 
 -- the front of what is left of the bytes, which is not empty
 pub record IsOffered (bytes : List ℕ) (sent : ℕ) (offered : List ℕ) : Type 0 where
@@ -9,7 +9,7 @@ pub record IsOffered (bytes : List ℕ) (sent : ℕ) (offered : List ℕ) : Type
   pub some : 0 < length offered
 
 -- by writes of what was left, each of which took at least one byte, this number of bytes went out
-pub data Puts {O : Type 0} (takes : O → List ℕ → Taken → O → Type 0) (start : O) (bytes : List ℕ) : (sent : ℕ)
+pub data Puts {O : Type 0} (takes : O → List ℕ → WriteAnswer → O → Type 0) (start : O) (bytes : List ℕ) : (sent : ℕ)
     → O → Type 0 where
   begins : Puts takes start bytes 0 start
   goes_on : (sent count : ℕ) (offered : List ℕ) (here next : O) → Puts takes start bytes sent here
@@ -17,11 +17,11 @@ pub data Puts {O : Type 0} (takes : O → List ℕ → Taken → O → Type 0) (
       → takes here offered (Takes count) next → Puts takes start bytes (sent + count) next
 
 -- all went out
-abbrev pub PutsAll : {O : Type 0} → (O → List ℕ → Taken → O → Type 0) → O → List ℕ → O → Type 0
+abbrev pub PutsAll : {O : Type 0} → (O → List ℕ → WriteAnswer → O → Type 0) → O → List ℕ → O → Type 0
 PutsAll takes old bytes new = Puts takes old bytes (length bytes) new
 
 -- bytes were left, and the next write, the last one, failed or took none
-pub record PutsPart {O : Type 0} (takes : O → List ℕ → Taken → O → Type 0) (old : O) (bytes : List ℕ)
+pub record PutsPart {O : Type 0} (takes : O → List ℕ → WriteAnswer → O → Type 0) (old : O) (bytes : List ℕ)
     (new : O) : Type 0 where
   pub sent : ℕ
   pub before : O

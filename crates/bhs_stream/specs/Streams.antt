@@ -23,13 +23,13 @@ chunk_of (Ok count) buffer = chunk_by (take count buffer)
 chunk_of (Err error) buffer = Fails
 
 -- what a write answers
-pub data Taken : Type 0 where
+pub data WriteAnswer : Type 0 where
   -- it took this number of bytes, which may be 0
-  Takes : (count : ℕ) → Taken
+  Takes : (count : ℕ) → WriteAnswer
   -- the write failed
-  Refuses : Taken
+  Refuses : WriteAnswer
 
-abbrev pub taken_by : {E : Type 0} → Result ℕ E → Taken
+abbrev pub taken_by : {E : Type 0} → Result ℕ E → WriteAnswer
 taken_by (Ok count) = Takes count
 taken_by (Err error) = Refuses
 
@@ -45,7 +45,7 @@ Gives old (Bytes bytes) new = Consumes old new bytes
 Gives old End new = Consumes old new [] × IsAtEnd new
 Gives old Fails new = Keeps old new
 
-abbrev pub TakesKnown : Option (List ℕ) → List ℕ → Taken → Option (List ℕ) → Type 0
+abbrev pub TakesKnown : Option (List ℕ) → List ℕ → WriteAnswer → Option (List ℕ) → Type 0
 TakesKnown old bytes (Takes count) new = Appends old new (take count bytes)
 TakesKnown old bytes Refuses new = Keeps old new
 
@@ -53,5 +53,5 @@ TakesKnown old bytes Refuses new = Keeps old new
 abbrev pub known_gives : {R : Type 0} → (R → Option (List ℕ)) → R → Chunk → R → Type 0
 known_gives remaining old chunk new = Gives (remaining old) chunk (remaining new)
 
-abbrev pub known_takes : {W : Type 0} → (W → Option (List ℕ)) → W → List ℕ → Taken → W → Type 0
+abbrev pub known_takes : {W : Type 0} → (W → Option (List ℕ)) → W → List ℕ → WriteAnswer → W → Type 0
 known_takes contents old bytes answer new = TakesKnown (contents old) bytes answer (contents new)

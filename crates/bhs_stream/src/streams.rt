@@ -3,7 +3,7 @@
 // Where bytes come from and go to. Contracts see each call.
 ghost use Rattle.std.specs.Prelude.{ℕ, List, Bool, ◌<◌, ◌≤◌, length, IfOk};
 ghost use Rattle.std.specs.Io.KnownBytes.{Keeps};
-ghost use Rattle.bhs_stream.specs.Streams.{Chunk, chunk_of, Taken, taken_by, went, known_gives, known_takes};
+ghost use Rattle.bhs_stream.specs.Streams.{Chunk, chunk_of, WriteAnswer, taken_by, went, known_gives, known_takes};
 
 use std::io;
 use std::io::{Read, Write};
@@ -23,7 +23,7 @@ pub trait Input {
 /// Where bytes go to. Contracts see the writes as steps from one state to the next.
 pub trait Output {
     // From the first state a write of these bytes may be answered so, and the output is then in the second state.
-    ghost takes: { Self → List ℕ → Taken → Self → Type 0 };
+    ghost takes: { Self → List ℕ → WriteAnswer → Self → Type 0 };
     // The same of a flush.
     ghost flushes: { Self → Bool → Self → Type 0 };
 

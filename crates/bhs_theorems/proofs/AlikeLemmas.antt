@@ -18,8 +18,8 @@ use Rattle.bhs_wire.specs.declared.denials.Denial.TheVariants as denials
 use Rattle.bhs_lineup.specs.KeyTable.{Seat, seat_at}
 use Rattle.bhs_session.specs.Texts.{text_of, denial_text}
 use Rattle.bhs_rehearsal.specs.Games.{Game, state_of, played, reply_to, is_away}
-use Rattle.bhs_rehearsal.specs.Connections.{Item, Says, Ends, Connection, unfed, shut, Taken, taken}
-use Rattle.bhs_rehearsal.specs.Stages.{Stage, game_at, connection_at, with_game, with_connection, has_seat, Entry}
+use Rattle.bhs_rehearsal.specs.Connections.{Item, Says, Ends, Connection, unfed, shut, TakenItems, taken}
+use Rattle.bhs_rehearsal.specs.Stages.{Stage, game_at, connection_at, with_game, with_connection, has_seat, EntryResult}
 use Rattle.bhs_rehearsal.specs.Stages.{Waits, Sits, IsDenied, Goes, let_in, entry_by, entry, Moved, moves, Closes}
 use Rattle.bhs_rehearsal.specs.Stages.{Stepped, sent_to, stepped, nothing, tells_arrival, delivers, waits_in, told_over}
 use Rattle.bhs_rehearsal.specs.Stages.{step}
@@ -126,7 +126,7 @@ abbrev pub game_in : List Game → (game : ℕ) → Game
 game_in games game = game_at (record { games = games; keys = []; connections = [] }) game
 
 -- what taking comes to in two matches. If the connection is heard, the same is left and sent
-pub record TakenAlike (Match : Game → Game → Type 0) (IsHeard : Type 0) (one two : Taken) : Type 0 where
+pub record TakenAlike (Match : Game → Game → Type 0) (IsHeard : Type 0) (one two : TakenItems) : Type 0 where
   pub game : Match one.game two.game
   pub same : IsHeard → (one.is_done ≡ two.is_done) × (one.left ≡ two.left) × (one.text ≡ two.text)
 
@@ -238,7 +238,7 @@ module _ (by : Difference) (one two : Stage) (are : StagesAlike by one two) wher
         same = λ heard. (refl, refl);
       }
 
-  enters_alike : (connection : Connection) (how : Entry)
+  enters_alike : (connection : Connection) (how : EntryResult)
       → TurnsAlike by (enters_turn one connection how) (enters_turn two connection how)
   enters_alike connection Waits = stays_alike connection []
   enters_alike connection (Sits seat) = plays_alike seat connection
@@ -253,7 +253,7 @@ module _ (by : Difference) (one two : Stage) (are : StagesAlike by one two) wher
       ∙ ap (λ (all : List (Option (ℕ × ℕ))). set all conn connection.seat) are.seats
       ∙ sym (map-set seat_of two.connections conn connection) in
       let how = entry (with_connection one conn connection) connection.queue in
-      subst (λ (other : Entry). TurnsAlike by (enters_turn one connection how)
+      subst (λ (other : EntryResult). TurnsAlike by (enters_turn one connection how)
       (enters_turn two connection other))
       (entry_alike (with_connection one conn connection) (with_connection two conn connection) are.keys same_games seats
       connection.queue) (enters_alike connection how)

@@ -20,7 +20,7 @@ use Rattle.bhs_model.proofs.AddLemmas.{run-append}
 use Rattle.bhs_wire.specs.Lines.{said_by}
 use Rattle.bhs_session.specs.Texts.{command_by}
 use Rattle.bhs_rehearsal.specs.Games.{Game, world_in, state_of, played, reply_to, is_away}
-use Rattle.bhs_rehearsal.specs.Connections.{Item, Says, Ends, Taken, is_last, leaves, answers, taken}
+use Rattle.bhs_rehearsal.specs.Connections.{Item, Says, Ends, TakenItems, is_last, leaves, answers, taken}
 use Rattle.bhs_model.specs.Standings.{standing_at}
 
 -- ---- one event
@@ -171,12 +171,12 @@ away-closed game other = ap (λ (state : State). is_bound (state.position other)
 
 -- ---- items
 
-answers_alike : (reply : Option Reply) (game played_game : Game) (others : Taken) (agent : ℕ)
+answers_alike : (reply : Option Reply) (game played_game : Game) (others : TakenItems) (agent : ℕ)
     → Alike agent game played_game → Alike agent game others.game →
     Alike agent game (answers reply played_game others).game
 answers_alike None game played_game others agent same later = later
 answers_alike (Some reply) game played_game others agent same later =
-    either (λ (done : Taken). Alike agent game done.game) (is_last reply) _ _ same later
+    either (λ (done : TakenItems). Alike agent game done.game) (is_last reply) _ _ same later
 
 -- taking an agent's items changes nothing for another
 pub taken_alike : (game : Game) (agent : ℕ) (items : List Item) (other : ℕ) → other ≢ agent
@@ -186,34 +186,34 @@ taken_alike game agent (Says line ∷ items) other apart =
     let command = command_by (said_by line) in
     let next_game = played game (Tell agent command) in
     let same = alike-told game agent command other apart in
-    either (λ (done : Taken). Alike other game done.game) (is_away game agent) _ _ (alike_itself other game)
+    either (λ (done : TakenItems). Alike other game done.game) (is_away game agent) _ _ (alike_itself other game)
     (answers_alike (reply_to game (Tell agent command)) game next_game (taken next_game agent items) other same
     (alike_through other game next_game (taken next_game agent items).game same
     (taken_alike next_game agent items other apart)))
 taken_alike game agent (Ends ∷ items) other apart =
-    either (λ (done : Taken). Alike other game done.game) (is_away game agent) _ _ (alike_itself other game)
+    either (λ (done : TakenItems). Alike other game done.game) (is_away game agent) _ _ (alike_itself other game)
     (alike-told game agent Leave other apart)
 
 -- items are left only where the agent is away
-abbrev pub IsTakenUp : Taken → (agent : ℕ) → Type 0
+abbrev pub IsTakenUp : TakenItems → (agent : ℕ) → Type 0
 IsTakenUp done agent = done.is_done ≡ false → is_away done.game agent ≡ false → done.left ≡ []
 
-answers_up : (reply : Option Reply) (next_game : Game) (others : Taken) (agent : ℕ) → IsTakenUp others agent
+answers_up : (reply : Option Reply) (next_game : Game) (others : TakenItems) (agent : ℕ) → IsTakenUp others agent
     → IsTakenUp (answers reply next_game others) agent
 answers_up None next_game others agent up = up
 answers_up (Some reply) next_game others agent up =
-    either (λ (done : Taken). IsTakenUp done agent) (is_last reply) _ _ (λ goes_on stays. refl) up
+    either (λ (done : TakenItems). IsTakenUp done agent) (is_last reply) _ _ (λ goes_on stays. refl) up
 
 pub taken_up : (game : Game) (agent : ℕ) (items : List Item) → IsTakenUp (taken game agent items) agent
 taken_up game agent [] = λ goes_on stays. refl
 taken_up game agent (Says line ∷ items) =
     let event = Tell agent (command_by (said_by line)) in
     let after = played game event in
-    cond_both (is_away game agent) _ _ (λ (done : Taken). IsTakenUp done agent)
+    cond_both (is_away game agent) _ _ (λ (done : TakenItems). IsTakenUp done agent)
     (λ away goes_on stays. absurd (cc))
     (λ stays. answers_up (reply_to game event) after (taken after agent items) agent (taken_up after agent items))
 taken_up game agent (Ends ∷ items) =
-    cond_both (is_away game agent) _ _ (λ (done : Taken). IsTakenUp done agent)
+    cond_both (is_away game agent) _ _ (λ (done : TakenItems). IsTakenUp done agent)
     (λ away goes_on stays. absurd (cc))
     (λ stays goes_on still. refl)
 
@@ -222,8 +222,8 @@ pub taken_rests : (game : Game) (agent : ℕ) (items : List Item) → (is_away g
     → taken game agent items ≡ leaves game items
 taken_rests game agent [] rests = refl
 taken_rests game agent (Says line ∷ items) rests =
-    cond_both (is_away game agent) _ _ (λ (done : Taken). done ≡ leaves game (Says line ∷ items)) (λ away. refl)
+    cond_both (is_away game agent) _ _ (λ (done : TakenItems). done ≡ leaves game (Says line ∷ items)) (λ away. refl)
     (λ stays. absurd (let none = rests stays in cc))
 taken_rests game agent (Ends ∷ items) rests =
-    cond_both (is_away game agent) _ _ (λ (done : Taken). done ≡ leaves game (Ends ∷ items)) (λ away. refl)
+    cond_both (is_away game agent) _ _ (λ (done : TakenItems). done ≡ leaves game (Ends ∷ items)) (λ away. refl)
     (λ stays. absurd (let none = rests stays in cc))

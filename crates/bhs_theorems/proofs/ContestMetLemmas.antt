@@ -14,7 +14,7 @@ use Rattle.bhs_match.specs.Matches.{Play, world_in, state_of, arrivals}
 use Rattle.bhs_lock.specs.declared.model.Receipt.{Receipt}
 use Rattle.bhs_lock.specs.Passes.{Passed, kept_command}
 use Rattle.bhs_lock.specs.Arrivals.{receipt_at}
-use Rattle.bhs_lock.specs.Comparing.{Heard, heard_in, receipted}
+use Rattle.bhs_lock.specs.Comparing.{HeardEntry, heard_in, receipted}
 use Rattle.bhs_lock.specs.Settling.{Compared, told_by, told_by_none, without_pass, arrived_by}
 use Rattle.bhs_session.specs.declared.endings.Ended.{Ended as Ending}
 use Rattle.bhs_session.specs.declared.endings.Ended.TheVariants as endings
@@ -26,7 +26,7 @@ use Rattle.bhs_server.specs.Exchanges.{Exchange, Took, Refused, Came, session_te
 use Rattle.bhs_server.specs.Exchanges.{phase_from, AreInTurn}
 use Rattle.bhs_server.specs.Written.{Ends, MayBeOver, IsWrittenBy, is_between}
 use Rattle.bhs_theorems.specs.ContestMet.{Attended, TookPart, IsLeftAs, IsLeftAway, IsLastOf, is_whole, SentAsMet}
-use Rattle.bhs_theorems.specs.ContestSteps.{Step, Spoke, Arrives, heard_of, arrivals_of, view_along, AreSteps}
+use Rattle.bhs_theorems.specs.ContestSteps.{ContestStep, Spoke, Arrives, heard_of, arrivals_of, view_along, AreSteps}
 use Rattle.bhs_server.proofs.ServedLemmas.{of_given}
 use Rattle.bhs_theorems.proofs.ContestStepsLemmas.{steps_of}
 use Rattle.bhs_theorems.proofs.ContestWalkLemmas.{Sits, takes_there, entries_in, Walked, walk, ended_still, kept_leave}
@@ -62,8 +62,8 @@ receipted_in : (all : List Exchange) (parting : List Receipt) →
     ≡ entries_in all ++ receipted parting (map (λ (receipt : Receipt). commands.Leave) parting)
 receipted_in [] parting = refl
 receipted_in (Took command receipt ∷ all) parting =
-    ap (λ (others : List Heard).
-    let one : Heard = record {
+    ap (λ (others : List HeardEntry).
+    let one : HeardEntry = record {
       place = receipt.place;
       command = kept_command command receipt.reply;
       reply = Some receipt.reply;
@@ -72,7 +72,7 @@ receipted_in (Refused command ∷ all) parting = receipted_in all parting
 receipted_in (Came receipt ∷ all) parting = receipted_in all parting
 
 -- what an ending told is a Leave
-parting_leaves : (parting : Option Receipt) → AllByRecursion (λ (one : Heard). one.command ≡ commands.Leave)
+parting_leaves : (parting : Option Receipt) → AllByRecursion (λ (one : HeardEntry). one.command ≡ commands.Leave)
     (receipted (option_to_list parting) (map (λ (receipt : Receipt). commands.Leave) (option_to_list parting)))
 parting_leaves None = tt
 parting_leaves (Some receipt) = (refl, tt)
@@ -81,21 +81,26 @@ parting_leaves (Some receipt) = (refl, tt)
 
 -- a Leave alone
 left_told : (quota limit : ℕ) (view : View) (place : ℕ) (command : Command) (glance : Glance) (reply : Reply)
-    (steps : List Step) (parting : Option Receipt)
+    (steps : List ContestStep) (parting : Option Receipt)
     → AreSteps quota limit view (Spoke place command glance reply ∷ steps) →
     heard_of (Spoke place command glance reply ∷ steps)
     ≡ receipted (option_to_list parting) (map (λ (receipt : Receipt). commands.Leave) (option_to_list parting)) →
     view_along view (Spoke place command glance reply ∷ steps) ≡ Told view commands.Leave Nothing
 left_told quota limit view place command glance reply steps None are same = absurd (cc)
 left_told quota limit view place command glance reply steps (Some receipt) are same =
-    let first : ◌≡◌ {A = Heard} (record { place = place; command = kept_command command reply; reply = Some reply })
+    let first : ◌≡◌ {A = HeardEntry} (record {
+      place = place;
+      command = kept_command command reply;
+      reply =
+          Some reply;
+    })
     (record { place = receipt.place; command = commands.Leave; reply = Some receipt.reply }) = cc in
-    let leaves : command ≡ commands.Leave = kept_leave command reply (ap (λ (one : Heard). one.command) first) in
+    let leaves : command ≡ commands.Leave = kept_leave command reply (ap (λ (one : HeardEntry). one.command) first) in
     ap (view_along (Told view command glance)) (ended_still quota limit (Told view command glance) steps
     (left_ended view command glance leaves) are.3)
     ∙ ap₂ (λ (one : Command) (seen : Glance). Told view one seen) leaves (are.2 leaves)
 
-left_as : (quota limit : ℕ) (view : View) (rest : List Step) (parting : Option Receipt) → standing view ≢ Away
+left_as : (quota limit : ℕ) (view : View) (rest : List ContestStep) (parting : Option Receipt) → standing view ≢ Away
     → AreSteps quota limit view rest →
     heard_of rest
     ≡ receipted (option_to_list parting) (map (λ (receipt : Receipt). commands.Leave) (option_to_list parting)) →
@@ -108,7 +113,7 @@ left_as quota limit view (Arrives place sight reply ∷ rest) parting here are s
 present_here : (stands : Standing) → stands ≡ Present → stands ≢ Away
 present_here stands is away = absurd (cc)
 
-left_away : (quota limit : ℕ) (view : View) (rest : List Step) (parting : Option Receipt)
+left_away : (quota limit : ℕ) (view : View) (rest : List ContestStep) (parting : Option Receipt)
     → AreSteps quota limit view rest →
     heard_of rest
     ≡ receipted (option_to_list parting) (map (λ (receipt : Receipt). commands.Leave) (option_to_list parting)) →
@@ -185,7 +190,7 @@ last_of ended phase parting left last may ends = grind arith
 -- the steps of the agent, beside what its session said and was answered
 pub record IsWalked (one : Attended) (w : IsWrittenBy one.pass one.said one.written one.ended) : Type 0 where
   pub more : List Receipt
-  pub steps : List Step
+  pub steps : List ContestStep
   pub walked : Walked one.play.setup.quota one.play.setup.board Start Fresh [] w.all steps
       (receipted (option_to_list w.parting)
       (map (λ (receipt : Receipt). commands.Leave) (option_to_list w.parting))) more
@@ -204,7 +209,7 @@ walked_lemma one part =
     let s = steps_of (world_in play) initial nobody pass.agent play.log [] play.log 0 [] refl refl refl part.kept
     part.replies in
     let logged : heard_in pass.agent play.log ≡ receipted pass.receipts pass.commands =
-    agree_at (λ (compared : Compared Heard). compared.logged ≡ compared.said) (told_by play) part.passes
+    agree_at (λ (compared : Compared HeardEntry). compared.logged ≡ compared.said) (told_by play) part.passes
     (map (told_by_none play) (without_pass part.passes play.setup.agents)) part.index pass part.accord.commands
     part.handed_in in
     let first : take (length pass.arrivals) (map (receipt_at play.log) (arrivals pass.agent play.log))

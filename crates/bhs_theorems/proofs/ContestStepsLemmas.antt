@@ -26,8 +26,8 @@ use Rattle.bhs_model.proofs.StepLemmas.{no_arrival_no_reply, next_heard, next_ar
 use Rattle.bhs_match.specs.Matches.{is_arrival, arrivals_from}
 use Rattle.bhs_lock.specs.declared.model.Receipt.{Receipt}
 use Rattle.bhs_lock.specs.Arrivals.{arrival_mark, receipt_at}
-use Rattle.bhs_lock.specs.Comparing.{Heard, kept_if, entry_first, heard_from}
-use Rattle.bhs_theorems.specs.ContestSteps.{Step, Spoke, Arrives, heard_of, arrivals_of, view_along}
+use Rattle.bhs_lock.specs.Comparing.{HeardEntry, kept_if, entry_first, heard_from}
+use Rattle.bhs_theorems.specs.ContestSteps.{ContestStep, Spoke, Arrives, heard_of, arrivals_of, view_along}
 use Rattle.bhs_theorems.specs.ContestSteps.{AreSteps, StandInOrder}
 use Rattle.bhs_theorems.proofs.AwayLemmas.{told_others, delivered_others, arriving}
 
@@ -43,7 +43,7 @@ get_there (first ∷ before) one others = get_there before one others
 
 pub record StepsOf (world : World) (state : State) (agent : ℕ) (whole : List Kept) (place : ℕ)
     (log : List Kept) : Type 0 where
-  pub steps : List Step
+  pub steps : List ContestStep
   pub are : AreSteps world.quota world.board (state.past agent) steps
   pub in_order : StandInOrder place steps
   pub ends : view_along (state.past agent) steps ≡ (run_from world state (events_of log)).past agent
@@ -51,7 +51,7 @@ pub record StepsOf (world : World) (state : State) (agent : ℕ) (whole : List K
   pub arrived : map (receipt_at whole) (arrivals_from agent place log) ≡ map Some (arrivals_of steps)
 
 -- places that ascend from a later one
-pub from_less : (least : ℕ) (steps : List Step) → StandInOrder (least + 1) steps → StandInOrder least steps
+pub from_less : (least : ℕ) (steps : List ContestStep) → StandInOrder (least + 1) steps → StandInOrder least steps
 from_less least [] order = tt
 from_less least (Spoke place command glance reply ∷ steps) order = (omega (arith, order.0), order.1)
 from_less least (Arrives place sight reply ∷ steps) order = (omega (arith, order.0), order.1)
@@ -116,8 +116,8 @@ module _ (world : World) (state : State) (agent : ℕ) (whole : List Kept) (plac
         ends = ap (λ (view : View). view_along view rest.steps) (sym grown) ∙ rest.ends;
         heard = ap (λ (own : Bool). entry_first whole place (if own then Some command else None) mark
             (heard_from whole agent (place + 1) log)) (eq-eqb agent agent refl)
-            ∙ ap₂ (λ (reply : Option Reply) (others : List Heard).
-            let one : Heard = record { place = place; command = kept_if command reply; reply = reply } in
+            ∙ ap₂ (λ (reply : Option Reply) (others : List HeardEntry).
+            let one : HeardEntry = record { place = place; command = kept_if command reply; reply = reply } in
             one ∷ others) replied rest.heard;
         arrived = rest.arrived;
       }

@@ -19,7 +19,7 @@ use Rattle.bhs_lock.specs.Fitting.{Fits as Counts}
 use Rattle.bhs_lock.specs.Halls.{is_below, place_below}
 use Rattle.bhs_lock.specs.Passes.{is_end, is_last, tally_in, kept_command}
 use Rattle.bhs_lock.specs.Recording.{refusal_by}
-use Rattle.bhs_lock.specs.Comparing.{Heard}
+use Rattle.bhs_lock.specs.Comparing.{HeardEntry}
 use Rattle.bhs_lock.proofs.EndLemmas.{ends_standing}
 use Rattle.bhs_lock.proofs.FitLemmas.{fits_told, arrived_fit}
 use Rattle.bhs_lock.proofs.PlaceLemmas.{any_push}
@@ -34,7 +34,7 @@ use Rattle.bhs_theorems.proofs.AnsweredLemmas.{Fits, meeting_fits}
 use Rattle.bhs_server.specs.Exchanges.{Exchange, Took, Refused, Came, text_if, text_from, commands_in}
 use Rattle.bhs_server.specs.Exchanges.{arrivals_in, phase_from, AreInTurn}
 use Rattle.bhs_theorems.specs.ContestMet.{AreSaid}
-use Rattle.bhs_theorems.specs.ContestSteps.{Step, Spoke, Arrives, heard_of, arrivals_of, view_along}
+use Rattle.bhs_theorems.specs.ContestSteps.{ContestStep, Spoke, Arrives, heard_of, arrivals_of, view_along}
 use Rattle.bhs_theorems.specs.ContestSteps.{AreSteps, StandInOrder}
 use Rattle.bhs_theorems.proofs.ContestStepsLemmas.{get_there}
 
@@ -127,7 +127,7 @@ tallied_arrived quota view receipts sight away tallied = record {
 -- ---- the walk
 
 -- what is compared of the exchanges
-abbrev pub entries_in : List Exchange → List Heard
+abbrev pub entries_in : List Exchange → List HeardEntry
 entries_in [] = []
 entries_in (Took command receipt ∷ others) =
     record { place = receipt.place; command = kept_command command receipt.reply; reply = Some receipt.reply }
@@ -136,9 +136,9 @@ entries_in (Refused command ∷ others) = entries_in others
 entries_in (Came receipt ∷ others) = entries_in others
 
 pub record Walked (quota limit : ℕ) (view : View) (phase : Phase) (receipts : List Receipt) (all : List Exchange)
-    (steps : List Step) (parting : List Heard) (more : List Receipt) : Type 0 where
+    (steps : List ContestStep) (parting : List HeardEntry) (more : List Receipt) : Type 0 where
   pub met : List Meeting
-  pub rest : List Step
+  pub rest : List ContestStep
   pub due : AreDue quota view met
   pub said : AreSaid limit view met (commands_in all)
   pub same : bytes_from limit view met ≡ text_from quota receipts all
@@ -149,7 +149,7 @@ pub record Walked (quota limit : ℕ) (view : View) (phase : Phase) (receipts : 
   pub sits : Sits (phase_from phase all) (standing (view_from view met))
 
 -- an agent that has ended does nothing
-pub ended_still : (quota limit : ℕ) (view : View) (steps : List Step) → standing view ≡ Ended
+pub ended_still : (quota limit : ℕ) (view : View) (steps : List ContestStep) → standing view ≡ Ended
     → AreSteps quota limit view steps → steps ≡ []
 ended_still quota limit view [] ended are = refl
 ended_still quota limit view (Spoke place command glance reply ∷ steps) ended are =
@@ -173,7 +173,7 @@ left_ended view command glance is = ap (λ (one : Command). standing_after (stan
 -- ---- what comes after an arrival
 
 -- the arrivals in steps whose places ascend from this one on
-arrivals_above : (low least : ℕ) (steps : List Step) → low ≤ least → StandInOrder least steps
+arrivals_above : (low least : ℕ) (steps : List ContestStep) → low ≤ least → StandInOrder least steps
     → AllByRecursion (λ (receipt : Receipt). low ≤ receipt.place) (arrivals_of steps)
 arrivals_above low least [] below order = tt
 arrivals_above low least (Spoke place command glance reply ∷ steps) below order =
@@ -197,8 +197,8 @@ not_below arrivals receipt place above =
     ∙ le-ltb receipt.place place above
 
 -- where this entry comes first and stands below all arrivals, nothing more was said in turn: it is one of the parting
-said_last : (quota : ℕ) (phase : Phase) (receipts arrivals : List Receipt) (all : List Exchange) (entry : Heard)
-    (others parting : List Heard) → entry ∷ others ≡ entries_in all ++ parting
+said_last : (quota : ℕ) (phase : Phase) (receipts arrivals : List Receipt) (all : List Exchange) (entry : HeardEntry)
+    (others parting : List HeardEntry) → entry ∷ others ≡ entries_in all ++ parting
     → is_below arrivals entry.place ≡ false
     → AllByRecursion (λ (receipt : Receipt). entry.place + 1 ≤ receipt.place) (arrivals_in all)
     → AreInTurn quota phase receipts arrivals all → parting ≡ entry ∷ others
@@ -214,15 +214,16 @@ said_last quota phase receipts arrivals (Took command receipt ∷ all) entry oth
       command = kept_command command receipt.reply;
       reply = Some receipt.reply;
     } = cc in
-    let at : entry.place ≡ receipt.place = ap (λ (one : Heard). one.place) same in
+    let at : entry.place ≡ receipt.place = ap (λ (one : HeardEntry). one.place) same in
     let early : is_below arrivals entry.place ≡ true = ap (is_below arrivals) at ∙ turn.0.2 in
     absurd (let both : true ≡ false = sym early ∙ late in cc)
 
 pub walk : (quota limit : ℕ) (view : View) (phase : Phase) (receipts : List Receipt) (all : List Exchange)
-    (steps : List Step) (parting : List Heard) (more arrivals : List Receipt) (least : ℕ) → Sits phase (standing view)
+    (steps : List ContestStep) (parting : List HeardEntry) (more arrivals : List Receipt) (least : ℕ)
+    → Sits phase (standing view)
     → Tallied quota view receipts → AreInTurn quota phase receipts arrivals all → AreSteps quota limit view steps
     → heard_of steps ≡ entries_in all ++ parting → arrivals_of steps ≡ arrivals_in all ++ more
-    → StandInOrder least steps → AllByRecursion (λ (one : Heard). one.command ≡ commands.Leave) parting
+    → StandInOrder least steps → AllByRecursion (λ (one : HeardEntry). one.command ≡ commands.Leave) parting
     → Walked quota limit view phase receipts all steps parting more
 walk quota limit view phase receipts [] steps parting more arrivals least sits tallied turn are heard arrived order
     leaves = record {
@@ -264,14 +265,15 @@ walk quota limit view phase receipts (Took command receipt ∷ all) (Arrives pla
 walk quota limit view phase receipts (Took command receipt ∷ all) (Spoke place own glance reply ∷ steps) parting more
     arrivals least sits tallied turn are heard arrived order leaves =
     let takes = takes_there phase (standing view) turn.0.0 sits in
-    let first : ◌≡◌ {A = Heard} (record { place = place; command = kept_command own reply; reply = Some reply })
+    let first : ◌≡◌ {A = HeardEntry} (record { place = place; command = kept_command own reply; reply = Some reply })
     (record { place = receipt.place; command = kept_command command receipt.reply; reply = Some receipt.reply }) = cc in
     let others : heard_of steps ≡ entries_in all ++ parting = cc in
-    let some_reply : ◌≡◌ {A = Option Reply} (Some reply) (Some receipt.reply) = ap (λ (one : Heard). one.reply) first in
+    let some_reply : ◌≡◌ {A = Option Reply} (Some reply) (Some receipt.reply) =
+    ap (λ (one : HeardEntry). one.reply) first in
     let same_reply : reply ≡ receipt.reply = cc in
     let is : receipt.reply ≡ answer limit (standing view) (ports view) own glance = sym same_reply ∙ are.1 in
     let same_kept : kept_command own reply ≡ kept_command command receipt.reply =
-    ap (λ (one : Heard). one.command) first in
+    ap (λ (one : HeardEntry). one.command) first in
     let fits = meeting_fits quota limit view own (Hears own glance) takes are.0 refl in
     let now : Sits (answered_by true receipt.reply) (standing (Told view own glance)) =
     subst (λ (said : Reply). Sits (answered_by true said) (standing (Told view own glance))) (sym is)
@@ -300,7 +302,7 @@ walk quota limit view phase receipts (Came receipt ∷ all) [] parting more arri
     arrived order leaves = absurd cc
 walk quota limit view phase receipts (Came receipt ∷ all) (Spoke place own glance reply ∷ steps) parting more
     arrivals least sits tallied turn are heard arrived order leaves =
-    let entry : Heard = record { place = place; command = kept_command own reply; reply = Some reply } in
+    let entry : HeardEntry = record { place = place; command = kept_command own reply; reply = Some reply } in
     let above : AllByRecursion (λ (one : Receipt). place + 1 ≤ one.place) (receipt ∷ arrivals_in all ++ more) =
     subst (AllByRecursion (λ (one : Receipt). place + 1 ≤ one.place)) arrived
     (arrivals_above (place + 1) (place + 1) steps (omega arith) order.1) in
@@ -308,8 +310,8 @@ walk quota limit view phase receipts (Came receipt ∷ all) (Spoke place own gla
     said_last quota Ready receipts (arrivals ++ receipt ∷ []) all entry (heard_of steps) parting heard
     (not_below arrivals receipt place (omega (arith, above.0)))
     (all_front (λ (one : Receipt). place + 1 ≤ one.place) (arrivals_in all) more above.1) turn.1 in
-    let own_leave : AllByRecursion (λ (one : Heard). one.command ≡ commands.Leave) (entry ∷ heard_of steps) =
-    subst (AllByRecursion (λ (one : Heard). one.command ≡ commands.Leave)) last leaves in
+    let own_leave : AllByRecursion (λ (one : HeardEntry). one.command ≡ commands.Leave) (entry ∷ heard_of steps) =
+    subst (AllByRecursion (λ (one : HeardEntry). one.command ≡ commands.Leave)) last leaves in
     let leave : own ≡ commands.Leave = kept_leave own reply own_leave.0 in
     absurd (let none : arrivals_of steps ≡ [] = ap arrivals_of
     (ended_still quota limit (Told view own glance) steps (left_ended view own glance leave) are.3) in cc)

@@ -12,8 +12,9 @@ use Rattle.bhs_wire.specs.Lines.{Line, lines, held_of, found_in, left_by}
 use Rattle.bhs_wire.proofs.StreamLaws.{lines-append, held_of-append}
 use Rattle.bhs_session.specs.Texts.{command_of}
 use Rattle.bhs_rehearsal.specs.Games.{Game, state_of, is_away}
-use Rattle.bhs_rehearsal.specs.Connections.{Item, Says, Ends, Connection, shut, Taken, taken, after}
-use Rattle.bhs_rehearsal.specs.Stages.{Stage, game_at, connection_at, with_game, with_connection, Entry, Waits, Sits}
+use Rattle.bhs_rehearsal.specs.Connections.{Item, Says, Ends, Connection, shut, TakenItems, taken, after}
+use Rattle.bhs_rehearsal.specs.Stages.{Stage, game_at, connection_at, with_game, with_connection, EntryResult, Waits}
+use Rattle.bhs_rehearsal.specs.Stages.{Sits}
 use Rattle.bhs_rehearsal.specs.Stages.{IsDenied, Goes, entry}
 use Rattle.bhs_theorems.proofs.MeetingLemmas.{view_from-append, bytes_from-append, commands-append, due-append}
 use Rattle.bhs_theorems.proofs.CuttingLemmas.{by_same}
@@ -125,7 +126,7 @@ module _ (setup : Setup) (past : View) (connection : Connection) (input : Fed) (
       ∙ sym (append_assoc going.taken found over)
 
   met_more : (game : Game) (is_done : Bool) (left : List Item) (text : List ℕ) →
-      let done : Taken = record { game = game; is_done = is_done; left = left; text = text } in
+      let done : TakenItems = record { game = game; is_done = is_done; left = left; text = text } in
       Took setup closed was_away past connection.queue done agent →
       MetBy setup ((state_of game).past agent) closed (is_away game agent)
       (after (record connection { seat = Some seat }) done) input (sent ++ text)
@@ -438,7 +439,7 @@ module _ (stage : Stage) (conn : ℕ) (connection : Connection) where
       inr untouched.at,
     )
 
-    own_enter : (how : Entry) → connection.seat ≡ None →
+    own_enter : (how : EntryResult) → connection.seat ≡ None →
         ((seat : ℕ × ℕ) → (enters_turn stage connection how).connection.seat ≡ Some seat
         → Untouched (game_at stage seat.0) seat.1) →
         IsReady stage connection input sent None →

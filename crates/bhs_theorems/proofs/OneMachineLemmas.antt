@@ -21,7 +21,7 @@ use Rattle.bhs_session.specs.Phase.{Phase, Ready, Awaits, ended_by, waiting, fin
 use Rattle.bhs_session.specs.Texts.{text_of, command_by}
 use Rattle.bhs_session.specs.Machine.{awaits, is_finished, hear, owed_text, behind_text}
 use Rattle.bhs_rehearsal.specs.Games.{Game, world_in, state_of, played, reply_to, is_away}
-use Rattle.bhs_rehearsal.specs.Connections.{Item, Says, Ends, Taken, taken, leaves, answers}
+use Rattle.bhs_rehearsal.specs.Connections.{Item, Says, Ends, TakenItems, taken, leaves, answers}
 use Rattle.bhs_rehearsal.specs.Stages.{news}
 use Rattle.bhs_theorems.specs.OneMachine.{Ran, heard_of, rests, runs, phase_in, Agree, ItemsAreTakenByTheMachine}
 use Rattle.bhs_theorems.specs.OneMachine.{IsNews, ArrivalsAreNews, HeardFirst}
@@ -176,7 +176,7 @@ line_agrees game agent line items here later =
     let event = Tell agent command in
     let next_game = played game event in
     let t = ties game agent command here in
-    subst (λ (old : Taken). Agree agent old (runs Ready game agent (Says line ∷ items)))
+    subst (λ (old : TakenItems). Agree agent old (runs Ready game agent (Says line ∷ items)))
     (sym (takes_line game agent line items here))
     (subst (λ (replied : Option Reply). Agree agent (answers replied next_game (taken next_game agent items))
     (then_ran (owed_text (hear Ready (heard_of replied)))
@@ -187,14 +187,15 @@ line_agrees game agent line items here later =
 end_agrees : (game : Game) (agent : ℕ) (items : List Item) → is_away game agent ≡ false
     → Agree agent (taken game agent (Ends ∷ items)) (runs Ready game agent (Ends ∷ items))
 end_agrees game agent items here =
-    subst (λ (old : Taken). Agree agent old (runs Ready game agent (Ends ∷ items)))
+    subst (λ (old : TakenItems). Agree agent old (runs Ready game agent (Ends ∷ items)))
     (sym (takes_end game agent items here))
     (record { game = refl; text = refl; left = refl; done = refl; phase = λ still. absurd (cc) })
 
 away_agrees : (game : Game) (agent : ℕ) (items : List Item) → is_away game agent ≡ true
     → Agree agent (taken game agent items) (runs Awaits game agent items)
 away_agrees game agent items away =
-    subst (λ (old : Taken). Agree agent old (runs Awaits game agent items)) (sym (takes_none game agent items away))
+    subst (λ (old : TakenItems). Agree agent old (runs Awaits game agent items)) (sym
+    (takes_none game agent items away))
     (leaves_agrees game agent items Awaits (inr refl) (sym away) refl)
 
 taken_agree : (game : Game) (agent : ℕ) (items : List Item) (phase : Phase) → TakesAlike game agent items phase

@@ -11,8 +11,8 @@ use Rattle.bhs_wire.specs.declared.commands.First.TheVariants as firsts
 use Rattle.bhs_lineup.specs.KeyTable.{seat_at}
 use Rattle.bhs_session.specs.Texts.{denial_text}
 use Rattle.bhs_rehearsal.specs.Games.{Game, is_away}
-use Rattle.bhs_rehearsal.specs.Connections.{Item, Says, Ends, Connection, unfed, shut, Taken, taken, after}
-use Rattle.bhs_rehearsal.specs.Stages.{Stage, game_at, connection_at, with_game, with_connection, has_seat, Entry}
+use Rattle.bhs_rehearsal.specs.Connections.{Item, Says, Ends, Connection, unfed, shut, TakenItems, taken, after}
+use Rattle.bhs_rehearsal.specs.Stages.{Stage, game_at, connection_at, with_game, with_connection, has_seat, EntryResult}
 use Rattle.bhs_rehearsal.specs.Stages.{Waits, Sits, IsDenied, Goes, let_in, entry_by, entry, Moved, plays, enters}
 use Rattle.bhs_rehearsal.specs.Stages.{moves_in}
 use Rattle.bhs_theorems.specs.ScriptLaws.{awaits_arrival, IsSettled, SettledConnectionsRest}
@@ -137,7 +137,7 @@ abbrev IsFree : Stage → (seat : ℕ × ℕ) → Type 0
 IsFree stage seat = list_any (has_seat seat) stage.connections ≡ false
 
 -- what an entry says: one that waits has no items
-abbrev EntrySays : Stage → List Item → Entry → Type 0
+abbrev EntrySays : Stage → List Item → EntryResult → Type 0
 EntrySays stage items Waits = items ≡ []
 EntrySays stage items (Sits seat) = IsFree stage seat
 EntrySays stage items how = Unit {0}
@@ -184,7 +184,7 @@ free_alone connections seat free other theirs =
 
 module _ (stage : Stage) (conn : ℕ) (connection : Connection) (within : conn < length stage.connections)
     (but : SettledBut stage conn) where
-  enters_settles : connection.seat ≡ None → (how : Entry)
+  enters_settles : connection.seat ≡ None → (how : EntryResult)
       → EntrySays (with_connection stage conn connection) connection.queue how →
       IsSettled (placed stage conn (enters_turn stage connection how)).stage
   enters_settles outside Waits none = stays_settles stage conn connection within but connection [] none outside
@@ -219,7 +219,7 @@ module _ (stage : Stage) (conn : ℕ) (settled : IsSettled stage) where
       → plays stage conn seat ≡ record { stage = stage; text = [] }
   rests_playing seat seated =
       let old = connection_at stage conn in
-      let moved : Taken → Moved = λ (done : Taken). record {
+      let moved : TakenItems → Moved = λ (done : TakenItems). record {
         stage = with_connection (with_game stage seat.0 done.game) conn (after (record old { seat = Some seat }) done);
         text = done.text;
       } in

@@ -22,7 +22,7 @@ use Rattle.bhs_wire.specs.Lines.{said_by}
 use Rattle.bhs_session.specs.Texts.{text_of, command_by}
 use Rattle.bhs_rehearsal.specs.Games.{Game, world_in, state_of, played, reply_to, is_away, drawn}
 use Rattle.bhs_rehearsal.specs.Games.{delivered as delivered_event}
-use Rattle.bhs_rehearsal.specs.Connections.{Item, Says, Ends, Taken, is_last, leaves, answers, taken}
+use Rattle.bhs_rehearsal.specs.Connections.{Item, Says, Ends, TakenItems, is_last, leaves, answers, taken}
 use Rattle.bhs_theorems.specs.ScriptLaws.{IsSlowFor, slow_of, SlowMatchesBegin}
 use Rattle.bhs_theorems.proofs.CuttingLemmas.{cond_alike}
 use Rattle.bhs_theorems.proofs.TwinLogLemmas.{keeps_alike, twins-both, twins-one}
@@ -190,13 +190,13 @@ module _ (game slow : Game) (is : IsSlowFor game slow) where
 -- ---- items
 
 -- what taking comes to in both
-pub record TakenAlike (done slow_done : Taken) : Type 0 where
+pub record TakenAlike (done slow_done : TakenItems) : Type 0 where
   pub game : IsSlowFor done.game slow_done.game
   pub is_done : done.is_done ≡ slow_done.is_done
   pub left : done.left ≡ slow_done.left
   pub text : done.text ≡ slow_done.text
 
-answers_slow : (reply : Option Reply) (game slow : Game) (others slow_others : Taken) → IsSlowFor game slow
+answers_slow : (reply : Option Reply) (game slow : Game) (others slow_others : TakenItems) → IsSlowFor game slow
     → TakenAlike others slow_others →
     TakenAlike (answers reply game others) (answers reply slow slow_others)
 answers_slow None game slow others slow_others is alike = alike

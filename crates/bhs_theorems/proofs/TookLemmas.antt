@@ -14,7 +14,7 @@ use Rattle.bhs_model.proofs.StepLemmas.{changed_same}
 use Rattle.bhs_wire.specs.Lines.{Line}
 use Rattle.bhs_session.specs.Texts.{text_of, command_of}
 use Rattle.bhs_rehearsal.specs.Games.{Game, world_in, state_of, played, reply_to, is_away}
-use Rattle.bhs_rehearsal.specs.Connections.{Item, Says, Ends, Taken, is_last, leaves, answers, taken}
+use Rattle.bhs_rehearsal.specs.Connections.{Item, Says, Ends, TakenItems, is_last, leaves, answers, taken}
 use Rattle.bhs_theorems.proofs.CuttingLemmas.{behind}
 use Rattle.bhs_theorems.proofs.AwayLemmas.{state_of-played}
 use Rattle.bhs_theorems.specs.Met.{Meeting, past_after, view_from, commands, answer_to, bytes_from, takes_commands}
@@ -63,7 +63,7 @@ IsQuiet closed away = (closed ≡ true) ⊎ (away ≡ false)
 abbrev pub IsOpen : (closed away : Bool) → Type 0
 IsOpen closed away = (closed ≡ false) ⊎ (away ≡ false)
 
-pub record Took (setup : Setup) (closed was_away : Bool) (old : View) (items : List Item) (done : Taken)
+pub record Took (setup : Setup) (closed was_away : Bool) (old : View) (items : List Item) (done : TakenItems)
     (agent : ℕ) : Type 0 where
   pub met : List Meeting
   pub lines : List Line
@@ -274,7 +274,7 @@ module _ (setup : Setup) (game : Game) (agent : ℕ) (line : Line) (items : List
       }
 
   took-more : (a : Answered setup old new command (reply_to game (Tell agent command)) (not (is_away next_game agent)))
-      → (others : Taken) →
+      → (others : TakenItems) →
       Took setup false (is_away next_game agent) new items others agent →
       Took setup false (is_away game agent) old (Says line ∷ items) (behind
       (text_of (answer_to setup.board old a.meeting)) others) agent
@@ -314,7 +314,7 @@ module _ (setup : Setup) (game : Game) (agent : ℕ) (line : Line) (items : List
         is_in = more.is_in;
       }
 
-  took-line : (others : Taken)
+  took-line : (others : TakenItems)
       → (standing new ≢ Ended → Took setup false (is_away next_game agent) new items others agent) →
       Took setup false (is_away game agent) old (Says line ∷ items) (answers (reply_to game (Tell agent command))
       next_game others) agent
@@ -324,7 +324,7 @@ module _ (setup : Setup) (game : Game) (agent : ℕ) (line : Line) (items : List
       subst (λ (replied : Option Reply). Took setup false (is_away game agent) old (Says line ∷ items)
       (answers replied next_game others) agent) (sym a.replied_is)
       (cond_both (is_last reply) _ _
-      (λ (done : Taken). Took setup false (is_away game agent) old (Says line ∷ items) done agent)
+      (λ (done : TakenItems). Took setup false (is_away game agent) old (Says line ∷ items) done agent)
       (took-last a) (λ goes_on. took-more a others (more (a.goes_on goes_on))))
 
 pub took : (setup : Setup) (closed : Bool) (game : Game) (agent : ℕ) (items : List Item) → IsIn setup agent game
@@ -335,7 +335,7 @@ took setup closed game agent (Says line ∷ items) is lives at last =
     let event = Tell agent (command_of line) in
     let next_game = played game event in
     let others = taken next_game agent items in
-    cond_both (is_away game agent) _ _ (λ (done : Taken). Took setup closed (is_away game agent)
+    cond_both (is_away game agent) _ _ (λ (done : TakenItems). Took setup closed (is_away game agent)
     ((state_of game).past agent) (Says line ∷ items) done agent)
     (λ away. took-leaves setup closed game agent (Says line ∷ items) is lives at)
     (λ here. by_closed setup closed game agent line items is lives at here others
@@ -344,7 +344,7 @@ took setup closed game agent (Says line ∷ items) is lives at last =
   where
     by_closed : (setup : Setup) (closed : Bool) (game : Game) (agent : ℕ) (line : Line) (items : List Item)
         → IsIn setup agent game → standing ((state_of game).past agent) ≢ Ended → (state_of game).closed ≡ closed →
-        is_away game agent ≡ false → (others : Taken) →
+        is_away game agent ≡ false → (others : TakenItems) →
         (standing ((state_of (played game (Tell agent (command_of line)))).past agent) ≢ Ended
         → Took setup closed (is_away (played game (Tell agent (command_of line))) agent)
         ((state_of (played game (Tell agent (command_of line)))).past agent) items others agent)
@@ -360,7 +360,7 @@ took setup closed game agent (Says line ∷ items) is lives at last =
     by_closed setup false game agent line items is lives at here others more =
         took-line setup game agent line items is lives at here others more
 took setup closed game agent (Ends ∷ items) is lives at last =
-    cond_both (is_away game agent) _ _ (λ (done : Taken). Took setup closed (is_away game agent)
+    cond_both (is_away game agent) _ _ (λ (done : TakenItems). Took setup closed (is_away game agent)
     ((state_of game).past agent) (Ends ∷ items) done agent)
     (λ away. took-leaves setup closed game agent (Ends ∷ items) is lives at)
     (λ here. took-end setup closed game agent items is at here last)

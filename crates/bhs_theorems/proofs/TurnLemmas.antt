@@ -10,8 +10,8 @@ use Rattle.bhs_wire.specs.declared.commands.First.TheVariants as firsts
 use Rattle.bhs_lineup.specs.KeyTable.{seat_at}
 use Rattle.bhs_session.specs.Texts.{denial_text}
 use Rattle.bhs_rehearsal.specs.Games.{Game}
-use Rattle.bhs_rehearsal.specs.Connections.{Item, Says, Ends, Connection, unfed, shut, Taken, taken, after}
-use Rattle.bhs_rehearsal.specs.Stages.{Stage, game_at, connection_at, with_game, with_connection, has_seat, Entry}
+use Rattle.bhs_rehearsal.specs.Connections.{Item, Says, Ends, Connection, unfed, shut, TakenItems, taken, after}
+use Rattle.bhs_rehearsal.specs.Stages.{Stage, game_at, connection_at, with_game, with_connection, has_seat, EntryResult}
 use Rattle.bhs_rehearsal.specs.Stages.{Waits, Sits, IsDenied, Goes, let_in, entry_by, entry, Moved, plays, shuts}
 use Rattle.bhs_rehearsal.specs.Stages.{enters, moves_in, moves}
 use Rattle.bhs_theorems.proofs.CuttingLemmas.{by_bool, and_then, taken-append, taken_nobody, cond_alike}
@@ -46,7 +46,7 @@ plays_turn stage seat connection =
       text = done.text;
     }
 
-abbrev pub enters_turn : Stage → Connection → Entry → Turn
+abbrev pub enters_turn : Stage → Connection → EntryResult → Turn
 enters_turn stage connection Waits = record { games = stage.games; connection = connection; text = [] }
 enters_turn stage connection (Sits seat) = plays_turn stage seat connection
 enters_turn stage connection (IsDenied denial) =
@@ -59,7 +59,7 @@ turn_in stage conn connection None = enters_turn stage connection
 turn_in stage conn connection (Some seat) = plays_turn stage seat connection
 
 -- a connection keeps the seat that it plays
-pub seat_after : (connection : Connection) (seat : ℕ × ℕ) (done : Taken)
+pub seat_after : (connection : Connection) (seat : ℕ × ℕ) (done : TakenItems)
     → (after (record connection { seat = Some seat }) done).seat ≡ Some seat
 seat_after connection seat done =
     either (λ (new : Connection). new.seat ≡ Some seat) done.is_done _ _ refl refl
@@ -71,7 +71,7 @@ turn_of stage conn connection = turn_in stage conn connection connection.seat
 -- what holds of a turn in which nothing is taken, and of one that plays
 by_enters : (P : Turn → Type 0) (stage : Stage) (connection : Connection) →
     ((new : Connection) (text : List ℕ) → P (record { games = stage.games; connection = new; text = text })) →
-    ((seat : ℕ × ℕ) → P (plays_turn stage seat connection)) → (how : Entry) → P (enters_turn stage connection how)
+    ((seat : ℕ × ℕ) → P (plays_turn stage seat connection)) → (how : EntryResult) → P (enters_turn stage connection how)
 by_enters P stage connection stays plays Waits = stays connection []
 by_enters P stage connection stays plays (Sits seat) = plays seat
 by_enters P stage connection stays plays (IsDenied denial) = stays (shut connection) (denial_text denial)
@@ -115,7 +115,7 @@ module _ (stage : Stage) (conn : ℕ) (connection : Connection) (within : conn <
       ap (λ (one : Connection). moved (set (set stage.connections conn connection) conn (shut one))) placed_at
       ∙ ap moved (set-set stage.connections conn connection (shut connection))
 
-  enters-placed : (entry : Entry) → enters (with_connection stage conn connection) conn entry ≡ placed stage conn
+  enters-placed : (entry : EntryResult) → enters (with_connection stage conn connection) conn entry ≡ placed stage conn
       (enters_turn stage connection entry)
   enters-placed Waits = refl
   enters-placed (Sits seat) = plays-placed seat
@@ -188,9 +188,9 @@ played_at stage seat items =
 plays_more : (stage : Stage) (conn : ℕ) (seat : ℕ × ℕ) (old : Option (ℕ × ℕ)) (unfinished : Option (List ℕ))
     (queue : List Item) (bytes : List ℕ)
     (game : Game) (is_done : Bool) (left : List Item) (text : List ℕ) →
-    let done : Taken = record { game = game; is_done = is_done; left = left; text = text } in
+    let done : TakenItems = record { game = game; is_done = is_done; left = left; text = text } in
     let old_one = open_one old unfinished queue in
-    let whole : Taken = and_then done seat.1 (map Says (found_in unfinished bytes)) in
+    let whole : TakenItems = and_then done seat.1 (map Says (found_in unfinished bytes)) in
     let turn : Turn = record {
       games = set stage.games seat.0 game;
       connection = after
@@ -224,7 +224,7 @@ plays_grown : (stage : Stage) (conn : ℕ) (seat : ℕ × ℕ) (old : Option (�
     (plays_turn stage seat (open_one old unfinished queue)) bytes
 plays_grown stage conn seat old unfinished queue bytes =
     let done = taken (game_at stage seat.0) seat.1 queue in
-    ap (λ (whole : Taken). let turn : Turn = record {
+    ap (λ (whole : TakenItems). let turn : Turn = record {
       games = set stage.games seat.0 whole.game;
       connection = after (record (grown (open_one old unfinished queue) bytes) { seat = Some seat }) whole;
       text = whole.text;
@@ -243,7 +243,7 @@ list_any-set_alike p (first ∷ connections) (suc conn) one other same =
     ap (λ (is : Bool). p first || is) (list_any-set_alike p connections conn one other same)
 
 -- an entry is taken from the matches alone
-enters_alike : (stage : Stage) (connections : List Connection) (connection : Connection) (entry : Entry) →
+enters_alike : (stage : Stage) (connections : List Connection) (connection : Connection) (entry : EntryResult) →
     enters_turn (record stage { connections = connections }) connection entry ≡ enters_turn stage connection entry
 enters_alike stage connections connection Waits = refl
 enters_alike stage connections connection (Sits seat) = refl
@@ -260,7 +260,7 @@ module _ (stage : Stage) (conn : ℕ) (unfinished : Option (List ℕ)) (queue : 
   let_in_grown (Some seat) =
       let below = nat_lt seat.0 (length stage.games) in
       let old_one = open_one None unfinished queue in
-      let Grows : Entry → Entry → Type 0 = λ (how before : Entry).
+      let Grows : EntryResult → EntryResult → Type 0 = λ (how before : EntryResult).
       enters_turn stage (grown old_one bytes) how ≡ then_fed stage conn (enters_turn stage old_one before) bytes in
       cond_alike Grows below below _ _ _ _ refl
       (λ is. cond_alike Grows _ _ _ _ _ _

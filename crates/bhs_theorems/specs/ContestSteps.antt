@@ -8,38 +8,38 @@ use Rattle.bhs_model.specs.Views.{View, Told, Arrived, Glance, Nothing, Sight, A
 use Rattle.bhs_model.specs.Replying.{answer, here, hears}
 use Rattle.bhs_lock.specs.declared.model.Receipt.{Receipt}
 use Rattle.bhs_lock.specs.Passes.{kept_command}
-use Rattle.bhs_lock.specs.Comparing.{Heard}
+use Rattle.bhs_lock.specs.Comparing.{HeardEntry}
 
-pub data Step : Type 0 where
-  Spoke : (place : ℕ) → Command → Glance → Reply → Step
-  Arrives : (place : ℕ) → Sight → Reply → Step
+pub data ContestStep : Type 0 where
+  Spoke : (place : ℕ) → Command → Glance → Reply → ContestStep
+  Arrives : (place : ℕ) → Sight → Reply → ContestStep
 
 -- the heard commands, as they are compared with receipts
-abbrev pub heard_of : List Step → List Heard
+abbrev pub heard_of : List ContestStep → List HeardEntry
 heard_of [] = []
 heard_of (Spoke place command glance reply ∷ steps) =
     record { place = place; command = kept_command command reply; reply = Some reply } ∷ heard_of steps
 heard_of (Arrives place sight reply ∷ steps) = heard_of steps
 
-abbrev pub arrivals_of : List Step → List Receipt
+abbrev pub arrivals_of : List ContestStep → List Receipt
 arrivals_of [] = []
 arrivals_of (Spoke place command glance reply ∷ steps) = arrivals_of steps
 arrivals_of (Arrives place sight reply ∷ steps) = record { place = place; reply = reply } ∷ arrivals_of steps
 
 -- the past that they make
-abbrev pub view_along : View → List Step → View
+abbrev pub view_along : View → List ContestStep → View
 view_along view [] = view
 view_along view (Spoke place command glance reply ∷ steps) = view_along (Told view command glance) steps
 view_along view (Arrives place sight reply ∷ steps) = view_along (Arrived view sight) steps
 
 -- their places ascend, from this one on
-abbrev pub StandInOrder : (least : ℕ) → List Step → Type 0
+abbrev pub StandInOrder : (least : ℕ) → List ContestStep → Type 0
 StandInOrder least [] = Unit {0}
 StandInOrder least (Spoke place command glance reply ∷ steps) = (least ≤ place) × StandInOrder (place + 1) steps
 StandInOrder least (Arrives place sight reply ∷ steps) = (least ≤ place) × StandInOrder (place + 1) steps
 
 -- each is one of an agent with this past, and answered as the definitions say
-abbrev pub AreSteps : (quota limit : ℕ) → View → List Step → Type 0
+abbrev pub AreSteps : (quota limit : ℕ) → View → List ContestStep → Type 0
 AreSteps quota limit view [] = Unit {0}
 AreSteps quota limit view (Spoke place command glance reply ∷ steps) =
     (hears quota view command ≡ true) × (reply ≡ answer limit (standing view) (ports view) command glance)

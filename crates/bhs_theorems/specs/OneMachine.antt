@@ -9,12 +9,12 @@ use Rattle.bhs_wire.specs.Lines.{said_by}
 use Rattle.bhs_wire.specs.declared.denials.Denial.TheVariants as denials
 use Rattle.bhs_session.specs.declared.endings.Ended.TheVariants as endings
 use Rattle.bhs_session.specs.declared.port.Entered.TheVariants as entered
-use Rattle.bhs_session.specs.Port.{Heard, LetIn, Answers, NoMemory}
+use Rattle.bhs_session.specs.Port.{PortAnswer, LetIn, Answers, NoMemory}
 use Rattle.bhs_session.specs.Phase.{Phase, Fresh, Ready, Awaits, Finished, denied}
 use Rattle.bhs_session.specs.Texts.{command_by}
 use Rattle.bhs_session.specs.Machine.{hear, owed_text, behind_text, is_finished}
 use Rattle.bhs_rehearsal.specs.Games.{Game, played, reply_to, is_away}
-use Rattle.bhs_rehearsal.specs.Connections.{Item, Says, Ends, Taken, taken}
+use Rattle.bhs_rehearsal.specs.Connections.{Item, Says, Ends, TakenItems, taken}
 use Rattle.bhs_rehearsal.specs.Stages.{news}
 
 -- ---- items, taken by the machine
@@ -27,7 +27,7 @@ pub record Ran : Type 0 where
   pub text : List ℕ
 
 -- an answer of the match as a port gives it. Each command is answered: the first line never comes
-abbrev pub heard_of : Option Reply → Heard
+abbrev pub heard_of : Option Reply → PortAnswer
 heard_of None = NoMemory
 heard_of (Some reply) = Answers reply
 
@@ -55,7 +55,7 @@ abbrev pub phase_in : Game → (agent : ℕ) → Phase
 phase_in game agent = if is_away game agent then Awaits else Ready
 
 -- what a rehearsal takes is what the machine takes, and the machine is done exactly if the connection is
-pub record Agree (agent : ℕ) (taken : Taken) (ran : Ran) : Type 0 where
+pub record Agree (agent : ℕ) (taken : TakenItems) (ran : Ran) : Type 0 where
   pub game : ran.game ≡ taken.game
   pub text : ran.text ≡ taken.text
   pub left : ran.left ≡ taken.left

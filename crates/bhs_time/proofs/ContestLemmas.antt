@@ -3,12 +3,12 @@ use Rattle.std.proofs.Common.{ℕ, ◌≡◌, Bool, true, false, List, [], ◌�
 use Rattle.std.proofs.lemmas.Bool.{eqb-true}
 use Rattle.bhs_model.specs.Runs.{changed}
 use Rattle.bhs_time.specs.TimedRuns.{TimedState, timed_initial, TimedAct, timed_run_from}
-use Rattle.bhs_time.specs.Contests.{Terms, TimedHappening, acts_of, next_one, contest_from, MatchesAreApartInTime}
+use Rattle.bhs_time.specs.Contests.{TimedSetup, TimedHappening, acts_of, next_one, contest_from, MatchesAreApartInTime}
 
-abbrev run_one : Terms → TimedState → List TimedAct → TimedState
+abbrev run_one : TimedSetup → TimedState → List TimedAct → TimedState
 run_one terms timed acts = timed_run_from terms.world terms.held terms.schedule timed acts
 
-contest_state : (terms : ℕ → Terms) (states : ℕ → TimedState) (happenings : List TimedHappening) (game : ℕ) →
+contest_state : (terms : ℕ → TimedSetup) (states : ℕ → TimedState) (happenings : List TimedHappening) (game : ℕ) →
     contest_from terms states happenings game ≡ run_one (terms game) (states game) (acts_of game happenings)
 contest_state terms states [] game = refl
 contest_state terms states (one ∷ others) game =

@@ -13,7 +13,7 @@ use Rattle.bhs_model.specs.Draws.{Held}
 use Rattle.bhs_model.proofs.StepLemmas.{by_cases}
 use Rattle.bhs_time.specs.Schedules.{Schedule}
 use Rattle.bhs_time.specs.TimedRuns.{TimedState, timed_initial, TimedAct, Says, Passes, Ends, delivery_now, timed_next}
-use Rattle.bhs_time.specs.Leaving.{Marked, all_of, Watch, all_watched, taint, watch_after, IsClean, IsCleanIf}
+use Rattle.bhs_time.specs.Leaving.{Marked, all_of, TaintState, all_watched, taint, watch_after, IsClean, IsCleanIf}
 use Rattle.bhs_time.specs.Leaving.{IsUnseen, watched, MeetsTheSame, seen_if, act_footprint, act_footprints}
 use Rattle.bhs_time.specs.Leaving.{marked_by, within_cut, CutsSufficeInTime}
 use Rattle.bhs_time.proofs.LeavingLemmas.{leaving_lemma}
@@ -114,19 +114,19 @@ still_own live agent other apart lives = rw apart lives
 
 module _ (world : World) (held : Held) (schedule : Schedule) (agent : ℕ) where
   -- what is shown of the acts that come
-  abbrev IsFine : TimedState → Watch → List Marked → Type 0
+  abbrev IsFine : TimedState → TaintState → List Marked → Type 0
   IsFine timed watch acts =
       IsUnseen world held schedule timed watch acts
       × ((watched world held schedule timed watch acts).live agent ≡ true)
 
-  one_place : (timed : TimedState) (watch : Watch) (act : TimedAct) (chosen : Bool) (lates : List Footprint)
+  one_place : (timed : TimedState) (watch : TaintState) (act : TimedAct) (chosen : Bool) (lates : List Footprint)
       (others : List Marked) →
       (chosen ≡ false → (meet (Some agent) (act_footprint world held schedule timed act).who ≡ false)
       × (list_any (needs (act_footprint world held schedule timed act)) lates ≡ false)) →
       IsClear watch.live watch.tainted
       (if chosen then act_footprint world held schedule timed act ∷ lates else lates) →
       watch.live agent ≡ true →
-      ((watching : Watch) → IsClear watching.live watching.tainted lates → watching.live agent ≡ true →
+      ((watching : TaintState) → IsClear watching.live watching.tainted lates → watching.live agent ≡ true →
       IsFine (timed_next world held schedule timed act) watching others) →
       IsFine timed watch (record { act = act; kept = chosen } ∷ others)
   one_place timed watch (Says who command) true lates others unchosen clear lives rest =
@@ -176,7 +176,7 @@ module _ (world : World) (held : Held) (schedule : Schedule) (agent : ℕ) where
       let fine = rest watch clear lives in
       ((tt, fine.0), fine.1)
 
-  cut_fine : (timed : TimedState) (watch : Watch) (acts : List TimedAct) →
+  cut_fine : (timed : TimedState) (watch : TaintState) (acts : List TimedAct) →
       IsClear watch.live watch.tainted (at_places (act_footprints world held schedule timed acts)
       (cut agent (act_footprints world held schedule timed acts))) →
       watch.live agent ≡ true →

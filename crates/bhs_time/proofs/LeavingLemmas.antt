@@ -24,7 +24,8 @@ use Rattle.bhs_time.specs.TimedRuns.{TimedState, timed_initial, TimedAct, Says, 
 use Rattle.bhs_time.specs.TimedRuns.{glance_then, writes_then}
 use Rattle.bhs_time.specs.TimedRuns.{event_of, turn_after, sight_then, told_then, arrived_then, happened, happened_if}
 use Rattle.bhs_time.specs.TimedRuns.{timed_next, timed_run_from}
-use Rattle.bhs_time.specs.Leaving.{Marked, all_of, if_kept, kept_of, Watch, all_watched, taint, watch_after, IsClean}
+use Rattle.bhs_time.specs.Leaving.{Marked, all_of, if_kept, kept_of, TaintState, all_watched, taint, watch_after}
+use Rattle.bhs_time.specs.Leaving.{IsClean}
 use Rattle.bhs_time.specs.Leaving.{IsCleanIf, MayBeKept, IsUnseen, watched, TheUnseenMayBeLeftOut}
 use Rattle.bhs_time.proofs.StampLemmas.{IsStamped, initial_stamped, next_stamped}
 
@@ -469,14 +470,14 @@ ended_alike world held schedule live tainted here there alike = record {
 }
 
 -- how the two matches stand in the end
-abbrev pub EndAlike : Watch → TimedState → TimedState → Type 0
+abbrev pub EndAlike : TaintState → TimedState → TimedState → Type 0
 EndAlike watch here there = AreAlike watch.live watch.tainted here there × (here.turn ≡ there.turn)
 
 module _ (world : World) (held : Held) (schedule : Schedule) where
-  one_act : (here there : TimedState) (watch : Watch) (others : List Marked) (act : TimedAct) (kept : Bool) →
+  one_act : (here there : TimedState) (watch : TaintState) (others : List Marked) (act : TimedAct) (kept : Bool) →
       here.turn ≡ there.turn → IsStamped here → IsStamped there → AreAlike watch.live watch.tainted here there →
       MayBeKept world held schedule here watch act kept →
-      ((later later_too : TimedState) (watching : Watch) → later.turn ≡ later_too.turn → IsStamped later →
+      ((later later_too : TimedState) (watching : TaintState) → later.turn ≡ later_too.turn → IsStamped later →
       IsStamped later_too → AreAlike watching.live watching.tainted later later_too →
       IsUnseen world held schedule later watching others →
       EndAlike (watched world held schedule later watching others) (timed_run_from world held schedule later
@@ -525,7 +526,8 @@ module _ (world : World) (held : Held) (schedule : Schedule) where
       (next_stamped world held schedule here Ends stamped) (next_stamped world held schedule there Ends stamped_too)
       (ended_alike world held schedule watch.live watch.tainted here there alike) unseen
 
-  all_alike : (here there : TimedState) (watch : Watch) (acts : List Marked) → here.turn ≡ there.turn → IsStamped here →
+  all_alike : (here there : TimedState) (watch : TaintState) (acts : List Marked) → here.turn ≡ there.turn
+      → IsStamped here →
       IsStamped there → AreAlike watch.live watch.tainted here there → IsUnseen world held schedule here watch acts →
       EndAlike (watched world held schedule here watch acts) (timed_run_from world held schedule here (all_of acts))
       (timed_run_from world held schedule there (kept_of acts))

@@ -32,12 +32,12 @@ kept_of [] = []
 kept_of (one ∷ others) = if_kept one.act one.kept (kept_of others)
 
 -- the agents that are still watched, and the nodes where a write was left out
-pub record Watch : Type 0 where
+pub record TaintState : Type 0 where
   pub live : ℕ → Bool
   pub tainted : ℕ → Bool
 
 -- all agents are watched, and nothing is left out yet
-abbrev pub all_watched : Watch
+abbrev pub all_watched : TaintState
 all_watched = record { live = λ agent. true; tainted = λ node. false }
 
 -- the nodes where a write was left out, with this one
@@ -46,7 +46,7 @@ taint tainted None = tainted
 taint tainted (Some node) = changed tainted node true
 
 -- an agent is watched until the first of its acts that is not kept: a command, or a turn that picks it
-abbrev pub watch_after : World → Schedule → TimedState → Watch → TimedAct → (kept : Bool) → Watch
+abbrev pub watch_after : World → Schedule → TimedState → TaintState → TimedAct → (kept : Bool) → TaintState
 watch_after world schedule timed watch (Says agent command) false = record {
   live = changed watch.live agent false;
   tainted = taint watch.tainted (footprint world timed.state (Tell agent command)).written;
@@ -67,7 +67,7 @@ IsCleanIf world state tainted (Some event) = IsClean tainted (footprint world st
 
 -- An act may be kept: the agent is watched, and sees no node where a write was left out. A turn may be kept whoever it
 -- picks, if that agent is not watched.
-abbrev pub MayBeKept : World → Held → Schedule → TimedState → Watch → TimedAct → (kept : Bool) → Type 0
+abbrev pub MayBeKept : World → Held → Schedule → TimedState → TaintState → TimedAct → (kept : Bool) → Type 0
 MayBeKept world held schedule timed watch (Says agent command) true =
     (watch.live agent ≡ true) × IsClean watch.tainted (footprint world timed.state (Tell agent command)).seen
 MayBeKept world held schedule timed watch Passes true =
@@ -76,7 +76,7 @@ MayBeKept world held schedule timed watch Passes true =
 MayBeKept world held schedule timed watch act kept = Unit {0}
 
 -- at each act, what is kept may be kept: no watched agent sees what is left out
-abbrev pub IsUnseen : World → Held → Schedule → TimedState → Watch → List Marked → Type 0
+abbrev pub IsUnseen : World → Held → Schedule → TimedState → TaintState → List Marked → Type 0
 IsUnseen world held schedule timed watch [] = Unit {0}
 IsUnseen world held schedule timed watch (one ∷ others) =
     MayBeKept world held schedule timed watch one.act one.kept
@@ -84,7 +84,7 @@ IsUnseen world held schedule timed watch (one ∷ others) =
     (watch_after world schedule timed watch one.act one.kept) others
 
 -- who is watched in the end
-abbrev pub watched : World → Held → Schedule → TimedState → Watch → List Marked → Watch
+abbrev pub watched : World → Held → Schedule → TimedState → TaintState → List Marked → TaintState
 watched world held schedule timed watch [] = watch
 watched world held schedule timed watch (one ∷ others) =
     watched world held schedule (timed_next world held schedule timed one.act)

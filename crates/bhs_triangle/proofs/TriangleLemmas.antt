@@ -15,10 +15,11 @@ use Rattle.bhs_model.proofs.StepLemmas.{changed_same}
 use Rattle.bhs_net.specs.Network.{nodes_of}
 use Rattle.bhs_referee.specs.declared.verdicts.Outcome.TheVariants.{Solved}
 use Rattle.bhs_referee.specs.Verdicts.{is_present}
-use Rattle.bhs_explore.specs.declared.minds.Step.TheVariants.{Says, Sleeps, Fails}
-use Rattle.bhs_explore.specs.Minds.{Item, Heard}
+use Rattle.bhs_explore.specs.declared.answers.Step.TheVariants.{Says, Sleeps, Fails}
+use Rattle.bhs_explore.specs.Strategies.{Observation, Heard}
 use Rattle.bhs_explore.specs.Schedules.{Trial}
-use Rattle.bhs_protocols.specs.Pictures.{Picture, IsResting, blank, can_move_in, turn_in, outcome_in, doomed_in}
+use Rattle.bhs_protocols.specs.Configurations.{Configuration, IsResting, blank, can_move_in, turn_in, outcome_in}
+use Rattle.bhs_protocols.specs.Configurations.{doomed_in}
 use Rattle.bhs_protocols.specs.Invariants.{GoesOn, IsInvariant}
 use Rattle.bhs_protocols.specs.Rings.{Ways, IsSearch}
 use Rattle.bhs_protocols.specs.AllRings.{IsAway, ways_of}
@@ -31,10 +32,10 @@ use Rattle.bhs_triangle.specs.Triangle.{Phase, Begins, Departs, Goes, Turns, Com
 use Rattle.bhs_triangle.specs.Triangle.{next_phase, phase_after, triangle_trial, triangle_bounds, TriangleIsSolved}
 use Rattle.bhs_protocols.proofs.MovingLemmas.{says_moves, bound_moves, end_stays, arrives_at, grows_by}
 
-module _ (world : World) (n right left naps : ℕ) (ways : Ways) (search : IsSearch world n right left ways)
+module _ (world : World) (n right left wakeups : ℕ) (ways : Ways) (search : IsSearch world n right left ways)
     (three : n ≡ 3) (enough : 3 ≤ world.quota) where
   abbrev trial : Trial
-  trial = triangle_trial world naps
+  trial = triangle_trial world wakeups
 
   -- ---- the network
 
@@ -160,28 +161,28 @@ module _ (world : World) (n right left naps : ℕ) (ways : Ways) (search : IsSea
     port : port_in (label s) phase ≡ label s
     safe : IsSafe s phase reached
 
-  abbrev phase_in : Picture → (s : ℕ) → Phase
+  abbrev phase_in : Configuration → (s : ℕ) → Phase
   phase_in picture s = phase_after (picture.history s)
 
-  abbrev IsFitIn : Picture → (s : ℕ) → Type 0
+  abbrev IsFitIn : Configuration → (s : ℕ) → Type 0
   IsFitIn picture s =
       IsFit s (phase_in picture s) (picture.position s) (picture.used s) (picture.accused s) picture.reached
 
   -- what holds of both: it is the same seen from either, so one lemma a phase serves both
-  record Inv (s o : ℕ) (picture : Picture) : Type 0 where
+  record Inv (s o : ℕ) (picture : Configuration) : Type 0 where
     own : IsFitIn picture s
     other : IsFitIn picture o
     moves : picture.moves ≡ moved (phase_in picture s) + moved (phase_in picture o)
     none : (k : ℕ) → 2 ≤ k → picture.used k ≡ 0
 
-  seen_from_other : (s o : ℕ) (picture : Picture) → Inv s o picture → Inv o s picture
+  seen_from_other : (s o : ℕ) (picture : Configuration) → Inv s o picture → Inv o s picture
   seen_from_other s o picture inv =
       record { own = inv.other; other = inv.own; moves = omega (arith, inv.moves); none = inv.none }
 
   -- ---- turns
 
   -- after a turn of agent s that moves
-  record Onward (s o : ℕ) (old new : Picture) : Type 0 where
+  record Onward (s o : ℕ) (old new : Configuration) : Type 0 where
     inv : Inv s o new
     more : turned (phase_in new s) ≡ turned (phase_in old s) + 1
     same : phase_in new o ≡ phase_in old o
@@ -193,16 +194,16 @@ module _ (world : World) (n right left naps : ℕ) (ways : Ways) (search : IsSea
       × (port_in (label s) later ≡ label s)
 
   -- an arrival makes one node more reached
-  module _ (s o : ℕ) (old : Picture) (pair : Pair s o) (inv : Inv s o old) where
+  module _ (s o : ℕ) (old : Configuration) (pair : Pair s o) (inv : Inv s o old) where
     abbrev phase : Phase
     phase = phase_in old s
 
-    abbrev new : Picture
+    abbrev new : Configuration
     new = turn_in trial old s
 
     -- The invariant after a turn, of what the turn makes of the picture. Left to show are what it takes, whom the agent
     -- has accused, what is safe, and that what was reached still is.
-    onward : (now later : Phase) (news : Item) (costs steps : ℕ) (accused : Option (ℕ × ℕ)) (reached : ℕ → Bool)
+    onward : (now later : Phase) (news : Observation) (costs steps : ℕ) (accused : Option (ℕ × ℕ)) (reached : ℕ → Bool)
         → phase ≡ now → next_phase now news ≡ later
         → Becomes old new s (place s later) news costs steps accused old.shown reached
         → Takes s now later costs steps → accused ≡ accusation s later → IsSafe s later reached
@@ -374,7 +375,7 @@ module _ (world : World) (n right left naps : ℕ) (ways : Ways) (search : IsSea
   -- ---- all together
 
   -- both have not ended, since the black hole is next to the home base on one side, and both are not lost
-  at_rest : (picture : Picture) → Inv 0 1 picture → IsResting trial picture
+  at_rest : (picture : Configuration) → Inv 0 1 picture → IsResting trial picture
       → (outcome_in world picture ≡ Solved) × (doomed_in world picture ≤ 1)
   at_rest picture inv still =
       let inv_too : Inv 1 0 picture = seen_from_other 0 1 picture inv in
@@ -416,14 +417,14 @@ module _ (world : World) (n right left naps : ℕ) (ways : Ways) (search : IsSea
   few s Accuses some far = let two = far refl in (omega (arith, two), omega (arith, two), omega arith)
   few s Ends some far = let two = far refl in (omega (arith, two), omega (arith, two), omega arith)
 
-  few_of_both : (picture : Picture) → Inv 0 1 picture → Few 0 (phase_in picture 0) × Few 1 (phase_in picture 1)
+  few_of_both : (picture : Configuration) → Inv 0 1 picture → Few 0 (phase_in picture 0) × Few 1 (phase_in picture 1)
   few_of_both picture inv = (
     few 0 (phase_in picture 0) (positive 0 (omega arith)) (λ there. (inv.own.safe there).0),
     few 1 (phase_in picture 1) (positive 1 (omega arith)) (λ there. (inv.other.safe there).0),
   )
 
   -- the invariant with the turns that are left: those of the bound that no agent has had
-  record Holds (picture : Picture) (turns : ℕ) : Type 0 where
+  record Holds (picture : Configuration) (turns : ℕ) : Type 0 where
     inv : Inv 0 1 picture
     total : turned (phase_in picture 0) + turned (phase_in picture 1) + turns ≡ 8
 
@@ -437,7 +438,7 @@ module _ (world : World) (n right left naps : ℕ) (ways : Ways) (search : IsSea
   }
 
   -- after one turn more, one less is left
-  holds_on : (picture : Picture) (turns : ℕ) → Inv 0 1 picture
+  holds_on : (picture : Configuration) (turns : ℕ) → Inv 0 1 picture
       → turned (phase_in picture 0) + turned (phase_in picture 1) + turns ≡ 9 → GoesOn Holds turns picture
   holds_on picture turns inv total =
       let both_few = few_of_both picture inv in
@@ -448,7 +449,7 @@ module _ (world : World) (n right left naps : ℕ) (ways : Ways) (search : IsSea
         holds = record { inv = inv; total = omega (arith, total, both_few.0.0, both_few.1.0, sum) };
       }
 
-  goes_on : (picture : Picture) (turns agent : ℕ) → agent < 2 → can_move_in trial picture agent ≡ true
+  goes_on : (picture : Configuration) (turns agent : ℕ) → agent < 2 → can_move_in trial picture agent ≡ true
       → Holds picture turns → GoesOn Holds turns (turn_in trial picture agent)
   goes_on picture turns zero below moves it =
       let on : Onward 0 1 picture (turn_in trial picture 0) =
@@ -461,12 +462,12 @@ module _ (world : World) (n right left naps : ℕ) (ways : Ways) (search : IsSea
       (omega (arith, it.total, on.more, ap turned on.same))
   goes_on picture turns (suc (suc k)) below moves it = absurd (omega (arith, below))
 
-  commands_within : (picture : Picture) (agent : ℕ) → Inv 0 1 picture → picture.used agent ≤ 3
+  commands_within : (picture : Configuration) (agent : ℕ) → Inv 0 1 picture → picture.used agent ≤ 3
   commands_within picture zero inv = omega (arith, inv.own.spends, (few_of_both picture inv).0.2)
   commands_within picture (suc zero) inv = omega (arith, inv.other.spends, (few_of_both picture inv).1.2)
   commands_within picture (suc (suc k)) inv = omega (arith, inv.none (suc (suc k)) (omega arith))
 
-  moves_within : (picture : Picture) → Inv 0 1 picture → picture.moves ≤ 3
+  moves_within : (picture : Configuration) → Inv 0 1 picture → picture.moves ≤ 3
   moves_within picture inv =
       let both_few = few_of_both picture inv in
       omega (arith, inv.moves, both_few.0.1, both_few.1.1, sum_is 0 1 zero_one)
@@ -494,9 +495,9 @@ module _ (world : World) (n right left naps : ℕ) (ways : Ways) (search : IsSea
 
 -- each ring of a file is a ring, and with three nodes it is one of the above
 pub triangle_is_solved : TriangleIsSolved
-triangle_is_solved net setup hole naps is three enough =
+triangle_is_solved net setup hole wakeups is three enough =
     let away : IsAway net setup hole = rings_are_rings net setup hole is in
     let world : World = world_of net setup in
-    invariants_solve (triangle_trial world naps) triangle_bounds
-    (Holds world (nodes_of net) away.one away.other naps (ways_of net setup.home) away.search three enough)
-    (invariant world (nodes_of net) away.one away.other naps (ways_of net setup.home) away.search three enough)
+    invariants_solve (triangle_trial world wakeups) triangle_bounds
+    (Holds world (nodes_of net) away.one away.other wakeups (ways_of net setup.home) away.search three enough)
+    (invariant world (nodes_of net) away.one away.other wakeups (ways_of net setup.home) away.search three enough)

@@ -9,11 +9,11 @@ use Rattle.bhs_model.specs.Setups.{world_of}
 use Rattle.bhs_model.specs.Worlds.{World}
 use Rattle.bhs_model.specs.Examples.{triangle, none_held}
 use Rattle.bhs_referee.specs.declared.verdicts.Outcome.TheVariants.{Solved}
-use Rattle.bhs_explore.specs.declared.minds.Step.{Step}
-use Rattle.bhs_explore.specs.declared.minds.Step.TheVariants.{Says, Stops}
-use Rattle.bhs_explore.specs.Minds.{Item, Heard, History, Minds}
+use Rattle.bhs_explore.specs.declared.answers.Step.{Step}
+use Rattle.bhs_explore.specs.declared.answers.Step.TheVariants.{Says, Stops}
+use Rattle.bhs_explore.specs.Strategies.{Observation, Heard, History, Strategies}
 use Rattle.bhs_explore.specs.Schedules.{Trial, under, verdict}
-use Rattle.bhs_protocols.specs.Invariants.{Bounds, IsSolved}
+use Rattle.bhs_protocols.specs.Invariants.{CostBounds, IsSolved}
 use Rattle.bhs_protocols.specs.AllRings.{IsSetOn}
 
 -- ---- the search
@@ -42,7 +42,7 @@ does_in side Accuses = Says (Accuse (1 - side))
 does_in side phase = Stops
 
 -- what it is about after something has happened
-abbrev pub next_phase : Phase → Item → Phase
+abbrev pub next_phase : Phase → Observation → Phase
 next_phase Begins (Heard (Here ports came board)) = Departs
 next_phase Departs (Heard Gone) = Goes
 next_phase Goes (Heard (Here ports (Some label) board)) = Turns label
@@ -56,24 +56,24 @@ abbrev pub phase_after : History → Phase
 phase_after [] = Begins
 phase_after (item ∷ history) = next_phase (phase_after history) item
 
-abbrev pub explorers : Minds
+abbrev pub explorers : Strategies
 explorers agent history = does_in agent (phase_after history)
 
 -- ---- what is proved of it
 
 -- the match of both agents, where no link is held
-abbrev pub triangle_trial : World → (naps : ℕ) → Trial
-triangle_trial world naps = record { world = world; held = none_held; naps = naps; minds = explorers }
+abbrev pub triangle_trial : World → (wakeups : ℕ) → Trial
+triangle_trial world wakeups = record { world = world; held = none_held; wakeups = wakeups; strategies = explorers }
 
 -- one agent is lost after a move, and the other makes two; they have two turns and six
-abbrev pub triangle_bounds : Bounds
+abbrev pub triangle_bounds : CostBounds
 triangle_bounds = record { moves = 3; lost = 1; commands = λ agent. 3; turns = 8 }
 
 -- They solve each ring of three nodes that a file can name, however its ports are numbered, from each home base and
 -- with each black hole.
 abbrev pub TriangleIsSolved : Type 0
-TriangleIsSolved = (net : Network) (setup : Setup) (hole naps : ℕ) → IsSetOn net setup hole → nodes_of net ≡ 3
-    → 3 ≤ setup.quota → IsSolved (triangle_trial (world_of net setup) naps) triangle_bounds
+TriangleIsSolved = (net : Network) (setup : Setup) (hole wakeups : ℕ) → IsSetOn net setup hole → nodes_of net ≡ 3
+    → 3 ≤ setup.quota → IsSolved (triangle_trial (world_of net setup) wakeups) triangle_bounds
 
 -- On the triangle, whose node 2 is the black hole, agent 1 goes there and is destroyed, and then agent 0 takes its six
 -- turns.

@@ -13,11 +13,11 @@ use Rattle.std.proofs.lemmas.Map.Steps.{length-le_from_distinct_below}
 use Rattle.std.proofs.lemmas.Map.Keys.{IsDistinct-from_apart}
 use Rattle.bhs_model.specs.Runs.{Position, Before, At, Bound, After, changed}
 use Rattle.bhs_model.proofs.StepLemmas.{by_cases, changed_same, changed_other}
-use Rattle.bhs_explore.specs.Minds.{Minds}
-use Rattle.bhs_explore.specs.Schedules.{Trial, Rests, deed_at}
+use Rattle.bhs_explore.specs.Strategies.{Strategies}
+use Rattle.bhs_explore.specs.Schedules.{Trial, Rests, action_at}
 use Rattle.bhs_model.specs.Examples.{none_held}
-use Rattle.bhs_protocols.specs.Pictures.{Picture, blank, done_in, turn_in, turns_in}
-use Rattle.bhs_protocols.specs.Sizes.{Terms}
+use Rattle.bhs_protocols.specs.Configurations.{Configuration, blank, done_in, turn_in, turns_in}
+use Rattle.bhs_protocols.specs.Sizes.{Limits}
 use Rattle.bhs_protocols.proofs.LastWordLemmas.{turns_in_append}
 use Rattle.bhs_unmapped.proofs.Cycle.{Member, IsMember, beside, beside_below, leads, leads_on, leads_off, first_slots}
 use Rattle.bhs_unmapped.proofs.Alike.{Far, over, same_turn, Kind, Stays, Enters, Ends, Departs, Arrives, turn_kind}
@@ -58,18 +58,19 @@ wider d one two more (Bound node port) is = more node port is
 wider d one two more After is = tt
 
 -- agents are placed so, one is lost on each spoke that is known, and the hub that is safe was not reached
-pub record IsStanding (d count agents : ℕ) (member : Member) (known : Known) (picture : Picture) : Type 0 where
-  pub placed : (k : ℕ) → IsPlaced d known (picture.position k)
-  pub unreached : picture.reached (2 * d) ≡ false
+pub record IsStanding (d count agents : ℕ) (member : Member) (known : Known)
+    (configuration : Configuration) : Type 0 where
+  pub placed : (k : ℕ) → IsPlaced d known (configuration.position k)
+  pub unreached : configuration.reached (2 * d) ≡ false
   pub occupant : (slot : ℕ) → ℕ
   pub within : (slot : ℕ) → slot < count → occupant slot < agents
   pub occupied : (slot : ℕ) → slot < count
-      → picture.position (occupant slot) ≡ Bound (member.owner slot) (member.port (member.owner slot) 2)
+      → configuration.position (occupant slot) ≡ Bound (member.owner slot) (member.port (member.owner slot) 2)
 
 -- so no more are lost than there are
-pub enough : (d count agents : ℕ) (member : Member) (known : Known) (picture : Picture) → IsMember d member
-    → IsStanding d count agents member known picture → count ≤ agents
-enough d count agents member known picture is stands =
+pub enough : (d count agents : ℕ) (member : Member) (known : Known) (configuration : Configuration) → IsMember d member
+    → IsStanding d count agents member known configuration → count ≤ agents
+enough d count agents member known configuration is stands =
     let occupants : List ℕ = map stands.occupant (range_with_len 0 count) in
     let long : length occupants ≡ count = length-map-range_with_len stands.occupant 0 count in
     let at : (i k : ℕ) → i < count → get_or occupants i k ≡ stands.occupant i =
@@ -89,7 +90,7 @@ enough d count agents member known picture is stands =
     apart i j i_small j_small same =
         sym (is.slot_of_owner i)
         ∙ ap (λ (p : Position). member.slot (node_on p))
-        (sym (stands.occupied i i_small) ∙ ap picture.position same ∙ stands.occupied j j_small)
+        (sym (stands.occupied i i_small) ∙ ap configuration.position same ∙ stands.occupied j j_small)
         ∙ is.slot_of_owner j
 
     below : (q start some : ℕ) → start + some ≤ count
@@ -111,21 +112,23 @@ first_member = record {
   owner = λ slot. slot;
 }
 
-module _ (d : ℕ) (three : 3 ≤ d) (terms : Terms) (minds : Minds) (few : terms.agents ≤ d) (far : Member → Far)
+module _ (d : ℕ) (three : 3 ≤ d) (terms : Limits) (strategies : Strategies) (few : terms.agents ≤ d) (far : Member
+    → Far)
     (far_is : (member : Member) → IsMember d member → (node port : ℕ) → node < 2 * d → port < 3
     → far member node port ≡ leads d member node port) where
   abbrev pub match_on : Member → Trial
-  match_on member = over (2 * d + 2) (degrees d) (2 * d + 1) terms minds (far member)
+  match_on member = over (2 * d + 2) (degrees d) (2 * d + 1) terms strategies (far member)
 
-  -- A schedule under a member of the family: each member that is the same as far as is known comes to the same picture.
+  -- A schedule under a member of the family: each member that is the same as far as is known comes to the same
+  -- configuration.
   pub record State (count : ℕ) (member : Member) (schedule : List ℕ) : Type 0 where
     pub is : IsMember d member
     pub known : Known
     pub knows : IsKnown d count member known
-    pub picture : Picture
+    pub configuration : Configuration
     pub plays : (other : Member) → IsMember d other → Agree d known other member
-        → turns_in (match_on other) blank schedule ≡ picture
-    pub stands : IsStanding d count terms.agents member known picture
+        → turns_in (match_on other) blank schedule ≡ configuration
+    pub stands : IsStanding d count terms.agents member known configuration
 
   -- one more agent is lost
   pub record Grown (count : ℕ) : Type 0 where
@@ -154,7 +157,7 @@ module _ (d : ℕ) (three : 3 ≤ d) (terms : Terms) (minds : Minds) (few : term
       spent = λ node port was spoke. absurd (true≢false (sym was));
       spokes = λ node small early. absurd (omega (arith, early));
     };
-    picture = blank;
+    configuration = blank;
     plays = λ other is agree. refl;
     stands = record {
       placed = λ k. tt;
@@ -168,8 +171,8 @@ module _ (d : ℕ) (three : 3 ≤ d) (terms : Terms) (minds : Minds) (few : term
   -- ---- a turn
 
   module _ (count : ℕ) (member : Member) (schedule : List ℕ) (state : State count member schedule) (agent : ℕ) where
-    abbrev new : Picture
-    new = turn_in (match_on member) state.picture agent
+    abbrev new : Configuration
+    new = turn_in (match_on member) state.configuration agent
 
     abbrev longer : List ℕ
     longer = schedule ++ agent ∷ []
@@ -178,45 +181,46 @@ module _ (d : ℕ) (three : 3 ≤ d) (terms : Terms) (minds : Minds) (few : term
     counted : count ≤ d
     counted =
         let lost : count ≤ terms.agents =
-        enough d count terms.agents member state.known state.picture state.is state.stands in
+        enough d count terms.agents member state.known state.configuration state.is state.stands in
         omega (arith, lost, few)
 
     -- the links on which agents are lead to the same ends in members that agree
     same_ends : (other : Member) → IsMember d other → Agree d state.known other member → (k node port : ℕ)
-        → state.picture.position k ≡ Bound node port → far other node port ≡ far member node port
+        → state.configuration.position k ≡ Bound node port → far other node port ≡ far member node port
     same_ends other is agree k node port at =
         let was : state.known node port ≡ true = subst (IsPlaced d state.known) at (state.stands.placed k) in
         let cycle : node < 2 * d = state.knows.cycle node port was in
         let below : port < 3 = state.knows.below node port was in
         far_is other is node port cycle below ∙ agree node port was ∙ sym (far_is member state.is node port cycle below)
 
-    -- so the turn makes the same of the picture in all of them
+    -- so the turn makes the same of the configuration in all of them
     plays_on : (other : Member) → IsMember d other → Agree d state.known other member
         → turns_in (match_on other) blank longer ≡ new
     plays_on other is agree =
         turns_in_append (match_on other) blank schedule (agent ∷ [])
-        ∙ ap (λ (p : Picture). turn_in (match_on other) p agent) (state.plays other is agree)
-        ∙ same_turn (2 * d + 2) (degrees d) (2 * d + 1) terms minds (far other) (far member) state.picture agent
+        ∙ ap (λ (p : Configuration). turn_in (match_on other) p agent) (state.plays other is agree)
+        ∙ same_turn (2 * d + 2) (degrees d) (2 * d + 1) terms strategies (far other)
+        (far member) state.configuration agent
         (same_ends other is agree)
 
     -- the same member, with as much known or more
     goes_on : (known : Known) → ((node port : ℕ) → state.known node port ≡ true → known node port ≡ true)
         → IsKnown d count member known → IsPlaced d known (new.position agent)
-        → ((node port : ℕ) → state.picture.position agent ≡ Bound node port → member.role node port ≡ 2
-        → new.position agent ≡ state.picture.position agent)
-        → ((k : ℕ) → k ≢ agent → new.position k ≡ state.picture.position k) → new.reached (2 * d) ≡ false
+        → ((node port : ℕ) → state.configuration.position agent ≡ Bound node port → member.role node port ≡ 2
+        → new.position agent ≡ state.configuration.position agent)
+        → ((k : ℕ) → k ≢ agent → new.position k ≡ state.configuration.position k) → new.reached (2 * d) ≡ false
         → State count member longer
     goes_on known more knows here stays others unreached = record {
       is = state.is;
       known = known;
       knows = knows;
-      picture = new;
+      configuration = new;
       plays = λ other is agree. plays_on other is (λ node port was. agree node port (more node port was));
       stands = record {
         placed = λ k. elim (eqb_tells k agent) [
           | inl h ↦ subst (λ (j : ℕ). IsPlaced d known (new.position j)) (sym h.1) here
           | inr h ↦ subst (IsPlaced d known) (sym (others k h.1))
-              (wider d state.known known more (state.picture.position k) (state.stands.placed k))
+              (wider d state.known known more (state.configuration.position k) (state.stands.placed k))
         ];
         unreached = unreached;
         occupant = state.stands.occupant;
@@ -224,9 +228,9 @@ module _ (d : ℕ) (three : 3 ≤ d) (terms : Terms) (minds : Minds) (few : term
         occupied = λ slot early. elim (eqb_tells (state.stands.occupant slot) agent) [
           | inl h ↦ ap new.position h.1
               ∙ stays (member.owner slot) (member.port (member.owner slot) 2)
-              (ap state.picture.position (sym h.1) ∙ state.stands.occupied slot early)
+              (ap state.configuration.position (sym h.1) ∙ state.stands.occupied slot early)
               (state.is.role_of_port (member.owner slot) 2)
-              ∙ ap state.picture.position (sym h.1) ∙ state.stands.occupied slot early
+              ∙ ap state.configuration.position (sym h.1) ∙ state.stands.occupied slot early
           | inr h ↦ others (state.stands.occupant slot) h.1 ∙ state.stands.occupied slot early
         ];
       };
@@ -236,25 +240,25 @@ module _ (d : ℕ) (three : 3 ≤ d) (terms : Terms) (minds : Minds) (few : term
     same_known node port was = was
 
     -- who moves is an agent
-    mover : new.position agent ≢ state.picture.position agent → agent < terms.agents
+    mover : new.position agent ≢ state.configuration.position agent → agent < terms.agents
     mover moved = by_cases (nat_lt agent terms.agents) (agent < terms.agents) (ltb-true agent terms.agents)
-        (λ none. absurd (moved (ap (λ (p : Picture). p.position agent)
-        (ap (done_in (match_on member) state.picture agent)
+        (λ none. absurd (moved (ap (λ (p : Configuration). p.position agent)
+        (ap (done_in (match_on member) state.configuration agent)
         (cond-false (nat_lt agent terms.agents)
-        (deed_at none_held terms.naps (state.picture.position agent) (state.picture.woken agent)
-        (minds agent (state.picture.history agent)) agent) Rests none)))))
+        (action_at none_held terms.wakeups (state.configuration.position agent) (state.configuration.woken agent)
+        (strategies agent (state.configuration.history agent)) agent) Rests none)))))
 
     -- the agent departs by this port
     pub record IsDeparture (node port : ℕ) (came : Option ℕ) : Type 0 where
-      pub at : state.picture.position agent ≡ At node came
+      pub at : state.configuration.position agent ≡ At node came
       pub to : new.position agent ≡ Bound node port
-      pub others : (k : ℕ) → k ≢ agent → new.position k ≡ state.picture.position k
+      pub others : (k : ℕ) → k ≢ agent → new.position k ≡ state.configuration.position k
       pub unreached : new.reached (2 * d) ≡ false
 
     module _ (node port : ℕ) (came : Option ℕ) (it : IsDeparture node port came)
         (here : IsPort d count member state.known node port) where
       -- who departs was on no link
-      not_bound : (other label : ℕ) → state.picture.position agent ≢ Bound other label
+      not_bound : (other label : ℕ) → state.configuration.position agent ≢ Bound other label
       not_bound other label on = let same : At node came ≡ Bound other label = sym it.at ∙ on in cc
 
       -- it is known where the port leads
@@ -286,7 +290,7 @@ module _ (d : ℕ) (three : 3 ≤ d) (terms : Terms) (minds : Minds) (few : term
 
         not_occupant : (slot : ℕ) → slot < count → state.stands.occupant slot ≢ agent
         not_occupant slot early same = not_bound (member.owner slot) (member.port (member.owner slot) 2)
-            (ap state.picture.position (sym same) ∙ state.stands.occupied slot early)
+            (ap state.configuration.position (sym same) ∙ state.stands.occupied slot early)
 
         -- who is lost on a spoke is so after the exchange
         same_spoke : (slot : ℕ) → slot < count
@@ -313,7 +317,7 @@ module _ (d : ℕ) (three : 3 ≤ d) (terms : Terms) (minds : Minds) (few : term
             | inl h ↦ subst (λ (j : ℕ). IsPlaced d then_known (new.position j)) (sym h.1)
                 (subst (IsPlaced d then_known) (sym it.to) (added_here state.known node port))
             | inr h ↦ subst (IsPlaced d then_known) (sym (it.others k h.1))
-                (wider d state.known then_known (added_old state.known node port) (state.picture.position k)
+                (wider d state.known then_known (added_old state.known node port) (state.configuration.position k)
                 (state.stands.placed k))
           ];
           unreached = it.unreached;
@@ -346,7 +350,7 @@ module _ (d : ℕ) (three : 3 ≤ d) (terms : Terms) (minds : Minds) (few : term
             is = exchanged_is d count member state.known node port fresh;
             known = then_known;
             knows = consumed_knows d count member state.known node port fresh;
-            picture = new;
+            configuration = new;
             plays = λ other is agree. plays_on other is (λ v p was. agree v p (added_old state.known node port v p was)
                 ∙ agrees d count member state.known node port fresh v p was);
             stands = stands_on;
@@ -384,10 +388,11 @@ module _ (d : ℕ) (three : 3 ≤ d) (terms : Terms) (minds : Minds) (few : term
         })
 
     -- an arrival is at a node of the cycle
-    arrives : (node port : ℕ) → state.picture.position agent ≡ Bound node port → 2 * d + 1 ≢ (far member node port).0
+    arrives : (node port : ℕ) → state.configuration.position agent ≡ Bound node port
+        → 2 * d + 1 ≢ (far member node port).0
         → new.position agent ≡ At (far member node port).0 (Some (far member node port).1)
-        → ((k : ℕ) → k ≢ agent → new.position k ≡ state.picture.position k)
-        → (new.reached (2 * d) ≡ true → state.picture.reached (2 * d) ≡ false → 2 * d ≡ (far member node port).0)
+        → ((k : ℕ) → k ≢ agent → new.position k ≡ state.configuration.position k)
+        → (new.reached (2 * d) ≡ true → state.configuration.reached (2 * d) ≡ false → 2 * d ≡ (far member node port).0)
         → State count member longer
     arrives node port at not_hole to others comes =
         let was : state.known node port ≡ true = subst (IsPlaced d state.known) at (state.stands.placed agent) in
@@ -416,7 +421,8 @@ module _ (d : ℕ) (three : 3 ≤ d) (terms : Terms) (minds : Minds) (few : term
         (λ never. never))
 
     -- a turn of any kind, under the same member, or under another with one more agent lost
-    stepped : Kind (2 * d + 2) (degrees d) (2 * d + 1) terms minds (far member) (2 * d) state.picture agent new
+    stepped : Kind (2 * d + 2) (degrees d) (2 * d + 1) terms strategies (far member)
+        (2 * d) state.configuration agent new
         → (State count member longer) ⊎ Grown count
     stepped (Stays turn reached) = inl (goes_on state.known same_known state.knows
         (subst (IsPlaced d state.known) (sym turn.here) (state.stands.placed agent)) (λ v p on spoke. turn.here)
@@ -437,7 +443,8 @@ module _ (d : ℕ) (three : 3 ≤ d) (terms : Terms) (minds : Minds) (few : term
         inl (arrives node port at not_hole turn.here turn.others comes)
 
     pub step : (State count member longer) ⊎ Grown count
-    step = stepped (turn_kind (2 * d + 2) (degrees d) (2 * d + 1) terms minds (far member) (2 * d) state.picture agent)
+    step = stepped (turn_kind (2 * d + 2) (degrees d) (2 * d + 1) terms strategies (far member)
+        (2 * d) state.configuration agent)
 
   -- ---- and a schedule
 

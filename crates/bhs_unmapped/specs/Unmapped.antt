@@ -3,9 +3,9 @@ use Rattle.std.specs.Prelude.{ℕ, ◌+◌, ◌*◌, ◌≡◌, ◌≢◌, ◌<�
 use Rattle.bhs_net.specs.declared.faults.TheConstants.{MAX_NODES}
 use Rattle.bhs_net.specs.Network.{Network, IsNetwork, nodes_of, degree_of}
 use Rattle.bhs_model.specs.Setups.{network_of}
-use Rattle.bhs_explore.specs.Minds.{Minds}
+use Rattle.bhs_explore.specs.Strategies.{Strategies}
 use Rattle.bhs_protocols.specs.LastWord.{SolvesFor}
-use Rattle.bhs_protocols.specs.Sizes.{Terms, played_on}
+use Rattle.bhs_protocols.specs.Sizes.{Limits, played_on}
 
 -- no node of the network has more links than this, and some node has as many
 pub record HasGreatestDegree (net : Network) (degree : ℕ) : Type 0 where
@@ -13,14 +13,14 @@ pub record HasGreatestDegree (net : Network) (degree : ℕ) : Type 0 where
   pub attained : (node : ℕ) × (degree_of net node ≡ degree)
 
 -- a team solves each network of a file with n nodes and this greatest degree, from each home base and whichever other
--- node is the only black hole: always with the same minds, so they have no map
-abbrev pub SolvesNetworks : (n degree : ℕ) → Terms → Minds → Type 0
-SolvesNetworks n degree terms minds = (net : Network) (home hole : ℕ) → IsNetwork net → nodes_of net ≡ n
+-- node is the only black hole: always with the same strategies, so they have no map
+abbrev pub SolvesNetworks : (n degree : ℕ) → Limits → Strategies → Type 0
+SolvesNetworks n degree terms strategies = (net : Network) (home hole : ℕ) → IsNetwork net → nodes_of net ≡ n
     → HasGreatestDegree net degree → home < n → hole < n → hole ≢ home
-    → SolvesFor (played_on (network_of net) terms minds home hole)
+    → SolvesFor (played_on (network_of net) terms strategies home hole)
 
 -- Take a degree of 3 or more, and 2 * degree + 2 nodes, if a file can have this number. No team of at most as many
 -- agents as the degree solves all networks of this size and greatest degree.
 abbrev pub ManyAgentsAreNeeded : Type 0
-ManyAgentsAreNeeded = (degree : ℕ) (terms : Terms) (minds : Minds) → 3 ≤ degree → 2 * degree + 2 ≤ MAX_NODES
-    → terms.agents ≤ degree → SolvesNetworks (2 * degree + 2) degree terms minds → ⊥
+ManyAgentsAreNeeded = (degree : ℕ) (terms : Limits) (strategies : Strategies) → 3 ≤ degree → 2 * degree + 2 ≤ MAX_NODES
+    → terms.agents ≤ degree → SolvesNetworks (2 * degree + 2) degree terms strategies → ⊥

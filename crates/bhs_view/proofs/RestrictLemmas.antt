@@ -22,11 +22,11 @@ use Rattle.bhs_model.specs.Setups.{world_of, normal, IsNormal}
 use Rattle.bhs_match.specs.Matches.{Play, world_in}
 use Rattle.bhs_view.specs.Restrictions.{set_in, fault_of, first_fault, IsRestricted}
 use Rattle.bhs_view.proofs.ClosedLemmas.{unclosed_means}
-use Rattle.bhs_view.specs.Entries.{Entry, entries, closes, closed_once}
+use Rattle.bhs_view.specs.Entries.{LogEntry, entries, closes, closed_once}
 use Rattle.bhs_model.proofs.KeptLemmas.{first_kept}
 use Rattle.bhs_view.proofs.AloneLemmas.{closed_sets_are_kept}
 
-abbrev pub paired : List Event → List (Option Reply) → List Entry
+abbrev pub paired : List Event → List (Option Reply) → List LogEntry
 paired [] replied = []
 paired (event ∷ events) [] = []
 paired (event ∷ events) (one ∷ replied) = (event, one) ∷ paired events replied
@@ -34,7 +34,7 @@ paired (event ∷ events) (one ∷ replied) = (event, one) ∷ paired events rep
 pub entries_paired : (log all : List Kept) → map (λ one. (one.event, read_if all one.mark)) log ≡ paired (events_of log)
     (map (λ one. read_if all one.mark) log)
 entries_paired [] all = refl
-entries_paired (one ∷ log) all = ap (λ (others : List Entry). (one.event, read_if all one.mark) ∷ others)
+entries_paired (one ∷ log) all = ap (λ (others : List LogEntry). (one.event, read_if all one.mark) ∷ others)
     (entries_paired log all)
 
 pub chosen_paired : (log all : List Kept) (set : List Bool) →
@@ -42,7 +42,7 @@ pub chosen_paired : (log all : List Kept) (set : List Bool) →
     (at_places (map (λ one. read_if all one.mark) log) set)
 chosen_paired [] all set = refl
 chosen_paired (one ∷ log) all [] = refl
-chosen_paired (one ∷ log) all (true ∷ set) = ap (λ (others : List Entry). (one.event, read_if all one.mark) ∷ others)
+chosen_paired (one ∷ log) all (true ∷ set) = ap (λ (others : List LogEntry). (one.event, read_if all one.mark) ∷ others)
     (chosen_paired log all set)
 chosen_paired (one ∷ log) all (false ∷ set) = chosen_paired log all set
 
@@ -94,7 +94,8 @@ none_closes world state (event ∷ events) (one ∷ replied) open_match =
     by_cases (closes event) _
     (λ is. absurd (true≢false (sym (stays_closed world (next world state event) events
     (shut_after world state event is)) ∙ open_match)))
-    (λ is_not. cond-true (not (closes event)) _ _ (ap not is_not) ∙ ap (λ (others : List Entry). (event, one) ∷ others)
+    (λ is_not. cond-true (not (closes event)) _ _ (ap not is_not)
+    ∙ ap (λ (others : List LogEntry). (event, one) ∷ others)
     (none_closes world (next world state event) events replied open_match))
 
 -- after a Close nothing is kept
@@ -121,12 +122,12 @@ close_last : (world : World) (state : State) (lost : ℕ → Bool) (events : Lis
     paired events (replies_from world state events) ≡ closed_once (paired events (replies_from world state events))
 close_last world state lost [] open_match all ended = absurd (true≢false (sym ended ∙ open_match))
 close_last world state lost (Tell agent command ∷ events) open_match all ended =
-    ap (λ (others : List Entry). (Tell agent command, reply world state (Tell agent command)) ∷ others)
+    ap (λ (others : List LogEntry). (Tell agent command, reply world state (Tell agent command)) ∷ others)
     (close_last world (next world state (Tell agent command)) lost events
     (open_told world state (Tell agent command) refl ∙ open_match)
     (first_kept world state lost (Tell agent command) events all).others ended)
 close_last world state lost (Deliver agent ∷ events) open_match all ended =
-    ap (λ (others : List Entry). (Deliver agent, reply world state (Deliver agent)) ∷ others)
+    ap (λ (others : List LogEntry). (Deliver agent, reply world state (Deliver agent)) ∷ others)
     (close_last world (next world state (Deliver agent)) (lost_after world state lost (Deliver agent)) events
     (open_told world state (Deliver agent) refl ∙ open_match)
     (first_kept world state lost (Deliver agent) events all).others ended)
@@ -146,7 +147,7 @@ paired_more (event ∷ events) [] same = absurd (none_not same)
     none_not : 0 ≡ suc (length events) → ⊥
     none_not e = cc
 paired_more (event ∷ events) (one ∷ replied) same =
-    ap (λ (others : List Entry). (event, one) ∷ others) (paired_more events replied cc)
+    ap (λ (others : List LogEntry). (event, one) ∷ others) (paired_more events replied cc)
 
 -- what a closed set of a log and then a Close leave in the log
 pub alone : (world : World) (chosen : List Event) → kept world chosen ≡ chosen →
@@ -161,7 +162,7 @@ alone world chosen all =
     (λ open_match. rw open_match (
     ap (paired (chosen ++ Close ∷ [])) (replies-append world initial chosen (Close ∷ []))
     ∙ paired_more chosen (replies world chosen) (replies_count world initial chosen)
-    ∙ ap (λ (before : List Entry). before ++ (Close, None) ∷ [])
+    ∙ ap (λ (before : List LogEntry). before ++ (Close, None) ∷ [])
     (sym (none_closes world initial chosen (replies world chosen) open_match))
     )))
 

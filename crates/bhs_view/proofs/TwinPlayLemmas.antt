@@ -21,7 +21,7 @@ use Rattle.bhs_model.specs.Twins.{Twins}
 use Rattle.bhs_model.proofs.AddLemmas.{kept-append}
 use Rattle.bhs_model.proofs.TwinLemmas.{twins_look_alike_lemma}
 use Rattle.bhs_match.specs.Matches.{Play, world_in}
-use Rattle.bhs_view.specs.Entries.{Entry, entries}
+use Rattle.bhs_view.specs.Entries.{LogEntry, entries}
 use Rattle.bhs_view.specs.Laws.{IsEnded}
 use Rattle.bhs_view.specs.declared.twins.TwinFault.TheVariants.{Node, Home, Same, Reached}
 use Rattle.bhs_view.specs.Twins.{replaced, moved, left, first_arrival, twin_fault, IsTwin}
@@ -86,13 +86,14 @@ pub record IsTwinOf (whole part : Play) (node : ℕ) (holes : List ℕ) (dark : 
   pub world : world_in part ≡ with_these (world_in whole) holes dark
   pub events : events_of part.log ≡ at_places (events_of whole.log) (left (world_in whole) old (events_of whole.log))
 
-firsts : (log all : List Kept) → map (λ (entry : Entry). entry.0)
+firsts : (log all : List Kept) → map (λ (entry : LogEntry). entry.0)
     (map (λ (one : Kept). (one.event, read_if all one.mark)) log) ≡ events_of log
 firsts [] all = refl
 firsts (one ∷ log) all = ap (λ (others : List Event). one.event ∷ others) (firsts log all)
 
-firsts_at : (chosen : List Entry) (set : List Bool)
-    → map (λ (entry : Entry). entry.0) (at_places chosen set) ≡ at_places (map (λ (entry : Entry). entry.0) chosen) set
+firsts_at : (chosen : List LogEntry) (set : List Bool)
+    → map (λ (entry : LogEntry). entry.0) (at_places chosen set)
+    ≡ at_places (map (λ (entry : LogEntry). entry.0) chosen) set
 firsts_at [] set = refl
 firsts_at (one ∷ chosen) [] = refl
 firsts_at (one ∷ chosen) (true ∷ set) = ap (λ (others : List Event). one.0 ∷ others) (firsts_at chosen set)
@@ -108,7 +109,7 @@ made_of whole part node ended is_node twin =
       moved = has_moved whole.net whole.setup (events_of whole.log) node ended.network.labelled ended.within is_node;
       world = ap₂ world_of twin.net twin.setup;
       events = sym (firsts part.log part.log)
-          ∙ ap (map (λ (entry : Entry). entry.0)) twin.log
+          ∙ ap (map (λ (entry : LogEntry). entry.0)) twin.log
           ∙ firsts_at (entries whole.log) set
           ∙ ap (λ (events : List Event). at_places events set) (firsts whole.log whole.log);
     }

@@ -7,11 +7,11 @@ use Rattle.bhs_model.specs.declared.marks.Kept.{Kept}
 use Rattle.bhs_model.specs.Marks.{read_if}
 
 -- an event and its reply, if it was given one
-abbrev pub Entry : Type 0
-Entry = Event × Option Reply
+abbrev pub LogEntry : Type 0
+LogEntry = Event × Option Reply
 
 -- the entries of a log
-abbrev pub entries : List Kept → List Entry
+abbrev pub entries : List Kept → List LogEntry
 entries log = map (λ one. (one.event, read_if log one.mark)) log
 
 abbrev pub closes : Event → Bool
@@ -19,5 +19,5 @@ closes Close = true
 closes event = false
 
 -- all but the Close, and then one Close
-abbrev pub closed_once : List Entry → List Entry
+abbrev pub closed_once : List LogEntry → List LogEntry
 closed_once chosen = filter (λ entry. not (closes entry.0)) chosen ++ (Close, None) ∷ []

@@ -11,7 +11,7 @@ use Rattle.bhs_model.specs.Runs.{is_doomed, is_let_through}
 use Rattle.bhs_model.specs.Runs.{run}
 use Rattle.bhs_model.specs.Kept.{destroys, keeps, lost}
 use Rattle.bhs_model.specs.Marks.{events_of}
-use Rattle.bhs_agent.specs.Agents.{Course}
+use Rattle.bhs_agent.specs.Agents.{AgentState}
 use Rattle.bhs_world.specs.Tables.{Table, agent_at, world_in, Agrees, StandsFor}
 use Rattle.bhs_world.specs.Tables.{keeps_next}
 use Rattle.bhs_world.specs.Steps.{IsSound, heard_in, table_heard}
@@ -64,7 +64,8 @@ event_played table log (Deliver agent) sound stood = deliver_played table log ag
 event_played table log Close sound stood = close_played table log stood
 
 -- which events are kept
-keeps_position : (table : Table) (state : State) (lost : ℕ → Bool) (agent : ℕ) (position : Position) (course : Course)
+keeps_position : (table : Table) (state : State) (lost : ℕ
+    → Bool) (agent : ℕ) (position : Position) (course : AgentState)
     → state.closed ≡ false → state.position agent ≡ position → lost agent ≡ course.lost →
     keeps (world_in table) state lost (Deliver agent) ≡ keeps_delivered (world_in table) course position
 keeps_position table state lost agent (Bound node port) course is_open at is_lost =
@@ -93,7 +94,7 @@ keeps_same table log (Deliver agent) stood =
     let world : World = world_in table in
     let state : State = run world (events_of log) in
     let lost : ℕ → Bool = lost world (events_of log) in
-    let course : Course = agent_at table.agents agent in
+    let course : AgentState = agent_at table.agents agent in
     let is_of = stood.state.agents agent in
     by_cases table.closed _
     (λ is_closed.

@@ -17,7 +17,7 @@ use Rattle.bhs_model.specs.Runs.{next, run, reply}
 use Rattle.bhs_model.specs.Kept.{destroys, lost_after, keeps, lost}
 use Rattle.bhs_model.specs.Marks.{events_of, read_if}
 use Rattle.bhs_model.specs.Places.{written, place_shown}
-use Rattle.bhs_agent.specs.Agents.{Course, newcomer}
+use Rattle.bhs_agent.specs.Agents.{AgentState, newcomer}
 use Rattle.bhs_world.specs.Tables.{Table, agent_at, world_in, IsCourseOf, Agrees, IsNamed, StandsFor}
 use Rattle.bhs_world.specs.Steps.{mark_here}
 use Rattle.bhs_world.specs.Steps.{table_delivered, mark_delivered, table_after, mark_after}
@@ -150,7 +150,7 @@ destroyed_played table log agent node port stood within is_open on is_doomed_lin
     ∙ ap not is_doomed_link in
     let destruction : destroys world state agent ≡ true = destroys_bound world state agent node port open_state at
     ∙ is_doomed_link in
-    let agents : List Course = slice_set table.agents agent
+    let agents : List AgentState = slice_set table.agents agent
     (record {
       position = (agent_at table.agents agent).position;
       used = (agent_at table.agents agent).used;
@@ -247,7 +247,7 @@ arrived_played table log agent node port stood within is_open on is_safe =
     destroys_bound world state agent node port open_state at ∙ is_safe in
     let there : ℕ = (far_of table.net node port).0 in
     let label : ℕ = (far_of table.net node port).1 in
-    let agents : List Course = slice_set table.agents agent
+    let agents : List AgentState = slice_set table.agents agent
     (record {
       position = At there (Some label);
       used = (agent_at table.agents agent).used;
@@ -298,7 +298,7 @@ bound_within : (table : Table) (agent node port : ℕ) → (agent_at table.agent
     → agent < length table.agents
 bound_within table agent node port on = elim (lt_tells agent (length table.agents)) [
   | inl h ↦ h.1
-  | inr h ↦ absurd (no_newcomer (ap (λ (course : Course). course.position)
+  | inr h ↦ absurd (no_newcomer (ap (λ (course : AgentState). course.position)
       (sym (get_or_past table.agents agent newcomer h.1)) ∙ on))
 ]
   where
@@ -313,13 +313,13 @@ delivered_played : (table : Table) (log : List Kept) (agent : ℕ) (position : P
 delivered_played table log agent (Bound node port) stood is_open on =
     let world : World = world_in table in
     let within : agent < length table.agents = bound_within table agent node port on in
-    let course : Course = agent_at table.agents agent in
+    let course : AgentState = agent_at table.agents agent in
     let there : ℕ = (far_of table.net node port).0 in
     let label : ℕ = (far_of table.net node port).1 in
-    let destroyed : Course = record { position = course.position; used = course.used; lost = true } in
-    let arrived : Course = record { position = At there (Some label); used = course.used; lost = course.lost } in
+    let destroyed : AgentState = record { position = course.position; used = course.used; lost = true } in
+    let arrived : AgentState = record { position = At there (Some label); used = course.used; lost = course.lost } in
     let here : Option Mark = Some (mark_here world table.boards there (Some label)) in
-    let with : Course → Table = λ course. record table { agents = slice_set table.agents agent course } in
+    let with : AgentState → Table = λ course. record table { agents = slice_set table.agents agent course } in
     let played : Bool → Type 0 = λ b. HasPlayed table (with (if b then destroyed else arrived)) log (Deliver agent)
     (if b then None else here) in
     by_cases (doomed world node port) _

@@ -14,7 +14,7 @@ use Rattle.bhs_model.specs.Setups.{normal, IsNormal, nodes_where, links_where}
 use Rattle.bhs_model.specs.Dooms.{Signs, AreSignsOf}
 use Rattle.bhs_model.specs.PortMarks.{mark_at}
 use Rattle.bhs_model.proofs.SameDoomLemmas.{same_holes, same_dark, is_named}
-use Rattle.bhs_agent.specs.Agents.{Course, newcomer}
+use Rattle.bhs_agent.specs.Agents.{AgentState, newcomer}
 use Rattle.bhs_board.specs.Boards.{Whiteboard}
 use Rattle.bhs_world.specs.Tables.{agent_at, board_at, untouched}
 use Rattle.bhs_world.specs.Steps.{IsPlaced, IsSound}
@@ -168,7 +168,7 @@ all_fit net setup labelled home holes some_agents agents some_quota quota board 
 
 -- the agents and the whiteboards of a new world
 
-pub new_agents : (agents : List Course) (count : ℕ) → agents ≡ replicate count newcomer → length agents ≡ count
+pub new_agents : (agents : List AgentState) (count : ℕ) → agents ≡ replicate count newcomer → length agents ≡ count
 new_agents agents count is = ap length is ∙ length-replicate count newcomer
 
 pub new_boards : (boards : List Whiteboard) (count limit : ℕ)
@@ -189,13 +189,14 @@ at_all n i x = elim (lt_tells i n) [
   | inr h ↦ get_or-eq_default (replicate n x) x (let same = length-replicate n x in let le = h.1 in omega arith)
 ]
 
-pub new_places : (net : Network) (agents : List Course) (count : ℕ) → agents ≡ replicate count newcomer → (agent : ℕ)
+pub new_places : (net : Network) (agents : List AgentState) (count : ℕ) → agents ≡ replicate count newcomer
+    → (agent : ℕ)
     → IsPlaced net (agent_at agents agent).position
-new_places net agents count is agent = subst (λ (course : Course). IsPlaced net course.position)
-    (sym (ap (λ (all : List Course). agent_at all agent) is ∙ at_all count agent newcomer)) tt
+new_places net agents count is agent = subst (λ (course : AgentState). IsPlaced net course.position)
+    (sym (ap (λ (all : List AgentState). agent_at all agent) is ∙ at_all count agent newcomer)) tt
 
 -- a new world is sound
-pub new_sound : (net : Network) (given setup : Setup) (agents : List Course) (boards : List Whiteboard) (count : ℕ)
+pub new_sound : (net : Network) (given setup : Setup) (agents : List AgentState) (boards : List Whiteboard) (count : ℕ)
     → IsPortLabelled net → IsWithinLimits net given → setup ≡ normal net given → count ≡ nodes_of net →
     agents ≡ replicate setup.agents newcomer → boards ≡ replicate count (record { limit = setup.board; last = None }) →
     IsSound (record { net = net; setup = setup; agents = agents; boards = boards; closed = false })

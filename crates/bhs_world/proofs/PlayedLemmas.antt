@@ -14,7 +14,7 @@ use Rattle.bhs_model.specs.Kept.{lost_after, lost, nobody}
 use Rattle.bhs_model.specs.Marks.{events_of, read_if, board_of}
 use Rattle.bhs_model.specs.Places.{written_after, unwritten, written}
 use Rattle.bhs_model.specs.Places.{named, names}
-use Rattle.bhs_agent.specs.Agents.{Course}
+use Rattle.bhs_agent.specs.Agents.{AgentState}
 use Rattle.bhs_board.specs.Boards.{Whiteboard}
 use Rattle.bhs_world.specs.Tables.{Table, board_at, world_in, Agrees, IsNamed, StandsFor}
 use Rattle.bhs_world.specs.Tables.{keeps_next, log_after}
@@ -41,7 +41,8 @@ abbrev pub grown : List Kept → Event → Option Mark → List Kept
 grown log event mark = log ++ record { event = event; mark = mark } ∷ []
 
 -- an event that is kept
-pub kept_played : (table : Table) (agents : List Course) (boards : List Whiteboard) (closed : Bool) (log : List Kept)
+pub kept_played : (table : Table) (agents : List AgentState) (boards : List Whiteboard) (closed : Bool)
+    (log : List Kept)
     (event : Event) (mark : Option Mark) → StandsFor table log →
     keeps_next (world_in table) log event ≡ true →
     Agrees (record table { agents = agents; boards = boards; closed = closed }) (grown log event mark)

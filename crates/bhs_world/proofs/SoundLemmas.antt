@@ -12,7 +12,7 @@ use Rattle.bhs_model.specs.declared.marks.Kept.{Kept}
 use Rattle.bhs_model.specs.Runs.{Position, Before, At, Bound, After, position_after}
 use Rattle.bhs_model.specs.Setups.{world_of}
 use Rattle.bhs_board.specs.Boards.{Whiteboard}
-use Rattle.bhs_agent.specs.Agents.{Course, newcomer}
+use Rattle.bhs_agent.specs.Agents.{AgentState, newcomer}
 use Rattle.bhs_world.specs.Tables.{Table, agent_at, board_at, untouched, world_in}
 use Rattle.bhs_world.specs.Steps.{IsSound, IsPlaced, agent_told, boards_told, board_written, table_heard}
 use Rattle.bhs_world.proofs.ListLemmas.{each_set, lt_tells}
@@ -108,13 +108,13 @@ sound_heard table log agent command sound within =
     }
 
 -- the same, for lists that are those of the table that was heard
-pub sound_told : (table : Table) (log : List Kept) (agent : ℕ) (command : Command) (agents : List Course)
+pub sound_told : (table : Table) (log : List Kept) (agent : ℕ) (command : Command) (agents : List AgentState)
     (boards : List Whiteboard) → IsSound table → agent < length table.agents
     → agents ≡ (table_heard table log agent command).agents → boards ≡ (table_heard table log agent command).boards
     → IsSound (record { net = table.net; setup = table.setup; agents = agents; boards = boards; closed = table.closed })
 sound_told table log agent command agents boards sound within same_agents same_boards =
     let is_sound : Table → Type 0 = λ table. IsSound table in
-    subst (λ (agents : List Course). is_sound
+    subst (λ (agents : List AgentState). is_sound
     (record { net = table.net; setup = table.setup; agents = agents; boards = boards; closed = table.closed }))
     (sym same_agents)
     (subst (λ (boards : List Whiteboard). is_sound
@@ -128,7 +128,7 @@ sound_told table log agent command agents boards sound within same_agents same_b
     (sound_heard table log agent command sound within))
 
 -- the same, as the code goes about it: the agent is read, the whiteboards are lent as a slice and come back
-pub sound_played : (table : Table) (log : List Kept) (agent : ℕ) (command : Command) (course told : Course)
+pub sound_played : (table : Table) (log : List Kept) (agent : ℕ) (command : Command) (course told : AgentState)
     (position : Position) (lent boards : List Whiteboard) (len : ℕ) → IsSound table → agent < length table.agents →
     course ≡ slice_index_or table.agents agent course → position ≡ course.position
     → told ≡ agent_told (world_in table) course command →

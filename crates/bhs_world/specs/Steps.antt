@@ -19,7 +19,7 @@ use Rattle.bhs_model.specs.Runs.{Position, At, Bound, position_after}
 use Rattle.bhs_model.specs.Standings.{standing_at}
 use Rattle.bhs_model.specs.Setups.{IsNormal}
 use Rattle.bhs_model.specs.Marks.{text_at}
-use Rattle.bhs_agent.specs.Agents.{Course}
+use Rattle.bhs_agent.specs.Agents.{AgentState}
 use Rattle.bhs_board.specs.declared.swaps.Swap.{Swap}
 use Rattle.bhs_board.specs.declared.swaps.Swap.TheVariants.{Long, Differs, Took}
 use Rattle.bhs_board.specs.Boards.{Whiteboard, swap_of, last_after}
@@ -31,7 +31,7 @@ abbrev pub refusal_of : views.Standing → (room : Bool) → Command → Option 
 refusal_of standing room command = if accepts standing room command then None else Some (refusal standing command)
 
 -- the agent after a command that is heard
-abbrev pub agent_told : World → Course → Command → Course
+abbrev pub agent_told : World → AgentState → Command → AgentState
 agent_told world course command = record {
   position = position_after world course.position command;
   used = if views.counts command then course.used + 1 else course.used;
@@ -112,7 +112,7 @@ mark_of_command table log agent command =
     else marks.No whys.Agent
 
 -- the agent after a Deliver that finds it on this link
-abbrev pub agent_delivered : World → Course → (node port : ℕ) → Course
+abbrev pub agent_delivered : World → AgentState → (node port : ℕ) → AgentState
 agent_delivered world course node port =
     if doomed world node port
     then record { position = course.position; used = course.used; lost = true }
@@ -154,7 +154,7 @@ mark_after table log (Deliver agent) =
 mark_after table log Close = None
 
 -- whether the table says of an agent at this position that a Deliver is kept
-abbrev pub keeps_delivered : World → Course → Position → Bool
+abbrev pub keeps_delivered : World → AgentState → Position → Bool
 keeps_delivered world course (Bound node port) = if doomed world node port then not course.lost else true
 keeps_delivered world course position = false
 

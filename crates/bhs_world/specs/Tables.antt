@@ -18,19 +18,19 @@ use Rattle.bhs_model.specs.Kept.{lost, keeps}
 use Rattle.bhs_model.specs.Places.{written, names}
 use Rattle.bhs_model.specs.Setups.{world_of}
 use Rattle.bhs_model.specs.Marks.{events_of, put_at, read_if, board_of}
-use Rattle.bhs_agent.specs.Agents.{Course, newcomer}
+use Rattle.bhs_agent.specs.Agents.{AgentState, newcomer}
 use Rattle.bhs_board.specs.Boards.{Whiteboard}
 
 -- a network, how a match on it is set up, its agents by number, its whiteboards by node, and whether it has ended
 pub record Table : Type 0 where
   pub net : Network
   pub setup : Setup
-  pub agents : List Course
+  pub agents : List AgentState
   pub boards : List Whiteboard
   pub closed : Bool
 
 -- the agent of a number; a number without an agent is as one that has not entered
-abbrev pub agent_at : List Course → ℕ → Course
+abbrev pub agent_at : List AgentState → ℕ → AgentState
 agent_at agents agent = slice_index_or agents agent newcomer
 
 abbrev pub untouched : Whiteboard
@@ -45,7 +45,7 @@ abbrev pub world_in : Table → World
 world_in table = world_of table.net table.setup
 
 -- what is kept of an agent is what the definitions say of it
-pub record IsCourseOf (course : Course) (state : State) (is_lost : Bool) (agent : ℕ) : Type 0 where
+pub record IsCourseOf (course : AgentState) (state : State) (is_lost : Bool) (agent : ℕ) : Type 0 where
   pub position : state.position agent ≡ course.position
   pub used : used (state.past agent) ≡ course.used
   pub lost : is_lost ≡ course.lost

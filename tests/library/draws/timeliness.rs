@@ -63,7 +63,10 @@ fn a_delivery_is_timely_at_the_first_turn_that_picks_the_agent(
             (4, 0, Some((2, Untimely::Early))),
         ] {
             let turns = [departed, arrived];
-            assert_eq!(rt; found(alloc, &sealed, turns, Delays::new(0, 1), &dealer)?, wrong);
+            assert_eq!(rt;
+                found(alloc, &sealed, turns, Delays::new(0, 1), &dealer)?,
+                wrong
+            );
         }
     }
     Ok(())
@@ -83,13 +86,19 @@ fn a_delivery_before_its_delay_is_not_timely(rt: HostRuntime) -> Result<(), Fail
             (4, 5, None),
         ] {
             let turns = [departed, arrived];
-            assert_eq!(rt; found(alloc, &sealed, turns, Delays::new(1, 1), &dealer)?, wrong);
+            assert_eq!(rt;
+                found(alloc, &sealed, turns, Delays::new(1, 1), &dealer)?,
+                wrong
+            );
         }
         dealer.next();
     }
     // the first word of stream 1 picks agent 1, the second too
     let other = Dealer::new([0; 32], 1);
     let wrong = Some((2, Untimely::Late));
-    assert_eq!(rt; found(alloc, &sealed, [0, 0], Delays::new(0, 1), &other)?, wrong);
+    assert_eq!(rt;
+        found(alloc, &sealed, [0, 0], Delays::new(0, 1), &other)?,
+        wrong
+    );
     Ok(())
 }

@@ -2,7 +2,7 @@
 
 use super::mark;
 use crate::explorations::{Pair, Scout, draws, explorer};
-use bhs_explore::{ExploreFault, Found};
+use bhs_explore::{ExploreFault, Finding};
 use std::test::Fail;
 
 #[test]
@@ -15,7 +15,7 @@ fn an_exploration_finds_the_same_or_wants_memory(rt: HostRuntime) -> Result<(), 
     let explored = explorer.explore(&mut team, 100);
     mark(rt.alloc())?;
     match explored {
-        Ok(explored) if matches!(explored.found, Found::Solves(_)) => Ok(()),
+        Ok(explored) if matches!(explored.found, Finding::Solves(_)) => Ok(()),
         Err(ExploreFault::Memory) => Ok(()),
         _ => Err(Fail::from("something else was found")),
     }

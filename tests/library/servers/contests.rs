@@ -1,7 +1,7 @@
 use super::super::cells::cell;
 use bhs_deal::Dealer;
 use bhs_lineup::Keys;
-use bhs_server::{Contest, Pace, Step};
+use bhs_server::{Contest, Pace, PaceStep};
 use std::alloc::Global;
 use std::sync::atomic::{AtomicBool, AtomicU32, Ordering};
 use std::test::Fail;
@@ -78,17 +78,17 @@ impl<C: Clock> Pace for Patience<'_, C> {
 
     ghost says = { λ patience game turn step. Unit {0} };
 
-    fn next(&self, _game: u32, turn: u32) -> Step {
+    fn next(&self, _game: u32, turn: u32) -> PaceStep {
         self.waits_for(self.begins);
         if turn >= TURNS && self.reached.load(Ordering::SeqCst) >= self.ends {
-            return Step::Close;
+            return PaceStep::Close;
         }
         if turn >= 10_000 {
             self.gave_up.store(true, Ordering::SeqCst);
-            return Step::Close;
+            return PaceStep::Close;
         }
         thread::sleep(self.clock, Duration::from_millis(1));
-        Step::Turn
+        PaceStep::Turn
     }
 
     fn gathers(&self, _game: u32) -> bool {

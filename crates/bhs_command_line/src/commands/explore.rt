@@ -6,7 +6,9 @@ use crate::help::explore::HELP;
 pub(crate) const COMMAND: Subcommand = Subcommand {
     name: "explore",
     help: HELP,
-    arguments: &[TOURNAMENT, GAME, STATES, NAPS, DRAWS, SEED, SCHEDULER, HUNT],
+    arguments: &[
+        TOURNAMENT, GAME, STATES, WAKEUPS, DRAWS, SEED, SCHEDULER, OBJECTIVE,
+    ],
 };
 
 pub(crate) const GAME: Argument = Argument {
@@ -22,8 +24,8 @@ pub(crate) const GAME: Argument = Argument {
 };
 
 pub(crate) const STATES: Argument = Argument {
-    id: "states",
-    option: Some("states"),
+    id: "max-states",
+    option: Some("max-states"),
     name: "N",
     need: Need::Default("10000000"),
     takes: Takes::Number {
@@ -34,9 +36,9 @@ pub(crate) const STATES: Argument = Argument {
         turns of a schedule",
 };
 
-pub(crate) const NAPS: Argument = Argument {
-    id: "naps",
-    option: Some("naps"),
+pub(crate) const WAKEUPS: Argument = Argument {
+    id: "spurious-wakeups",
+    option: Some("spurious-wakeups"),
     name: "N",
     need: Need::Default("2"),
     takes: Takes::Number {
@@ -71,25 +73,26 @@ pub(crate) const SEED: Argument = Argument {
 };
 
 pub(crate) const SCHEDULER: Argument = Argument {
-    id: "by",
-    option: Some("by"),
+    id: "scheduler",
+    option: Some("scheduler"),
     name: "NAME",
     need: Need::Optional,
     takes: Takes::Scheduler,
     help: "Whose turn it is among the agents that can move; without it fair",
 };
 
-pub(crate) const HUNT: Argument = Argument {
-    id: "hunt",
-    option: Some("hunt"),
+pub(crate) const OBJECTIVE: Argument = Argument {
+    id: "objective",
+    option: Some("objective"),
     name: "WHAT",
     need: Need::Optional,
-    takes: Takes::Hunt,
+    takes: Takes::Objective,
     help: "Begins every second schedule as the worst so far began: moves or lost",
 };
 
 /// What is told where schedules are not drawn.
-pub(crate) const NEED_DRAWS: &str = "--seed <S>, --by <NAME> and --hunt <WHAT> need --draws <N>";
+pub(crate) const NEED_DRAWS: &str =
+    "--seed <S>, --scheduler <NAME> and --objective <WHAT> need --draws <N>";
 
 /// The names of schedulers.
 pub(crate) const SCHEDULERS: &str = "fair, last-departed, starved, slow-agents, slow-links";

@@ -14,7 +14,7 @@ pub(crate) const ENTRIES: Argument = Argument {
     option: None,
     name: "TEAM=REPLAY",
     need: Need::OneOrMore,
-    takes: Takes::Entry,
+    takes: Takes::TableEntry,
     help: "\
 A team, and the file of the replay of its match; they are split at the first =. With --replay only one word: the file \
 of the tournament",

@@ -11,7 +11,7 @@ pub(crate) const HELP: Help = Help {
 const AT_LENGTH: &str = "\
 Tries every schedule of match MATCH of the tournament, and says whether each one
 solves it. The agents are played by a host at the other end of standard input and
-output, as `python3 -m lab explore` is one. An agent must be deterministic: what
+output, as `arena-lab explore` is one. An agent must be deterministic: what
 it does next is a function of what its program holds. The host gives each thing
 that a program may hold a number, its memory, counted from 0 in the order in
 which they are met. The program asks, a line for each question, and waits for the
@@ -27,7 +27,8 @@ Each question is asked once. The answer is a line, N being the memory:
   N says                  and on the next line what the client sends then, as
                           {\"do\":\"look\"}; the key of an enter is not looked at
   N sleeps                The agent waits until the whiteboard in front of it
-                          changes; it may also wake --naps times more
+                          changes; it may also wake --spurious-wakeups times
+                          more
   N stops                 It sends nothing more, but it may still arrive
   N fails                 Its program raised an exception, or broke a rule
 
@@ -35,11 +36,11 @@ Programs of agents that hold the same may share a memory. Each memory must alway
 have the same step. A long search also tells how far it is, by lines that have no
 answer: {\"visited\":STATES,\"depth\":TURNS}.
 
-A network with too many states ends this at --states. Then draw schedules: with
---draws N the program draws N of them from the seed of --seed, and plays them by
-the same answers: a hundred thousand take seconds once the host has answered. It
-keeps the first that fails, or else the one with the most moves. --by NAME says
-whose turn it is among the agents that can move:
+A network with too many states ends this at --max-states. Then draw schedules:
+with --draws N the program draws N of them from the seed of --seed, and plays
+them by the same answers: a hundred thousand take seconds once the host has
+answered. It keeps the first that fails, or else the one with the most moves.
+--scheduler NAME says whose turn it is among the agents that can move:
 
   fair           each is as likely
   last-departed  agents go as far as they can, and of those on links the one
@@ -50,9 +51,9 @@ whose turn it is among the agents that can move:
                  sleepers wake seldom
   slow-links     some links are slow, each in its two directions
 
---hunt moves looks for more moves: every second schedule begins as the worst so
-far began, and goes on by chance. --hunt lost looks for more agents lost, and
-keeps that schedule. No drawn schedule has more than --states turns.";
+--objective moves looks for more moves: every second schedule begins as the worst
+so far began, and goes on by chance. --objective lost looks for more agents lost,
+and keeps that schedule. No drawn schedule has more than --max-states turns.";
 
 const EXAMPLE: &str = "\
 At the end comes a line of what was found, and one of how much was visited:

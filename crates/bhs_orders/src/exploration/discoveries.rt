@@ -6,7 +6,7 @@ ghost use Rattle.bhs_orders.specs.Discoveries.{endless_line, failure_text, fails
 ghost use Rattle.bhs_orders.specs.Discoveries.{found_status, list_text, pairs_text, solves_line};
 
 use crate::reporting::statuses::{DONE, FAILING, REFUSED_TEXT};
-use bhs_explore::{Bounds, Drawn, Explored, Failure, Found};
+use bhs_explore::{Bounds, Explored, Failure, Finding, SampleResult};
 use bhs_net::Memory;
 use bhs_referee::Verdict;
 use bhs_standings::outcome_text;
@@ -16,11 +16,11 @@ use std::alloc::Global;
 #[derive(Drop)]
 pub(crate) enum Discovery {
     Tried(Explored),
-    Drawn(Drawn),
+    Drawn(SampleResult),
 }
 
 /// What is told of a discovery.
-pub(crate) fn found_of(discovery: &Discovery) -> &Found
+pub(crate) fn found_of(discovery: &Discovery) -> &Finding
     ensures { result.now ≡ found_in discovery.now }
 {
     match discovery {
@@ -47,18 +47,18 @@ fn counts_line(alloc: Global, explored: &Explored) -> Result<String, Memory>
     ensures { IfOk result (λ text. string_bytes text ≡ counts_line explored.now) }
 {
     let (states, memories) = (explored.states, explored.memories);
-    let (stances, boards) = (explored.stances, explored.boards);
+    let (locals, boards) = (explored.locals, explored.boards);
     format!(in alloc;
-        "{{\"states\":{states},\"memories\":{memories},\"stances\":{stances},\"boards\":{boards}}}\n"
+        "{{\"states\":{states},\"memories\":{memories},\"stances\":{locals},\"boards\":{boards}}}\n"
     )
 }
 
 // The line of what was counted of drawn schedules.
-fn draws_line(alloc: Global, drawn: &Drawn) -> Result<String, Memory>
+fn draws_line(alloc: Global, drawn: &SampleResult) -> Result<String, Memory>
     ensures { IfOk result (λ text. string_bytes text ≡ draws_line drawn.now) }
 {
     let (solved, failed, turns) = (drawn.solved, drawn.failed, drawn.turns);
-    let (memories, stances) = (drawn.memories, drawn.stances);
+    let (memories, locals) = (drawn.memories, drawn.locals);
     let moves = pairs(alloc, &drawn.moves)?;
     let lost = pairs(alloc, &drawn.lost)?;
     let (moves, lost) = (moves.as_str(), lost.as_str());
@@ -66,42 +66,42 @@ fn draws_line(alloc: Global, drawn: &Drawn) -> Result<String, Memory>
         "{{\"solved\":{solved},\"failed\":{failed},\"turns\":{turns},\"moves\":{moves}"
     )?;
     let more = format!(in alloc;
-        ",\"lost\":{lost},\"memories\":{memories},\"stances\":{stances}}}\n"
+        ",\"lost\":{lost},\"memories\":{memories},\"stances\":{locals}}}\n"
     )?;
     text.push_str(more.as_str())?;
     Ok(text)
 }
 
 /// The exit status of what was found.
-pub(crate) fn status_of(found: &Found) -> u8
+pub(crate) fn status_of(found: &Finding) -> u8
     ensures { result ≡ found_status found.now }
 {
     match found {
-        Found::Solves(_) | Found::Comes { .. } => DONE,
-        Found::Fails { .. } | Found::Breaks { .. } | Found::Endless { .. } => FAILING,
-        Found::Exceeds { .. } => REFUSED_TEXT,
+        Finding::Solves(_) | Finding::Comes { .. } => DONE,
+        Finding::Fails { .. } | Finding::Breaks { .. } | Finding::Endless { .. } => FAILING,
+        Finding::Exceeds { .. } => REFUSED_TEXT,
     }
 }
 
 // The line of what was found.
-fn found_line(alloc: Global, found: &Found) -> Result<String, Memory>
+fn found_line(alloc: Global, found: &Finding) -> Result<String, Memory>
     ensures { IfOk result (λ text. string_bytes text ≡ found_line found.now) }
 {
     match found {
-        Found::Solves(bounds) => solves_line(alloc, bounds),
-        Found::Comes { verdict, schedule } => comes_line(alloc, *verdict, schedule),
-        Found::Fails { verdict, schedule } => fails_line(alloc, *verdict, schedule),
-        Found::Breaks {
+        Finding::Solves(bounds) => solves_line(alloc, bounds),
+        Finding::Comes { verdict, schedule } => comes_line(alloc, *verdict, schedule),
+        Finding::Fails { verdict, schedule } => fails_line(alloc, *verdict, schedule),
+        Finding::Breaks {
             agent,
             failure,
             schedule,
         } => breaks_line(alloc, *agent, *failure, schedule),
-        Found::Endless {
+        Finding::Endless {
             schedule,
-            round,
+            cycle,
             is_fair,
-        } => endless_line(alloc, schedule, round, *is_fair),
-        Found::Exceeds { agent, commands } => {
+        } => endless_line(alloc, schedule, cycle, *is_fair),
+        Finding::Exceeds { agent, commands } => {
             format!(in alloc;
                 "{{\"found\":\"exceeds\",\"agent\":{agent},\"commands\":{commands}}}\n"
             )
@@ -114,13 +114,13 @@ fn solves_line(alloc: Global, bounds: &Bounds) -> Result<String, Memory>
     ensures { IfOk result (λ text. string_bytes text ≡ solves_line bounds.now) }
 {
     let (moves, lost) = (bounds.moves, bounds.lost);
-    let (turns, naps) = (bounds.turns, bounds.naps);
+    let (turns, wakeups) = (bounds.turns, bounds.wakeups);
     let commands = numbers(alloc, &bounds.commands)?;
     let commands = commands.as_str();
     let mut text = format!(in alloc;
         "{{\"found\":\"solves\",\"moves\":{moves},\"lost\":{lost},\"turns\":{turns}"
     )?;
-    let more = format!(in alloc; ",\"naps\":{naps},\"commands\":{commands}}}\n")?;
+    let more = format!(in alloc; ",\"naps\":{wakeups},\"commands\":{commands}}}\n")?;
     text.push_str(more.as_str())?;
     Ok(text)
 }
@@ -129,17 +129,17 @@ fn solves_line(alloc: Global, bounds: &Bounds) -> Result<String, Memory>
 fn endless_line(
     alloc: Global,
     schedule: &[u16],
-    round: &[u16],
+    cycle: &[u16],
     is_fair: bool,
 ) -> Result<String, Memory>
-    ensures { IfOk result (λ text. string_bytes text ≡ endless_line schedule.now round.now is_fair) }
+    ensures { IfOk result (λ text. string_bytes text ≡ endless_line schedule.now cycle.now is_fair) }
 {
     let schedule = agents(alloc, schedule)?;
-    let round = agents(alloc, round)?;
-    let (schedule, round) = (schedule.as_str(), round.as_str());
+    let cycle = agents(alloc, cycle)?;
+    let (schedule, cycle) = (schedule.as_str(), cycle.as_str());
     let fair = bool_text(is_fair);
     format!(in alloc;
-        "{{\"found\":\"endless\",\"schedule\":{schedule},\"round\":{round},\"fair\":{fair}}}\n"
+        "{{\"found\":\"endless\",\"schedule\":{schedule},\"round\":{cycle},\"fair\":{fair}}}\n"
     )
 }
 

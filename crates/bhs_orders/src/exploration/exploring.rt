@@ -2,7 +2,7 @@
 
 ghost use Rattle.std.specs.Prelude.{◌≡◌, IfOk, is_some};
 ghost use Rattle.bhs_explore.specs.Questions.{IsAskedOnce, SomeMachinesAnswer};
-ghost use Rattle.bhs_explore.specs.Truths.{IsTrueOf};
+ghost use Rattle.bhs_explore.specs.Results.{IsTrueOf};
 ghost use Rattle.bhs_orders.specs.Discoveries.{Explores, ExploresMatch, IsCounted, IsFound, PrintsDiscovery};
 ghost use Rattle.bhs_orders.specs.Discoveries.{found_in, is_drawn};
 
@@ -11,8 +11,8 @@ use crate::exploration::hosts::Host;
 use crate::exploration::links::held_links;
 use crate::reporting::faults::{Fault, report};
 use crate::tournaments::checking::lineup_of;
-use bhs_command_line::{Drawing, Exploration, Hunt, Scheduler};
-use bhs_explore::{Draws, ExploreFault, Explored, Explorer};
+use bhs_command_line::{Drawing, Exploration, Objective, Scheduler};
+use bhs_explore::{ExploreFault, Explored, Explorer, SampleRequest};
 use bhs_lineup::Ready;
 use bhs_model::Text;
 use bhs_stream::{Input, Output, finish, send};
@@ -101,7 +101,7 @@ fn discovered<R: Input, W: Output>(
         return Err(Fault::Memory);
     };
     let mut host = Host::new(alloc, reader, writer);
-    let mut explorer = match Explorer::new(alloc, world, held, exploration.naps, &mut host) {
+    let mut explorer = match Explorer::new(alloc, world, held, exploration.wakeups, &mut host) {
         Ok(explorer) => explorer,
         Err(fault) => return Err(fault_of(fault, &host)),
     };
@@ -123,7 +123,7 @@ fn made<R: Input, W: Output>(
     ensures counted { IfOk result (λ discovery. IsCounted discovery) }
     ensures kind { IfOk result (λ discovery. is_drawn discovery ≡ is_some exploration.drawing) }
     ensures same { (explorer.new.net ≡ explorer.old.net) × (explorer.new.setup ≡ explorer.old.setup) }
-    ensures held { (explorer.new.held ≡ explorer.old.held) × (explorer.new.naps ≡ explorer.old.naps) }
+    ensures held { (explorer.new.held ≡ explorer.old.held) × (explorer.new.wakeups ≡ explorer.old.wakeups) }
 {
     match exploration.drawing {
         None => Ok(Discovery::Tried(tried(explorer, host, exploration.states)?)),
@@ -144,7 +144,7 @@ fn tried<R: Input, W: Output>(
     ensures once { IfOk result (λ explored. IsAskedOnce explorer.new) }
     ensures some { IfOk result (λ explored. SomeMachinesAnswer explorer.new) }
     ensures same { (explorer.new.net ≡ explorer.old.net) × (explorer.new.setup ≡ explorer.old.setup) }
-    ensures held { (explorer.new.held ≡ explorer.old.held) × (explorer.new.naps ≡ explorer.old.naps) }
+    ensures held { (explorer.new.held ≡ explorer.old.held) × (explorer.new.wakeups ≡ explorer.old.wakeups) }
 {
     for _ in 0..states {
         if explorer.visit(host, states, VISITS)? {
@@ -156,7 +156,7 @@ fn tried<R: Input, W: Output>(
 }
 
 // The schedules to draw, each of at most this many turns.
-fn draws_of(drawing: Drawing, turns: u32) -> Draws {
+fn draws_of(drawing: Drawing, turns: u32) -> SampleRequest {
     let scheduler = match drawing.scheduler {
         Scheduler::Fair => bhs_explore::Scheduler::Fair,
         Scheduler::LastDeparted => bhs_explore::Scheduler::LastDeparted,
@@ -165,11 +165,11 @@ fn draws_of(drawing: Drawing, turns: u32) -> Draws {
         Scheduler::SlowLinks => bhs_explore::Scheduler::SlowLinks,
     };
     let hunt = match drawing.hunt {
-        Some(Hunt::Moves) => Some(bhs_explore::Hunt::Moves),
-        Some(Hunt::Lost) => Some(bhs_explore::Hunt::Lost),
+        Some(Objective::Moves) => Some(bhs_explore::Objective::Moves),
+        Some(Objective::Lost) => Some(bhs_explore::Objective::Lost),
         None => None,
     };
-    Draws {
+    SampleRequest {
         schedules: drawing.schedules,
         seed: u64::from(drawing.seed),
         scheduler,

@@ -4,7 +4,7 @@
 use crate::rehearsals::interactive::MAX_READS;
 use crate::reporting::faults::Fault;
 use crate::streams::lines::{LineState, take_line};
-use bhs_explore::{Latest, Mind, Step, Team, TeamFault, Visited};
+use bhs_explore::{Latest, Step, Team, TeamAnswer, TeamFault, Visited};
 use bhs_model::Command;
 use bhs_net::Memory;
 use bhs_stream::{BUFFER, Input, Output, finish, send};
@@ -72,7 +72,7 @@ impl<'h, R: Input, W: Output> Host<'h, R, W> {
     }
 
     // Asks a question, and takes the answer.
-    fn asked(&mut self, question: Result<Vec<u8>, Memory>) -> Result<Mind, TeamFault> {
+    fn asked(&mut self, question: Result<Vec<u8>, Memory>) -> Result<TeamAnswer, TeamFault> {
         let answer = match question {
             Ok(question) => self.answer(&question),
             Err(memory) => Err(Fault::from(memory)),
@@ -91,7 +91,7 @@ impl<'h, R: Input, W: Output> Host<'h, R, W> {
         }
     }
 
-    fn answer(&mut self, question: &[u8]) -> Result<Mind, Fault> {
+    fn answer(&mut self, question: &[u8]) -> Result<TeamAnswer, Fault> {
         send(self.writer, question)?;
         finish(self.writer)?;
         let line = self.line()?;
@@ -104,7 +104,7 @@ impl<'h, R: Input, W: Output> Host<'h, R, W> {
             Does::Stops => Step::Stops,
             Does::Fails => Step::Fails,
         };
-        Ok(Mind { memory, step })
+        Ok(TeamAnswer { memory, step })
     }
 
     // The command that a client sends by the next line, as a server takes it.
@@ -170,12 +170,12 @@ impl<'h, R: Input, W: Output> Team for Host<'h, R, W> {
     // Contracts do not see what a host is asked and answers.
     ghost answers = { λ old exchange new. Unit {0} };
 
-    fn begin(&mut self, agent: u16) -> Result<Mind, TeamFault> {
+    fn begin(&mut self, agent: u16) -> Result<TeamAnswer, TeamFault> {
         let question = begin_line(self.alloc, agent);
         self.asked(question)
     }
 
-    fn next(&mut self, before: u32, latest: Latest, shown: &str) -> Result<Mind, TeamFault> {
+    fn next(&mut self, before: u32, latest: Latest, shown: &str) -> Result<TeamAnswer, TeamFault> {
         let question = ask_line(self.alloc, before, latest, shown);
         self.asked(question)
     }

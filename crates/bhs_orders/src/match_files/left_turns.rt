@@ -12,7 +12,7 @@ use crate::match_files::turn_files::{read_part_of_turns, turns_name, write_turns
 use crate::reporting::faults::{Fault, report};
 use crate::reporting::statuses::DONE;
 use crate::results::appealing::compared;
-use crate::results::contests::Place;
+use crate::results::contests::MatchFileName;
 use bhs_lineup::Lineup;
 use bhs_match::Sealed;
 use bhs_model::{Event, Kept, Setup};
@@ -28,7 +28,7 @@ use std::rt::Files;
 pub(crate) fn save_turns<F: Files, E: Write>(
     alloc: Global,
     files: &F,
-    place: &Place<'_>,
+    place: &MatchFileName<'_>,
     lineup: &Lineup,
     sealed: &Sealed,
     errors: &mut E,
@@ -54,7 +54,7 @@ pub(crate) fn save_turns<F: Files, E: Write>(
 pub(crate) fn turns_are_missing<F: Files>(
     alloc: Global,
     files: &F,
-    place: &Place<'_>,
+    place: &MatchFileName<'_>,
 ) -> Result<bool, Fault> {
     let part = turns_part_name(alloc, place.prefix, place.number)?;
     let whole = turns_name(alloc, place.prefix, place.number)?;
@@ -62,7 +62,11 @@ pub(crate) fn turns_are_missing<F: Files>(
 }
 
 // The name of the file with the turns that are left: that of their part, unless there is the file of turns alone.
-fn name_of_left<F: Files>(alloc: Global, files: &F, place: &Place<'_>) -> Result<String, Fault> {
+fn name_of_left<F: Files>(
+    alloc: Global,
+    files: &F,
+    place: &MatchFileName<'_>,
+) -> Result<String, Fault> {
     let part = turns_part_name(alloc, place.prefix, place.number)?;
     let whole = turns_name(alloc, place.prefix, place.number)?;
     if is_free(files, part.as_str())? && !is_free(files, whole.as_str())? {

@@ -25,7 +25,7 @@ use std::rt::Files;
 
 /// Under which name the files of a match stand.
 #[derive(Drop)]
-pub(crate) struct Place<'a> {
+pub(crate) struct MatchFileName<'a> {
     pub(crate) prefix: &'a str,
     pub(crate) number: usize,
 }
@@ -101,7 +101,7 @@ fn found_of<F: Files, E: Write>(
     let mut rows = Vec::new(alloc);
     let mut status = DONE;
     for (number, one) in ready.iter().enumerate() {
-        let place = Place { prefix, number };
+        let place = MatchFileName { prefix, number };
         let found = row_of_match(alloc, files, &place, one, errors);
         let Ok(code) = added(&mut rows, found) else {
             return Err(report(prefix, Fault::Memory, errors));
@@ -129,7 +129,7 @@ fn added(rows: &mut Vec<Row>, found: Result<Row, u8>) -> Result<u8, Memory>
 fn row_of_match<F: Files, E: Write>(
     alloc: Global,
     files: &F,
-    place: &Place<'_>,
+    place: &MatchFileName<'_>,
     ready: &Ready,
     errors: &mut E,
 ) -> Result<Row, u8>

@@ -14,7 +14,7 @@ use crate::match_files::parts::{is_free, match_of_part, part_name};
 use crate::match_files::replays::{file_name, first_status, read_match, write_sealed};
 use crate::reporting::faults::{Fault, report};
 use crate::reporting::statuses::DONE;
-use crate::results::contests::{Place, print_matches, see_same};
+use crate::results::contests::{MatchFileName, print_matches, see_same};
 use bhs_lineup::{Lineup, Ready};
 use bhs_match::Sealed;
 use bhs_stream::Output;
@@ -53,7 +53,7 @@ fn save_matches<F: Files, E: Write>(
 {
     let mut status = DONE;
     for number in 0..lineup.ready.len() {
-        let place = Place { prefix, number };
+        let place = MatchFileName { prefix, number };
         let code = save_match(alloc, files, &place, lineup, errors);
         status = first_status(status, code);
     }
@@ -64,7 +64,7 @@ fn save_matches<F: Files, E: Write>(
 fn save_match<F: Files, E: Write>(
     alloc: Global,
     files: &F,
-    place: &Place<'_>,
+    place: &MatchFileName<'_>,
     lineup: &Lineup,
     errors: &mut E,
 ) -> u8
@@ -85,7 +85,7 @@ fn save_match<F: Files, E: Write>(
 fn save_left<F: Files, E: Write>(
     alloc: Global,
     files: &F,
-    place: &Place<'_>,
+    place: &MatchFileName<'_>,
     lineup: &Lineup,
     sealed: &Sealed,
     errors: &mut E,
@@ -105,7 +105,7 @@ fn save_left<F: Files, E: Write>(
 fn save_turns_alone<F: Files, E: Write>(
     alloc: Global,
     files: &F,
-    place: &Place<'_>,
+    place: &MatchFileName<'_>,
     lineup: &Lineup,
     ready: &Ready,
     errors: &mut E,
@@ -123,7 +123,7 @@ fn save_turns_alone<F: Files, E: Write>(
 fn replay_without_turns<F: Files>(
     alloc: Global,
     files: &F,
-    place: &Place<'_>,
+    place: &MatchFileName<'_>,
     ready: &Ready,
 ) -> Result<Option<Sealed>, Fault>
     ensures { IfOk result (λ found. IfSome found IsReplayed) }
@@ -141,7 +141,7 @@ fn replay_without_turns<F: Files>(
 fn left_of<F: Files, E: Write>(
     alloc: Global,
     files: &F,
-    place: &Place<'_>,
+    place: &MatchFileName<'_>,
     ready: &Ready,
     errors: &mut E,
 ) -> Result<Option<Sealed>, u8>
@@ -161,7 +161,7 @@ fn read_left<F: Files>(
     alloc: Global,
     files: &F,
     name: &str,
-    place: &Place<'_>,
+    place: &MatchFileName<'_>,
     ready: &Ready,
 ) -> Result<Option<Sealed>, Fault>
     ensures { IfOk result (λ found. IfSome found (IsLeft ready.now)) }

@@ -8,7 +8,7 @@ ghost use Rattle.bhs_orders.specs.Showing.{Prints, Reports};
 use crate::match_files::replays::match_of;
 use crate::reporting::faults::{Fault, report};
 use crate::streams::showing::show_made;
-use bhs_command_line::Entry;
+use bhs_command_line::TableEntry;
 use bhs_referee::judge;
 use bhs_standings::{Row, table};
 use bhs_stream::Output;
@@ -21,7 +21,7 @@ use std::rt::Files;
 pub fn print_table<F: Files, W: Output, E: Write>(
     alloc: Global,
     files: &F,
-    entries: &[Entry],
+    entries: &[TableEntry],
     writer: &mut W,
     errors: &mut E,
 ) -> u8
@@ -37,7 +37,7 @@ pub fn print_table<F: Files, W: Output, E: Write>(
 fn rows_of<F: Files, E: Write>(
     alloc: Global,
     files: &F,
-    entries: &[Entry],
+    entries: &[TableEntry],
     errors: &mut E,
 ) -> Result<Vec<Row>, u8>
     ensures rows { IfOk result (λ rows. AreRows entries.now rows.items) }
@@ -56,7 +56,7 @@ fn rows_of<F: Files, E: Write>(
 fn row_of<F: Files, E: Write>(
     alloc: Global,
     files: &F,
-    entry: &Entry,
+    entry: &TableEntry,
     errors: &mut E,
 ) -> Result<Row, u8>
     ensures row { IfOk result (IsRow entry.now) }

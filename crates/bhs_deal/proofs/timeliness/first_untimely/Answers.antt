@@ -4,14 +4,14 @@ use Rattle.bhs_time.specs.TimedLogs.{IsTimedLog}
 use Rattle.bhs_match.specs.Matches.{world_in}
 use Rattle.bhs_deal.specs.Links.{held_in}
 use Rattle.bhs_deal.specs.Scheduling.{whole_schedule, stamps_in}
-use Rattle.bhs_deal.specs.Timeliness.{Course, untimely_in, IsUntimelyAt}
+use Rattle.bhs_deal.specs.Timeliness.{DeliveryTerms, untimely_in, IsUntimelyAt}
 use Rattle.bhs_deal.specs.declared.timeliness.Untimely.{Untimely}
 use Rattle.bhs_deal.proofs.UntimelyLemmas.{found_lemma}
 use Rattle.bhs_deal.proofs.timeliness.first_untimely.Goals as goal
 
 pub returns : goal.returns
 returns c =
-    let course : Course = record {
+    let course : DeliveryTerms = record {
       dealer = c.args.schedule.now.dealer.now;
       law = c.args.schedule.now.delays;
       held = c.args.schedule.now.held.now;

@@ -8,7 +8,7 @@ use Rattle.bhs_session.specs.Phase.{Ready}
 use Rattle.bhs_session.specs.Machine.{ask}
 use Rattle.bhs_session.specs.Texts.{command_by}
 use Rattle.bhs_rehearsal.specs.Games.{Game, played, reply_to}
-use Rattle.bhs_rehearsal.specs.Connections.{Taken, taken, answers}
+use Rattle.bhs_rehearsal.specs.Connections.{TakenItems, taken, answers}
 use Rattle.bhs_rehearsal.specs.Rehearsing.{game_of, seen_item}
 use Rattle.bhs_rehearsal.specs.Takings.{behind, goes_on}
 use Rattle.bhs_rehearsal.specs.declared.items.Item.{Item as ItemOfCode}
@@ -30,7 +30,7 @@ returns-in_ok-first-in-Says-clause-taken c others here =
     ∙ takes_line game agent (seen line) others here
     ∙ ap (λ (command : Command). answers (reply_to game (Tell agent command)) (played game (Tell agent command))
     (taken (played game (Tell agent command)) agent others)) said in
-    subst (λ (taken : Taken). IfOk c.answer_command.result
+    subst (λ (taken : TakenItems). IfOk c.answer_command.result
     (λ is_done. behind c.args.text.now.items taken ≡ goes_on is_done (game_of c.answer_command.new.ready) agent others
     c.answer_command.new.text.items))
     (sym told) (c.answer_command.ensures.taken others)

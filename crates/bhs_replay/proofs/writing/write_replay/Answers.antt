@@ -5,7 +5,7 @@ use Rattle.bhs_model.specs.declared.setups.Setup.{Setup}
 use Rattle.bhs_model.specs.Marks.{events_of, read_if}
 use Rattle.bhs_model.specs.InOrder.{replies}
 use Rattle.bhs_match.specs.Matches.{Play, world_in}
-use Rattle.bhs_stream.specs.Streams.{Taken}
+use Rattle.bhs_stream.specs.Streams.{WriteAnswer}
 use Rattle.bhs_model.specs.declared.marks.Kept.{Kept}
 use Rattle.bhs_stream.proofs.PutsLemmas.{IsSentUpTo, sent_more}
 use Rattle.bhs_replay.specs.Head.{head_line, version_of}
@@ -18,7 +18,7 @@ use Rattle.bhs_replay.proofs.writing.write_replay.Goals as goal
 abbrev head_of : Play → List ℕ
 head_of play = head_line (version_of play.net play.setup) play.net play.setup
 
-begun : {O : Type 0} (takes : O → List ℕ → Taken → O → Type 0) (a : O) (play : Play)
+begun : {O : Type 0} (takes : O → List ℕ → WriteAnswer → O → Type 0) (a : O) (play : Play)
     → map (λ one. read_if play.log one.mark) play.log ≡ replies (world_in play) (events_of play.log)
     → IsSentUpTo takes a a (replay_of play) ((head_of play ++ 10 ∷ [])
     ++ left_of play.log play.log)
@@ -26,7 +26,8 @@ begun takes a play answered = first_line takes a (replay_of play) (head_of play 
     (left_of play.log play.log) (replay-along play answered)
 
 -- before the event at a place
-at_event : {O : Type 0} (takes : O → List ℕ → Taken → O → Type 0) (a b : O) (text : List ℕ) (log : List Kept) (i : ℕ)
+at_event : {O : Type 0} (takes : O → List ℕ → WriteAnswer → O
+    → Type 0) (a b : O) (text : List ℕ) (log : List Kept) (i : ℕ)
     (one : Kept) → i < length log → one ≡ get_or log i one
     → IsSentUpTo takes a b text (left_of log (drop i log))
     → IsSentUpTo takes a b text ((kept_line log one ++ 10 ∷ []) ++ left_of log (drop (i + 1) log))
@@ -34,7 +35,8 @@ at_event takes a b text log i one within is so_far =
     subst (λ (left : List ℕ). IsSentUpTo takes a b text left)
     (left-next log (drop i log) (drop (i + 1) log) one (drop-next log i one within is)) so_far
 
-at_end : {O : Type 0} (takes : O → List ℕ → Taken → O → Type 0) (a b : O) (text : List ℕ) (log : List Kept) (i : ℕ)
+at_end : {O : Type 0} (takes : O → List ℕ → WriteAnswer → O
+    → Type 0) (a b : O) (text : List ℕ) (log : List Kept) (i : ℕ)
     → length log ≤ i
     → IsSentUpTo takes a b text (left_of log (drop i log))
     → IsSentUpTo takes a b text (end_line (length log) ++ 10 ∷ [])

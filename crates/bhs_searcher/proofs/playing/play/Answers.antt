@@ -1,6 +1,6 @@
 use Rattle.std.proofs.Common.{◌∙◌, [], ◌∷◌, refl, sym, rules}
 use Rattle.bhs_wire.proofs.Reading.{on_err}
-use Rattle.bhs_explore.specs.Minds.{Heard}
+use Rattle.bhs_explore.specs.Strategies.{Heard}
 use Rattle.bhs_searcher.specs.Protocols.{does_in}
 use Rattle.bhs_searcher.specs.Talks.{begins, silent, unheard}
 use Rattle.bhs_searcher.proofs.TalkLemmas.{talks_on, holds_on, breaks_off, stuck_by}
@@ -15,7 +15,8 @@ returns-in-Some-clause-ended g c =
     let player = c.args.player in record {
       history = history;
       reply = c.in_ok-reply.reply;
-      talks = talks_on g.C.Connection.says g.C.Connection.hears player.protocol player.nodes player.agent player.key.now
+      talks = talks_on g.C.ServerConnection.says g.C.ServerConnection.hears player.protocol player.nodes player.agent
+          player.key.now
           c.args.connection.now c.loop.connection c.say.new.connection c.hear.new.connection history c.loop.held
           c.in_ok-step.step c.in_ok-reply.reply talks holds c.in_ok-step.ensures c.in_ok-say.ensures.said
           c.in_ok-reply.ensures.heard;
@@ -29,7 +30,8 @@ loop-preserved g c =
     let heard = Heard c.in_ok-reply.reply in (
       heard ∷ history,
       (
-        talks_on g.C.Connection.says g.C.Connection.hears player.protocol player.nodes player.agent player.key.now
+        talks_on g.C.ServerConnection.says g.C.ServerConnection.hears player.protocol player.nodes player.agent
+            player.key.now
             c.args.connection.now c.loop.connection c.say.new.connection c.hear.new.connection history c.loop.held
             c.in_ok-step.step c.in_ok-reply.reply talks holds c.in_ok-step.ensures c.in_ok-say.ensures.said
             c.in_ok-reply.ensures.heard,
@@ -41,7 +43,7 @@ loop-preserved g c =
 pub returns-in_err-step-clause-broken : goal.returns-in_err-step-clause-broken
 returns-in_err-step-clause-broken g c =
     let (history, (talks, holds)) = c.loop.invariant in
-    let it = g.C.Connection in
+    let it = g.C.ServerConnection in
     let player = c.args.player in
     on_err c.from_residual.result
     (breaks_off it.says it.hears it.cuts it.loses player.protocol player.nodes player.agent player.key.now
@@ -52,7 +54,7 @@ returns-in_err-step-clause-broken g c =
 pub returns-in_err-say-clause-broken : goal.returns-in_err-say-clause-broken
 returns-in_err-say-clause-broken g c =
     let (history, (talks, holds)) = c.loop.invariant in
-    let it = g.C.Connection in
+    let it = g.C.ServerConnection in
     let player = c.args.player in
     on_err c.from_residual-in_err-say.result
     (breaks_off it.says it.hears it.cuts it.loses player.protocol player.nodes player.agent player.key.now
@@ -63,7 +65,7 @@ returns-in_err-say-clause-broken g c =
 pub returns-in_err-reply-clause-broken : goal.returns-in_err-reply-clause-broken
 returns-in_err-reply-clause-broken g c =
     let (history, (talks, holds)) = c.loop.invariant in
-    let it = g.C.Connection in
+    let it = g.C.ServerConnection in
     let player = c.args.player in
     on_err c.from_residual-in_err-reply.result
     (breaks_off it.says it.hears it.cuts it.loses player.protocol player.nodes player.agent player.key.now
@@ -74,7 +76,7 @@ returns-in_err-reply-clause-broken g c =
 pub returns-in-No-clause-broken : goal.returns-in-No-clause-broken
 returns-in-No-clause-broken g c =
     let (history, (talks, holds)) = c.loop.invariant in
-    let it = g.C.Connection in
+    let it = g.C.ServerConnection in
     let player = c.args.player in
     breaks_off it.says it.hears it.cuts it.loses player.protocol player.nodes player.agent player.key.now
     c.args.connection.now c.loop.connection c.hear.new.connection history c.loop.held
@@ -86,7 +88,7 @@ returns-in-No-clause-broken g c =
 pub returns-in_err-held : goal.returns-in_err-held
 returns-in_err-held g c =
     let (history, (talks, holds)) = c.loop.invariant in
-    let it = g.C.Connection in
+    let it = g.C.ServerConnection in
     let player = c.args.player in
     let broken = on_err c.from_residual-in_err-held.result
     (breaks_off it.says it.hears it.cuts it.loses player.protocol player.nodes player.agent player.key.now
@@ -100,7 +102,7 @@ returns-in_err-held g c =
 pub returns-clause-broken : goal.returns-clause-broken
 returns-clause-broken g c =
     let (history, (talks, holds)) = c.loop.invariant in
-    let it = g.C.Connection in
+    let it = g.C.ServerConnection in
     let player = c.args.player in
     breaks_off it.says it.hears it.cuts it.loses player.protocol player.nodes player.agent player.key.now
     c.args.connection.now c.loop.connection c.loop.connection history c.loop.held

@@ -9,7 +9,7 @@ returns-in_err-line-in-Says-clause-broken g c = on_err c.from_residual.result si
 pub returns-in_err-say-in-Says-clause-broken : goal.returns-in_err-say-in-Says-clause-broken
 returns-in_err-say-in-Says-clause-broken g c =
     let line = c.in_ok-line-in-Says in
-    let written = subst (λ (bytes : List ℕ). g.C.Connection.cuts c.args.connection.now bytes c.say.new.self)
+    let written = subst (λ (bytes : List ℕ). g.C.ServerConnection.cuts c.args.connection.now bytes c.say.new.self)
     c.as_str.ensures.value c.in_err-say-in-Says.ensures.cut in
     on_err c.from_residual-in_err-say-in-Says.result
     (cut c.in-Says.command (string_bytes line.line) c.say.new.self c.in-Says.is

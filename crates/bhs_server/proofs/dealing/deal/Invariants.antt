@@ -1,6 +1,6 @@
 use Rattle.std.proofs.Common.{ℕ, ◌≡◌, ◌<◌, ◌-◌, ◌^◌}
 use Rattle.bhs_server.specs.Dealing.{moved_by}
-use Rattle.bhs_server.specs.declared.pacing.Step.TheVariants.{Turn}
+use Rattle.bhs_server.specs.declared.pacing.PaceStep.TheVariants.{Turn}
 use Rattle.bhs_server.proofs.dealing.deal.Given as goal
 
 abbrev pub invariant-loop-dealer : goal.invariant-loop-dealer

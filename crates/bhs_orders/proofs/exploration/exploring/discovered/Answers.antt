@@ -15,7 +15,7 @@ returns-in-Ok-made g c =
             ∙ (ap₂ normal same_net same_setup ∙ c.setup.ensures.normal.same)));
         held = subst (λ (links : List (ℕ × ℕ)). AreLinks c.args.ready.now links)
             (sym (c.in-Ok-made.ensures.held.0 ∙ c.in-Ok-new.ensures.held.0)) c.in_ok-held.ensures;
-        naps = c.in-Ok-made.ensures.held.1 ∙ c.in-Ok-new.ensures.held.1;
+        wakeups = c.in-Ok-made.ensures.held.1 ∙ c.in-Ok-new.ensures.held.1;
       };
       once = c.in-Ok-made.ensures.once;
       some = c.in-Ok-made.ensures.some;

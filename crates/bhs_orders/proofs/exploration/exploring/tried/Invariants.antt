@@ -6,5 +6,5 @@ invariant-loop g l = record {
   net : l.explorer.net ≡ l.fn.explorer.net;
   setup : l.explorer.setup ≡ l.fn.explorer.setup;
   held : l.explorer.held ≡ l.fn.explorer.held;
-  naps : l.explorer.naps ≡ l.fn.explorer.naps;
+  wakeups : l.explorer.wakeups ≡ l.fn.explorer.wakeups;
 }

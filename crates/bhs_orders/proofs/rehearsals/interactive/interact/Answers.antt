@@ -5,7 +5,7 @@ use Rattle.bhs_stream.specs.Streams.{Chunk}
 use Rattle.bhs_stream.specs.declared.reading.TheConstants.{BUFFER}
 use Rattle.bhs_stream.proofs.ChunkLemmas.{chunk_by-take}
 use Rattle.bhs_orders.specs.Shells.{progress_of}
-use Rattle.bhs_orders.specs.Interactive.{Progress, Interacts, begins, ended}
+use Rattle.bhs_orders.specs.Interactive.{ScriptProgress, Interacts, begins, ended}
 use Rattle.bhs_orders.proofs.PlayLemmas.{fault_is}
 use Rattle.bhs_orders.proofs.InteractiveLemmas.{piece_read, silent, stops_by, stops_within, interacts_before}
 use Rattle.bhs_orders.proofs.InteractiveLemmas.{interacts_ended}
@@ -16,7 +16,7 @@ use Rattle.bhs_orders.proofs.rehearsals.interactive.interact.Goals as goal
 pub loop-init : goal.loop-init
 loop-init g c =
     let shell = c.args.shell.now in (
-      subst (λ (progress : Progress). Interacts g.R.Input.gives g.W.Output.takes g.W.Output.flushes c.args.turns
+      subst (λ (progress : ScriptProgress). Interacts g.R.Input.gives g.W.Output.takes g.W.Output.flushes c.args.turns
           shell.rehearsal.stage c.args.reader.now c.args.writer.now 0 false progress c.args.reader.now
           c.args.writer.now)
           (silent shell c.requires.line c.requires.answered) begins,

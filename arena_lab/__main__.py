@@ -1,0 +1,159 @@
+"""The lab's command line: `./arena-lab --help`."""
+import argparse
+import importlib
+import os
+import signal
+import sys
+from typing import List, NamedTuple, Optional, Tuple
+
+import arena_lab
+from arena_lab import IN_CLONE
+from arena_lab.commands import spellings, ways
+from arena_lab.rules import refusals
+from arena_lab.rules.engines import EngineRefused
+from arena_lab.support.faults import Fault
+from arena_lab.support.missing import Missing, missing_of
+
+# modules of Debian's packages: to play agents inside the lab, to lay out pages
+PLAYS, PAGES = ("greenlet", "tqdm"), ("jinja2", "networkx", "numpy", "scipy")
+
+
+class Command(NamedTuple):
+    """A command: the module that has its words and runs it, what it does in a line, and the modules that it needs of
+    Debian's packages."""
+
+    module: str
+    about: str
+    needs: Tuple[str, ...] = PLAYS
+
+
+COMMANDS = {
+    "new": Command("arena_lab.commands.new", "begin an agent in Python, JavaScript, Java, C, C++, Rust or Go", ()),
+    "examples": Command("arena_lab.commands.examples", "say where the examples stand, or copy them", ()),
+    "play": Command("arena_lab.commands.play", "be the agents yourself, in the terminal or on a page", PAGES
+                    + ("aiohttp",)),
+    "try": Command("arena_lab.commands.ways", "try a team: play it, hunt, explore or draw schedules, by --how",
+                   PLAYS + PAGES + ("hypothesis",)),
+    "run": Command("arena_lab.commands.run", "play a team under schedules of a scheduler", PLAYS + PAGES),
+    "check": Command("arena_lab.commands.check", "check an agent before it is handed in",
+                     PLAYS + PAGES + ("hypothesis",)),
+    "hunt": Command("arena_lab.commands.hunt", "look for a schedule after which the team fails, or moves most",
+                    PLAYS + PAGES + ("hypothesis",)),
+    "explore": Command("arena_lab.commands.explore", "try every schedule of a small network", PLAYS + PAGES),
+    "invariant": Command("arena_lab.commands.invariant", "try a candidate invariant on every picture of small networks",
+                         PLAYS + PAGES),
+    "replay": Command("arena_lab.commands.replay", "play a schedule again, and compare every byte", PLAYS + PAGES),
+    "mutants": Command("arena_lab.commands.mutants",
+                       "try whether the lab finds out wrong versions of the sample agents",
+                       PLAYS + ("networkx", "hypothesis")),
+    "endure": Command("arena_lab.commands.endure", "play the sample agents under many drawn schedules",
+                      PLAYS + ("networkx",)),
+    "speed": Command("arena_lab.commands.speed", "measure how many steps a second the lab plays"),
+    "compare": Command("arena_lab.commands.compare", "compare the program with the Python model, byte for byte",
+                       PLAYS + ("networkx",)),
+    "serve": Command("arena_lab.commands.serve",
+                     "a stand-in for `arena serve`, to try agents without building the program",
+                     ()),
+    "network": Command("arena_lab.commands.network", "write a network file", ("networkx",)),
+    "tournament": Command("arena_lab.commands.tournament",
+                          "write a tournament of teams, networks and black holes, with their keys", ("networkx",)),
+    "again": Command("arena_lab.commands.again", "write another try of a match, for a team whose program crashed",
+                     ("networkx",)),
+    "sweep": Command("arena_lab.commands.sweep", "play teams over a grid of networks and schedules, and write a report",
+                     PLAYS + PAGES + ("matplotlib",)),
+    "grade": Command("arena_lab.commands.grade",
+                     "grade the programs of a course: a league table, and a page for each team",
+                     PLAYS + PAGES),
+    "repeat": Command("arena_lab.commands.repeat", "repeat each agent of a graded course's solved matches once more",
+                      ("tqdm",)),
+    "hall": Command("arena_lab.commands.hall",
+                    "serve a hall, where teams practise, try again, and are ranked for a term",
+                    PLAYS + PAGES + ("django", "rest_framework", "gunicorn", "distributed")),
+    "page": Command("arena_lab.commands.page", "write a page on which one watches a match that has ended", PAGES),
+    "watch": Command("arena_lab.commands.watch", "show a contest that goes on, for a projector", PAGES + ("aiohttp",)),
+    "pages": Command("arena_lab.commands.pages", "write a page of each match of a contest, and one that lists them",
+                     PAGES),
+}
+
+ABOUT = """Plays agents under a schedule that you choose, records it, and plays it again byte for byte.
+
+Agents are asynchronous: a protocol is right only if it works however links delay them. The arena's own contests show
+the schedule that the clock happens to make; the lab shows the others. `./arena-lab COMMAND --help` says more of each
+command, and arena_lab/README.md is a tutorial."""
+STATUS = """exit status: 0 if all went well, 1 if a team fails or engines differ, 2 if the command line is refused, 130
+if it was stopped too early to say"""
+
+
+def parser(name_of_lab: str = IN_CLONE) -> argparse.ArgumentParser:
+    made = argparse.ArgumentParser(name_of_lab, description=ABOUT.replace(IN_CLONE, name_of_lab), epilog=STATUS,
+                                   formatter_class=argparse.RawDescriptionHelpFormatter)
+    commands = made.add_subparsers(required=True, metavar="COMMAND", dest="command")
+    for name, command in COMMANDS.items():
+        module = importlib.import_module(command.module)
+        about = (module.__doc__ or "").replace(IN_CLONE, name_of_lab)
+        words = commands.add_parser(name, help=command.about, description=about, epilog=STATUS,
+                                    formatter_class=argparse.RawDescriptionHelpFormatter)
+        module.add_words(words)
+        spellings.take_old_spellings(words)
+        call_by(name_of_lab, words)
+        words.set_defaults(run=module.run, refuse=words.error)
+    return made
+
+
+def call_by(name: str, words: argparse.ArgumentParser) -> None:
+    """Has the help of a command call the lab by this name."""
+    for action in words._actions:
+        action.help = action.help and action.help.replace(IN_CLONE, name)
+    for group in words._action_groups:
+        group.description = group.description and group.description.replace(IN_CLONE, name)
+
+
+class Terminated(BaseException):
+    """The lab is to end. An agent that is playing then does not catch it, as it would an exit."""
+
+
+def end(*_: object) -> None:
+    raise Terminated
+
+
+def main(given: Optional[List[str]] = None, name: str = IN_CLONE) -> int:
+    arena_lab.called = name
+    words, strange = parser(name).parse_known_args(ways.spelled(sys.argv[1:] if given is None else given))
+    if strange:
+        # with the usage of the command, where argparse has that of the lab
+        words.refuse(f"unrecognized arguments: {' '.join(strange)}")
+    # whoever ends the lab ends what it started
+    signal.signal(signal.SIGTERM, end)
+    try:
+        return int(words.run(words))
+    except Terminated:
+        return 143
+    except KeyboardInterrupt:
+        print("arena-lab: interrupted", file=sys.stderr)
+        return 130
+    except BrokenPipeError:
+        # the reader of our output has closed it
+        os.dup2(os.open(os.devnull, os.O_WRONLY), sys.stdout.fileno())
+        return 2
+    except (Fault, OSError) as fault:
+        said = told_of(fault, COMMANDS[words.command])
+        print(said if isinstance(fault, EngineRefused) else f"arena-lab: {said}", file=sys.stderr)
+        return fault.status if isinstance(fault, Fault) else 2
+
+
+def told_of(fault: Exception, command: Command) -> str:
+    """What is said of a fault that ends a command."""
+    if isinstance(fault, EngineRefused):
+        return refusals.in_words(str(fault))
+    if isinstance(fault, Missing):
+        # all that the command will ask for: who installs them once is not sent back
+        return str(Missing([*fault.modules, *missing_of(command.needs)]))
+    if isinstance(fault, OSError) and fault.filename is not None and fault.strerror:
+        said = "there is no such file or folder" if isinstance(fault, FileNotFoundError) else fault.strerror.lower()
+        return f"{os.fsdecode(fault.filename)}: {said}"
+    return str(fault)
+
+
+if __name__ == "__main__":
+    arena_lab.with_one_order()
+    sys.exit(main())

@@ -1,0 +1,342 @@
+"""The lab for Python programs and notebooks.
+
+    import arena_lab.api as lab
+
+    rows = lab.play("ring:8", "examples/agents/ring.py {nodes}", "slow-agents", seeds=20)
+    pandas.DataFrame(rows)                  # a row for each seed
+    rows[3].match()                         # the match of a row: a notebook shows it to be watched
+
+A network is a name, as `--network` takes it, a networkx graph, or a `Network`. An agent is what `--agent` takes,
+`lab.program("..")` for what `--command` takes, or a function of this process:
+
+    def search(agent, key, nodes):
+        here = agent.enter(key)
+        ..
+
+Its parameters behind the agent and its key may be `nodes`, `links`, `home`, `network` and `sleep`. One agent stands for
+all of a team of `count`; a list names each. A scheduler is a name, or a function of the seed that gives a function of
+(choices, state). `engine` is "model" for the Python model, of which nothing is proved, "program" for the program that
+`./arena-lab` takes, or the path of a program.
+
+    proof = lab.explore("ring:3..8", "examples/agents/ring.py {nodes}", engine="program")
+    proof.solves, proof.most_moves          # a theorem about agents that are functions of what they are told
+    proof.frame()                           # a row for each network and black hole: a frame of pandas, or a list
+"""
+import contextlib
+import importlib
+import pathlib
+from typing import Any, Callable, Dict, Iterable, List, NamedTuple, Optional, Sequence, Union
+
+from arena_lab.play import kept_matches
+from arena_lab.play.agent_files import NoAgent, client_module
+from arena_lab.play.bounds import LIMIT
+from arena_lab.play.games import Asked, Record, Row, SchedulerName, rows_of
+from arena_lab.play.schedulers import NAMED as SCHEDULERS
+from arena_lab.play.schedules import schedule_of
+from arena_lab.play.teams import BOARD, INSIDE, NAPS, OUTSIDE, QUOTA, AgentWords, Game, filled
+from arena_lab.rules import networks
+from arena_lab.rules.engines import MODEL, PROGRAM, name_of, program_at
+from arena_lab.rules.fixtures import Fixture
+from arena_lab.rules.model import Place, Verdict
+from arena_lab.rules.networks import Network
+from arena_lab.search import program_search, explore as exploring, hunt as hunting
+from arena_lab.search.program_search import BREAKS, COMES, SOLVES, SampleRequest
+from arena_lab.search.checking import Counted
+from arena_lab.search.capacity import OF_MODEL, OF_PROGRAM, fitting
+from arena_lab.search.machines import Machines
+from arena_lab.search.proving import CHECKED, FOUND, Proving, MatchResult, choices_of, found_in
+from arena_lab.support.progress import bar
+
+__all__ = ["SCHEDULERS", "Exploration", "Game", "HuntResult", "Network", "Proof", "Record", "Row", "SampleRequest",
+           "client", "engine_name", "explore", "game", "hunt", "play", "program"]
+
+# what is found of a match that was tried as a whole
+WHOLE = (SOLVES, COMES, *FOUND)
+
+AgentLike = Union[str, AgentWords, Callable[..., None]]
+NetworkLike = Union[str, Network, Any]
+
+# the client of the sample agents: its exceptions are what `agent` raises
+client = client_module()
+
+
+def program(words: str) -> AgentWords:
+    """An agent that is a program of its own, by its command line: see `--command`."""
+    return AgentWords(OUTSIDE, words)
+
+
+def agent_of(agent: AgentLike) -> AgentWords:
+    """An agent as the lab names it."""
+    if isinstance(agent, AgentWords):
+        return agent
+    if isinstance(agent, str):
+        return AgentWords(INSIDE, agent)
+    if not callable(agent):
+        raise NoAgent(f"{agent!r} is no agent: name a file, or give a function of an agent and its key")
+    return AgentWords(INSIDE, f"function:{getattr(agent, '__name__', 'agent')}", agent)
+
+
+def team_of(agents: Union[AgentLike, Sequence[AgentLike]], count: Optional[int]) -> List[AgentWords]:
+    """The agents of a team."""
+    is_list = isinstance(agents, (list, tuple)) and not isinstance(agents, AgentWords)
+    named = [agent_of(it) for it in agents] if is_list else [agent_of(agents)]  # type: ignore[union-attr, arg-type]
+    return filled(named, count)
+
+
+def game(network: NetworkLike, agents: Union[AgentLike, Sequence[AgentLike]], *, count: Optional[int] = None,
+         home: int = 0, holes: Iterable[int] = (), dark: Iterable[Place] = (), quota: int = QUOTA, board: int = BOARD,
+         naps: int = NAPS, limit: float = LIMIT) -> Game:
+    """What is played. If neither `holes` nor `dark` destroys, each seed has a black hole of its own. A dark link is
+    (node, port)."""
+    if isinstance(network, str):
+        name, found = network, networks.named(network)
+    elif isinstance(network, Network):
+        name, found = f"{network.nodes} nodes", network
+    else:
+        name, found = str(getattr(network, "name", "")) or f"graph of {len(network)} nodes", networks.of_graph(network)
+    return Game(name, networks.checked(found, name), team_of(agents, count), home, sorted(holes), list(dark), quota,
+                board, naps, limit)
+
+
+def path_of(engine: str) -> Optional[str]:
+    """The program that an engine names, or None for the Python model."""
+    return None if engine == MODEL else program_at(None if engine == PROGRAM else engine)
+
+
+def engine_name(engine: str) -> str:
+    """How the lab calls an engine: "the proved program" is said of a program alone whose build recorded its proof."""
+    return name_of(path_of(engine))
+
+
+def play(network: NetworkLike, agents: Union[AgentLike, Sequence[AgentLike]], scheduler: SchedulerName = "fair",
+         seeds: Union[int, Iterable[int]] = 1, *, engine: str = MODEL, workers: int = 1, **more: Any) -> List[Row]:
+    """Plays a match for each seed, and gives their rows. `seeds` is how many, or which; `more` is what `game` takes."""
+    asked_game, path = game(network, agents, **more), path_of(engine)
+    if isinstance(seeds, int) and seeds < 0:
+        raise ValueError(f"seeds is how many there are, or a list of which, and not {seeds}")
+    numbers = range(seeds) if isinstance(seeds, int) else seeds
+    asked = [Asked(asked_game, scheduler, seed, path) for seed in numbers]
+    return [row.forget() for row in rows_of(asked, workers)]
+
+
+def said_of(record: Record) -> str:
+    """The verdict of a match, and what else failed in it."""
+    return "; ".join([str(record.verdict), *record.played.faults])
+
+
+class Exploration(NamedTuple):
+    """What came of all schedules of some matches: how many states there are, whether all were visited, and the first
+    match that fails, or else the one with the most moves, if any has ended."""
+
+    states: int
+    is_whole: bool
+    fails: bool
+    seconds: float
+    worst: Optional[Record]
+
+    @property
+    def solves(self) -> bool:
+        """Whether no schedule fails."""
+        return self.is_whole and not self.fails
+
+    @property
+    def most_moves(self) -> Optional[int]:
+        return self.worst.verdict.moves if self.worst else None
+
+    def __str__(self) -> str:
+        said = "a schedule fails" if self.fails else "no schedule fails, of the Python model" if self.is_whole else (
+            "stopped before all were visited; no schedule failed until then")
+        worst = f"; {said_of(self.worst)}" if self.worst else ""
+        return f"{self.states} states in {self.seconds:.1f} s: {said}{worst}"
+
+    def _repr_html_(self) -> str:
+        return f"<p>{self}</p>{self.worst._repr_html_() if self.worst else ''}"
+
+
+class Proof(NamedTuple):
+    """What the program found of all schedules of some matches, or of those that it drew: a row for each match, what was
+    checked of how agents are taken for machines, and the match that fails, if one does. A match that was not tried as a
+    whole has no `found`."""
+
+    rows: List[Dict[str, Any]]
+    checked: str
+    worst: Optional[Record]
+    is_drawn: bool
+
+    @property
+    def fails(self) -> bool:
+        return self.worst is not None
+
+    @property
+    def is_whole(self) -> bool:
+        return all(row["found"] in WHOLE for row in self.rows)
+
+    @property
+    def solves(self) -> bool:
+        """Whether it is proved of these matches that no schedule fails. Nothing is proved of schedules not drawn."""
+        return all(row["found"] == SOLVES for row in self.rows)
+
+    @property
+    def states(self) -> int:
+        return sum(row["states"] or 0 for row in self.rows)
+
+    @property
+    def seconds(self) -> float:
+        return float(sum(row["seconds"] for row in self.rows))
+
+    @property
+    def most_moves(self) -> Optional[int]:
+        return max((row["moves"] for row in self.rows if row["moves"] is not None), default=None)
+
+    @property
+    def most_lost(self) -> Optional[int]:
+        return max((row["lost"] for row in self.rows if row["lost"] is not None), default=None)
+
+    def frame(self) -> Any:
+        """The rows as a frame of pandas, or as a list of dicts if pandas is missing."""
+        return pandas_or_none().DataFrame(self.rows) if pandas_or_none() else list(self.rows)
+
+    def __str__(self) -> str:
+        if self.fails:
+            said = f"a schedule fails; {said_of(self.worst)}" if self.worst else ""
+        elif not self.is_whole:
+            said = "stopped before all were visited; no schedule failed until then"
+        else:
+            what = "no drawn schedule fails, which says nothing of the others" if self.is_drawn else \
+                "every schedule solves: a theorem about agents that are functions of what they are told"
+            said = f"{what}; most moves {self.most_moves}, most agents lost {self.most_lost}; {self.checked}"
+        return f"{self.states} states in {self.seconds:.1f} s: {said}"
+
+    def _repr_html_(self) -> str:
+        return f"<p>{self}</p>{self.worst._repr_html_() if self.worst else ''}"
+
+
+def pandas_or_none() -> Any:
+    """The module pandas, or None where it is not installed."""
+    try:
+        return importlib.import_module("pandas")
+    except ModuleNotFoundError:
+        return None
+
+
+def explore(network: Union[NetworkLike, Sequence[NetworkLike]], agents: Union[AgentLike, Sequence[AgentLike]], *,
+            states: Optional[int] = None, engine: str = MODEL, draws: Optional[SampleRequest] = None,
+            check: int = CHECKED, **more: Any) -> Union[Exploration, Proof]:
+    """Tries every schedule on a network, or on several: a list, or a range of sizes such as "ring:3..8". Each node but
+    the home base is the black hole unless something that destroys is named. The program proves what it finds, up to the
+    first match that fails; with `draws` it draws schedules instead. The engine "model" searches without a proof. Of
+    `check` drawn schedules the agents play on each network, what they do is compared with what they answered. `states`
+    are the most of a match to visit: as many as take half of the memory that is left, unless you name a number."""
+    all_asked, path = [game(one, agents, **more) for one in networks_in(network)], path_of(engine)
+    if path is not None:
+        most = exploring.MOST_STATES if draws is not None else fitting(OF_PROGRAM)
+        return proved(all_asked, path, SearchOptions(states or most, draws, check))
+    if draws is not None:
+        raise ValueError("draws need a program: name it by engine, or hunt")
+    with bar(None, "state") as shown:
+        by_game = [(one, list(exploring.tried(one, states or fitting(OF_MODEL), shown))) for one in all_asked]
+    found = [it for _, of_one in by_game for it in of_one]
+    worst, record = max(found, key=exploring.Explored.rank), None
+    if worst.explorer.worst:
+        schedule = worst.schedule(next(one for one, of_one in by_game if worst in of_one))
+        record = Record(schedule, kept_matches.played_again(schedule, path), path)
+    return Exploration(sum(one.explorer.states() for one in found), all(one.is_whole for one in found),
+                       worst.rank()[0], sum(one.seconds for one in found), record)
+
+
+def networks_in(network: Union[NetworkLike, Sequence[NetworkLike]]) -> List[NetworkLike]:
+    """The networks that are named, each by itself."""
+    if isinstance(network, (list, tuple)) and not isinstance(network, Network):
+        return [found for one in network for found in networks_in(one)]
+    return list(networks.in_range(network)) if isinstance(network, str) else [network]
+
+
+class SearchOptions(NamedTuple):
+    """How many states of a match are visited, which schedules are drawn instead of trying all, and how many are played
+    as a check."""
+
+    states: int
+    draws: Optional[SampleRequest]
+    check: int
+
+
+def proved(games: Sequence[Game], path: str, wanted: SearchOptions) -> Proof:
+    """What the program finds of the schedules of games, up to the first match that fails or is not tried as a whole."""
+    def one(machines: Machines, fixture: Fixture, shown: Any) -> MatchResult:
+        return MatchResult(fixture, program_search.asked(path, fixture, machines, wanted.states, shown.update,
+                                           shown.set_postfix_str, wanted.draws))
+    rows, counted = [], Counted()
+    for given in games:
+        proving = Proving(given, wanted.check)
+        with bar(None, "answer") as shown:
+            rows += [row_of(given, tried) for tried in proving.tried(one, shown)]
+        counted, last = counted.more(proving.checks.counted()), proving.tries[-1]
+        if last.has_failed():
+            return Proof(rows, str(counted), failure(given, last, path), wanted.draws is not None)
+        if not last.is_whole():
+            break
+    return Proof(rows, str(counted), None, wanted.draws is not None)
+
+
+def failure(given: Game, tried: MatchResult, path: str) -> Record:
+    """The match that fails under the schedule that the program tells, as the agents play it."""
+    found = found_in(tried)
+    turns, breaks = found["schedule"] + found.get("round", []), found["agent"] if found["found"] == BREAKS else None
+    choices = choices_of(tried.fixture, given.agents, turns, breaks, given.limit)
+    schedule = schedule_of(tried.fixture, given.agents, f"explore{given.origin}", choices, given.limit)
+    return Record(schedule, kept_matches.played_again(schedule, path), path)
+
+
+def row_of(given: Game, tried: MatchResult) -> Dict[str, Any]:
+    """A match that was tried, as a row: what was found, in how many states, and the most moves and lost agents. What
+    the program does not say is None."""
+    setup, answered, found = tried.fixture.setup, tried.answered, tried.answered.found or {}
+    return {"network": given.name, "nodes": setup.nodes, "home": setup.home, "holes": setup.holes,
+            "found": found.get("found"),
+            "states": answered.counts.get("states"), "moves": found.get("moves"), "lost": found.get("lost"),
+            "turns": found.get("turns"), "drawn": drawn_of(answered.counts), "seconds": answered.seconds,
+            "why": answered.why}
+
+
+def drawn_of(counts: Dict[str, Any]) -> Optional[int]:
+    """How many schedules were drawn, if some were."""
+    return counts["solved"] + counts["failed"] if "solved" in counts else None
+
+
+class HuntResult(NamedTuple):
+    """What a hunt found: how many schedules were tried, whether the team fails, and the best match."""
+
+    tried: int
+    fails: bool
+    best: Record
+
+    @property
+    def verdict(self) -> Verdict:
+        return self.best.verdict
+
+    def __str__(self) -> str:
+        said = "the team fails" if self.fails else "the team solved its network under each"
+        return f"{self.tried} schedules were tried: {said}; {said_of(self.best)}"
+
+    def _repr_html_(self) -> str:
+        return f"<p>{self}</p>{self.best._repr_html_()}"
+
+
+def hunt(network: NetworkLike, agents: Union[AgentLike, Sequence[AgentLike]], looking_for: str = hunting.FAILURE, *,
+         runs: int = hunting.RUNS, seed: int = 0, any_home: bool = False,
+         database: Union[None, str, pathlib.Path] = None, engine: str = MODEL, **more: Any) -> HuntResult:
+    """Looks for a schedule after which the team fails, or with the most "moves" or "lost" agents. The Python model
+    searches, and the engine plays what is found. Earlier finds are tried first if a `database`, a folder, is named."""
+    if looking_for not in (hunting.FAILURE, hunting.MOVES, hunting.LOST):
+        raise ValueError(f"{looking_for}: look for {hunting.FAILURE}, {hunting.MOVES} or {hunting.LOST}")
+    path = path_of(engine)
+    asked = hunting.Hunt(game(network, agents, **more), looking_for, any_home, runs, seed,
+                         pathlib.Path(database) if database else None)
+    with bar(runs, "schedule") as shown, contextlib.suppress(KeyboardInterrupt):
+        hunter = hunting.Hunter(asked, shown)
+        hunting.hunted(hunter)
+    if hunter.best is None:
+        raise KeyboardInterrupt
+    schedule = hunter.schedule()
+    record = Record(schedule, kept_matches.played_again(schedule, path), path)
+    return HuntResult(hunter.tried, record.has_failed, record)

@@ -1,0 +1,1 @@
+"""The lab's commands: each has its words, and runs by what arena_lab.api and the rooms have."""

@@ -1,0 +1,234 @@
+"""Checks an agent before it is handed in: one command, for a program in any language.
+
+    ./arena-lab check "python3 agent.py {host} {port} {key} {nodes}"
+    ./arena-lab check "examples/agents/ring.py {nodes}"
+
+AGENT is the words that start the program of one agent, with {host}, {port} and {key}; or without {port} a file in
+Python that is written against `client.py`, which plays inside the lab and is checked faster. Two of them play a few
+matches on small networks (rings of 3 to 8 and 12 nodes, unless you name others by --network), each under a fair
+schedule and under one with slow agents. Each agent is repeated alone, as in a course; lines that were refused are told;
+then a hunt looks for a schedule under which the team fails, for a minute at most, and every schedule of a ring of 5 is
+tried, if that takes three minutes at most. The last line is one sentence: what the agent is right on, or the first
+thing to mend, with the command that shows it. The exit status is 1 if there is something to mend.
+
+Under --network the hunt and the search of all schedules take the smallest of the networks that you name.
+"""
+import argparse
+import contextlib
+import pathlib
+import signal
+import threading
+import time
+from typing import Any, Iterator, List, NamedTuple, Optional, Tuple
+
+import arena_lab
+from arena_lab import api
+from arena_lab.commands.words import add_engine, at_least_one, program_of
+from arena_lab.play import kept_matches
+from arena_lab.play.agent_files import NoAgent
+from arena_lab.play.bounds import LIMIT
+from arena_lab.play.games import Asked, Record, Row, rows_of
+from arena_lab.play.teams import INSIDE, NAPS, OUTSIDE, QUOTA, BOARD, AgentWords, Game, filled
+from arena_lab.rules import networks
+from arena_lab.rules.engines import MODEL
+from arena_lab.search.hunt import Hunt, Hunter, hunted
+from arena_lab.search.history_tree import NoFunction
+from arena_lab.support.progress import bar
+
+NETWORKS = ("ring:3", "ring:4", "ring:5", "ring:6", "ring:7", "ring:8", "ring:12")
+SCHEDULERS = ("fair", "slow-agents")
+HUNTED, EXPLORED = "ring:6", "ring:5"
+FOLDER = pathlib.Path("out/check")
+SECONDS, LONGER, MOST = 60, 3, 100_000
+# seconds between two interrupts of a search whose time is up
+AGAIN = 5.0
+
+
+class ToMend(NamedTuple):
+    """The first thing to mend: what is wrong, and the match that shows it."""
+
+    said: str
+    record: Record
+
+
+class Checked(NamedTuple):
+    """An agent that is checked: its words, how many of it there are, on which networks, by which program, and how long
+    each search may take."""
+
+    agent: AgentWords
+    agents: int
+    networks: Tuple[str, ...]
+    limit: float
+    program: Optional[str]
+    seconds: int
+    repeats: bool
+
+    def game(self, name: str) -> Game:
+        return Game(name, networks.named(name), filled([self.agent], self.agents), quota=QUOTA, board=BOARD, naps=NAPS,
+                    limit=self.limit)
+
+    def smallest(self, usual: str) -> str:
+        """The network of a search: the smallest that was named, if other networks than the usual ones were."""
+        if self.networks == NETWORKS:
+            return usual
+        return min(self.networks, key=lambda name: networks.named(name).nodes)
+
+
+def add_words(parser: argparse.ArgumentParser) -> None:
+    """The words of the command `check`."""
+    parser.add_argument("agent", metavar="AGENT", help="the words that start an agent's program, with {host}, {port}, "
+                        "{key}, and {nodes}, {links} and {home} if it is to know them")
+    parser.add_argument("--network", metavar="NAME", action="append", help=f"a network ({', '.join(NETWORKS)})")
+    parser.add_argument("--agents", metavar="N", type=at_least_one, default=2, help="how many agents there are (2)")
+    parser.add_argument("--timeout", dest="limit", metavar="SECONDS", type=float, default=LIMIT,
+                        help="how long an agent may take to "
+                        f"send or to wait ({LIMIT})")
+    parser.add_argument("--seconds", metavar="S", type=at_least_one, default=SECONDS, help="how long the hunt may "
+                        f"take; the search of all schedules may take {LONGER} times as long ({SECONDS})")
+    parser.add_argument("--no-repeat", action="store_true", help="do not repeat agents alone")
+    parser.add_argument("--keep", metavar="FOLDER", type=pathlib.Path, default=FOLDER, help="write what shows the "
+                        f"first thing to mend there ({FOLDER})")
+    add_engine(parser)
+
+
+def run(words: argparse.Namespace) -> int:
+    kind = OUTSIDE if "{port}" in words.agent else INSIDE
+    names = tuple(words.network or NETWORKS)
+    asked = Checked(AgentWords(kind, words.agent), words.agents, names, words.limit, program_of(words), words.seconds,
+                    not words.no_repeat)
+    right, wrong = checked(asked)
+    if wrong is None:
+        print(right)
+        return 0
+    print(wrong.record.keep(words.keep)[-1])
+    again = f"{arena_lab.called} replay {words.keep}{'' if asked.program else f' --engine {MODEL}'}"
+    print(f"To mend first: {wrong.said}; see it again by `{again}`, and try a mended agent by `{again} --follow`")
+    return 1
+
+
+def checked(asked: Checked) -> Tuple[str, Optional[ToMend]]:
+    """What the agent is right on, and what is to be mended first, if anything is."""
+    count, wrong = matches(asked)
+    if wrong is not None:
+        return "", wrong
+    tried, wrong = hunt(asked)
+    if wrong is not None:
+        return "", wrong
+    said, wrong = every(asked)
+    return f"Right on all {count} matches and {said or f'under {tried} schedules that were hunted'}", wrong
+
+
+def matches(asked: Checked) -> Tuple[int, Optional[ToMend]]:
+    """Plays the matches; gives how many there are, and what is to be mended first, if anything is."""
+    rows: List[Row] = []
+    for number, name in enumerate(asked.networks):
+        each = [Asked(asked.game(name), scheduler, 3 * number + place, asked.program, asked.repeats)
+                for place, scheduler in enumerate(SCHEDULERS)]
+        rows += rows_of(each)
+        wrong = next((row for row in rows if row["failed"]), None)
+        if wrong is not None:
+            return len(rows), ToMend(failure(wrong.match(), f"on {wrong['network']} under {wrong['scheduler']} "
+                                                            f"{wrong['seed']}"), wrong.match())
+    refused = next((row for row in rows if row["refused"]), None)
+    print(f"{len(rows)} matches on {', '.join(asked.networks)}: all solved")
+    if refused is None:
+        return len(rows), None
+    said = f"lines are refused, which cost commands: {'; '.join(refused['refused'])}"
+    return len(rows), ToMend(said, refused.match())
+
+
+def failure(record: Record, where: str) -> str:
+    """What is wrong with a match."""
+    faults = [*record.played.faults, *record.played.refused]
+    return "; ".join([f"{where} the match came to {record.verdict}", *faults])
+
+
+def hunt(asked: Checked) -> Tuple[int, Optional[ToMend]]:
+    """Hunts for a schedule under which the team fails; gives how many were tried."""
+    name = asked.smallest(HUNTED)
+    with bar(None, "schedule") as shown:
+        timed = TimedProgress(shown, asked.seconds)
+        hunter = Hunter(Hunt(asked.game(name), runs=MOST if asked.agent.kind == OUTSIDE else 3000), timed)
+        hunted(hunter)
+        shown.clear()
+    if hunter.was_stopped and not timed.is_over():
+        raise KeyboardInterrupt
+    best = hunter.best
+    if best is None or not best.has_failed:
+        print(f"{hunter.tried} schedules of {name} were hunted: none fails")
+        return hunter.tried, None
+    schedule = hunter.schedule()
+    record = Record(schedule, kept_matches.played_again(schedule, asked.program), asked.program)
+    return hunter.tried, ToMend(failure(record, f"under a schedule of {name} that was hunted"), record)
+
+
+def every(asked: Checked) -> Tuple[str, Optional[ToMend]]:
+    """Tries every schedule of a small network; gives what the agent is right under, or nothing if they are too many or
+    the agent cannot be explored."""
+    name = asked.smallest(EXPLORED)
+    alarm: Optional[Alarm] = None
+    try:
+        with within(LONGER * asked.seconds) as alarm:
+            found: Any = api.explore(name, asked.game(name).agents, engine=asked.program or MODEL, limit=asked.limit,
+                                     states=MOST)
+    except (NoAgent, NoFunction) as fault:
+        print(f"not every schedule of {name} was tried: {fault}")
+        return "", None
+    except KeyboardInterrupt:
+        if alarm is None or not alarm.has_rung:
+            raise
+        found = None
+    if found is not None and found.fails and found.worst is not None:
+        return "", ToMend(failure(found.worst, f"under a schedule of {name}"), found.worst)
+    if found is None or not found.solves:
+        print(f"not every schedule of {name} was tried: there are too many for {LONGER * asked.seconds} s")
+        return "", None
+    print(f"every schedule of {name}: {found.states} states, all solve")
+    ring = name.removeprefix("ring:")
+    return f"under every schedule of {f'a ring of {ring}' if ring != name else name}", None
+
+
+class TimedProgress:
+    """A bar that ends a hunt behind the first schedule after its time, as Ctrl-C would."""
+
+    def __init__(self, shown: Any, seconds: float) -> None:
+        self._shown, self._until = shown, time.monotonic() + seconds
+
+    def is_over(self) -> bool:
+        return time.monotonic() > self._until
+
+    def update(self) -> None:
+        self._shown.update()
+        if self.is_over():
+            raise KeyboardInterrupt
+
+    def set_postfix_str(self, said: str) -> None:
+        self._shown.set_postfix_str(said)
+
+
+class Alarm:
+    """Interrupts the main thread, as Ctrl-C does, once its time is up and now and then after that: a single interrupt
+    may be lost, as in what runs when Python collects garbage. Says whether it has rung."""
+
+    def __init__(self, seconds: float) -> None:
+        self.has_rung = False
+        self._stopped = threading.Event()
+        threading.Thread(target=self._wait, args=(seconds,), daemon=True).start()
+
+    def stop(self) -> None:
+        self._stopped.set()
+
+    def _wait(self, seconds: float) -> None:
+        while not self._stopped.wait(seconds):
+            self.has_rung, seconds = True, AGAIN
+            signal.pthread_kill(threading.main_thread().ident or 0, signal.SIGINT)
+
+
+@contextlib.contextmanager
+def within(seconds: float) -> Iterator[Alarm]:
+    """Interrupts what takes longer. A search gives then what it has found."""
+    alarm = Alarm(seconds)
+    try:
+        yield alarm
+    finally:
+        alarm.stop()

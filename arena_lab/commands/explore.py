@@ -1,0 +1,190 @@
+"""Tries every schedule of a match on a small network.
+
+    ./arena-lab explore --network ring:6 --agent "examples/agents/ring.py {nodes}"
+
+With several networks, such as --network ring:3..8 or more than one --network, a table says in the end what each came
+to; the first that does not end well ends it.
+
+If you name neither a black hole nor a dark link, each node but the home base is the black hole in turn. The command
+says how many states there are and the most moves of all schedules. It stops at the first schedule that fails, and
+writes that one to a folder. The exit status is 1 if a schedule fails.
+
+The program tries the schedules (`arena explore`), and the lab answers what the agents do. What is found is a theorem
+about programs that are functions of what they hold, as they answered here. Of an agent inside the lab (--agent) that is
+what its frames, objects and modules hold; what has no name is told, with what to write instead, and the agent's history
+stands for it. A program of its own (--command) is told apart by its history, or by a member "memory" of its lines, by
+which it declares what it holds; that, with its key, must be all on which it goes on.
+
+It is checked that programs are such functions, and the line of the verdict says how often. Where two histories come to
+one memory, the second agent is played on beside the first for some steps. The agents play 20 drawn schedules (--check
+N: N), and must do what they had answered. On small matches the Python model's search, which merges no histories, must
+find the same. If every schedule solves, the agents of one match are repeated alone as `run --repeat` does it, and a
+warning tells if one says something else. With --check 0 nothing is checked.
+
+A schedule also fails if an agent raises or breaks a rule under it, also once it has ended or when it is told that the
+match is over, and if it sleeps where nothing happens any more. The Python model's search takes over if an agent may use
+more commands than its quota, and --search model asks for it. Nothing is proved of it. It plays agents inside the lab,
+takes a step that meets nobody at once, and writes the schedule with the most moves if none fails.
+
+Where a network has too many states, --draws N draws N schedules of each match instead: a hundred thousand runs take the
+program seconds once it was answered what the agents do. The command says how many of them solve, and the least, mean,
+median and most moves. --scheduler NAME says whose turn it is: each agent that can move is as likely (fair), agents go
+as far
+as they can (last-departed), one waits for all others (starved), or some agents or links are slow (slow-agents,
+slow-links). --objective moves begins every second schedule as the worst so far began, to find one with more moves, and
+--objective lost one with more agents lost. The first schedule that fails is kept, or the worst. Of it the verdict is a
+theorem, as above; nothing is proved of schedules that were not drawn, nor of the counts.
+
+    ./arena-lab explore --network ring:32 --agent "examples/agents/ring.py {nodes}" --draws 100000 --objective moves
+
+A sleeper wakes once after each change of the whiteboard in front of it, and --spurious-wakeups times more: a team that
+waits by
+counting, as for a timeout, fails once another agent is slower than it counts. What is found says nothing of agents that
+nap more often. A warning tells if some agent still sleeps after that many naps, and might do something else after one
+more.
+
+With --workers N the matches of a network are tried N at a time, each by a process, and with --cluster by the workers of
+a Dask scheduler, as `sweep` has it. What is found is the same; each process asks the agents anew.
+
+With --out FOLDER each match all of whose schedules solve it gets a row in `matches.csv`, and `moves.svg` shows the most
+moves of each network over its nodes, beside each --bound. If you interrupt the command, run it again: it goes on behind
+the last row. `made.json` has the SHA-256 of all that rows depend on, as that of a sweep, and if one of them is another,
+the command refuses to go on.
+
+    ./arena-lab explore --network ring:3..16 --agent "examples/agents/ring.py {nodes}" --workers 4 --out out/rings \
+        --bound "2 n log2 n"
+
+A round of turns that may go on for ever is told with the schedule that leads to it. It is fair if each agent that can
+move throughout it has a turn in it; if it is not fair, agents may wait for one that never has a turn. A round in which
+agents use commands ends with their quota, so there the Python model's search takes over.
+"""
+import argparse
+import pathlib
+from typing import List, Optional
+
+from arena_lab.commands import explore_samples, explore_program
+from arena_lab.commands.words import add_engine, add_match, at_least_one, games_of, not_negative, program_of
+from arena_lab.play import kept_matches
+from arena_lab.play.teams import Game
+from arena_lab.rules.engines import MODEL, PROGRAM, program_at
+from arena_lab.search.program_search import SampleRequest
+from arena_lab.search.explore import MOST_STATES, check_inside, tried
+from arena_lab.search.capacity import OF_MODEL, OF_PROGRAM, fitting
+from arena_lab.search.proving import CHECKED
+from arena_lab.search.parallel import Parallelism
+from arena_lab.support.faults import Fault
+from arena_lab.support.missing import check
+from arena_lab.support.progress import bar
+from arena_lab.sweep.grid import BOUNDS
+from arena_lab.sweep.proofs import MATCHES, Folder
+from arena_lab.sweep.tables import alone_in
+
+FOLDER = kept_matches.FOLDER
+# whose turn it is in drawn schedules, and what is hunted for
+SCHEDULERS, HUNTS = ("fair", "last-departed", "starved", "slow-agents", "slow-links"), ("moves", "lost")
+
+
+def add_words(parser: argparse.ArgumentParser) -> None:
+    """The words of the command `explore`."""
+    add_match(parser, several=True)
+    parser.add_argument("--max-states", dest="states", metavar="N", type=at_least_one,
+                        help="the most states of a match to visit (as many "
+                        "as take half of the memory that is left). A million take 20 to 100 megabytes, and by the "
+                        "Python model half a gigabyte to one")
+    parser.add_argument("--draws", metavar="N", type=at_least_one, help="draw this many schedules of each match "
+                        "instead of trying all; for networks with too many states. --max-states then bounds the turns "
+                        "of "
+                        "each")
+    parser.add_argument("--seed", metavar="S", type=not_negative, help="draw them from this seed (0)")
+    parser.add_argument("--scheduler", dest="by", choices=SCHEDULERS,
+                        help="whose turn it is in them (fair)")
+    parser.add_argument("--objective", dest="hunt", choices=HUNTS,
+                        help="begin every second one as the worst so far began, to find more "
+                        "moves or more agents lost")
+    parser.add_argument("--keep", metavar="FOLDER", type=pathlib.Path, default=FOLDER, help="write the schedule that "
+                        f"is told there ({FOLDER})")
+    parser.add_argument("--search", choices=(PROGRAM, MODEL), help="who tries the schedules: the program, or the "
+                        "Python model, of which nothing is proved (the engine)")
+    parser.add_argument("--check", metavar="N", type=not_negative, default=CHECKED, help="after the program's search, "
+                        "play this many drawn schedules by the agents, and compare what they do with what they "
+                        f"answered ({CHECKED}); with 0 merges of histories are not checked either")
+    parser.add_argument("--workers", metavar="N", type=at_least_one, default=1, help="how many matches of a network "
+                        "are tried at a time (1); each takes the memory of its own states")
+    parser.add_argument("--cluster", metavar="ADDRESS", help="let the workers of a Dask scheduler try them, such as "
+                        "tcp://192.0.2.7:8786; each needs this folder at the same path")
+    parser.add_argument("--out", metavar="FOLDER", type=pathlib.Path, help="write a row for each match that is proved, "
+                        "and a plot, and go on there if there are rows")
+    parser.add_argument("--bound", choices=BOUNDS, action="append", help="moves that the plot shows beside, and more "
+                        "by more of these")
+    add_engine(parser)
+
+
+def run(words: argparse.Namespace) -> int:
+    games, engine = games_of(words), program_of(words)
+    draws = draws_of(words)
+    check_way(words)
+    if (words.search or words.engine) == PROGRAM:
+        program, way = engine or program_at(words.program), Parallelism(words.workers, words.cluster)
+        states = words.states or states_of(words)
+        wanted = [explore_program.ExploreRequest(game, program, engine, states, words.check, words.keep, way) for game
+                  in games]
+        if words.out:
+            return written(words, wanted)
+        return explore_samples.run(wanted, draws) if draws else explore_program.run(wanted)
+    if draws:
+        raise Fault("--draws needs the program's search: give no --search model, or use `./arena-lab hunt`")
+    return max(searched(words, game) for game in games)
+
+
+def states_of(words: argparse.Namespace) -> int:
+    """How many states of a match are visited at most, if no number is named. Workers elsewhere have other memory, and
+    drawn schedules take none for their turns."""
+    if words.draws is not None or words.cluster:
+        return MOST_STATES
+    return fitting(OF_PROGRAM, words.workers)
+
+
+def check_way(words: argparse.Namespace) -> None:
+    """Refuses what does not belong together."""
+    is_model = (words.search or words.engine) == MODEL
+    if words.out and words.draws is not None:
+        raise Fault("--out is for all schedules: leave --draws out")
+    if is_model and (words.out or words.cluster or words.workers > 1):
+        raise Fault("--workers, --cluster and --out need the program's search: give no --search model")
+    if words.bound and not words.out:
+        raise Fault("--bound is for the plot that --out writes: name a folder by --out")
+
+
+def written(words: argparse.Namespace, wanted: List[explore_program.ExploreRequest]) -> int:
+    """Tries the schedules of all matches that have no row yet, and writes rows and a plot."""
+    check("matplotlib")
+    games = [one.game for one in wanted]
+    with alone_in(words.out):
+        folder = Folder(words.out, games, wanted[0].program)
+        status = explore_program.run([one._replace(before=folder.of(games, place), write=folder.add)
+                             for place, one in enumerate(wanted)])
+        print(f"the rows are in {words.out / MATCHES}" + (f"; look at {folder.draw(words.bound or [])}" if not status
+                                                          else ": the same command goes on there"))
+        return status
+
+
+def draws_of(words: argparse.Namespace) -> Optional[SampleRequest]:
+    """The schedules that are to be drawn, if any."""
+    if words.draws is not None:
+        return SampleRequest(words.draws, words.seed or 0, words.by or SCHEDULERS[0], words.hunt)
+    for option, given in (("seed", words.seed), ("scheduler", words.by), ("objective", words.hunt)):
+        if given is not None:
+            raise Fault(f"--{option} needs --draws")
+    return None
+
+
+def searched(words: argparse.Namespace, game: Game) -> int:
+    """Tries the schedules of all matches by the Python model."""
+    check_inside(game)
+    all_found = []
+    with bar(None, "state") as shown:
+        for found in tried(game, words.states or fitting(OF_MODEL), shown):
+            shown.clear()
+            print(explore_program.by_model(found), flush=True)
+            all_found.append(found)
+    return explore_program.told_by_model(game, all_found, words.keep, program_of(words))

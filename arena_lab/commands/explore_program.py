@@ -1,0 +1,275 @@
+"""`explore` by the program: it tries the schedules, and the lab answers what agents do
+(arena_lab/search/program_search.py).
+Where
+the program says nothing, as an agent may use more than its quota, the Python model's search takes over, and says so."""
+import pathlib
+from typing import Any, Callable, Iterator, List, NamedTuple, Optional, Sequence, Tuple, Union
+
+from arena_lab.play import kept_matches, games
+from arena_lab.play.schedulers import Choice
+from arena_lab.play.schedules import schedule_of
+from arena_lab.play.teams import INSIDE, Game
+from arena_lab.rules.engines import name_of
+from arena_lab.rules.fixtures import Fixture
+from arena_lab.rules.model import Verdict
+from arena_lab.search.program_search import BREAKS, ENDLESS, EXCEEDS, FAILS, SOLVES, SampleRequest, asked
+from arena_lab.search.explore import Explored, explored
+from arena_lab.search.capacity import OF_MODEL, fitting
+from arena_lab.search.machines import Machines
+from arena_lab.search.history_tree import NoFunction
+from arena_lab.search.proving import After, Proving, MatchResult, bounds_of, choices_of, found_in
+from arena_lab.search.parallel import ParallelMatches, Parallelism, ExploreJob
+from arena_lab.support import built
+from arena_lab.support.progress import bar
+
+THEOREM = "every schedule solves (a theorem about programs that are functions of what they hold, as they answered here)"
+# how an agent fails under a schedule that the program tells
+FAILURES = {"program": "fails", "close": "fails when it is told that the match is over",
+            "asleep": "sleeps, and nothing changes any more"}
+# of the table of several networks
+COLUMNS = ("network", "matches", "states", "moves", "lost", "seconds")
+# whether each agent that can move throughout a round has a turn in it
+FAIRNESS = {True: "and it is fair", False: "and it is not fair: an agent that can move never has a turn"}
+
+
+class ExploreRequest(NamedTuple):
+    """What is to be tried, by which program, what of it is kept, and who tries it."""
+
+    game: Game
+    program: str
+    # the program that plays what is kept, or None for the Python model
+    engine: Optional[str]
+    states: int
+    check: int
+    keep: pathlib.Path
+    way: Parallelism = Parallelism()
+    # the matches that were tried before, and what writes those that are tried now
+    before: Sequence[MatchResult] = ()
+    write: Optional[Callable[[MatchResult], None]] = None
+
+    def work(self, draws: Optional[SampleRequest] = None) -> ExploreJob:
+        """What a process needs to try the matches."""
+        return ExploreJob(self.game, self.program, self.states, self.check, draws)
+
+
+class Search(NamedTuple):
+    """The matches that were tried, up to the first that fails or is not tried as a whole, and what was checked of how
+    their agents were taken for machines."""
+
+    tries: List[MatchResult]
+    checks: str
+
+
+def run(all_wanted: Sequence[ExploreRequest]) -> int:
+    """Tries the schedules of all matches of some games, up to the first game in which one fails or is not tried."""
+    return in_turn(all_wanted, tried_one)
+
+
+def tried_one(wanted: ExploreRequest) -> Tuple[int, Search]:
+    """Tries the schedules of all matches of a game, up to the first that fails."""
+    def after(tried: MatchResult, shown: Any) -> MatchResult:
+        shown.clear()
+        return beside(wanted, tried, shown)
+    search = all_tried(wanted, wanted.work(), after, line_of)
+    return report_matches(wanted, search), search
+
+
+def in_turn(all_wanted: Sequence[ExploreRequest], one: Callable[[ExploreRequest], Tuple[int, Search]]) -> int:
+    """Tries games one after the other, until one does not end well. If there are several, a table says in the end what
+    they came to."""
+    rows: List[Tuple[str, ...]] = [COLUMNS]
+    status = 0
+    for wanted in all_wanted:
+        if len(all_wanted) > 1:
+            print(f"{wanted.game.name}:", flush=True)
+        status, search = one(wanted)
+        if status:
+            break
+        rows.append(cells_of(wanted.game.name, search))
+    if len(all_wanted) > 1 and len(rows) > 1:
+        print("\n".join(table_of(rows)))
+    return status
+
+
+def cells_of(name: str, search: Search) -> Tuple[str, ...]:
+    """A row of the table: what the matches on a network came to."""
+    moves, lost = zip(*(bounds_of(tried) for tried in search.tries))
+    answered = [tried.answered for tried in search.tries]
+    return (name, str(len(answered)), str(sum(it.counts.get("states", 0) for it in answered)), str(max(moves)),
+            str(max(lost)), f"{sum(it.seconds for it in answered):.1f}")
+
+
+def table_of(rows: Sequence[Sequence[str]]) -> List[str]:
+    """The lines of a table: names to the left, numbers to the right."""
+    widths = [max(map(len, column)) for column in zip(*rows)]
+    return [" ".join([row[0].ljust(widths[0]), *(cell.rjust(width) for cell, width in zip(row[1:], widths[1:]))])
+            for row in rows]
+
+
+def all_tried(wanted: ExploreRequest, work: ExploreJob, after: After, line: Callable[[MatchResult], str]) -> Search:
+    """Tries the matches of a game, and prints a line for each."""
+    for tried in wanted.before:
+        print(f"{line(tried)}, as it was written before", flush=True)
+    # what is written is checked first, as other processes do
+    is_here = wanted.way.is_here() and not wanted.write
+    search: Union[Proving, ParallelMatches] = (Proving(wanted.game, wanted.check) if is_here else
+                                      ParallelMatches(work, wanted.way, wanted.before))
+    with bar(None, "answer" if is_here else "match") as shown:
+        for tried in tries_of(search, work, after, shown):
+            print(line(tried), flush=True)
+            if wanted.write and tried.is_whole() and not tried.has_failed():
+                wanted.write(tried)
+    for what, count in search.unnamed.items():
+        print(f"{count} times history stands for what a program holds: {what}")
+    return Search(search.tries, str(search.checks))
+
+
+def tries_of(search: Union[Proving, ParallelMatches], work: ExploreJob, after: After,
+             shown: Any) -> Iterator[MatchResult]:
+    """The matches as they are tried, by this process or by others."""
+    def one(machines: Machines, fixture: Fixture, shown: Any) -> MatchResult:
+        return after(MatchResult(fixture, asked(work.program, fixture, machines, work.states, shown.update,
+                                          shown.set_postfix_str, work.draws)), shown)
+    return search.tried(after, shown) if isinstance(search, ParallelMatches) else search.tried(one, shown)
+
+
+def beside(wanted: ExploreRequest, tried: MatchResult, shown: Any) -> MatchResult:
+    """The match with what the Python model's search says of it, if the program says nothing."""
+    found = tried.answered.found
+    if found is None or found["found"] != EXCEEDS:
+        return tried
+    why = f"agent {found['agent']} may use {found['commands']} commands"
+    game = wanted.game
+    if any(agent.kind != INSIDE for agent in game.agents):
+        raise NoFunction(f"{why}, and the Python model's search, which takes over then, plays agents inside the lab "
+                         "alone")
+    print(f"{why}: the Python model's search takes over, of which nothing is proved", flush=True)
+    try:
+        states = min(wanted.states, fitting(OF_MODEL))
+        return tried._replace(beside=explored(tried.fixture, game.agents, shown, states, game.limit))
+    finally:
+        shown.clear()
+
+
+def line_of(tried: MatchResult) -> str:
+    """What was found of one match."""
+    if tried.beside is not None:
+        return by_model(tried.beside)
+    setup, (found, counts, seconds, why, _) = tried.fixture.setup, tried.answered
+    if found is None:
+        said = why
+    elif found["found"] == ENDLESS:
+        said = f"{counts['states']} states, a schedule goes on for ever, " + FAIRNESS[found["fair"]]
+    elif found["found"] == BREAKS:
+        said = f"{counts['states']} states, under a schedule agent {found['agent']} {FAILURES[found['failure']]}"
+    else:
+        said = f"{counts['states']} states, " + ("every schedule solves, most" if found["found"] == SOLVES else
+                                                 "a schedule fails, its") + f" moves {found['moves']}"
+    return f"home {setup.home} holes {setup.holes}: {said}, {seconds:.1f} s"
+
+
+def report_matches(wanted: ExploreRequest, search: Search) -> int:
+    """Says what was found of all matches, and writes the schedule that fails."""
+    tries, last = search.tries, search.tries[-1]
+    states = sum(tried.answered.counts.get("states", 0) for tried in tries)
+    counts = f"{states} states in {sum(tried.answered.seconds for tried in tries):.1f} s"
+    if last.beside is not None and (last.has_failed() or not last.is_whole()):
+        return told_by_model(wanted.game, [last.beside], wanted.keep, wanted.engine)
+    if not last.is_whole():
+        print(f"{counts}: stopped before all were visited; no schedule failed until then")
+        return 130
+    if last.has_failed():
+        print(f"{counts}: a schedule fails")
+        return shown_failure(wanted, last)
+    says_less = any(tried.beside is not None for tried in tries)
+    engine = name_of(wanted.program)
+    by = "" if engine == built.PROGRAM else f", by {engine}"
+    said = "no schedule fails, in part of the Python model" if says_less else THEOREM
+    print(f"{counts}: {said}{by}; {search.checks}")
+    moves, lost = zip(*(bounds_of(tried) for tried in tries))
+    naps, turns = wanted.game.naps, [found_in(tried)["turns"] for tried in tries if tried.beside is None]
+    more = "" if says_less else f", most turns {max(turns)}, if agents nap at most {naps} times"
+    # an agent on a held link does not arrive where it would be lost
+    most = "no more agents lost than" if last.fixture.held else "most agents lost"
+    print(f"most moves {max(moves)}, {most} {max(lost)}{more}")
+    for said in do_not_repeat(wanted.game) if wanted.check else []:
+        print(f"warning: {said}")
+    if any(tried.answered.unwoken for tried in tries):
+        print(f"warning: some agents still sleep after {naps} naps, and what they do when they wake once more is not "
+              f"known: try --spurious-wakeups {naps + 1}")
+    return 0
+
+
+def do_not_repeat(game: Game) -> List[str]:
+    """What the agents of one drawn match say otherwise when each is repeated alone, with another key."""
+    return games.play_seed(game, "fair", 0, None).repeated(game.limit).played.faults
+
+
+def shown_failure(wanted: ExploreRequest, tried: MatchResult) -> int:
+    """Writes the schedule that fails, once the agents have played it."""
+    found, setup, game = found_in(tried), tried.fixture.setup, wanted.game
+    turns, breaks = found["schedule"] + found.get("round", []), found["agent"] if found["found"] == BREAKS else None
+    choices = choices_of(tried.fixture, game.agents, turns, breaks, game.limit)
+    if found["found"] == ENDLESS:
+        print(f"home {setup.home} holes {setup.holes}: after {len(found['schedule'])} choices, the last "
+              f"{len(found['round'])} of the schedule may be repeated for ever, {FAIRNESS[found['fair']]}")
+    elif found["found"] == FAILS:
+        # an agent on a held link does not arrive where it would be lost
+        most = "at most " if tried.fixture.held else ""
+        print(f"it comes to: home {setup.home} holes {setup.holes}, {found['outcome']} moves {found['moves']} lost "
+              f"{most}{found['lost']}")
+    verdict = Verdict(found["outcome"], found["moves"], found["lost"]) if found["found"] == FAILS else None
+    keep(wanted, tried, choices, verdict)
+    return 1
+
+
+def shown_schedule(wanted: ExploreRequest, tried: MatchResult, verdict: Verdict) -> None:
+    """Writes the schedule that the program tells, once the agents have played it to this verdict."""
+    found, game = found_in(tried), wanted.game
+    keep(wanted, tried, choices_of(tried.fixture, game.agents, found["schedule"], None, game.limit), verdict)
+
+
+def keep(wanted: ExploreRequest, tried: MatchResult, choices: List[Choice], verdict: Optional[Verdict]) -> None:
+    """Writes a schedule, once the agents have played it."""
+    game, found = wanted.game, found_in(tried)
+    schedule = schedule_of(tried.fixture, game.agents, f"explore{game.origin}", choices, game.limit)
+    played = kept_matches.keep(wanted.keep, schedule, wanted.engine)
+    come_to, same = played.verdict(), 2 if tried.fixture.held else 3
+    if found["found"] == BREAKS and not played.faults or verdict and come_to[:same] != verdict[:same]:
+        raise NoFunction("played again it comes to something else: explore needs agents that are functions of what "
+                         "they hold")
+
+
+# what the Python model's search found
+
+def by_model(found: Explored) -> str:
+    """What was found of one match."""
+    explorer, setup = found.explorer, found.explorer.fixture.setup
+    has_failed = found.rank()[0]
+    said = "a schedule fails" if has_failed else "every schedule solves" if found.is_whole else "stopped"
+    moves = explorer.worst.verdict.moves if explorer.worst else 0
+    return (f"home {setup.home} holes {setup.holes}: {explorer.states()} states, {said}, "
+            f"{'its' if has_failed else 'most'} moves {moves}, {found.seconds:.1f} s")
+
+
+def told_by_model(game: Game, all_found: List[Explored], keep: pathlib.Path, program: Optional[str]) -> int:
+    """Says what was found of all matches, and writes what is to be kept."""
+    worst, is_whole = max(all_found, key=Explored.rank), all(found.is_whole for found in all_found)
+    states, seconds = (sum(it) for it in zip(*((found.explorer.states(), found.seconds) for found in all_found)))
+    counts, end = f"{states} states in {seconds:.1f} s", worst.explorer.worst
+    has_failed = end is not None and end.has_failed
+    if has_failed:
+        print(f"{counts}: a schedule fails")
+    elif is_whole:
+        print(f"{counts}: no schedule fails, of the Python model")
+    else:
+        print(f"{counts}: stopped before all were visited; no schedule failed until then")
+    if end is not None:
+        setup = worst.explorer.fixture.setup
+        print(f"{'it comes to' if end.has_failed else 'most moves'}: home {setup.home} holes {setup.holes}, "
+              f"{end.verdict}")
+        played = kept_matches.keep(keep, worst.schedule(game), program)
+        if played.verdict() != end.verdict:
+            raise NoFunction("played again it comes to another verdict: explore needs agents that are functions of "
+                             "what they are told")
+    return 1 if has_failed else 0 if is_whole else 130

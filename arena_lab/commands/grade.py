@@ -1,0 +1,82 @@
+"""Grades the programs of a course: plays them all, and writes a league table and a page for each team.
+
+    ./arena-lab grade examples/course/course.toml --out out/course
+
+Each team plays the same matches. The folder gets `league.html` and `league.csv`, the table of all teams (matches solved
+first, then the moves and the lost agents of these); `team-NAME.html` for each team; `runs.csv`, a row for each
+match; and in `failed` each match that a team failed, with its schedule, its replay and its page, and with the smallest
+schedule that was found after which the team fails on the same network. The same file and programs give the same bytes
+on every run, if the programs are functions of what they are told. Interrupted, the same command goes on behind the last
+row.
+
+A solved match counts only if it repeats. When all matches have been played, the lab starts each agent of it again,
+alone in a new cell, and tells it what it was told: the agent must say what it said. What another program signals past
+the whiteboards only while it runs is not there to be heard. The first difference stands on the team's page,
+`repeats.csv` has a row for each solved match, and `solved` has the replays. A program may use what it is told and the
+number in ARENA_SEED, and nothing else: no clock, and no other random numbers. With `--no-repeat` the lab leaves that
+out.
+
+A program that crashes, hangs, or sends rubbish fails its own matches, and so does one that is handed in with too much
+or takes too long. Each program runs in a folder of its own, and what else keeps it apart depends on the machine; the
+command says on standard error what does not. With Debian's bubblewrap and python3-seccomp a program sees neither other
+teams' files nor the other agents of its team. Black holes that are drawn, keys, and what schedulers draw come from a
+secret, which the first run draws and keeps in `secret.txt` in the folder. The exit status is 0 if all was graded,
+however teams did, and 1 if the lab itself could not play a match.
+
+For a student: with `--engine model` the command grades a course without a build of the program, and root is not needed.
+"""
+import argparse
+import pathlib
+import sys
+
+from arena_lab.commands.words import add_engine, add_forget, add_workers, program_of
+from arena_lab.course import sandbox, course, export, points
+from arena_lab.course.sandbox import Isolation, Sandbox
+from arena_lab.course.grading import GradingRun, graded_in, hand_ins
+from arena_lab.support.missing import check
+from arena_lab.sweep import tables
+
+# what the pages of a course are made by, without which it would stop at its end
+NEEDED = ("jinja2",)
+
+
+def add_words(parser: argparse.ArgumentParser) -> None:
+    """The words of the command `grade`."""
+    group = parser.add_argument_group("the file", course.__doc__)
+    parser.add_argument_group("points", points.__doc__)
+    parser.add_argument_group("exports", export.__doc__)
+    group.add_argument("file", metavar="COURSE.toml", type=pathlib.Path, help="the course")
+    parser.add_argument("--out", metavar="FOLDER", type=pathlib.Path, required=True, help="write everything there")
+    parser.add_argument("--secret", metavar="FILE", type=pathlib.Path, help="take the secret that this file has, such "
+                        "as the `secret.txt` of other results, to play the same matches")
+    parser.add_argument("--no-repeat", action="store_true", help="count all solved matches, also those whose agents "
+                        "would say something else when they are told the same again")
+    parser.add_argument("--export", metavar="KIND", action="extend", nargs="+", choices=export.KINDS,
+                        help="write points for a gradebook too: gradescope, moodle, junit, csv; several at once")
+    parser.add_argument("--students", metavar="FILE", type=pathlib.Path, help="for moodle: the students of teams "
+                        f"({export.STUDENTS} beside the course)")
+    add_forget(parser)
+    add_workers(parser)
+    add_engine(parser)
+
+
+def run(words: argparse.Namespace) -> int:
+    check(*NEEDED)
+    path, strongest = words.file.resolve(), sandbox.strongest()
+    read = course.read(path, "")
+    course.check_networks(read)
+    own = [file for files in read.files.values() for file in files]
+    course.check_walls(strongest, [path.parent, words.out, *own], read.tools)
+    for name in read.grid.schedulers:
+        read.maker(name)
+    if strongest is not Isolation.ALL:
+        print(f"arena-lab: {sandbox.weakness()}; {strongest.value}", file=sys.stderr)
+    wanted = export.export_of(words.export, words.students, path.parent, list(read.files))
+    program = program_of(words)
+    with tables.alone_in(words.out):
+        handed_in = hand_ins(words.out, read)
+        secret = course.secret_in(words.out, words.secret, handed_in)
+        yard = Sandbox(strongest, read.tools, read.has_proc, calls=read.calls)
+        graded = GradingRun(read.text, path.parent, secret, program, yard, words.out, not words.no_repeat,
+                        forgets=words.drop_caches, export=wanted)
+        return graded_in(graded, words.workers, handed_in)

@@ -1,0 +1,137 @@
+"""Tries a candidate invariant of a protocol on every picture that schedules of small networks reach.
+
+    ./arena-lab invariant examples/invariants/shuttle.py --network ring:3..5 \\
+        --agent "examples/agents/shuttle.py {nodes} 0" --agent "examples/agents/shuttle.py {nodes} 1"
+
+A proof that a team solves every network of a kind needs an invariant: a test that all pictures of a match meet, with a
+number that falls with each turn (docs/PROVING.md). Before you prove one, write it in Python and try it: a wrong one
+fails in seconds, and the command shows where. A candidate is a file with
+
+    holds(world, picture) -> bool      the test
+    left(world, picture) -> int        how many turns are left at most; it is to fall with each turn (may be missing)
+    bounds(world) -> Bounds            the most moves, agents lost, commands of an agent and turns (may be missing)
+
+A picture has `position`, `history`, `woken`, `used` and `accused` of each agent, `shown` of each node's whiteboard, the
+set `reached`, and `moves`. A world has `nodes`, `degree(node)`, `far(node, port)`, `home`, `holes`, `dark`,
+`doomed(node, port)`, `agents`, `quota` and `board`. A position is Before(), At(node, came), Bound(node, port) or
+After(); these and Bounds are imported from arena_lab.search.configurations. A history has the replies of an agent, the
+newest
+first, and None where it woke; `held_after` there folds what an agent holds out of it.
+
+If you name neither a black hole nor a dark link, each node but the home base is the black hole in turn. All orders of
+turns are tried, the shortest schedules first, up to the first picture at which the candidate is wrong: the test does
+not hold, or `left` does not fall or begins above the bound on turns, a bound is passed, an agent has failed, or nothing
+more can happen and the match is not solved with few agents lost. The command prints the schedule that leads there, what
+the picture shows, and writes it to a folder: `./arena-lab replay` plays it again, and its script.txt is one for `arena
+rehearse`. The exit status is 1 then.
+
+What it does not show: only pictures that some schedule reaches are tried, on these networks, with agents that do what
+these programs do, by the Python model, of which nothing is proved. An invariant has to be kept by each turn from every
+picture in which it holds, also from those that no schedule reaches, so a candidate that holds everywhere here may still
+be too weak to be proved.
+"""
+import argparse
+import pathlib
+from typing import Iterator, List
+
+from arena_lab.commands.words import add_match, at_least_one, games_of
+from arena_lab.play import kept_matches
+from arena_lab.play.agent_files import file_of
+from arena_lab.play.teams import Game
+from arena_lab.search.explore import MOST_STATES, check_inside
+from arena_lab.search.invariants import Breach, Candidate, Walked, walked
+from arena_lab.search.configurations import After, At, Before, Configuration
+from arena_lab.support.progress import bar
+
+REACHED_ALONE = "pictures that no schedule reaches were not tried"
+
+
+def add_words(parser: argparse.ArgumentParser) -> None:
+    """The words of the command `invariant`."""
+    parser.add_argument("candidate", metavar="CANDIDATE.py", help="the file with the candidate")
+    add_match(parser, several=True)
+    parser.add_argument("--max-states", dest="states", metavar="N", type=at_least_one,
+                        default=MOST_STATES,
+                        help="the most pictures of a "
+                        f"match to try ({MOST_STATES})")
+    parser.add_argument("--keep", metavar="FOLDER", type=pathlib.Path, default=kept_matches.FOLDER,
+                        help="write the schedule "
+                        f"to the first picture at which the candidate is wrong there ({kept_matches.FOLDER})")
+
+
+def run(words: argparse.Namespace) -> int:
+    games, candidate = games_of(words), Candidate(file_of(words.candidate))
+    for game in games:
+        check_inside(game)
+    count, matches = 0, 0
+    for game in games:
+        for found in tried(game, candidate, words.states):
+            if found.walk.breach is not None:
+                report_breach(game, found, found.walk.breach, words.keep)
+                return 1
+            if not found.is_whole:
+                print("stopped before all pictures were tried; the candidate held at those that were")
+                return 130
+            count, matches = count + found.walk.states(), matches + 1
+    print(f"the candidate holds at all {count} pictures of {counted(matches, 'match', 'matches')}; {REACHED_ALONE}")
+    return 0
+
+
+def tried(game: Game, candidate: Candidate, states: int) -> Iterator[Walked]:
+    """Tries the matches of a game, one after the other, and prints a line for each."""
+    with bar(None, "picture") as shown:
+        for fixture in game.fixtures():
+            found = walked(fixture, game.agents, candidate, shown, states, game.limit)
+            shown.clear()
+            print(line_of(game, found), flush=True)
+            yield found
+
+
+def line_of(game: Game, found: Walked) -> str:
+    """What was found of one match."""
+    walk = found.walk
+    setup = walk.fixture.setup
+    said = f"holds, most moves {walk.most_moves}"
+    if walk.breach is not None:
+        turns = len(walk.breach.choices)
+        said = (f"after {counted(turns, 'turn', 'turns')}: " if turns else "at the start: ") + walk.breach.why
+    elif not found.is_whole:
+        said = "stopped"
+    pictures = counted(walk.states(), "picture", "pictures")
+    return f"{game.name} home {setup.home} holes {setup.holes}: {pictures}, {said}, {found.seconds:.1f} s"
+
+
+def counted(count: int, one: str, more: str) -> str:
+    return f"{count} {one if count == 1 else more}"
+
+
+def report_breach(game: Game, found: Walked, breach: Breach, keep: pathlib.Path) -> None:
+    """Prints the schedule to a picture at which a candidate is wrong, and the picture; keeps the schedule."""
+    for choice in breach.choices:
+        print(f"{choice.do} {choice.agent}")
+    print("\n".join(configuration_text(breach)))
+    schedule = found.schedule(game)
+    print("\n".join(kept_matches.write_find(keep, schedule, kept_matches.played_again(schedule, None), None)))
+
+
+def configuration_text(breach: Breach) -> List[str]:
+    """A picture in words: a line for each agent, for each whiteboard that shows something, and for the rest."""
+    picture = breach.picture
+    lines = [f"agent {agent} {place_in_words(picture, agent)}, {it}" for agent, it in enumerate(breach.next)]
+    lines += [f"the whiteboard of node {node} shows {text!r}" for node, text in enumerate(picture.shown) if text]
+    reached = ", ".join(map(str, sorted(picture.reached))) or "none"
+    return [*lines, f"nodes at which an agent has arrived: {reached}; moves {picture.moves}"]
+
+
+def place_in_words(picture: Configuration, agent: int) -> str:
+    """Where an agent is, and what it has used and accused."""
+    position, accused = picture.position[agent], picture.accused[agent]
+    if isinstance(position, Before):
+        return "has not entered"
+    used = f"has used {counted(picture.used[agent], 'command', 'commands')}"
+    if isinstance(position, After):
+        return f"has left, {used}" if accused is None else f"has accused port {accused[1]} of node {accused[0]}, {used}"
+    if isinstance(position, At):
+        came = "" if position.came is None else f", came by port {position.came}"
+        return f"is at node {position.node}{came}, {used}"
+    return f"is on the link of port {position.port} of node {position.node}, {used}"

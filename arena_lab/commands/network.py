@@ -1,0 +1,56 @@
+"""Writes a network file.
+
+    ./arena-lab network torus:5x5 --out torus25.toml
+    ./arena-lab network random:40:deg4:seed7 --ports shuffled:3
+
+A network must stay connected when any one node is taken away. The command refuses another, and names the node. With
+--ports shuffled:SEED the ports of each node are numbered anew, so that a label says nothing of where a link leads.
+"""
+import argparse
+import pathlib
+import sys
+
+from arena_lab.rules import networks
+from arena_lab.rules.networks import Network, NoNetwork
+
+
+def add_ports(parser: argparse.ArgumentParser) -> None:
+    """The option that numbers ports."""
+    parser.add_argument("--ports", metavar="shuffled:SEED", type=ports_seed, help="number the ports of each node anew, "
+                        "by this seed")
+
+
+def ports_seed(word: str) -> int:
+    """The seed of `shuffled:SEED`."""
+    try:
+        return networks.ports_seed(word)
+    except NoNetwork as fault:
+        raise argparse.ArgumentTypeError(str(fault)) from None
+
+
+def network_for(name: str, words: argparse.Namespace) -> Network:
+    """The network of a word, with its ports as the words say."""
+    network = networks.biconnected(name)
+    return network if words.ports is None else networks.shuffled(network, words.ports)
+
+
+def add_words(parser: argparse.ArgumentParser) -> None:
+    """The words of the command `network`."""
+    group = parser.add_argument_group("the network", networks.__doc__)
+    group.add_argument("network", metavar="NAME", help="the network")
+    add_ports(parser)
+    parser.add_argument("--out", metavar="FILE", type=pathlib.Path, help="write it there, and not to standard output")
+
+
+def run(words: argparse.Namespace) -> int:
+    network = network_for(words.network, words)
+    text = f"# {words.network}\n{networks.text_of(network)}"
+    if words.out is None:
+        sys.stdout.write(text)
+        return 0
+    if words.out.exists():
+        raise NoNetwork(f"{words.out}: there is such a file; remove it, or name another by --out")
+    words.out.write_text(text, encoding="utf-8")
+    degrees = network.degrees()
+    print(f"{words.out}: {network.nodes} nodes, {len(network.links)} links, degrees {min(degrees)} to {max(degrees)}")
+    return 0

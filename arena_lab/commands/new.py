@@ -1,0 +1,38 @@
+"""Writes a folder with which to begin an agent, in the language that you know.
+
+    ./arena-lab new python my-agent
+    ./arena-lab new java my-agent
+
+The folder has a client, which speaks to the server; an agent that searches a ring with it, to be changed into your own;
+a test; and a README with the commands to build, test and play it. docs/AGENTS.md says what an agent may do and what it
+is answered.
+"""
+import argparse
+import pathlib
+import shlex
+from typing import List
+
+import arena_lab
+from arena_lab.play.kits import KITS, Kit, played, write_kit
+from arena_lab.support.built import TOP
+
+
+def add_words(parser: argparse.ArgumentParser) -> None:
+    """The words of the command `new`."""
+    languages = ", ".join(f"{it} ({kit.name})" if it != kit.name.lower() else it for it, kit in KITS.items())
+    parser.add_argument("language", metavar="LANGUAGE", choices=KITS, help=f"one of {languages}")
+    parser.add_argument("folder", metavar="FOLDER", type=pathlib.Path, help="a folder that is not there yet")
+
+
+def run(words: argparse.Namespace) -> int:
+    kit = write_kit(words.language, words.folder)
+    print(f"{words.folder}: an agent in {kit.name}. Go on there:")
+    for line in (f"cd {shlex.quote(str(words.folder))}", *next_commands(kit)):
+        print(f"    {line}")
+    return 0
+
+
+def next_commands(kit: Kit) -> List[str]:
+    """The commands by which a kit is built, tested and played on a ring of eight nodes, in its folder."""
+    called = arena_lab.called if arena_lab.called == arena_lab.INSTALLED else shlex.quote(str(TOP / "arena-lab"))
+    return [*filter(None, (kit.build, kit.test)), f'{called} run --network ring:8 --command "{played(kit)}"']

@@ -1,0 +1,44 @@
+"""A stand-in for `arena serve`, for authors of agents who do not want to build the program.
+
+    ./arena-lab serve T [--port N] [--sessions S] [--turns K] [--pause MS] [--replay P]
+        [--grace MS] [--gather MS] [--early]
+
+takes the words of `arena serve`, with its defaults, and does what it does: it listens on 127.0.0.1, prints `listening
+N`, serves up to S sessions on the matches of tournament T, takes K turns by the tournament's schedule with MS
+milliseconds between, closes the matches, ends as the arena does, writes the replays to P0.jsonl, P1.jsonl and so on,
+and prints a table. Each turn delivers the agent that it would deliver in the arena. It is not the arena: nothing of
+it is proved, it judges no contest and it writes no parts.
+"""
+import argparse
+import pathlib
+
+from arena_lab.play.server import ServeOptions, served
+
+# for how many milliseconds the agents of a match gather, if nothing else is said
+GATHER = 60_000
+
+
+def add_words(parser: argparse.ArgumentParser) -> None:
+    """The words of the command `serve`."""
+    parser.add_argument("tournament", metavar="T", help="the tournament's file")
+    for option, most, about in (("port", 4000, "listen on this port of 127.0.0.1"),
+                                ("sessions", 1024, "serve this many connections"),
+                                ("turns", 100_000, "close each match after this many turns"),
+                                ("pause", 5, "wait this many milliseconds before each turn")):
+        parser.add_argument(f"--{option}", type=int, default=most, help=f"{about} ({most:,})")
+    parser.add_argument("--replay", metavar="P", help="write the replay of each match M to PM.jsonl; by default P is "
+                        "the tournament's name, and the matches gather for 60,000 milliseconds and end early")
+    parser.add_argument("--grace", type=int, default=10_000, metavar="MS",
+                        help="end the sessions at the latest this many milliseconds after the last close (10,000)")
+    parser.add_argument("--gather", type=int, metavar="MS",
+                        help="wait this many milliseconds at most until all agents of a match have entered")
+    parser.add_argument("--early", action="store_true", help="close a match once each agent has ended or is lost")
+
+
+def run(words: argparse.Namespace) -> int:
+    is_plain = words.replay is None
+    gather = GATHER if is_plain and words.gather is None else words.gather or 0
+    prefix = str(pathlib.Path(words.tournament).with_suffix("").name) if is_plain else words.replay
+    served(words.tournament, words.port, words.sessions, prefix,
+           ServeOptions(words.turns, words.pause / 1000, gather / 1000, words.early or is_plain, words.grace / 1000))
+    return 0

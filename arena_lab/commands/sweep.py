@@ -1,0 +1,75 @@
+"""Plays teams over a grid of networks, black holes, schedulers and seeds, and writes a report.
+
+    ./arena-lab sweep experiments/rings.toml --out out/rings
+
+The folder gets `runs.csv`, with a row for each run, `summary.csv`, `report.html`, which opens without a network, and
+the runs with the most moves, each with its schedule, its replay and its page. If you interrupt the command, run it
+again: it goes on behind the last row. The same file gives the same rows, however many --workers there are.
+
+With --cluster the runs are spread over the workers of a Dask scheduler (Debian's python3-distributed), on this machine
+or others: `dask-scheduler`, then `dask-worker ADDRESS` for each, then `--cluster ADDRESS`. The rows are the same.
+
+A row has the verdict of the program on the replay, and the replay's SHA-256. With `--engine model` the Python model
+plays and judges, which is faster and proves nothing; the rows are the same. If you name a program with it by --program,
+the program plays the runs that are kept once more, and their replays must be the same.
+
+With --explore N the program also tries every schedule of each match of the sweep, as `explore` does: of each network,
+team and choice of black holes. `every.csv` gets a row for each, and the summary and the report say whether every
+schedule solves, and with how many moves and lost agents at most, beside what the runs came to. That is a theorem about
+programs that are functions of what they hold, as they answered, and nap at most twice where nothing has changed. A
+match that has more than N states is said to have too many; the same command with a larger N tries it again. A run that
+does what no schedule does ends the command, and says so.
+
+`made.json` has the SHA-256 of all that rows depend on: the sweep, the files of agents and schedulers with what they
+import, the files that agents inside the lab read while they play, the lab, the program and Python. If one of them is
+another, or a row is not of the run that the sweep has there, the command refuses to go on in the folder. With --verify
+it plays rows again and says which come out otherwise, and whether `summary.csv` and `report.html` are what is made of
+the rows; another engine than the first may play them.
+"""
+import argparse
+import pathlib
+
+from arena_lab.commands.words import add_engine, add_workers, at_least_one, program_of
+from arena_lab.play.games import maker_of
+from arena_lab.rules.engines import program_at
+from arena_lab.support.faults import Fault
+from arena_lab.support.missing import check
+from arena_lab.sweep import grid, verify
+from arena_lab.sweep.sweeping import Parallelism, SweepJob, made_of, swept, verified
+from arena_lab.sweep.tables import alone_in, prepared
+
+# what a report is made by, without which a sweep would stop at its end
+NEEDED = ("jinja2", "matplotlib")
+
+
+def add_words(parser: argparse.ArgumentParser) -> None:
+    """The words of the command `sweep`."""
+    group = parser.add_argument_group("the file", grid.__doc__)
+    group.add_argument("file", metavar="FILE", type=pathlib.Path, help="the sweep")
+    parser.add_argument("--out", metavar="FOLDER", type=pathlib.Path, required=True, help="write everything there")
+    parser.add_argument("--verify", metavar="N", type=at_least_one, nargs="?", const=verify.ALL, help="write nothing: "
+                        "play N drawn rows of the folder again, or all, and compare")
+    parser.add_argument("--explore", metavar="N", type=at_least_one, help="try every schedule of each match too, up to "
+                        "N states of each, such as 1000000")
+    add_workers(parser)
+    parser.add_argument("--cluster", metavar="ADDRESS", help="let the workers of a Dask scheduler play, such as "
+                        "tcp://192.0.2.7:8786; each needs this folder at the same path")
+    add_engine(parser)
+
+
+def run(words: argparse.Namespace) -> int:
+    check(*NEEDED)
+    spec, text = grid.read(words.file), words.file.read_text(encoding="utf-8")
+    work = SweepJob(text, program_of(words))
+    for name in spec.schedulers:
+        maker_of(name)
+    cases = list(spec.cases())
+    made, way = made_of(spec, text, work.program), Parallelism(words.out, words.workers, words.cluster, words.explore)
+    if words.explore and (work.program is None or words.verify is not None):
+        raise Fault("--explore needs the program as the engine: leave --engine model out" if work.program is None else
+                    "--verify plays runs again, and tries no schedules: leave --explore out")
+    if words.verify is not None:
+        return verified(work, cases, made, way, words.verify)
+    keeper = work._replace(program=work.program or (program_at(words.program) if words.program else None))
+    with alone_in(words.out):
+        return swept(work, keeper, cases, prepared(words.out, made), way)

@@ -1,0 +1,241 @@
+"""Writes a tournament: each team on each network with each black hole.
+
+    ./arena-lab tournament --team red --team blue --network ring:8 --network torus:5x5 --holes 2 --out contest
+
+The folder gets the file of the tournament, a file for each network, and a sheet of keys for each team. Keys and the
+tournament's seed are drawn by the operating system's source of secrets. So are black holes, unless you name them by
+--hole or ask for all of them. On one network with one black hole all teams play the same match. The tournament has the
+oblivious schedule, under which no agent learns by waiting what others do; examples/README.md says how to choose its
+delays and how many turns a match takes.
+
+With --traps N each team gets N matches more, on networks that are drawn, without a black hole: two nodes are drawn
+instead, and the links into them let nobody arrive. No agent can tell such a match from one in which either is the black
+hole and the links into the other are slow. So a team that decides nothing by time is `silent` there; one that takes a
+long silence for a black hole is `wrong`, and the standings of `./arena-lab pages` and `./arena-lab watch` say how often
+it was
+deceived. All matches stand in an order that is drawn. A trap goes on until its last turn, as its agents wait.
+
+Give each team its own sheet and no other file of the folder. A file of a network has no black hole: a team may have it
+if its agents are to know the map. Run `arena check tournament.toml` and `arena serve tournament.toml` in the folder.
+"""
+import argparse
+import pathlib
+import re
+import secrets
+from typing import Callable, Dict, List, NamedTuple, Optional, Sequence, Tuple, Union
+
+from arena_lab.commands.network import add_ports, network_for
+from arena_lab.commands.words import not_negative
+from arena_lab.rules import networks
+from arena_lab.rules.delays import ADAPTIVE, OBLIVIOUS, ODDS, SCALES, Delays
+from arena_lab.rules.fixtures import Fixture, tournament_text
+from arena_lab.rules.limits import MOST_AGENTS, MOST_BOARD, MOST_QUOTA, SMALL_BOARD, SMALL_QUOTA
+from arena_lab.rules.model import Setup
+from arena_lab.rules.networks import Network, NoNetwork
+
+ALL, DEGREE = "all", "degree"
+MOST_MATCHES = 64
+MOST_SCALES, MOST_ODDS = 24, 65_535
+TOURNAMENT = "tournament.toml"
+QUOTA, BOARD = SMALL_QUOTA, SMALL_BOARD
+
+
+class TournamentMatch(NamedTuple):
+    """A match of the tournament, and the file of its network."""
+
+    fixture: Fixture
+    file: str
+
+
+def holes_of(words: argparse.Namespace, name: str, network: Network) -> List[int]:
+    """The black holes to be tried on a network, in the order of their numbers."""
+    others = [node for node in range(network.nodes) if node != words.home]
+    if words.hole:
+        if not set(words.hole) <= set(others):
+            raise NoNetwork(f"{name}: a black hole is a node other than the home base")
+        return sorted(set(words.hole))
+    if words.holes == ALL:
+        return others
+    if words.holes > len(others):
+        raise NoNetwork(f"{name}: only {len(others)} nodes can be the black hole; ask for fewer by --holes")
+    return sorted(secrets.SystemRandom().sample(others, words.holes))
+
+
+def agents_on(words: argparse.Namespace, network: Network) -> int:
+    """How many agents a team has on a network."""
+    return max(network.degrees()) + 1 if words.agents == DEGREE else int(words.agents)
+
+
+def check_limits(words: argparse.Namespace) -> None:
+    """Refuses what no match may have."""
+    if len(set(words.team)) < len(words.team):
+        raise NoNetwork("two teams have the same name: name each by a --team of its own")
+    if not 1 <= words.quota <= MOST_QUOTA:
+        raise NoNetwork(f"an agent has 1 to {MOST_QUOTA} commands, and not {words.quota}: name another number by "
+                        "--quota")
+    if not 0 <= words.board <= MOST_BOARD:
+        raise NoNetwork(f"a whiteboard has 0 to {MOST_BOARD} bytes, and not {words.board}: name another number by "
+                        "--board")
+
+
+def check_delays(words: argparse.Namespace) -> None:
+    """Refuses delays that no tournament may have."""
+    if not 0 <= words.delay_scales <= MOST_SCALES:
+        raise NoNetwork(f"delays have 0 to {MOST_SCALES} scales, and not {words.delay_scales}: name another number by "
+                        "--delay-scales")
+    least = max(1, words.delay_scales)
+    if not least <= words.delay_odds <= MOST_ODDS:
+        raise NoNetwork(f"with {words.delay_scales} scales --delay-odds is from {least} to {MOST_ODDS}, and not "
+                        f"{words.delay_odds}")
+
+
+def entries_of(words: argparse.Namespace) -> List[TournamentMatch]:
+    """The matches, network by network, hole by hole and team by team; with traps among them, in an order that is
+    drawn."""
+    places = [place for number, name in enumerate(words.network) for place in places_on(words, number, name)]
+    if words.traps:
+        chance = secrets.SystemRandom()
+        places += [trap_on(words, *chance.choice(list(enumerate(words.network)))) for _ in range(words.traps)]
+        chance.shuffle(places)
+    found = [TournamentMatch(Fixture(team, it.setup, [key_of(team) for _ in range(it.setup.agents)], it.held), it.file)
+             for it in places for team in words.team]
+    if len(found) > MOST_MATCHES:
+        raise NoNetwork(f"a tournament has at most {MOST_MATCHES} matches, and this would have {len(found)}: name "
+                        "fewer teams, networks, black holes or traps")
+    return found
+
+
+class Planned(NamedTuple):
+    """A match that all teams are to play: its setup, the links over which nobody arrives, and its network's file."""
+
+    setup: Setup
+    held: List[Tuple[int, int]]
+    file: str
+
+
+def trap_on(words: argparse.Namespace, number: int, name: str) -> Planned:
+    """A match without a black hole. Nobody arrives at two nodes that are drawn: if it were one, it would be the last
+    that is left to a team which has visited all others, and every team would accuse it."""
+    place = places_on(words, number, name)[0]
+    setup = place.setup
+    nodes = secrets.SystemRandom().sample([it for it in range(setup.nodes) if it != setup.home], 2)
+    return place._replace(setup=setup._replace(holes=[]), held=networks.places_into(setup.links, nodes))
+
+
+def places_on(words: argparse.Namespace, number: int, name: str) -> List[Planned]:
+    """The matches on a network, hole by hole."""
+    network = network_for(name, words)
+    if not 0 <= words.home < network.nodes:
+        raise NoNetwork(f"{name}: it has no node {words.home} for a home base; name another by --home")
+    agents = agents_on(words, network)
+    if not 1 <= agents <= MOST_AGENTS:
+        raise NoNetwork(f"{name}: a match has 1 to {MOST_AGENTS} agents, and not {agents}; name another number by "
+                        "--agents")
+    return [Planned(Setup(network.nodes, network.links, words.home, [hole], agents, words.quota, words.board), [],
+                  f"network{number}.toml") for hole in holes_of(words, name, network)]
+
+
+def key_of(team: str) -> str:
+    """A key that nobody can guess."""
+    return f"{team}-{secrets.token_urlsafe(12)}"
+
+
+def sheet_of(team: str, entries: Sequence[TournamentMatch]) -> str:
+    """What a team is told of its matches."""
+    lines = [f"Keys of team {team}. Who knows a key can play its agent: show them to nobody.", ""]
+    for number, entry in enumerate(entries):
+        setup = entry.fixture.setup
+        if entry.fixture.team != team:
+            continue
+        lines += [f"match {number}: {setup.nodes} nodes, {len(setup.links)} links, {setup.agents} agents, each with "
+                  f"{setup.quota} commands; whiteboards of {setup.board} bytes",
+                  f"    {entry.file}, home base {setup.home}",
+                  *(f"    {key}" for key in entry.fixture.keys), ""]
+    return "\n".join(lines)
+
+
+def team_name(word: str) -> str:
+    """A team's name."""
+    if not re.fullmatch("[a-z0-9-]{1,16}", word):
+        raise argparse.ArgumentTypeError(f"{word}: a team's name has 1 to 16 characters out of a to z, 0 to 9 and -")
+    return word
+
+
+def number_or(*others: str) -> Callable[[str], Union[int, str]]:
+    """Takes a whole number from 1, or one of these words."""
+    def taken(word: str) -> Union[int, str]:
+        if word in others:
+            return word
+        if not re.fullmatch("[1-9][0-9]*", word):
+            raise argparse.ArgumentTypeError(f"{word}: say a whole number from 1, or {' or '.join(others)}")
+        return int(word)
+    return taken
+
+
+def add_words(parser: argparse.ArgumentParser) -> None:
+    """The words of the command `tournament`."""
+    parser.add_argument("--team", metavar="NAME", type=team_name, action="append", required=True, help="a team, and "
+                        "more by more of these")
+    parser.add_argument("--network", metavar="NAME", action="append", required=True, help="a network, and more by more "
+                        "of these: see `./arena-lab network --help`")
+    add_ports(parser)
+    parser.add_argument("--home", metavar="V", type=int, default=0, help="the home base (0)")
+    parser.add_argument("--hole", metavar="V", type=int, action="append", help="a black hole, and more by more of "
+                        "these, each in matches of its own")
+    parser.add_argument("--holes", metavar="N|all", type=number_or(ALL), default=1, help="how many black holes to draw "
+                        "for each network, each for matches of its own; or all (1)")
+    parser.add_argument("--traps", metavar="N", type=not_negative, default=0, help="how many traps each team gets: "
+                        "matches without a black hole, in which nobody arrives at two of the nodes (0)")
+    parser.add_argument("--agents", metavar="N|degree", type=number_or(DEGREE), default=2, help="how many agents a "
+                        "team has; `degree` is one more than the network's greatest degree (2)")
+    parser.add_argument("--quota", metavar="N", type=int, default=QUOTA, help=f"commands that an agent has ({QUOTA})")
+    parser.add_argument("--board", metavar="N", type=int, default=BOARD, help=f"bytes of a whiteboard ({BOARD})")
+    parser.add_argument("--schedule", choices=(OBLIVIOUS, ADAPTIVE), default=OBLIVIOUS, help="how turns choose whom "
+                        "they deliver; by the oblivious schedule no agent learns by waiting what others do (oblivious)")
+    parser.add_argument("--delay-scales", metavar="N", type=int, default=SCALES, help="an agent is on a link for less "
+                        f"than 2^N turns and a few picks ({SCALES})")
+    parser.add_argument("--delay-odds", metavar="N", type=int, default=ODDS, help="of N moves one takes 1 turn more, "
+                        f"one 2 or 3, one 4 to 7, and so on ({ODDS})")
+    parser.add_argument("--out", metavar="FOLDER", type=pathlib.Path, required=True, help="write it there; the folder "
+                        "must not have a tournament")
+
+
+def run(words: argparse.Namespace) -> int:
+    check_limits(words)
+    check_delays(words)
+    path = words.out / TOURNAMENT
+    if path.exists():
+        raise NoNetwork(f"{path}: there is a tournament, whose keys teams may have: name another folder by --out")
+    entries = entries_of(words)
+    words.out.mkdir(parents=True, exist_ok=True)
+    for file, setup in {entry.file: entry.fixture.setup for entry in entries}.items():
+        text = networks.text_of(networks.Network(setup.nodes, setup.links))
+        (words.out / file).write_text(text, encoding="utf-8")
+    for file, text in secret_files(words.team, entries, delays_of(words)).items():
+        write_secret(words.out / file, text)
+    print(f"{path}: {len(entries)} matches of {len(words.team)} teams; try `arena check {TOURNAMENT}` in the folder")
+    print("give each team its sheet: " + ", ".join(str(words.out / sheet_name(team)) for team in words.team))
+    return 0
+
+
+def delays_of(words: argparse.Namespace) -> Optional[Delays]:
+    """The delays of the oblivious schedule, if the tournament is to have it."""
+    return Delays(words.delay_scales, words.delay_odds) if words.schedule == OBLIVIOUS else None
+
+
+def secret_files(teams: Sequence[str], entries: Sequence[TournamentMatch], delays: Optional[Delays]) -> Dict[str, str]:
+    """The files that have keys, by name."""
+    rows: List[Tuple[Fixture, str]] = [(entry.fixture, entry.file) for entry in entries]
+    sheets = {sheet_name(team): sheet_of(team, entries) for team in teams}
+    return {**sheets, TOURNAMENT: tournament_text(secrets.token_hex(32), rows, delays)}
+
+
+def sheet_name(team: str) -> str:
+    return f"keys-{team}.txt"
+
+
+def write_secret(path: pathlib.Path, text: str) -> None:
+    """Writes a file that nobody else on the machine may read."""
+    path.touch(mode=0o600)
+    path.chmod(0o600)
+    path.write_text(text, encoding="utf-8")

@@ -1,0 +1,45 @@
+"""Shows a contest that goes on, for a projector: a web server whose pages update by themselves.
+
+    ./arena-lab watch TOURNAMENT PREFIX [--port 8080] [--address A] [--turns K --pause MS] [--open]
+
+TOURNAMENT is the file that `arena serve` serves, and PREFIX what its --replay names. Start it before the contest or at
+any time in it; it reads the parts of the replays as they grow, and goes on when the server is started again.
+
+While a match runs the page shows its team, since when it runs, and how many of its agents have entered, and nothing
+that would tell an agent more than it has met. Once it is closed its verdict is shown; once all are closed each match
+has its page, on which it is played from its start to its end at the speed that you choose. With --turns and --pause, as
+`serve` has them, the page says about how many turns are left.
+
+With --open each match has its page at once, and the page follows it: everybody sees the black holes, so this is for
+practice and talks alone.
+
+It serves this machine alone, unless --address names another address. It needs Debian's package python3-aiohttp, and
+python3-networkx for the pages of matches.
+"""
+import argparse
+import pathlib
+
+from arena_lab.pages.projector import show
+
+
+def add_words(parser: argparse.ArgumentParser) -> None:
+    """The words of the command `watch`."""
+    parser.add_argument("tournament", metavar="TOURNAMENT", type=pathlib.Path, help="the file that is served")
+    parser.add_argument("prefix", metavar="PREFIX", help="what --replay names: the part of match M is "
+                        "PREFIXM.jsonl.part")
+    parser.add_argument("--port", metavar="N", type=int, default=8080, help="the port to listen on (8080)")
+    parser.add_argument("--address", metavar="A", default="127.0.0.1", help="the address to listen on (127.0.0.1); "
+                        "0.0.0.0 shows the page to every machine that reaches this one")
+    parser.add_argument("--host", metavar="NAME", action="append", default=[], type=str.lower, help="answer also who "
+                        "asks for this name, and more by more of these; whoever asks by an address, by localhost or by "
+                        "this machine's name is answered anyway")
+    parser.add_argument("--turns", metavar="K", type=int, help="how many turns a match has, as `serve` was told")
+    parser.add_argument("--pause", metavar="MS", type=int, help="the pause before each turn, as `serve` was told")
+    parser.add_argument("--open", action="store_true", help="show each match as it goes, with its black holes: for "
+                        "practice and talks")
+
+
+def run(words: argparse.Namespace) -> int:
+    turns = {"turns": words.turns, "pause": words.pause} if words.turns and words.pause else {}
+    show(words.tournament, words.prefix, (words.address, words.port), turns, words.open, words.host)
+    return 0

@@ -1,0 +1,164 @@
+"""Words that commands share: which match is played by whom, which program plays, and how many processes."""
+import argparse
+import os
+import re
+from typing import List, Optional, Set
+
+from arena_lab.play.agent_files import NoAgent
+from arena_lab.play.bounds import LIMIT
+from arena_lab.play.teams import BOARD, NAPS, NETWORK, QUOTA, AgentWords, Game, filled
+from arena_lab.rules import networks
+from arena_lab.rules.engines import ASK_FOR_PROOF, MODEL, PROGRAM, program_at
+from arena_lab.rules.fixtures import Fixture, read_tournament
+from arena_lab.rules.model import Place
+from arena_lab.rules.networks import Network
+
+
+def at_least_one(word: str) -> int:
+    """A whole number from 1."""
+    return whole_number(word, 1)
+
+
+def not_negative(word: str) -> int:
+    """A whole number from 0."""
+    return whole_number(word, 0)
+
+
+def whole_number(word: str, least: int) -> int:
+    if not word.isdecimal() or int(word) < least:
+        raise argparse.ArgumentTypeError(f"{word} is not a whole number from {least}")
+    return int(word)
+
+
+def place(word: str) -> Place:
+    """A node and a port, as `3,1`."""
+    found = re.fullmatch(r"(\d+),(\d+)", word)
+    if not found:
+        raise argparse.ArgumentTypeError(f"{word} is not a node and a port: write them as in 3,1")
+    return int(found[1]), int(found[2])
+
+
+class Kinds(argparse.Action):
+    """Keeps --agent and --command in one list, in their order."""
+
+    def __call__(self, parser, words, value, option=None) -> None:  # type: ignore[no-untyped-def]
+        words.team = [*(words.team or []), AgentWords(option.strip("-"), value)]
+
+
+class Once(argparse.Action):
+    """Takes an option that may be given once: the last one would win in silence."""
+
+    def __call__(self, parser, words, value, option=None) -> None:  # type: ignore[no-untyped-def]
+        given: Set[str] = getattr(words, "given_once", set())
+        if option in given:
+            parser.error(f"{option} is given twice: name one")
+        words.given_once = given | {option}
+        setattr(words, self.dest, value)
+
+
+def add_match(parser: argparse.ArgumentParser, several: bool = False) -> None:
+    """The words that name a match and its team, or the matches on several networks."""
+    match = parser.add_argument_group("the match", networks.__doc__)
+    match.add_argument("--tournament", metavar="T", help="take the match of a tournament's file")
+    match.add_argument("--match", metavar="M", type=int, default=0, help="which match of the tournament (0)")
+    if several:
+        match.add_argument("--network", metavar="NAME", action="append", dest="networks", help=f"the network "
+                           f"({NETWORK}), and more by more of these; ring:3..8 names those of all sizes between")
+    else:
+        match.add_argument("--network", metavar="NAME", action=Once, default=NETWORK, help=f"the network ({NETWORK})")
+    match.add_argument("--home", metavar="V", type=int, default=0, help="the home base (0)")
+    match.add_argument("--hole", metavar="V", type=int, action="append", help="a black hole, and more by more of "
+                       "these; if nothing that destroys is named, each seed has a black hole of its own")
+    match.add_argument("--dark", metavar="V,P", type=place, action="append", default=[], help="a dark link, by the "
+                       "node and the port of one of its ends, and more by more of these")
+    match.add_argument("--quota", metavar="N", type=int, default=QUOTA, help=f"commands that an agent has ({QUOTA})")
+    match.add_argument("--board", metavar="N", type=int, default=BOARD, help=f"bytes of a whiteboard ({BOARD})")
+    team = parser.add_argument_group("the team", "One of these for each agent, in the order of keys, or one for all.")
+    team.add_argument("--agent", metavar="WORDS", action=Kinds, dest="team", help="an agent in Python inside the lab: "
+                      "FILE.py[:FUNCTION] and whole numbers, {nodes} or {links}")
+    team.add_argument("--command", metavar="WORDS", action=Kinds, dest="team", help="a program of its own, with "
+                      "{host}, {port} and {key} for where it connects and by which key it enters, {nodes}, {links} "
+                      "and {home}")
+    team.add_argument("--agents", metavar="N", type=int, help="how many agents there are (2, or as many as are named)")
+    team.add_argument("--timeout", dest="limit", metavar="SECONDS", type=float, default=LIMIT,
+                      help="how long an agent may take to "
+                      f"send or to wait ({LIMIT})")
+    team.add_argument("--spurious-wakeups", dest="naps", metavar="N", type=not_negative,
+                      default=NAPS,
+                      help="how often an agent inside that "
+                      f"sleeps may wake again though nothing has changed in front of it ({NAPS})")
+
+
+def team_of(words: argparse.Namespace) -> List[AgentWords]:
+    """The agents that the words name; those of a tournament are as many as its keys."""
+    named: List[AgentWords] = words.team
+    if not named:
+        raise NoAgent("name a team by --agent or --command: see --help")
+    return filled(named, len(read_fixture(words).keys) if words.tournament else words.agents)
+
+
+def game_of(words: argparse.Namespace) -> Game:
+    """The game that the words of a command name."""
+    match = read_fixture(words) if words.tournament else None
+    network = Network(match.setup.nodes, match.setup.links) if match else networks.named(words.network)
+    return Game(words.tournament or words.network, network, team_of(words), words.home, words.hole or [], words.dark,
+                words.quota, words.board, words.naps, words.limit, match, origin_of(words, ""))
+
+
+def games_of(words: argparse.Namespace) -> List[Game]:
+    """The games that the words of a command name, one for each network."""
+    names = [name for given in words.networks or [NETWORK] for name in networks.in_range(given)]
+    return [game_of(argparse.Namespace(**{**vars(words), "network": name})) for name in names]
+
+
+def origin_of(words: argparse.Namespace, how: str) -> str:
+    """How a schedule was found, and in which match of a tournament, as its head says it."""
+    return f"{how}, match {words.match} of {words.tournament}" if words.tournament else how
+
+
+def read_fixture(words: argparse.Namespace) -> Fixture:
+    """The match of the tournament's file."""
+    fixtures: List[Fixture] = read_tournament(words.tournament).fixtures
+    if not 0 <= words.match < len(fixtures):
+        raise networks.NoNetwork(f"{words.tournament}: it has no match {words.match}")
+    return fixtures[int(words.match)]
+
+
+def add_program(parser: argparse.ArgumentParser) -> None:
+    """The options that name the program."""
+    named = parser.add_mutually_exclusive_group()
+    named.add_argument("--program", metavar="PATH", help="the program; by default the proved one if it is built, "
+                       "else one without a proof, which is compiled in a minute or two and says so")
+    named.add_argument("--proved", dest="program", action="store_const", const=ASK_FOR_PROOF,
+                       help="the proved program, which is proved and built first if needed, in many minutes")
+
+
+def add_engine(parser: argparse.ArgumentParser) -> None:
+    """The options that choose the engine."""
+    parser.add_argument("--engine", choices=(PROGRAM, MODEL), default=PROGRAM, help="who plays: the program, or "
+                        "the Python model, which needs no build and proves nothing (program)")
+    add_program(parser)
+
+
+def program_of(words: argparse.Namespace) -> Optional[str]:
+    """The program that is to play, or None for the Python model."""
+    return program_at(words.program) if words.engine == PROGRAM else None
+
+
+def add_workers(parser: argparse.ArgumentParser) -> None:
+    """The option that says how many processes play."""
+    parser.add_argument("--workers", metavar="N", type=at_least_one, default=os.cpu_count() or 1,
+                        help="how many processes play (as many as there are processors)")
+
+
+def add_repeat(parser: argparse.ArgumentParser) -> None:
+    """The option that has agents repeated alone."""
+    parser.add_argument("--repeat", action="store_true", help="start each agent of a match again, alone, and tell it "
+                        "what it was told: a team fails if one of its agents does not say the same, as in a course")
+
+
+def add_forget(parser: argparse.ArgumentParser) -> None:
+    """The option that has the machine forget before agents are repeated."""
+    parser.add_argument("--drop-caches", action="store_true", help="before each round of repetitions, have the whole "
+                        "machine forget what it keeps of files in memory, which makes all programs on it slower for a "
+                        "while; for root")

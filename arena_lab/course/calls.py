@@ -1,0 +1,151 @@
+"""Which calls of the system programs behind walls may make, by their language: `calls.toml` beside this file has them.
+
+    strace -f -X raw -o TRACE PROGRAM ..
+    python3 -m arena_lab.course.calls LANGUAGE TRACE ..
+
+The command says which calls of a program that was traced are refused to its language, and what allows them. A new
+language begins as a list of what `every` lacks.
+"""
+import collections
+import functools
+import os
+import pathlib
+import re
+import shlex
+import sys
+import tarfile
+import tomllib
+from typing import Any, Counter, Dict, Iterable, List, Optional, Sequence, Set, Tuple
+
+from arena_lab.course.hand_in import HandIn
+
+TABLE = pathlib.Path(__file__).resolve().parent / "calls.toml"
+# all lists together, for a program whose language is not known; the list that each language has too; and a program that
+# the machine starts without an interpreter
+ANY, EVERY, NATIVE = "any", "every", "native"
+ELF = b"\x7fELF"
+# the bits of an argument that is an int
+INT = 0xFFFFFFFF
+# a line of a trace: the process, the call, and its arguments
+LINE = re.compile(r"(?:\d+ +)?(\w+)\((.*)")
+# in a trace, numbers that are joined, and what stands before those of `clone`
+NUMBERS, FLAGS = re.compile(r"[\dxa-fA-F]+(?:\|[\dxa-fA-F]+)*"), "flags="
+
+
+@functools.lru_cache(maxsize=1)
+def table() -> Dict[str, Any]:
+    """The table of all calls."""
+    return tomllib.loads(TABLE.read_text(encoding="utf-8"))
+
+
+def languages() -> List[str]:
+    """The names of languages."""
+    return [*table()["languages"], ANY]
+
+
+def allowed(language: str) -> Set[str]:
+    """The calls that a language may make whatever their arguments, and those that do nothing."""
+    lists = [table()[EVERY]] if language == EVERY else [
+        table()[EVERY], *(it for name, it in table()["languages"].items() if language in (name, ANY))]
+    idle = {call for row in table()["answers"] if row["error"] == 0 for call in row["calls"]}
+    return {call for it in lists for call in it["calls"]} | idle
+
+
+def never(call: str) -> str:
+    """Why no course may allow a call, or nothing if one may."""
+    by_arguments = {row["call"] for row in table()["arguments"]}
+    if call in by_arguments:
+        return "it is allowed by its arguments, which stand in calls.toml"
+    return next((str(row["why"]) for row in table()["never"] if call in row["calls"]), "")
+
+
+def language_of(words: str, handed_in: HandIn) -> str:
+    """The language of the program that these words of a command start, as far as they and its file show it."""
+    first = shlex.split(words)[0]
+    entry = handed_in.entries.get(os.path.normpath(first)) if "/" in first else None
+    if entry is not None and entry.kind == tarfile.REGTYPE:
+        if entry.content.startswith(ELF):
+            return NATIVE
+        line = entry.content[:256].partition(b"\n")[0]
+        first = line.split()[-1].decode(errors="replace") if line.startswith(b"#!") and line.split() else first
+    started = os.path.basename(first)
+    # a shell may start programs in any language
+    return next((name for name, it in table()["languages"].items() if started in it["starts"] and name != "shell"), ANY)
+
+
+def refused(lines: Iterable[str], language: str) -> Tuple[Counter[str], Counter[str]]:
+    """How often a program that was traced has made each call, and each that is refused to its language, with the
+    arguments for which it is."""
+    made: Counter[str] = collections.Counter()
+    found: Counter[str] = collections.Counter()
+    known = allowed(language)
+    for line in lines:
+        matched = LINE.match(line)
+        if matched is None:
+            continue
+        call, rows = matched[1], [row for row in table()["arguments"] if row["call"] == matched[1]]
+        made[call] += 1
+        numbers = numbers_in(call, matched[2])
+        if rows and not any(is_allowed(row, numbers) for row in rows):
+            places = sorted({int(place) for row in rows for it in row["rows"] for place in it})
+            found[f"{call} {' '.join(hex(numbers.get(place, 0)) for place in places)}"] += 1
+        elif not rows and call not in known:
+            found[call] += 1
+    return made, found
+
+
+def is_allowed(row: Dict[str, Any], numbers: Dict[int, int]) -> bool:
+    """Whether a row allows a call that has these numbers as arguments."""
+    mask = row.get("mask", INT)
+    return "error" not in row and any(
+        all(numbers.get(int(place), -1) & mask in values for place, values in it.items()) for it in row["rows"])
+
+
+def numbers_in(call: str, given: str) -> Dict[int, int]:
+    """The arguments of a call that a trace shows as numbers, by their places."""
+    if call == "clone":
+        given = given.partition(FLAGS)[2]
+    found = {place: number_in(it) for place, it in enumerate(given.split(", "))}
+    return {place: number for place, number in found.items() if number is not None}
+
+
+def number_in(text: str) -> Optional[int]:
+    """The number with which a text of a trace begins, or None."""
+    matched = NUMBERS.match(text)
+    try:
+        return None if matched is None else functools.reduce(
+            lambda found, part: found | int(part, 0), matched[0].split("|"), 0)
+    except ValueError:
+        return None
+
+
+def report_trace(language: str, lines: Iterable[str]) -> str:
+    """What is said of a trace."""
+    made, found = refused(lines, language)
+    said = [f"{language}: of {len(made)} calls that were traced {len(found)} are refused"]
+    free = [call for call in sorted(found) if " " not in call and not never(call)]
+    for call, count in sorted(found.items()):
+        why = "by its arguments" if " " in call else never(call) or "it is in no list"
+        said.append(f"{count:7}  {call}: {why}")
+    if free:
+        said.append(f"in course.toml this allows what is in no list: calls = {str(free).replace(chr(39), chr(34))}")
+    return "\n".join(said)
+
+
+def main(given: Sequence[str]) -> int:
+    if len(given) < 2 or given[0] not in (*languages(), EVERY):
+        print(f"{(__doc__ or '').strip()}\n\nLanguages: {', '.join([*languages(), EVERY])}")
+        return 0 if given[:1] in (["-h"], ["--help"]) else 2
+    lines: List[str] = []
+    for name in given[1:]:
+        try:
+            lines += pathlib.Path(name).read_text(encoding="utf-8", errors="replace").splitlines()
+        except OSError as fault:
+            print(f"{name}: {fault.strerror}", file=sys.stderr)
+            return 1
+    print(report_trace(given[0], lines))
+    return 0
+
+
+if __name__ == "__main__":
+    sys.exit(main(sys.argv[1:]))

@@ -1,0 +1,344 @@
+"""A course's file: the teams' programs, and the matches that each of them plays.
+
+    title = "Black hole search, autumn term"
+    networks = ["ring:8", "ring:12"]
+    holes = 2
+    schedulers = ["fair", "slow-agents"]
+    seeds = 2
+
+    [[team]]
+    name = "amber"
+    agents = 2
+    files = ["teams/amber"]
+    command = "python3 agent.py {host} {port} {key} {nodes}"
+
+    title         what the league table is called
+    networks      names of networks, as --network takes them, or files
+    schedulers    names of schedulers, as --scheduler takes them
+    holes, dark, seeds, quota, board
+                  as in the file of a sweep: see `./arena-lab sweep --help`
+    home          the home base; if it is absent and black holes are drawn, it is drawn for each match
+    ports         "shuffled:SEED" numbers the ports of each node anew, alike in all matches, and "given" leaves them as
+                  the network has them; if it is absent and black holes are drawn, they are numbered anew in each match
+    limit         how many seconds a program may take to send a line (20); a quarter of these on a network on which the
+                  team has hung twice alike
+    match_limit   how many seconds the lab waits for the programs of a match in all (60)
+    team_limit    how many seconds all matches of a team may take (600, or 5 for each match if that is more)
+    match_space   how many MB of lines the programs of a match may send and be told in all (8)
+    team_space    how many MB may be written of all matches of a team (256, or 2 for each match if that is more)
+    tries         how many schedules are tried to make that of a failed match small (100)
+    tools         folders that programs see to read, besides the system's, such as ["/opt/jdk-21"]
+    packages      packages of Debian that programs see, besides those of the programs that commands name, such as
+                  ["python3-numpy"]
+    proc          true if programs need /proc, as those in Java do (false)
+    calls         calls of the system that programs may make, besides those that their language needs, such as
+                  ["splice"]; `python3 -m arena_lab.course.calls --help` says how to see which a program makes
+
+Each [[team]] has a `name`, of 1 to 16 characters out of a to z, 0 to 9 and -; `agents`, a number or "degree" for one
+more than the network's greatest degree (2); `files`, a list of files and folders, whose copies each of its programs
+has; and `command`, the words that start the program of one agent in the folder with the copies. In the words {host},
+{port} and {key} say where it connects and by which key it enters. {nodes}, {links} and {home} say what the team is to
+know of the network; {network} is the network's file, for a team that is to have the map.
+
+`--export` writes the points of teams for gradebooks; the table [points] says how they are given.
+
+Names of files are paths from the folder of the course's file. A hand-in is bounded, and no link in it is followed.
+
+All teams play the same matches, each in an order of its own. Black holes are drawn if `holes` is a number or "by seed":
+for each match, so that one match tells nothing of another. Keys, black holes, home bases and ports that are drawn, the
+order, and the seeds of schedulers come from the course's secret, which is drawn at the first run and kept in
+`secret.txt` beside the results. To grade again by the same draws, name that file by --secret; if a team has handed in
+something else since, all is drawn anew.
+"""
+import functools
+import hashlib
+import os
+import pathlib
+import random
+import re
+import secrets
+import shlex
+import sys
+from typing import Any, Dict, FrozenSet, List, Mapping, NamedTuple, Optional, Sequence, Tuple
+
+from arena_lab.course import calls, isolation
+from arena_lab.course.sandbox import Isolation
+from arena_lab.course.points import Points, points_in
+from arena_lab.play.agent_files import digests
+from arena_lab.play.games import maker_of
+from arena_lab.play.programs import HOST
+from arena_lab.play.schedulers import Maker
+from arena_lab.play.teams import OUTSIDE
+from arena_lab.rules import networks
+from arena_lab.rules.fixtures import Fixture
+from arena_lab.sweep import grid, tables
+from arena_lab.sweep.grid import Case, Grid, NoSweep, is_count, is_text, is_texts, taken
+
+FILES = "files"
+KEYS = grid.KEYS - {"bound"} | {"limit", "match_limit", "team_limit", "match_space", "team_space", "tries", "tools",
+                                   "packages", "proc", "calls", "points"}
+TEAM_KEYS = {"name", "agents", OUTSIDE, FILES}
+LIMIT, TRIES = 20, 100
+# seconds of a match, of all matches of a team, and of these for each match
+MATCH_LIMIT, TEAM_LIMIT, FOR_A_MATCH = 60, 600, 5
+# MB of lines of a match, of what is written of all matches of a team, and of these for each match
+MATCH_SPACE, TEAM_SPACE, SPACE_FOR_A_MATCH = 8, 256, 2
+SECRET, GIVEN = "secret.txt", "given"
+WORDS = ("host", "port", "key", "nodes", "links", "home", "network")
+NEEDED = ("port", "key")
+
+
+class CourseDraws(NamedTuple):
+    """What is drawn from a course's secret. Without it nobody can guess it."""
+
+    secret: str
+
+    def drawn(self, *words: object) -> str:
+        """Digits."""
+        return hashlib.sha256("\0".join(map(str, [self.secret, *words])).encode()).hexdigest()
+
+    def keys(self, text: str, number: int, agents: int) -> List[str]:
+        """The keys of a match of the course that has this text."""
+        return [self.drawn("key", text, number, agent)[:20] for agent in range(agents)]
+
+
+class CourseFile(NamedTuple):
+    """What a course's file says, and its secret. The files are those of each team."""
+
+    text: str
+    folder: pathlib.Path
+    draws: CourseDraws
+    grid: Grid
+    files: Dict[str, List[pathlib.Path]]
+    limits: "ProgramLimits"
+    tries: int
+    tools: Tuple[str, ...]
+    has_proc: bool
+    packages: Tuple[str, ...] = ()
+    calls: Tuple[str, ...] = ()
+    # which of `home` and `ports` the file has
+    named: FrozenSet[str] = frozenset()
+    points: Optional[Points] = None
+
+    def cases(self) -> List[Case]:
+        """All matches, in the order in which they are played. Teams come in an order that is drawn; each plays the same
+        matches, in an order of its own."""
+        found = [self._placed(case) for case in self.grid.cases(self.draws.secret)]
+        found.sort(key=lambda case: (self.draws.drawn("order", case.team.name),
+                                     self.draws.drawn("order", case.team.name, case[1:3], case[4:])))
+        return [case._replace(number=number) for number, case in enumerate(found)]
+
+    def _placed(self, case: Case) -> Case:
+        """A match with black holes, a home base and ports of its own, as far as the file does not name them. They are
+        the same for all teams."""
+        if not isinstance(self.grid.holes, int) and self.grid.holes != grid.BY_SEED:
+            return case
+        words = (case.network, case.scheduler, case.seed, *case.holes)
+        chance = random.Random(self.draws.drawn("place", *words))
+        nodes = range(self.grid.networks[case.network].nodes)
+        home = self.grid.home if "home" in self.named else chance.choice(nodes)
+        hole = chance.choice([node for node in nodes if node != home])
+        ports = None if "ports" in self.named or self.grid.dark else chance.getrandbits(64)
+        return case._replace(holes=(hole,), home=home, ports=ports)
+
+    def fixture(self, case: Case) -> Fixture:
+        """A match. Without the course's secret nobody can guess its keys."""
+        fixture = self.grid.fixture(case)
+        keys = self.draws.keys(self.text, case.number, fixture.setup.agents)
+        return fixture._replace(team=case.team.name, keys=keys)
+
+    def maker(self, name: str) -> Maker:
+        """The scheduler of a name or a file."""
+        return maker_of(str(self.folder / name) if ".py" in name else name)
+
+    def seed(self, case: Case) -> int:
+        """The seed that a match's scheduler gets, which is the same for all teams. Those of matches that differ in the
+        seed alone follow one another."""
+        drawn = self.draws.drawn("seed", case.network, case.scheduler)
+        return int(drawn[:8], 16) + case.seed
+
+    def digests(self) -> Dict[str, str]:
+        """The SHA-256 of each file on which the matches depend, and of the secret, but for what teams hand in."""
+        own = [self.folder / name.partition(":")[0] for name in [*self.grid.schedulers, *self.grid.names]]
+        return {**digests([str(path) for path in own]), SECRET: self.draws.drawn("digest")}
+
+
+class ProgramLimits(NamedTuple):
+    """How many seconds programs may take: for a line, in a match, and in all matches of a team. And how many MB: of
+    lines in a match, and of what is written of all matches of a team."""
+
+    line: int
+    match: int
+    team: int
+    match_space: int
+    team_space: int
+
+
+class Terms(NamedTuple):
+    """What a course's file says besides its matches: how many seconds programs may take, the words that start those of
+    each team, which folders they see besides the system's, whether they see /proc, and which calls of the system they
+    may make besides those of their languages."""
+
+    limits: ProgramLimits
+    commands: Dict[str, str]
+    tools: Tuple[str, ...]
+    has_proc: bool
+    packages: Tuple[str, ...]
+    calls: Tuple[str, ...]
+
+
+def read(path: pathlib.Path, secret: str) -> CourseFile:
+    """The course of a file."""
+    try:
+        return course_of(grid.text_in(path), path.parent, secret)
+    except NoSweep as fault:
+        raise NoSweep(f"{path}: {fault}") from None
+
+
+def secret_in(out: pathlib.Path, given: Optional[pathlib.Path], handed_in: Mapping[str, str] = {}) -> str:
+    """The secret of a course with these results: one that a file gives, or that of the first run, or a new one. These
+    are the digests of what was handed in."""
+    path = out / SECRET
+    said = None if given is None else secret_given(given, handed_in)
+    if path.exists():
+        kept = grid.text_in(path).strip()
+        if said not in (None, kept):
+            raise NoSweep(f"{path} is another secret than {given}: name another folder by --out, or remove this one")
+        return kept
+    out.mkdir(parents=True, exist_ok=True)
+    said = said or secrets.token_hex(32)
+    with open(os.open(path, os.O_WRONLY | os.O_CREAT | os.O_EXCL, 0o600), "w", encoding="utf-8") as file:
+        file.write(said + "\n")
+    return said
+
+
+def secret_given(given: pathlib.Path, handed_in: Mapping[str, str]) -> str:
+    """The secret in a file. If results stand beside it, and a team has handed in something else than then, it is
+    another one: what the team was shown of its matches is not to help it."""
+    said = grid.text_in(given).strip()
+    if len(said) < 16:
+        raise NoSweep(f"{given}: a secret has at least 16 characters, or it could be guessed")
+    before = tables.record_in(given.parent).get("files", {}) if (given.parent / tables.MADE).exists() else {}
+    others = sorted(name for name, digest in handed_in.items() if before.get(name, digest) != digest)
+    if not others:
+        return said
+    print(f"arena-lab: {others[0]} has handed in something else than when {given} was drawn: all is drawn anew",
+          file=sys.stderr)
+    return CourseDraws(said).drawn("anew", *sorted(handed_in.items()))
+
+
+@functools.lru_cache(maxsize=4)
+def course_of(text: str, folder: pathlib.Path, secret: str) -> CourseFile:
+    """The course that a text says, whose files are looked for in the folder."""
+    found = grid.table_of(text)
+    grid.check_keys(found, KEYS, "a course")
+    terms = terms_in(found)
+    tries = taken(found, "tries", grid.is_number, "a whole number", TRIES)
+    files = {row["name"]: files_of(row.pop(FILES), row["name"], folder) for row in found["team"]}
+    named = frozenset({"home", "ports"} & set(found))
+    if found.get("ports") == GIVEN:
+        del found["ports"]
+    played = grid.grid_in(found, folder)
+    limits = for_matches(terms.limits, sum(1 for _ in played.cases()) // len(played.teams), found)
+    return CourseFile(text, folder, CourseDraws(secret), played, files, limits, tries, terms.tools, terms.has_proc,
+                  terms.packages, terms.calls, named, points_in(found, played))
+
+
+def for_matches(limits: ProgramLimits, matches: int, found: Dict[str, Any]) -> ProgramLimits:
+    """The limits where each team has this number of matches, as far as the file does not say what these may take."""
+    time = limits.team if "team_limit" in found else max(limits.team, FOR_A_MATCH * matches)
+    space = limits.team_space if "team_space" in found else max(limits.team_space, SPACE_FOR_A_MATCH * matches)
+    return limits._replace(team=time, team_space=space)
+
+
+def terms_in(found: Dict[str, Any]) -> Terms:
+    """The terms that a file's table says."""
+    limits = ProgramLimits(*(taken(found, name, is_count, f"a whole number of {unit} from 1", usual) for name, unit,
+                             usual in (
+        ("limit", "seconds", LIMIT), ("match_limit", "seconds", MATCH_LIMIT), ("team_limit", "seconds", TEAM_LIMIT),
+        ("match_space", "MB", MATCH_SPACE), ("team_space", "MB", TEAM_SPACE))))
+    tools = tools_of(taken(found, "tools", lambda it: it == [] or is_texts(it), "a list of folders", []))
+    has_proc = taken(found, "proc", lambda it: isinstance(it, bool), "true or false", False)
+    teams = taken(found, "team", grid.is_tables, "given: write [[team]] and its keys below it")
+    commands = {check_team(row): str(row[OUTSIDE]) for row in teams}
+    packages = tuple(taken(found, "packages", lambda it: it == [] or is_texts(it), "a list of names", []))
+    return Terms(limits, commands, tools, has_proc, packages, calls_in(found))
+
+
+@functools.lru_cache(maxsize=4)
+def terms_of(text: str, matches: int) -> Terms:
+    """The terms of a course that has this text, in which each team has this number of matches."""
+    found = grid.table_of(text)
+    terms = terms_in(found)
+    return terms._replace(limits=for_matches(terms.limits, matches, found))
+
+
+def calls_in(found: Dict[str, Any]) -> Tuple[str, ...]:
+    """The calls that a course allows its programs."""
+    names = tuple(taken(found, "calls", lambda it: it == [] or is_texts(it), "a list of names", []))
+    for name in names:
+        why = calls.never(name)
+        if why:
+            raise NoSweep(f"calls has {name}, which no course may allow: {why}")
+    return names
+
+
+def tools_of(names: List[str]) -> Tuple[str, ...]:
+    """Folders that programs see, besides the system's."""
+    for name in names:
+        if not os.path.isabs(name) or not os.path.isdir(name) or len(pathlib.Path(name).parts) < 3:
+            raise NoSweep(f"tools has {name}, which is no folder that programs may see: write one like /opt/jdk-21")
+    return tuple(names)
+
+
+def check_team(row: Dict[str, Any]) -> str:
+    """Refuses a team that cannot play; gives its name."""
+    grid.check_keys(row, TEAM_KEYS, "a team of a course")
+    name: str = taken(row, "name", lambda it: isinstance(it, str) and bool(re.fullmatch("[a-z0-9-]{1,16}", it)),
+                      "given for each team, of 1 to 16 characters out of a to z, 0 to 9 and -")
+    command = taken(row, OUTSIDE, is_text, f"given for team {name}: the words that start the program of one agent, "
+                    "such as \"python3 agent.py {host} {port} {key} {nodes}\"")
+    taken(row, FILES, is_texts, f"given for team {name}: a list of its files and folders, such as [\"teams/{name}\"]")
+    check_command(command, name)
+    return name
+
+
+def check_command(command: str, team: str) -> None:
+    """Refuses a command whose words cannot be filled in."""
+    try:
+        words = shlex.split(command)
+        said = " ".join(words).format(**{name: f"<{name}>" for name in WORDS})
+    except (KeyError, IndexError, ValueError) as fault:
+        why = f"has {fault}" if isinstance(fault, KeyError) else f"cannot be read: {fault}"
+        known = ", ".join(f"{{{name}}}" for name in WORDS)
+        raise NoSweep(f"the command of team {team} {why}; it may have {known}, and a brace is written twice") from None
+    for name in NEEDED:
+        if f"<{name}>" not in said:
+            raise NoSweep(f"the command of team {team} has no {{{name}}}: the program is to connect to {HOST} at "
+                          "{port}, and to enter with {key}")
+
+
+def files_of(names: List[str], team: str, folder: pathlib.Path) -> List[pathlib.Path]:
+    """A team's files and folders."""
+    found = [folder / name for name in names]
+    for name, path in zip(names, found):
+        if not path.exists():
+            raise NoSweep(f"files of team {team} has {name}, and there is no {path}")
+    return found
+
+
+def check_walls(strongest: Isolation, paths: Sequence[pathlib.Path], tools: Sequence[str]) -> None:
+    """Refuses a course and results that teams' programs could read in spite of the walls."""
+    for path in paths:
+        seen = isolation.seen_at(path, tools) if strongest is Isolation.ALL else None
+        if seen:
+            raise NoSweep(f"{path}: teams' programs see {seen}, to find what they run by: name a folder elsewhere")
+
+
+def check_networks(course: CourseFile) -> None:
+    """Refuses a network on which no team can solve each match."""
+    for name, network in course.grid.networks.items():
+        cut = networks.cut_of(network)
+        if cut:
+            raise NoSweep(f"networks has {name}, which is not biconnected: {cut}; take another, as no team can solve "
+                          "each match on it")

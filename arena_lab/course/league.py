@@ -1,0 +1,218 @@
+"""The league table of a course, and a page for each team."""
+import re
+from typing import Any, Dict, List, Mapping, NamedTuple, Optional, Sequence, Tuple
+
+from arena_lab.pages.parts import filled
+from arena_lab.play import bounds, kept_matches
+from arena_lab.play.repeating import SAYS_OTHERWISE
+from arena_lab.sweep.grid import Grid
+from arena_lab.sweep.report import FAULTS, Row, is_solved
+
+TABLE, PAGE, FAILED, SMALLEST = "league.csv", "league.html", "failed", "smallest"
+HEAD = ("place", "team", "matches", "solved", "moves", "lost")
+# what is kept of a match: its page, if there is one, its schedule and its replay
+FILES = {"watch": kept_matches.PAGE, "schedule": kept_matches.SCHEDULE, "replay": kept_matches.REPLAY}
+MATCH_HEAD = ("match", "network", "black hole", "scheduler", "seed", "came to", "moves", "lost")
+
+# how a match may fail besides by its verdict, each by what its first fault says
+UNPLAYED, LAB_FAILED = "not played", "not played, as the lab failed"
+CRASHED, HUNG, RUDE, SILENT = "crashed", "hung", "broke a rule", "silent"
+OTHERWISE = "does not repeat"
+NOT_REPEATED = "is not repeated"
+KINDS_OF_FAULTS = {
+    OTHERWISE: (SAYS_OTHERWISE, NOT_REPEATED),
+    CRASHED: ("has ended with status", "cannot be started", "has taken more than"),
+    HUNG: (bounds.SENT_NOTHING, bounds.READ_NOTHING, bounds.USED_UP),
+    UNPLAYED: (UNPLAYED,),
+}
+# of each kind of failure how its colour is called on pages, and what it means
+KINDS = {
+    CRASHED: ("crashed", "a program ended by a fault of its own, or took too much memory"),
+    HUNG: ("hung", "a program let the lab wait too long"),
+    OTHERWISE: ("rude", "solved, but an agent says something else when it is alone and told the same again, or there "
+                "was no time to repeat it"),
+    RUDE: ("rude", "a program said what the rules do not allow"),
+    "wrong": ("wrong", "an agent accused a link that leads to no black hole"),
+    "guess": ("wrong", "the accusation was right, but could not be known to be"),
+    SILENT: ("silent", "nobody accused"),
+    "unfinished": ("silent", "an agent had not ended"),
+    UNPLAYED: ("hung", "the team's time was up, or the lab failed"),
+}
+
+
+class LeagueRow(NamedTuple):
+    """A team in the league. Moves and lost agents are those of the matches that it solved; by the network's name stands
+    how many of its matches it solved, and by their kinds how many matches failed."""
+
+    place: int
+    team: str
+    matches: int
+    solved: int
+    moves: int
+    lost: int
+    networks: Dict[str, Tuple[int, int]]
+    kinds: Dict[str, int]
+
+    def rank(self) -> Tuple[int, int, int]:
+        return -self.solved, self.moves, self.lost
+
+    def cells(self) -> List[str]:
+        return [str(value) for value in self[:len(HEAD)]]
+
+    def page(self) -> str:
+        """The file of the team's page."""
+        return page_name(self.team)
+
+
+class Failure(NamedTuple):
+    """A failed match: its number, how many choices its schedule has, if it was played, whether a smallest schedule was
+    found, what is said of that, whether there are pages to watch, and the files of what its programs wrote to standard
+    error."""
+
+    number: int
+    choices: Optional[int]
+    has_smallest: bool
+    said: str
+    has_pages: bool
+    errors: Sequence[str] = ()
+
+
+def standings_of(rows: Sequence[Row], teams: Sequence[str]) -> List[LeagueRow]:
+    """The teams, best first. Equal teams share a place, and stand in the order of the course's file."""
+    found = []
+    for team in teams:
+        own = [row for row in rows if row["team"] == team]
+        solved = [row for row in own if is_solved(row)]
+        found.append(LeagueRow(0, team, len(own), len(solved), sum(int(row["moves"]) for row in solved),
+                              sum(int(row["lost"]) for row in solved), by_network(own), by_kind(own)))
+    found.sort(key=LeagueRow.rank)
+    ranks = [standing.rank() for standing in found]
+    return [standing._replace(place=1 + ranks.index(standing.rank())) for standing in found]
+
+
+def by_network(rows: Sequence[Row]) -> Dict[str, Tuple[int, int]]:
+    """How many matches on each network were solved, and how many there are."""
+    found: Dict[str, Tuple[int, int]] = {}
+    for row in rows:
+        solved, count = found.get(row["network"], (0, 0))
+        found[row["network"]] = solved + is_solved(row), count + 1
+    return found
+
+
+def by_kind(rows: Sequence[Row]) -> Dict[str, int]:
+    """How many matches failed in each way, in the order of the kinds."""
+    kinds = [kind_of(row) for row in rows if not is_solved(row)]
+    return {kind: kinds.count(kind) for kind in KINDS if kind in kinds}
+
+
+def kind_of(row: Row) -> str:
+    """How a match failed. A fault says more than the verdict, which may be a consequence of it."""
+    if not row[FAULTS]:
+        return str(row["outcome"]).split()[0]
+    return next((kind for kind in KINDS_OF_FAULTS if is_of(kind, row[FAULTS][0])), RUDE)
+
+
+def is_of(kind: str, fault: str) -> bool:
+    """Whether a fault is of this kind. Only its beginning tells, as a program's last words may stand at its end."""
+    return re.sub(r"^agent \d+: ", "", fault).startswith(KINDS_OF_FAULTS[kind])
+
+
+def table(standings: Sequence[LeagueRow]) -> List[Sequence[str]]:
+    """The league table's rows, with their head."""
+    return [[*HEAD, *standings[0].networks],
+            *([*it.cells(), *(str(solved) for solved, _ in it.networks.values())] for it in standings)]
+
+
+def text_of(standings: Sequence[LeagueRow]) -> str:
+    """The league table as lines of text."""
+    lines = [("#", "team", "solved", "moves", "lost")]
+    lines += [(str(it.place), it.team, f"{it.solved} of {it.matches}", str(it.moves), str(it.lost)) for it in standings]
+    return "".join(f"{a:>3} {b:<16} {c:<10} {d:>6} {e:>4}\n" for a, b, c, d, e in lines)
+
+
+def folder_of(team: str, number: int) -> str:
+    """Where a failed match is written, in the folder of results."""
+    return f"{FAILED}/{team}-{number}"
+
+
+def page_name(team: str) -> str:
+    return f"team-{team}.html"
+
+
+# what is said of the lines of matches that were refused, by the numbers of matches
+Refused = Mapping[int, Sequence[str]]
+
+
+def pages(grid: Grid, rows: Sequence[Row], failures: Dict[int, Failure], engine: str,
+          refused: Refused = {}) -> Dict[str, str]:
+    """The league's page and a page for each team, by the names of their files."""
+    standings = standings_of(rows, [team.name for team in grid.teams])
+    found = {PAGE: league_page(grid, standings, engine)}
+    for standing in standings:
+        own = [row for row in rows if row["team"] == standing.team]
+        found[page_name(standing.team)] = team_page(grid, standing, own, failures, refused)
+    return found
+
+
+def met_in(standings: Sequence[LeagueRow]) -> List[str]:
+    """The kinds of failures that there are, in the order of the kinds."""
+    return [kind for kind in KINDS if any(kind in standing.kinds for standing in standings)]
+
+
+def league_page(grid: Grid, standings: Sequence[LeagueRow], engine: str) -> str:
+    matches = standings[0].matches
+    about = (f"Each of {len(standings)} teams played the same {matches} matches on {', '.join(grid.names)}. Played and "
+             f"judged by {engine}.")
+    head = [HEAD[0], HEAD[1], "solved", *standings[0].networks, "moves", "lost", "failed"]
+    return filled("league.html", title=grid.title, about=about, head=head, standings=standings, kinds=KINDS,
+                  met=met_in(standings))
+
+
+def refused_in(rows: Sequence[Row], refused: Refused) -> List[Tuple[str, List[int]]]:
+    """What is said of lines of a team's matches that were refused, each once, with the numbers of the matches."""
+    found: Dict[str, List[int]] = {}
+    for row in rows:
+        for said in refused.get(int(row["run"]), ()):
+            found.setdefault(said, []).append(int(row["run"]))
+    return list(found.items())
+
+
+def team_page(grid: Grid, standing: LeagueRow, rows: Sequence[Row], failures: Dict[int, Failure],
+              refused: Refused) -> str:
+    failed = [row for row in rows if not is_solved(row)]
+    about = (f"Place {standing.place} of {len(grid.teams)} in the league: solved {standing.solved} of "
+             f"{standing.matches} matches, with {standing.moves} moves and {standing.lost} lost agents in these.")
+    return filled("team.html", title=f"Team {standing.team}", course=grid.title, about=about, kinds=KINDS,
+                  met=met_in([standing]), head=MATCH_HEAD, files=FILES, refused=refused_in(rows, refused),
+                  cards=cards([failed_match(row, failures[int(row["run"])]) for row in failed]),
+                  rows=[(row, "" if is_solved(row) else kind_of(row)) for row in rows])
+
+
+def failed_match(row: Row, failure: Failure) -> Dict[str, Any]:
+    """What the page of a team says of a match that it failed."""
+    folder = folder_of(row["team"], failure.number)
+    return {"row": row, "failure": failure, "kind": kind_of(row), "folder": folder, "smallest": f"{folder}/{SMALLEST}",
+            "came": came(row["outcome"], row["moves"], row["lost"])}
+
+
+def cards(failed: Sequence[Dict[str, Any]]) -> List[Tuple[Dict[str, Any], List[Dict[str, Any]]]]:
+    """Failed matches as cards: the first of each network that failed in a way and with these faults, and the others."""
+    found: Dict[Tuple[str, ...], List[Dict[str, Any]]] = {}
+    for it in failed:
+        found.setdefault((it["row"]["network"], it["kind"], *map(alike, it["row"][FAULTS])), []).append(it)
+    return [(first, others) for first, *others in (sorted(equal, key=has_no_smallest) for equal in found.values())]
+
+
+def alike(fault: str) -> str:
+    """A fault without how long the lab has waited, which is less once a team has hung twice."""
+    return re.sub(rf"({bounds.SENT_NOTHING}|{bounds.READ_NOTHING}) \d+ s", r"\1", fault)
+
+
+def has_no_smallest(failed: Dict[str, Any]) -> bool:
+    """Of equal failures the one whose schedule was made small stands first."""
+    return not failed["failure"].has_smallest
+
+
+def came(outcome: str, moves: str, lost: str) -> str:
+    """What a match came to."""
+    return f"{outcome}, {moves} moves, {lost} lost"

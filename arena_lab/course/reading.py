@@ -1,0 +1,36 @@
+"""Reads what a team hands in, in a process of its own that has bounds of memory and time: whatever is in it stops
+nothing else.
+
+Standard input has the archive to write, the course's folder, the words that start the team's program, and the files, as
+a list in JSON. Standard output gets the digest, why the hand-in is refused, and the digests of its program's files.
+"""
+import json
+import pathlib
+import resource
+import sys
+
+from arena_lab.course import hand_in
+from arena_lab.course.hand_in import HandIn
+
+# bytes of memory and seconds that it may take
+MEMORY, SECONDS = 1 << 30, 60
+CANNOT = f"it cannot be read within {SECONDS} s and {MEMORY >> 30} GB of memory"
+
+
+def main() -> None:
+    for kind, most in ((resource.RLIMIT_AS, MEMORY), (resource.RLIMIT_CPU, SECONDS), (resource.RLIMIT_CORE, 0)):
+        resource.setrlimit(kind, (most, most))
+    place, folder, words, *paths = json.load(sys.stdin)
+    archive = pathlib.Path(place)
+    found = hand_in.read(list(map(pathlib.Path, paths)), pathlib.Path(folder))
+    try:
+        files = found.digests(words)
+        archive.write_bytes(found.archive())
+    except (OSError, MemoryError, RecursionError, ValueError) as fault:
+        found, files = HandIn({}, f"its files cannot be read: {type(fault).__name__}"), {}
+        archive.write_bytes(found.archive())
+    print(json.dumps([found.digest(), found.refusal, files]))
+
+
+if __name__ == "__main__":
+    main()

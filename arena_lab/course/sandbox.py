@@ -1,0 +1,350 @@
+"""Cells: where programs of strangers play, each apart from all others.
+
+A program in a cell runs in a folder of its own, which has a copy of its team's files and nothing else. What else keeps
+it apart depends on the machine and on who starts the lab:
+
+- With Debian's bubblewrap and python3-seccomp, where the machine lets its users make namespaces (as Linux does outside
+  containers): the program sees no network but the lab, no processes but its own, and of the disk the system's programs
+  and its folder, which is in memory. A filter refuses the calls of the system by which it could meet other programs,
+  also those of its own team. If root starts the lab, it is besides a user of its own, who has no name.
+- Otherwise, if root starts the lab: the program is a user of its own. It can read what every user of the machine may
+  read, and programs can talk to each other behind the whiteboards' back.
+- Otherwise: the program can read and write what this user can.
+"""
+import contextlib
+import enum
+import functools
+import os
+import pathlib
+import re
+import select
+import shutil
+import signal
+import socket
+import subprocess
+import sys
+import tempfile
+from typing import Any, Dict, Iterable, Iterator, List, NamedTuple, Optional, Sequence, Tuple
+
+from arena_lab.course import calls, sandbox_network, groups, system_copy, users, isolation, watch
+from arena_lab.course.sandbox_start import GO, READY
+from arena_lab.course.hand_in import NETWORK, HandIn
+from arena_lab.course.isolation import HOME, PATH, PORT, SPACES, NoCell
+from arena_lab.course.groups import ControlGroup
+from arena_lab.course.watch import TOO_MUCH, MemoryWatch, memory_of, processes_below, space_of
+from arena_lab.play import programs
+from arena_lab.play.programs import NoStart, Started
+from arena_lab.rules import networks
+from arena_lab.rules.model import Setup
+from arena_lab.support.missing import DEBIANS_PYTHON
+
+STARTER = pathlib.Path(__file__).resolve().parent / "sandbox_start.py"
+# how long a machine with much other work may take to begin a cell
+SECONDS_TO_BEGIN = 60
+PACKAGES = "apt-get install bubblewrap python3-seccomp"
+NOTHING = HandIn({}).archive()
+# last words of programs that meet a bound, and what is said of them
+THREADS = "a program may have 256 processes and threads"
+HINTS = {
+    "can't start new thread": THREADS, "unable to create native thread": THREADS,
+    "failed to create new OS thread": THREADS, "Resource temporarily unavailable": THREADS,
+    "annot assign requested address": "a program may have two connections to a port at a time",
+    "Too many open files": "a program may have 256 open files",
+    "libjli.so": "programs in Java need `proc = true` in course.toml",
+    "No space left on device": "a program's folder, /tmp and /dev/shm take 64 MB each",
+}
+
+# last words of programs that make a call of the system which is refused; what is said of it
+NO_CALL = re.compile("function not implemented|operation not permitted|bad system call|ENOSYS|EPERM", re.IGNORECASE)
+A_CALL = ("calls of the system are refused to it that {language} does not need: examples/README.md says how to see "
+          "which this was, and `calls` in course.toml allows more")
+
+
+class Isolation(enum.Enum):
+    """What keeps a program apart, besides a folder of its own."""
+
+    ALL = "each program has a network, processes and a view of the disk of its own"
+    USER = ("each program has a user of its own, but can read what every user may read, so close the course's folder "
+            "to others by `chmod go= FOLDER`; and a team's programs can talk to each other unseen")
+    NONE = ("teams' programs run as you: they can read and change your files, and what they write to /tmp and "
+            "processes that leave their group stay when a match has ended")
+
+
+class Sandbox(NamedTuple):
+    """What all cells of a course share: what keeps programs apart, which folders they see besides the system's,
+    whether they see /proc, which folder has the copy of the system that they see, if there is one, which calls of the
+    system they may make besides those of their languages, and which control group has those of programs, if there is
+    one."""
+
+    walls: Isolation
+    tools: Tuple[str, ...] = ()
+    has_proc: bool = False
+    root: str = ""
+    calls: Tuple[str, ...] = ()
+    groups: str = ""
+
+
+class TeamFiles(NamedTuple):
+    """What a team's programs have: their files as an archive, what is told of the network, and their language."""
+
+    files: bytes
+    facts: Dict[str, str] = {}
+    language: str = calls.ANY
+
+
+class Cell:
+    """A place for one program: its team's files and what is told of the network, its user, and what keeps it apart."""
+
+    def __init__(self, yard: Sandbox, kept: TeamFiles, user: Optional[int], place: Optional[pathlib.Path],
+                 group: Optional[ControlGroup] = None) -> None:
+        self.yard = yard
+        self._group = group
+        self.user = user
+        self.place = place
+        self.facts = kept.facts
+        self._files, self._language = kept.files, kept.language
+        self._child: Optional["subprocess.Popen[bytes]"] = None
+        # the first process behind walls, as a file
+        self._first: Optional[int] = None
+        self._fault = ""
+
+    def start(self, words: Sequence[str], seed: int, errors: Any) -> Started:
+        """Starts a program."""
+        ours, theirs = socket.socketpair()
+        with theirs, contextlib.ExitStack() as held:
+            files = held.enter_context(in_memory(self._files))
+            given, command, port = [theirs.fileno(), files], self._before(), 0
+            if self.place is None:
+                port = PORT
+                given.append(held.enter_context(in_memory(isolation.system_filter(self._language, self.yard.calls))))
+                command += isolation.words(self.yard.tools, self.yard.has_proc, self.yard.root)
+                command += ["--seccomp", str(given[-1])]
+            command += [python(), "-I", "-S", "-c", STARTER.read_text(encoding="utf-8"), str(theirs.fileno()),
+                        str(files), str(port), str(seed), *words]
+            path = PATH if self.user is not None else os.environ.get("PATH", PATH)
+            child = self._child = subprocess.Popen(
+                command, pass_fds=given, stdin=subprocess.DEVNULL, stdout=subprocess.DEVNULL, stderr=errors,
+                cwd=self.place, env={"PATH": path, "COUNTED": "" if self.user is None else "yes"},
+                start_new_session=True)
+        return child, functools.partial(self._listener_of, child, ours, errors)
+
+    def _before(self) -> List[str]:
+        """The words that make a program the first that is ended if memory is short, and another user."""
+        first = [*(self._group.words() if self._group else []), "choom", "-n", "1000", "--"]
+        if self.user is None:
+            return first
+        return [*first, "setpriv", f"--reuid={self.user}", f"--regid={self.user}", "--clear-groups", "--no-new-privs",
+                "--"]
+
+    def _listener_of(self, child: "subprocess.Popen[bytes]", channel: socket.socket, errors: Any) -> socket.socket:
+        """Takes the listener, and so waits until the program begins."""
+        try:
+            with channel:
+                channel.settimeout(SECONDS_TO_BEGIN)
+                _, sent, _, _ = socket.recv_fds(channel, len(READY), 1)
+                listener = socket.socket(fileno=sent[0])
+                if self.place is None:
+                    inside = processes_below(child.pid)[1:2]
+                    self._first = opened(inside)
+                    sandbox_network.bound(inside[0])
+                channel.sendall(GO)
+                return listener
+        except (OSError, IndexError) as fault:
+            self.kill(child)
+            errors.seek(0)
+            said = errors.read().decode(errors="replace").strip()
+            why = f"a cell for a program cannot be made: {said or fault}"
+        if self._files == NOTHING:
+            raise NoCell(why)
+        # if others can be started, it is this program's files or words
+        try_out(self.yard)
+        raise NoStart(why)
+
+    def kill(self, child: "subprocess.Popen[bytes]") -> None:
+        """Ends the program, and all that it has started."""
+        if self._first is not None:
+            # the first process behind walls takes all others with it, and has ended when they have
+            with contextlib.suppress(ProcessLookupError):
+                signal.pidfd_send_signal(self._first, signal.SIGKILL)
+            select.select([self._first], [], [], SECONDS_TO_BEGIN)
+            os.close(self._first)
+            self._first = None
+        elif self.place is not None and self.user is not None:
+            users.end_all_of(self.user)
+        with contextlib.suppress(ProcessLookupError):
+            os.killpg(child.pid, signal.SIGKILL)
+        child.wait()
+
+    def hurry(self, child: "subprocess.Popen[bytes]") -> None:
+        """Tells the program to end, and all that it has started behind walls."""
+        with contextlib.suppress(ProcessLookupError):
+            if self._first is not None:
+                signal.pidfd_send_signal(self._first, signal.SIGKILL)
+            os.killpg(child.pid, signal.SIGKILL)
+
+    def told(self, text: str) -> str:
+        """What a program says, without the name of its folder, which is another one on each run."""
+        return text.replace(f"{self.place or HOME}/", "")
+
+    def hint(self, words: str) -> str:
+        """What to change, as far as a program's last words show it."""
+        said = next((said for known, said in HINTS.items() if known in words), "")
+        if not said and self.place is None and NO_CALL.search(words):
+            said = A_CALL.format(language="a program" if self._language == calls.ANY else self._language)
+        return f" ({said})" if said else ""
+
+    def fault(self) -> str:
+        """Why the program was ended, if it has taken too much."""
+        if self._group and self._group.has_met_its_bound():
+            self._fault = TOO_MUCH
+        return self._fault
+
+    def takes_too_much(self) -> bool:
+        """Whether the program has more memory than it may. In a group of its own the kernel sees to that."""
+        return self._group.has_met_its_bound() if self._group else self.used() > watch.MOST
+
+    def used(self) -> int:
+        """The bytes of memory that the program takes."""
+        if self._child is None or self._child.returncode is not None:
+            return 0
+        processes = processes_below(self._child.pid)
+        inside = processes[1:2] if self.place is None else []
+        spaces = [space_of(f"/proc/{first}/root{path}") for first in inside for path in SPACES]
+        return memory_of(processes) + sum(spaces)
+
+    def end_for(self, fault: str) -> None:
+        """Ends the program, as it has taken too much."""
+        self._fault = fault
+        if self._child is None:
+            return
+        for process in processes_below(self._child.pid)[1:] if self.place is None else [self._child.pid]:
+            with contextlib.suppress(ProcessLookupError):
+                os.kill(process, signal.SIGKILL)
+
+
+def opened(processes: Sequence[int]) -> Optional[int]:
+    """A process as a file, unless there is none or it has ended."""
+    with contextlib.suppress(ProcessLookupError):
+        return os.pidfd_open(processes[0]) if processes else None
+    return None
+
+
+@contextlib.contextmanager
+def cells(yard: Sandbox, kept: TeamFiles, count: int) -> Iterator[List[Cell]]:
+    """Cells of a team's programs, each with a copy of the files of an archive."""
+    with contextlib.ExitStack() as left:
+        made = []
+        for _ in range(count):
+            has_user = os.geteuid() == 0 and yard.walls is not Isolation.NONE
+            user = left.enter_context(users.claimed()) if has_user else None
+            place = None if yard.walls is Isolation.ALL else left.enter_context(folder_for(user))
+            made.append(Cell(yard, kept, user, place, left.enter_context(groups.group_in(yard.groups))))
+        left.enter_context(MemoryWatch([cell.takes_too_much for cell in made], [cell.end_for for cell in made]))
+        yield made
+
+
+@contextlib.contextmanager
+def furnished(yard: Sandbox, commands: Iterable[str], packages: Sequence[str]) -> Iterator[Sandbox]:
+    """The yard with control groups, and with a copy of the system for these commands, and these packages besides, if
+    there can be one. If not, a line says why."""
+    with contextlib.ExitStack() as held:
+        if yard.walls is Isolation.ALL and yard.calls:
+            # so that a name which is none is told before the first match
+            isolation.system_filter(calls.ANY, yard.calls)
+        try:
+            folder = held.enter_context(system_copy.copied(commands, packages,
+                                                           yard.tools)) if yard.walls is Isolation.ALL else ""
+        except system_copy.NoCopy as fault:
+            if packages:
+                raise NoCell(f"packages: {fault}") from None
+            print(f"arena-lab: programs see the system's own disk, where the kernel keeps names for later ones: "
+                  f"{fault}",
+                  file=sys.stderr)
+            folder = ""
+        yield yard._replace(root=folder, groups=held.enter_context(groups.divided()))
+
+
+@contextlib.contextmanager
+def grounds_of(yard: Sandbox, handed_in: HandIn, words: str, setup: Setup, count: int
+               ) -> Iterator[Sequence[programs.Ground]]:
+    """Where this number of a team's programs run, which these words start: each in a cell, unless their hand-in is
+    refused."""
+    if handed_in.refusal:
+        yield [programs.Nowhere(f"the hand-in is refused: {handed_in.refusal}")] * count
+        return
+    network = networks.text_of(networks.Network(setup.nodes, setup.links)).encode()
+    has_map = "{network}" in words
+    files = handed_in.archive(**({NETWORK: network} if has_map else {}))
+    kept = TeamFiles(files, {"network": NETWORK} if has_map else {}, calls.language_of(words, handed_in))
+    with cells(yard, kept, count) as made:
+        yield made
+
+
+def try_out(yard: Sandbox) -> None:
+    """Starts a program that does nothing; if even that cannot be started, NoCell says why."""
+    with cells(yard, TeamFiles(NOTHING), 1) as made, tempfile.TemporaryFile() as errors:
+        child, listener_of = made[0].start(["true"], 0, errors)
+        listener_of().close()
+        if child.wait() != 0:
+            raise NoCell(f"a program that does nothing has ended with status {child.returncode}")
+
+
+@contextlib.contextmanager
+def folder_for(user: Optional[int]) -> Iterator[pathlib.Path]:
+    """A folder of this user's own, who has nothing else, before and after."""
+    if user is not None:
+        # a command that was killed may have left it
+        users.end_and_remove(user)
+    above = pathlib.Path(tempfile.mkdtemp(prefix="lab-cell-"))
+    try:
+        # a program may rename its folder, if it may write to the one above
+        above.chmod(0o711)
+        (above / "home").mkdir(mode=0o700)
+        if user is not None:
+            os.chown(above / "home", user, user)
+        yield above / "home"
+    finally:
+        if user is not None:
+            users.end_and_remove(user)
+        remove(above)
+
+
+def remove(folder: pathlib.Path) -> None:
+    """Removes a folder, however deep a program has made folders in it."""
+    subprocess.run(["rm", "-rf", "--", str(folder)], stderr=subprocess.DEVNULL)
+
+
+@contextlib.contextmanager
+def in_memory(content: bytes) -> Iterator[int]:
+    """A file in memory, at its beginning."""
+    with open(os.memfd_create("lab"), "wb") as file:
+        file.write(content)
+        file.flush()
+        file.seek(0)
+        yield file.fileno()
+
+
+def python() -> str:
+    """The Python that starts programs: one that every user has, if there is one."""
+    return DEBIANS_PYTHON if os.path.exists(DEBIANS_PYTHON) else sys.executable
+
+
+@functools.lru_cache(maxsize=1)
+def weakness() -> str:
+    """Why there are no walls here, or nothing if there are."""
+    if shutil.which("bwrap") is None or not os.path.exists(DEBIANS_PYTHON) or subprocess.run(
+            [DEBIANS_PYTHON, "-c", "import seccomp"], stderr=subprocess.DEVNULL).returncode != 0:
+        return f"there are no walls between programs: `{PACKAGES}` installs what makes them"
+    try:
+        try_out(Sandbox(Isolation.ALL))
+        return ""
+    except NoCell as fault:
+        return f"this machine makes no walls between programs, as in a container: {fault}"
+
+
+@functools.lru_cache(maxsize=1)
+def strongest() -> Isolation:
+    """What can keep programs apart here."""
+    if not weakness():
+        return Isolation.ALL
+    return Isolation.USER if os.geteuid() == 0 else Isolation.NONE

@@ -1,0 +1,105 @@
+"""Watches how much memory the programs of a match take, each with all that it has started. The system bounds the memory
+of one process; a program has many. What is counted is seen a few times a second, so a quick program may take somewhat
+more before it is ended."""
+import contextlib
+import os
+import pathlib
+import threading
+from typing import Any, Callable, Dict, List, Sequence
+
+# bytes of memory of a program with all that it has started, and how often it is looked at, in seconds
+MOST, EVERY = 2 << 30, 0.05
+TOO_MUCH = f"has taken more than {MOST >> 30} GB of memory with all that it has started"
+PAGE = os.sysconf("SC_PAGE_SIZE")
+# what the system holds for each file in memory, besides its bytes
+BYTES_OF_A_FILE = 1024
+# lines of /proc/PROCESS/status: pages of its own and of files, and what tables of pages take; of smaps_rollup the
+# shares of the first; and how maps end that are of shared memory without a name
+OWN, TABLES, SHARES = ("RssAnon:", "RssFile:", "VmSwap:"), ("VmPTE:",), ("Pss_Anon:", "Pss_File:", "SwapPss:")
+SHARED = "/dev/zero (deleted)"
+
+
+class MemoryWatch:
+    """While it is open, looks at all programs, and ends one that takes too much by its own call."""
+
+    def __init__(self, looks: Sequence[Callable[[], bool]], ends: Sequence[Callable[[str], None]]) -> None:
+        """The first say of each program whether it takes too much."""
+        self._looks = looks
+        self._ends = ends
+        self._is_over = threading.Event()
+        self._thread = threading.Thread(target=self._look, daemon=True)
+
+    def __enter__(self) -> "MemoryWatch":
+        self._thread.start()
+        return self
+
+    def __exit__(self, *_: Any) -> None:
+        self._is_over.set()
+        self._thread.join()
+
+    def _look(self) -> None:
+        while not self._is_over.wait(EVERY):
+            for takes_too_much, end in zip(self._looks, self._ends):
+                with contextlib.suppress(OSError):
+                    if takes_too_much():
+                        end(TOO_MUCH)
+
+
+def processes_below(process: int) -> List[int]:
+    """A process and all that it has started, as far as they have not lost those between."""
+    found, waiting = [], [process]
+    while waiting:
+        found.append(waiting.pop())
+        for path in pathlib.Path(f"/proc/{found[-1]}/task").glob("*/children"):
+            with contextlib.suppress(OSError):
+                waiting += map(int, path.read_text().split())
+    return found
+
+
+def memory_of(processes: Sequence[int]) -> int:
+    """The bytes of memory that these processes take. Who has few addresses takes little; else tables of pages count
+    too, and memory that processes share by its size, as what they have given back of it is taken all the same. Pages of
+    their own that several have count once, if it may matter."""
+    addresses, resident = (sum(counted(process, "statm", lambda text: int(text.split()[column]) * PAGE)
+                               for process in processes) for column in (0, 1))
+    if addresses <= MOST:
+        return resident
+    shared = sum(sizes_of_shared(processes).values())
+    quick = shared + sum(counted(process, "status", lambda text: bytes_in(text, OWN + TABLES)) for process in processes)
+    if quick <= MOST:
+        return quick
+    tables = sum(counted(process, "status", lambda text: bytes_in(text, TABLES)) for process in processes)
+    return shared + tables + sum(counted(process, "smaps_rollup", lambda text: bytes_in(text, SHARES))
+                                 for process in processes)
+
+
+def bytes_in(text: str, names: Sequence[str]) -> int:
+    """The bytes that these lines of a text say, in whose numbers stand kilobytes."""
+    return sum(int(line.split()[1]) << 10 for line in text.splitlines() if line.startswith(tuple(names)))
+
+
+def sizes_of_shared(processes: Sequence[int]) -> Dict[str, int]:
+    """The bytes of each piece of memory without a name that processes share, by its number."""
+    found: Dict[str, int] = {}
+    for process in processes:
+        with contextlib.suppress(OSError, ValueError):
+            for line in pathlib.Path(f"/proc/{process}/maps").read_text(errors="replace").splitlines():
+                if line.endswith(SHARED):
+                    place, _, offset, _, number, *_ = line.split()
+                    first, last = (int(it, 16) for it in place.split("-"))
+                    found[number] = max(found.get(number, 0), int(offset, 16) + last - first)
+    return found
+
+
+def counted(process: int, name: str, count: Callable[[str], int]) -> int:
+    """What a file of /proc says of a process, or nothing if it has ended."""
+    try:
+        return count(pathlib.Path(f"/proc/{process}/{name}").read_text())
+    except (OSError, IndexError, ValueError):
+        return 0
+
+
+def space_of(folder: str) -> int:
+    """The bytes of memory that a file system in memory takes."""
+    found = os.statvfs(folder)
+    return (found.f_blocks - found.f_bfree) * found.f_frsize + (found.f_files - found.f_ffree) * BYTES_OF_A_FILE

@@ -1,0 +1,89 @@
+"""Pages of a team's attempts."""
+from typing import Any
+
+from django.http import FileResponse, Http404, HttpResponse
+from django.shortcuts import redirect, render
+from django.views.decorators.http import require_POST
+
+from arena_lab.hall import machine
+from arena_lab.hall.attempts import asking, shown
+from arena_lab.hall.attempts.models import Attempt, Contest, Match
+from arena_lab.hall.teams.guards import BOXED
+from arena_lab.hall.teams.views import for_teams
+
+
+def own(request: Any, number: int) -> Attempt:
+    """An attempt of the team that asks, or of any team if the teacher does. Another team's is as if there were none."""
+    found = Attempt.objects.filter(pk=number).select_related("team", "contest").first()
+    may_see = found is not None and (request.user.is_staff or request.team is not None
+                                     and found.team_id == request.team.pk)
+    if found is None or not may_see:
+        raise Http404
+    return found
+
+
+@for_teams
+def listed(request: Any, refusal: str = "", status: int = 200) -> HttpResponse:
+    """What a team may ask for, and its attempts."""
+    given = {"offers": asking.offers(request.team), "attempts": shown.attempts(request.team), "refusal": refusal,
+             "contests": Contest.objects.filter(is_made=False).order_by("start")}
+    return render(request, "attempts.html", given, status=status)
+
+
+@for_teams
+def ask(request: Any) -> HttpResponse:
+    """Asks for an attempt."""
+    if request.method != "POST":
+        return redirect("/matches")
+    try:
+        made = asking.ask(request.team, request.POST.get("network", ""), request.POST.get("kind", ""))
+    except asking.RequestRefused as fault:
+        return listed(request, str(fault), fault.status)
+    return redirect(f"/matches/{made.pk}")
+
+
+def one(request: Any, number: int) -> HttpResponse:
+    """An attempt: how one plays it, and what came of it."""
+    attempt = own(request, number)
+    told = shown.attempt(attempt)
+    goes_on, pages = attempt.state not in machine.ENDED, sum(it["page"] is not None for it in told["matches"])
+    is_watched = goes_on or attempt.is_over and pages < len(told["matches"]) and attempt.size > 0
+    return render(request, "attempt.html", {"told": told, "goes_on": goes_on, "is_watched": is_watched, "pages": pages})
+
+
+@require_POST
+def close(request: Any, number: int) -> HttpResponse:
+    asking.close(own(request, number))
+    return redirect(f"/matches/{number}")
+
+
+def match_of(request: Any, number: int, match: int) -> Match:
+    """A match of an attempt that is over."""
+    attempt = own(request, number)
+    found = attempt.matches.filter(number=match).first() if attempt.is_over else None
+    if found is None:
+        raise Http404
+    return found
+
+
+def replay(request: Any, number: int, match: int) -> FileResponse:
+    """The replay of a match that is over."""
+    return sent(match_of(request, number, match).replay, "text/plain; charset=utf-8", f"match{number}-{match}.jsonl")
+
+
+def page(request: Any, number: int, match: int) -> FileResponse:
+    """The page on which one watches a match that is over. What strangers said stands in it, so it may reach nothing."""
+    response = sent(match_of(request, number, match).page, "text/html; charset=utf-8")
+    response["Content-Security-Policy"] = BOXED
+    return response
+
+
+def sent(path: Any, kind: str, name: str = "") -> FileResponse:
+    """A file, which is kept under a name if there is one."""
+    try:
+        response = FileResponse(path.open("rb"), content_type=kind)
+    except FileNotFoundError:
+        raise Http404 from None
+    if name:
+        response["Content-Disposition"] = f'attachment; filename="{name}"'
+    return response

@@ -1,0 +1,142 @@
+"""Grades a hand-in: `grade` plays it in its cells, as a command of its own, so that nothing of a team's program is in a
+process of the hall.
+
+Each public grading has draws of its own, since a team hands in again and again and must not learn where the black
+holes are. The secret one has the same draws for all teams.
+"""
+import contextlib
+import csv
+import hashlib
+import os
+import pathlib
+import shutil
+import subprocess
+import sys
+import time
+from typing import Any, Dict, List
+
+from django.conf import settings
+from django.db import OperationalError, connection, models, transaction
+
+from arena_lab.hall import machine
+from arena_lab.hall.attempts.playing import told_of
+from arena_lab.hall.attempts.servers import bound
+from arena_lab.hall.handins.models import Grading
+from arena_lab.hall.place import SECRET, write_whole
+from arena_lab.hall.steps import LEASE, RENEWED, step
+from arena_lab.rules.fixtures import toml_of
+from arena_lab.support.built import TOP
+from arena_lab.support.faults import Fault
+
+LOOK = 0.2
+COURSE, FILES, OUT, LOG = "course.toml", "files", "out", "log.txt"
+TEAM_PAGE = "team-{team}.html"
+SOLVED = "solved"
+
+
+def grade(number: int, holder: str) -> None:
+    """Grades a hand-in, if this holder holds the work."""
+    work = Grading.objects.filter(pk=number).select_related("hand_in", "hand_in__team").first()
+    if work is None or not step(work, machine.BEGIN, holder):
+        return
+    try:
+        prepare(work)
+        if ran(work, holder):
+            finish(work, holder)
+    except (Fault, OSError) as fault:
+        step(work, machine.FAIL, holder, fault=told_of(fault, work))
+
+
+def prepare(work: Grading) -> None:
+    """Writes the file of a course that has this team alone, and the secret of its draws."""
+    given, team = settings.HALL.hand_ins, work.hand_in.team
+    if given is None:
+        raise Fault("the hall takes no hand-ins any more")
+    shutil.rmtree(work.folder, ignore_errors=True)
+    work.folder.mkdir(mode=0o700, parents=True)
+    shutil.copytree(work.hand_in.folder / FILES, work.folder / FILES)
+    rows: Dict[str, Any] = {
+        "title": settings.HALL.title, "networks": given.secret if work.is_secret else given.networks,
+        "holes": given.holes, "schedulers": given.schedulers, "seeds": given.seeds}
+    own = {"name": team.name, "agents": given.agents, "files": [FILES], "command": given.command}
+    text = "".join(f"{name} = {toml_of(value)}\n" for name, value in rows.items())
+    text += "\n[[team]]\n" + "".join(f"{name} = {toml_of(value)}\n" for name, value in own.items())
+    write_whole(work.folder / COURSE, text)
+    drawn = settings.PLACE.secret(SECRET) if work.is_secret else f"{settings.PLACE.secret(SECRET)} {work.pk}"
+    write_whole(work.folder / SECRET, hashlib.sha256(drawn.encode()).hexdigest() + "\n")
+
+
+def ran(work: Grading, holder: str) -> bool:
+    """Runs `grade`; gives whether it has ended and the work is still this holder's."""
+    words = [sys.executable, "-m", "arena_lab", "grade", COURSE, "--out", OUT, "--secret", SECRET, "--workers", "1",
+             "--program", settings.PLACE.program]
+    variables = {"PATH": os.environ.get("PATH", "/usr/bin:/bin"), "PYTHONPATH": str(TOP), "PYTHONHASHSEED": "0"}
+    with (work.folder / LOG).open("wb") as log:
+        child = subprocess.Popen(bound(words, "TERM"), cwd=work.folder, stdin=subprocess.DEVNULL, stdout=log,
+                                 stderr=log, env=variables)
+    renewed = time.monotonic()
+    try:
+        while child.poll() is None:
+            time.sleep(LOOK)
+            if time.monotonic() - renewed > RENEWED:
+                with contextlib.suppress(OperationalError):
+                    if not step(work, machine.RENEW, holder):
+                        return False
+                    renewed = time.monotonic()
+                connection.close()
+            if time.monotonic() - renewed > LEASE.total_seconds():
+                return False
+    finally:
+        # who is ended so ends its cells
+        child.terminate()
+        with contextlib.suppress(subprocess.TimeoutExpired):
+            child.wait(10)
+        child.kill()
+        child.wait()
+    if child.returncode != 0:
+        raise Fault(f"the hall could not grade: {last_line(work.folder / LOG)}")
+    return True
+
+
+def last_line(path: pathlib.Path) -> str:
+    """The last line of a log."""
+    lines = path.read_text(encoding="utf-8", errors="replace").splitlines()
+    return lines[-1][:200] if lines else ""
+
+
+def finish(work: Grading, holder: str) -> None:
+    """Notes what came of a grading."""
+    rows = rows_of(work.folder / OUT, work.hand_in.team.name)
+    solved = [row for row in rows if row["solved"]]
+    networks = {row["network"]: [0, 0] for row in rows}
+    for row in rows:
+        networks[row["network"]][0] += row["solved"]
+        networks[row["network"]][1] += 1
+    with transaction.atomic():
+        step(work, machine.FINISH, holder, solved=len(solved), matches=len(rows), networks=networks,
+             moves=sum(row["moves"] for row in solved), lost=sum(row["lost"] for row in solved))
+
+
+def rows_of(out: pathlib.Path, team: str) -> List[Dict[str, Any]]:
+    """The matches of the results. A match that does not repeat is not solved."""
+    repeats: Dict[str, str] = {}
+    with contextlib.suppress(FileNotFoundError), (out / "repeats.csv").open(encoding="utf-8", newline="") as file:
+        repeats = {row["run"]: row["fault"] for row in csv.DictReader(file)}
+    with (out / "runs.csv").open(encoding="utf-8", newline="") as file:
+        return [{"network": row["network"], "moves": int(row["moves"]), "lost": int(row["lost"]),
+                 "solved": row["outcome"] == SOLVED and not row["fault"] and not repeats.get(row["run"])}
+                for row in csv.DictReader(file) if row["team"] == team]
+
+
+def due(waiting: "models.QuerySet[Grading]") -> List[Grading]:
+    """The gradings that may begin, fairly: of each team one at a time, and first the teams that were graded least
+    lately."""
+    busy = set(Grading.objects.filter(state__in=machine.ACTIVE).values_list("hand_in__team", flat=True))
+    last: Dict[int, Any] = dict(Grading.objects.order_by().exclude(begun=None).values_list("hand_in__team").annotate(
+        last=models.Max("begun")))
+    first: Dict[int, Grading] = {}
+    for work in waiting.select_related("hand_in").order_by("pk"):
+        if work.hand_in.team_id not in busy:
+            first.setdefault(work.hand_in.team_id, work)
+    return sorted(first.values(), key=lambda it: (last.get(it.hand_in.team_id) is not None,
+                                                  last.get(it.hand_in.team_id) or it.asked, it.pk))

@@ -1,0 +1,113 @@
+"""Django's settings for a hall, made of its course's file. ARENA_HALL names the hall's folder."""
+import pathlib
+import socket
+import urllib.parse
+from typing import Any, Dict
+
+import django
+
+from arena_lab.hall import place
+
+PLACE = place.current()
+HALL = PLACE.hall()
+HERE = pathlib.Path(__file__).resolve().parent
+
+SECRET_KEY = PLACE.secret(place.KEY)
+DEBUG = False
+ALLOWED_HOSTS = ["localhost", "127.0.0.1", "[::1]", socket.gethostname().lower(), HALL.host, *HALL.names]
+ROOT_URLCONF = "arena_lab.hall.urls"
+WSGI_APPLICATION = "arena_lab.hall.wsgi.application"
+
+INSTALLED_APPS = [
+    "arena_lab.hall.teams", "arena_lab.hall.attempts", "arena_lab.hall.handins", "arena_lab.hall.standings",
+    "django.contrib.admin", "django.contrib.auth", "django.contrib.contenttypes", "django.contrib.sessions",
+    "django.contrib.messages", "django.contrib.staticfiles", "rest_framework",
+]
+MIDDLEWARE = [
+    "arena_lab.hall.teams.guards.Guards",
+    "django.middleware.security.SecurityMiddleware",
+    "django.contrib.sessions.middleware.SessionMiddleware",
+    "django.middleware.locale.LocaleMiddleware",
+    "django.middleware.common.CommonMiddleware",
+    "django.middleware.csrf.CsrfViewMiddleware",
+    "django.contrib.auth.middleware.AuthenticationMiddleware",
+    "django.contrib.messages.middleware.MessageMiddleware",
+    "django.middleware.clickjacking.XFrameOptionsMiddleware",
+    "arena_lab.hall.teams.logins.Teams",
+]
+TEMPLATES = [{
+    "BACKEND": "django.template.backends.django.DjangoTemplates",
+    "DIRS": [HERE / "templates"],
+    "APP_DIRS": True,
+    "OPTIONS": {"context_processors": [
+        "django.template.context_processors.request", "django.contrib.auth.context_processors.auth",
+        "django.contrib.messages.context_processors.messages", "arena_lab.hall.teams.logins.shown",
+    ]},
+}]
+
+
+def database_of(said: str) -> Dict[str, Any]:
+    """The database: a file in the hall's folder, or the PostgreSQL of an address."""
+    if said == "sqlite":
+        return {"ENGINE": "arena_lab.hall.sqlite", "NAME": str(PLACE.folder / "hall.sqlite3"),
+                "OPTIONS": {"timeout": 30}}
+    found = urllib.parse.urlsplit(said)
+    parts = {"USER": found.username, "PASSWORD": found.password, "HOST": found.hostname, "PORT": found.port}
+    return {"ENGINE": "django.db.backends.postgresql", "NAME": found.path.lstrip("/"), "CONN_MAX_AGE": 60,
+            **{name: urllib.parse.unquote(str(value)) for name, value in parts.items() if value}}
+
+
+DATABASES = {"default": database_of(HALL.database)}
+DEFAULT_AUTO_FIELD = "django.db.models.BigAutoField"
+AUTHENTICATION_BACKENDS = ["arena_lab.hall.teams.logins.Teachers"]
+AUTH_PASSWORD_VALIDATORS = [{"NAME": "django.contrib.auth.password_validation.MinimumLengthValidator",
+                             "OPTIONS": {"min_length": 10}}]
+
+LANGUAGE_CODE = HALL.language
+LANGUAGES = [("en", "English"), ("de", "Deutsch"), ("fr", "Français")]
+LOCALE_PATHS = [HERE / "locale"]
+USE_I18N, USE_TZ = True, True
+if django.VERSION < (4,):
+    # later versions do so anyhow
+    USE_L10N = True
+TIME_ZONE = HALL.zone
+
+STATIC_URL = "/static/"
+STATICFILES_DIRS = [HERE / "static"]
+LOGIN_URL = "/login"
+
+# cookies: not for scripts, not for other sites, and encrypted alone if a server that encrypts stands before the hall
+SESSION_COOKIE_HTTPONLY = CSRF_COOKIE_HTTPONLY = True
+SESSION_COOKIE_SAMESITE = CSRF_COOKIE_SAMESITE = "Lax"
+SESSION_COOKIE_SECURE = CSRF_COOKIE_SECURE = HALL.https
+SESSION_COOKIE_AGE = 14 * 24 * 3600
+SECURE_REFERRER_POLICY = "same-origin"
+SECURE_CONTENT_TYPE_NOSNIFF = True
+X_FRAME_OPTIONS = "DENY"
+if HALL.https:
+    SECURE_PROXY_SSL_HEADER = ("HTTP_X_FORWARDED_PROTO", "https")
+    # later versions of Django want the scheme too
+    CSRF_TRUSTED_ORIGINS = [name if django.VERSION < (4,) else f"https://{name}" for name in (HALL.host, *HALL.names)]
+
+# a form of a stranger has few fields, and files of hand-ins go to the disk
+DATA_UPLOAD_MAX_MEMORY_SIZE = 256 << 10
+DATA_UPLOAD_MAX_NUMBER_FIELDS = 100
+FILE_UPLOAD_MAX_MEMORY_SIZE = 64 << 10
+
+REST_FRAMEWORK = {
+    "DEFAULT_AUTHENTICATION_CLASSES": ["arena_lab.hall.teams.logins.ByToken", "arena_lab.hall.teams.logins.BySession"],
+    "DEFAULT_PERMISSION_CLASSES": ["arena_lab.hall.teams.logins.IsTeam"],
+    "DEFAULT_RENDERER_CLASSES": ["rest_framework.renderers.JSONRenderer"],
+    "DEFAULT_PARSER_CLASSES": ["rest_framework.parsers.JSONParser", "rest_framework.parsers.MultiPartParser"],
+    "EXCEPTION_HANDLER": "arena_lab.hall.teams.faults.error_response",
+    "UNAUTHENTICATED_USER": None,
+}
+
+# what went wrong stands in the log of the hall without what was sent: tokens and passwords are in no line
+LOGGING = {
+    "version": 1, "disable_existing_loggers": False,
+    "formatters": {"plain": {"format": "%(asctime)s %(levelname)s %(name)s: %(message)s"}},
+    "handlers": {"stderr": {"class": "logging.StreamHandler", "formatter": "plain"}},
+    "root": {"handlers": ["stderr"], "level": "WARNING"},
+    "loggers": {"django.request": {"level": "ERROR"}, "django.security": {"level": "ERROR"}},
+}

@@ -1,0 +1,192 @@
+"""What stands before each page: how often one may ask, what a browser may do with an answer, and what errors say.
+
+A team that asks too often is told so (429) before anything else is done for it, and others are not slower for it. Who
+is not known is counted by address, so what strangers try costs no team its requests.
+"""
+import collections
+import hashlib
+import ipaddress
+import threading
+import time
+from typing import Callable, Dict, Optional, Tuple
+
+from django.conf import settings
+from django.http import HttpRequest, HttpResponse, JsonResponse
+from django.utils.translation import gettext as _
+
+STRICT = ("default-src 'none'; style-src 'self'; script-src 'self'; img-src 'self' data:; font-src 'self'; "
+          "connect-src 'self'; form-action 'self'; base-uri 'none'; frame-ancestors 'none'")
+# pages that are made of what strangers said have their scripts in them, and may reach nothing, not even cookies
+BOXED = ("sandbox allow-scripts; default-src 'none'; style-src 'unsafe-inline'; script-src 'unsafe-inline'; "
+         "base-uri 'none'; form-action 'none'; frame-ancestors 'none'")
+# requests a minute of an address that nobody has logged in from, and tries of tokens and passwords in ten minutes
+STRANGERS, TRIES, TRIES_OF_ADDRESS = 600, 10, 100
+# bytes that are sent with a request: a hand-in, or of who has not logged in a form
+MOST_SENT, MOST_OF_STRANGERS = (8 << 20) + (64 << 10), 64 << 10
+# what is kept in mind at most
+MOST = 20_000
+# where programs ask, and how they send their token
+REST, BEARER = "/api/", "bearer "
+# the bits of an address of IPv6 that say whose it is
+OF_ONE = 64
+
+
+class Buckets:
+    """How often each key may be used: each has a bucket of tries, which fills evenly within these seconds."""
+
+    def __init__(self, seconds: float) -> None:
+        self._seconds = seconds
+        self._left: "collections.OrderedDict[str, Tuple[float, float]]" = collections.OrderedDict()
+        self._lock = threading.Lock()
+
+    def wait(self, key: str, most: int) -> float:
+        """Takes one of what is left, and gives 0; if nothing is left, gives the seconds to wait."""
+        with self._lock:
+            left = self._refilled(key, most)
+            is_enough = left >= 1
+            self._put(key, left - 1 if is_enough else left)
+        return 0.0 if is_enough else (1 - left) * self._seconds / most
+
+    def give(self, key: str, most: int) -> None:
+        """Gives back what was taken."""
+        with self._lock:
+            self._put(key, min(float(most), self._refilled(key, most) + 1))
+
+    def _refilled(self, key: str, most: int) -> float:
+        now = time.monotonic()
+        left, then = self._left.pop(key, (float(most), now))
+        return min(float(most), left + (now - then) * most / self._seconds)
+
+    def _put(self, key: str, left: float) -> None:
+        self._left[key] = (left, time.monotonic())
+        while len(self._left) > MOST:
+            self._left.popitem(last=False)
+
+    def clear(self) -> None:
+        with self._lock:
+            self._left.clear()
+
+
+class CredentialCache:
+    """Whose credentials are known to be right: a token's or a session's digest, and the team's name."""
+
+    def __init__(self) -> None:
+        self._names: "collections.OrderedDict[str, str]" = collections.OrderedDict()
+        self._lock = threading.Lock()
+
+    def name(self, digest: Optional[str]) -> Optional[str]:
+        with self._lock:
+            return self._names.get(digest or "")
+
+    def note(self, digest: Optional[str], name: str) -> None:
+        with self._lock:
+            if digest and digest not in self._names:
+                self._names[digest] = name
+                if len(self._names) > MOST:
+                    self._names.popitem(last=False)
+
+    def forget(self, digest: Optional[str]) -> None:
+        """A token that was replaced, or a session that has ended, is nobody's."""
+        with self._lock:
+            self._names.pop(digest or "", None)
+
+
+asked, tried, known = Buckets(60), Buckets(600), CredentialCache()
+
+
+def address_of(request: HttpRequest) -> str:
+    """Who asks: the address, as the server before the hall tells it if there is one; it stands last, behind what a
+    stranger says of himself. Of an address of IPv6 that is the network, whose addresses are all one person's."""
+    found = str(request.META.get("REMOTE_ADDR", ""))
+    if settings.HALL.https:
+        found = str(request.META.get("HTTP_X_FORWARDED_FOR", found)).rpartition(",")[2].strip()
+    try:
+        address = ipaddress.ip_address(found.partition("%")[0])
+    except ValueError:
+        return found
+    if address.version == 4 or address.ipv4_mapped:
+        return str(getattr(address, "ipv4_mapped", None) or address)
+    return str(ipaddress.ip_network((address, OF_ONE), strict=False))
+
+
+def token_in(request: HttpRequest) -> Optional[str]:
+    """The token that a program sends with a request of REST. Pages read none."""
+    said = str(request.META.get("HTTP_AUTHORIZATION", ""))
+    is_token = request.path.startswith(REST) and said.lower().startswith(BEARER)
+    return said[len(BEARER):].strip() if is_token else None
+
+
+def credential_of(request: HttpRequest) -> Optional[str]:
+    """The digest of the token or of the session by which one asks: of the one that the hall will look at."""
+    token, session = token_in(request), request.COOKIES.get(settings.SESSION_COOKIE_NAME)
+    said = f"token {token}" if token is not None else f"session {session}" if session else ""
+    return hashlib.sha256(said.encode(errors="replace")).hexdigest() if said else None
+
+
+def must_wait_to_try(request: HttpRequest, name: str) -> float:
+    """How many seconds one waits before one may try a token or a password of this name; 0 takes a try. A try that was
+    right is given back by `was_right`."""
+    address = address_of(request)
+    wait = tried.wait(f"{address} {name[:40]}", TRIES)
+    return wait or tried.wait(address, TRIES_OF_ADDRESS)
+
+
+def was_right(request: HttpRequest, name: str) -> None:
+    """Gives a try back."""
+    address = address_of(request)
+    tried.give(f"{address} {name[:40]}", TRIES)
+    tried.give(address, TRIES_OF_ADDRESS)
+
+
+class Guards:
+    """The middleware."""
+
+    def __init__(self, answer: Callable[[HttpRequest], HttpResponse]) -> None:
+        self._answer = answer
+
+    def __call__(self, request: HttpRequest) -> HttpResponse:
+        response = self._refused(request) or self._answer(request)
+        for name, value in headers().items():
+            response.headers.setdefault(name, value)
+        return response
+
+    def _refused(self, request: HttpRequest) -> Optional[HttpResponse]:
+        if request.path.startswith("/static/"):
+            return None
+        name = known.name(credential_of(request))
+        key, most = (f"team {name}", settings.HALL.limits.requests) if name else (address_of(request), STRANGERS)
+        wait = asked.wait(key, most)
+        if wait:
+            return too_many(wait)
+        # what comes with a token is read once the token is found right
+        if length_of(request) > (MOST_SENT if name or token_in(request) else MOST_OF_STRANGERS):
+            return refusal(413, _("that is too much"))
+        if any(word in request.GET for word in ("token", "key", "password")):
+            # what stands in an address is kept by browsers, servers and logs
+            return refusal(400, _("a token belongs into the header Authorization, and never into an address"))
+        return None
+
+
+def length_of(request: HttpRequest) -> int:
+    """How many bytes are sent with a request. Without a word of that Django reads none."""
+    said = str(request.META.get("CONTENT_LENGTH") or 0)
+    return int(said) if said.isdecimal() and len(said) < 12 else MOST_SENT + 1
+
+
+def headers() -> Dict[str, str]:
+    """What each answer has: nothing is taken from elsewhere, framed or kept."""
+    return {"Content-Security-Policy": STRICT, "X-Content-Type-Options": "nosniff", "Cache-Control": "no-store",
+            "Referrer-Policy": "same-origin", "Cross-Origin-Resource-Policy": "same-origin"}
+
+
+def refusal(status: int, text: str, **more: str) -> HttpResponse:
+    """A refusal as an object, which programs and people can read."""
+    response = JsonResponse({"error": text}, status=status)
+    for name, value in more.items():
+        response[name.replace("_", "-")] = value
+    return response
+
+
+def too_many(wait: float) -> HttpResponse:
+    seconds = str(int(wait) + 1)
+    return refusal(429, _("too many requests: wait %(seconds)s seconds") % {"seconds": seconds}, Retry_After=seconds)

@@ -1,0 +1,126 @@
+"""Logging in: teams by the token of their key sheet, by a page or by each request; the teacher by a password."""
+from typing import Any, Callable, Dict, Optional, Tuple
+
+from django.conf import settings
+from django.contrib.auth.backends import ModelBackend
+from django.http import HttpRequest, HttpResponse
+from django.utils.translation import gettext_lazy as _
+from rest_framework import exceptions
+from rest_framework.authentication import BaseAuthentication, SessionAuthentication
+from rest_framework.permissions import BasePermission
+
+from arena_lab.hall.teams import guards
+from arena_lab.hall.teams.models import DOT, Team, team_of
+
+WRONG = _("no team has this token")
+WAIT = _("too many wrong tries: wait some minutes")
+SESSION_TEAM, SESSION_GENERATION = "team", "generation"
+
+
+class TooManyTries(Exception):
+    """Tokens or passwords were tried too often."""
+
+
+def tried(request: HttpRequest, token: str) -> Optional[Team]:
+    """The team of a token, whose tries are limited by address."""
+    name = token.partition(DOT)[0]
+    if guards.must_wait_to_try(request, name):
+        raise TooManyTries
+    team = team_of(token.strip())
+    if team is not None:
+        guards.was_right(request, name)
+    return team
+
+
+def log_in(request: Any, team: Team) -> None:
+    """Begins a session of a team, in the place of any before it."""
+    request.session.flush()
+    request.session[SESSION_TEAM], request.session[SESSION_GENERATION] = team.pk, team.generation
+
+
+def team_in(request: Any) -> Optional[Team]:
+    """The team of a session, unless its token was drawn anew meanwhile."""
+    number = request.session.get(SESSION_TEAM)
+    team = Team.objects.filter(pk=number).first() if number is not None else None
+    is_new = team is not None and request.session.get(SESSION_GENERATION) == team.generation
+    return team if is_new else None
+
+
+class Teams:
+    """The middleware that says which team asks."""
+
+    def __init__(self, answer: Callable[[Any], HttpResponse]) -> None:
+        self._answer = answer
+
+    def __call__(self, request: Any) -> HttpResponse:
+        request.team = team_in(request)
+        if guards.token_in(request) is None:
+            digest = guards.credential_of(request)
+            if request.team is not None:
+                guards.known.note(digest, request.team.name)
+            else:
+                guards.known.forget(digest)
+        return self._answer(request)
+
+
+class ByToken(BaseAuthentication):
+    """`Authorization: Bearer TOKEN`, as programs ask."""
+
+    def authenticate(self, request: Any) -> Optional[Tuple[Team, None]]:
+        token = guards.token_in(request)
+        if token is None:
+            return None
+        digest = guards.credential_of(request)
+        # a token that was right costs no try, and is asked for anew each time
+        team = team_of(token) if guards.known.name(digest) else self._tried(request, token)
+        if team is None:
+            guards.known.forget(digest)
+            raise exceptions.AuthenticationFailed(WRONG)
+        guards.known.note(digest, team.name)
+        return team, None
+
+    def _tried(self, request: Any, token: str) -> Optional[Team]:
+        try:
+            return tried(request, token)
+        except TooManyTries:
+            raise exceptions.Throttled(detail=WAIT) from None
+
+    def authenticate_header(self, request: Any) -> str:
+        return "Bearer"
+
+
+class BySession(SessionAuthentication):
+    """The session of a page, whose requests name its secret against forgeries."""
+
+    def authenticate(self, request: Any) -> Optional[Tuple[Team, None]]:
+        team = request._request.team
+        if team is None:
+            return None
+        self.enforce_csrf(request)
+        return team, None
+
+
+class IsTeam(BasePermission):
+    """Whether a team asks."""
+
+    def has_permission(self, request: Any, view: Any) -> bool:
+        return isinstance(request.user, Team)
+
+
+class Teachers(ModelBackend):
+    """The teacher's password, whose tries are limited."""
+
+    def authenticate(self, request: Any, username: Any = None, password: Any = None, **given: Any) -> Any:
+        name = f"teacher {username}"
+        if request is not None and guards.must_wait_to_try(request, name):
+            return None
+        user = super().authenticate(request, username=username, password=password, **given)
+        if user is not None and request is not None:
+            guards.was_right(request, name)
+        return user
+
+
+def shown(request: Any) -> Dict[str, Any]:
+    """What each page has."""
+    hall = settings.HALL
+    return {"hall": hall, "team": getattr(request, "team", None), "takes_hand_ins": hall.hand_ins is not None}

@@ -1,0 +1,114 @@
+"""Teams, what the teacher grants them, and the hall's log."""
+import datetime
+import hashlib
+import hmac
+import secrets
+from typing import Optional
+
+from django.conf import settings
+from django.core.validators import RegexValidator
+from django.db import models
+from django.utils import timezone
+from django.utils.translation import gettext_lazy as _
+
+from arena_lab.hall.course import TEAM
+
+# what parts a team's name from the rest of its token
+DOT = "."
+
+
+class Team(models.Model):
+    """A team. Of its token the hall keeps a digest."""
+
+    name = models.CharField(_("name"), max_length=16, unique=True, validators=[RegexValidator(f"^{TEAM.pattern}$")],
+                            help_text=_("1 to 16 characters out of a to z, 0 to 9 and -"))
+    display = models.CharField(_("display name"), max_length=80, blank=True)
+    hidden = models.BooleanField(_("hidden"), default=False, help_text=_("is in no standings that teams see"))
+    digest = models.CharField(max_length=64, blank=True, editable=False)
+    # sessions of an earlier token are no sessions any more
+    generation = models.PositiveIntegerField(default=0, editable=False)
+
+    class Meta:
+        verbose_name, verbose_name_plural = _("team"), _("teams")
+        ordering = ["name"]
+
+    # what Django and its REST framework ask of who is logged in
+    is_authenticated = True
+    is_active = True
+
+    def __str__(self) -> str:
+        return str(self.display or self.name)
+
+    def new_token(self) -> str:
+        """Draws a token, which no one can ask for again; earlier ones and their sessions end."""
+        token = f"{self.name}{DOT}{secrets.token_urlsafe(18)}"
+        self.digest, self.generation = digest_of(token), self.generation + 1
+        self.save(update_fields=["digest", "generation"])
+        return token
+
+
+def digest_of(token: str) -> str:
+    """What is kept of a token. It has 144 bits by chance, so nobody can try them all."""
+    return hmac.new(settings.SECRET_KEY.encode(), token.encode(), hashlib.sha256).hexdigest()
+
+
+def team_of(token: str) -> Optional[Team]:
+    """The team of a token, or nothing. How long the answer takes does not depend on how much of it is right."""
+    name = token.partition(DOT)[0]
+    team = Team.objects.filter(name=name).first() if TEAM.fullmatch(name) else None
+    is_right = hmac.compare_digest(team.digest if team else "", digest_of(token))
+    return team if is_right else None
+
+
+class Grant(models.Model):
+    """One more try that the teacher gives a team today: a rated attempt on a network, or a hand-in."""
+
+    RATED, HAND_IN = "rated", "hand-in"
+    team = models.ForeignKey(Team, models.CASCADE)
+    kind = models.CharField(max_length=10, choices=[(RATED, _("rated attempt")), (HAND_IN, _("hand-in"))])
+    network = models.CharField(_("network"), max_length=60, blank=True, help_text=_("of a rated attempt"))
+    at = models.DateTimeField(default=timezone.now)
+
+    class Meta:
+        verbose_name, verbose_name_plural = _("one more try"), _("more tries")
+
+
+class Entry(models.Model):
+    """A line of the hall's log: who did what. It has no token, no key and no password."""
+
+    at = models.DateTimeField(default=timezone.now, db_index=True)
+    who = models.CharField(max_length=40)
+    what = models.CharField(max_length=300)
+
+    class Meta:
+        verbose_name, verbose_name_plural = _("line of the log"), _("log")
+        ordering = ["-at", "-pk"]
+
+
+class Switch(models.Model):
+    """A network that the teacher has closed, or opened again. A network without a switch is open."""
+
+    network = models.CharField(_("network"), max_length=60, unique=True)
+    is_open = models.BooleanField(_("open"), default=True)
+
+    class Meta:
+        verbose_name, verbose_name_plural = _("network"), _("networks")
+        ordering = ["network"]
+
+    def __str__(self) -> str:
+        return str(self.network)
+
+
+def note(who: object, what: str) -> None:
+    """Writes a line of the log."""
+    Entry.objects.create(who=str(who)[:40], what=what[:300])
+
+
+def granted(team: Team, kind: str, network: str = "") -> int:
+    """How many more tries a team has today."""
+    return int(Grant.objects.filter(team=team, kind=kind, network=network, at__gte=today()).count())
+
+
+def today() -> datetime.datetime:
+    """When today began, by the hall's time zone."""
+    return timezone.localtime().replace(hour=0, minute=0, second=0, microsecond=0)

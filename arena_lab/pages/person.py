@@ -1,0 +1,122 @@
+"""A web server for one person, who plays the agents of a match on a page. Until the match is over it tells what the
+agents have seen, and nothing else."""
+import contextlib
+import json
+import pathlib
+import tempfile
+from typing import Any, Dict, List, Protocol
+
+from arena_lab.pages.page import data_of, page_of
+from arena_lab.pages.parts import filled, part
+from arena_lab.pages.projector import SCRIPT, STRICT, STYLE, WHOLE, headers, refusal
+from arena_lab.support.missing import needed
+
+JSON = "application/json"
+# how long a request may be
+MOST_BYTES = 10_000
+
+
+class PersonMatch(Protocol):
+    """The match that is played: see arena_lab/play/human.py."""
+
+    @property
+    def is_over(self) -> bool: ...
+    def may_say(self, agent: int) -> bool: ...
+    def say(self, agent: int, command: Dict[str, Any]) -> None: ...
+    def wait(self) -> None: ...
+    def end(self) -> Any: ...
+    def replay(self) -> bytes: ...
+    def shown(self) -> Dict[str, Any]: ...
+
+
+class PersonHandlers:
+    """The handlers of the web server."""
+
+    def __init__(self, web: Any, match: PersonMatch, title: str) -> None:
+        self._web, self._match, self._title = web, match, title
+
+    def routes(self) -> List[Any]:
+        get, post = self._web.get, self._web.post
+        return [get("/", self.page), get("/play.js", self.script), get("/play.css", self.style),
+                get("/seen", self.seen), get("/match", self.whole), post("/say", self.say), post("/wait", self.wait),
+                post("/end", self.end)]
+
+    def _said(self, text: str, kind: str = "text/html", policy: str = STRICT) -> Any:
+        return self._web.Response(text=text, content_type=kind, headers=headers(policy))
+
+    def _shown(self) -> Any:
+        return self._said(json.dumps(self._match.shown()), JSON)
+
+    async def page(self, _: Any) -> Any:
+        return self._said(filled("play.html", title=self._title))
+
+    async def script(self, _: Any) -> Any:
+        return self._said(part("play.js"), SCRIPT)
+
+    async def style(self, _: Any) -> Any:
+        return self._said(part("play.css"), STYLE)
+
+    async def seen(self, _: Any) -> Any:
+        return self._shown()
+
+    async def whole(self, _: Any) -> Any:
+        """The page of the whole match, once it is over."""
+        if not self._match.is_over:
+            raise self._web.HTTPNotFound(text="the match is not over\n", headers=headers(STRICT))
+        with tempfile.TemporaryDirectory() as folder:
+            replay = pathlib.Path(folder) / "match0.jsonl"
+            replay.write_bytes(self._match.replay())
+            return self._said(page_of(data_of(None, replay, None, self._title)), policy=WHOLE)
+
+    async def say(self, request: Any) -> Any:
+        found = await self._asked(request)
+        agent, command = found.get("agent"), found.get("command")
+        if (not isinstance(agent, int) or isinstance(agent, bool)
+                or not 0 <= agent < len(self._match.shown()["agents"])
+                or not isinstance(command, dict) or not isinstance(command.get("do"), str)):
+            raise self._web.HTTPBadRequest(text="no agent says this\n", headers=headers(STRICT))
+        if self._match.may_say(agent):
+            self._match.say(agent, command)
+        return self._shown()
+
+    async def wait(self, request: Any) -> Any:
+        await self._asked(request)
+        self._match.wait()
+        return self._shown()
+
+    async def end(self, request: Any) -> Any:
+        await self._asked(request)
+        if not self._match.is_over:
+            self._match.end()
+        return self._shown()
+
+    async def _asked(self, request: Any) -> Dict[str, Any]:
+        """The object of a request. A form of another page cannot send one of this kind."""
+        found = None
+        if request.content_type == JSON and (request.content_length or 0) <= MOST_BYTES:
+            with contextlib.suppress(ValueError):
+                found = json.loads(await request.text())
+        if not isinstance(found, dict):
+            raise self._web.HTTPBadRequest(text="no JSON object\n", headers=headers(STRICT))
+        return found
+
+
+def application(match: PersonMatch, title: str) -> Any:
+    """The web server's application, for pages of this machine alone."""
+    web = needed("aiohttp.web")
+
+    async def for_own_pages(request: Any, handler: Any) -> Any:
+        said = refusal(request.headers, ())
+        if said:
+            return web.Response(status=403, text=said, headers=headers(STRICT))
+        return await handler(request)
+    app = web.Application(middlewares=[web.middleware(for_own_pages)], client_max_size=MOST_BYTES)
+    app.add_routes(PersonHandlers(web, match, title).routes())
+    return app
+
+
+def serve(match: PersonMatch, title: str, port: int) -> None:
+    """Serves the page to this machine until it is interrupted."""
+    web = needed("aiohttp.web")
+    web.run_app(application(match, title), host="127.0.0.1", port=port, access_log=None, shutdown_timeout=1,
+                print=lambda *_: print(f"play at http://127.0.0.1:{port}/", flush=True))

@@ -1,0 +1,234 @@
+"""A web server that shows a contest while it goes on, and tells no more than arena_lab/pages/screen.py allows."""
+import asyncio
+import contextlib
+import ipaddress
+import json
+import pathlib
+import re
+import socket
+import time
+from typing import Any, Callable, Collection, Dict, List, Mapping, Optional, Tuple
+
+from arena_lab.pages.contest_pages import Shown, matches_of
+from arena_lab.pages.feeds import Feed, feeds
+from arena_lab.pages.judging import cut, footprints
+from arena_lab.pages.page import layout, page_of, read, runs
+from arena_lab.pages.parts import filled, part
+from arena_lab.pages.screen import WatchedMatch, standings, teams
+from arena_lab.rules.model import Match, judge
+from arena_lab.support.missing import needed
+
+# seconds between two looks at the files, and how many watchers there may be
+EVERY, MOST_WATCHERS = 0.5, 500
+# seconds after which a watcher that was told nothing new is asked whether it is there
+QUIET = 15
+STRICT = ("default-src 'none'; style-src 'self'; script-src 'self'; connect-src 'self'; base-uri 'none'; "
+          "form-action 'none'")
+# the page of a match has its style and its script in itself
+WHOLE = ("default-src 'none'; style-src 'unsafe-inline'; script-src 'unsafe-inline'; connect-src 'self'; "
+         "base-uri 'none'; form-action 'none'")
+SCRIPT, STYLE = "text/javascript", "text/css"
+
+
+class ContestView:
+    """The matches of a contest, and what of them may be shown. Whoever watches waits for the next version."""
+
+    def __init__(self, matches: List[Shown], prefix: str, is_open: bool) -> None:
+        self.is_open = is_open
+        self.version = 0
+        self._matches = matches
+        self._feeds = feeds(prefix, len(matches))
+        self._changed = asyncio.Condition()
+        self._grown = [0] * len(matches)
+        self.rows = self._standings()
+
+    def feed(self, number: int) -> Optional[Feed]:
+        return self._feeds[number] if number < len(self._feeds) else None
+
+    def may_open(self, number: int) -> bool:
+        """Whether the page of a match may be shown."""
+        return self.is_open or any(row["match"] == number and row["page"] for row in self.rows)
+
+    def teams(self) -> Dict[str, Any]:
+        """The standings of teams."""
+        traps = [match.number for match in self._matches if match.is_trap]
+        return teams(self.rows, [match.name for match in self._matches], traps)
+
+    def grown(self, number: int) -> int:
+        """A number that rises whenever something happens in a match."""
+        return self._grown[number]
+
+    async def watch(self) -> None:
+        """Looks at the files again and again."""
+        while True:
+            changed = [number for number, feed in enumerate(self._feeds) if feed.look()]
+            for number in changed:
+                self._grown[number] += 1
+            rows = self._standings() if changed else self.rows
+            if rows != self.rows or changed and self.is_open:
+                self.rows, self.version = rows, self.version + 1
+                async with self._changed:
+                    self._changed.notify_all()
+            await asyncio.sleep(EVERY)
+
+    async def after(self, version: int) -> None:
+        """Waits until there is another version."""
+        async with self._changed:
+            await self._changed.wait_for(lambda: self.version != version)
+
+    def _standings(self) -> List[Dict[str, Any]]:
+        return standings([WatchedMatch(match.team, feed.match, None if feed.since is None else int(feed.since))
+                          for match, feed in zip(self._matches, self._feeds)])
+
+
+def data_of(name: str, match: Match) -> Dict[str, Any]:
+    """What the page of a match shows, which may still go on."""
+    again = read([json.dumps(match.head()), *map(json.dumps, match.log)])
+    events = footprints(match)
+    met = sorted({event["agent"] for event in match.log if "agent" in event})
+    verdict = "{} moves {} lost {}".format(*judge(match)) if match.closed else "the match goes on"
+    return {"name": name, "verdict": verdict, "spots": layout(again["head"]), "match": again, "twin": None,
+            "pasts": {str(agent): runs(cut(agent, events)) for agent in met}}
+
+
+class ProjectorHandlers:
+    """The handlers of the web server."""
+
+    def __init__(self, web: Any, contest: ContestView, title: str, turns: Dict[str, int]) -> None:
+        self._web = web
+        self._contest = contest
+        self._title = title
+        self._turns = turns
+        self._watchers = 0
+
+    def routes(self) -> List[Any]:
+        get = self._web.get
+        return [get("/", self.page), get("/watch.js", self.script), get("/watch.css", self.style),
+                get("/standings", self.standings), get(r"/match/{number:\d{1,2}}", self.match),
+                get(r"/match/{number:\d{1,2}}/data", self.data), get(r"/match/{number:\d{1,2}}/news", self.news)]
+
+    def _said(self, text: str, kind: str = "text/html", policy: str = STRICT) -> Any:
+        return self._web.Response(text=text, content_type=kind, headers=headers(policy))
+
+    async def page(self, _: Any) -> Any:
+        return self._said(filled("watch.html", title=self._title))
+
+    async def script(self, _: Any) -> Any:
+        return self._said(part("watch.js"), SCRIPT)
+
+    async def style(self, _: Any) -> Any:
+        return self._said(part("watch.css"), STYLE)
+
+    async def standings(self, request: Any) -> Any:
+        """Tells what may be shown, now and whenever it changes."""
+        return await self._events(request, lambda: {
+            "rows": self._contest.rows, "open": self._contest.is_open, "teams": self._contest.teams(), **self._turns})
+
+    async def news(self, request: Any) -> Any:
+        """Tells whenever something has happened in a match."""
+        number = self._number(request)
+        return await self._events(request, lambda: {"grown": self._contest.grown(number)})
+
+    async def _events(self, request: Any, told: Callable[[], Dict[str, Any]]) -> Any:
+        """A stream of what is told, which is sent when it has changed, with the time of this machine."""
+        if self._watchers >= MOST_WATCHERS:
+            raise self._web.HTTPServiceUnavailable(text="too many watch this contest; try again later\n")
+        response = self._web.StreamResponse(headers={**headers(STRICT), "Content-Type": "text/event-stream"})
+        self._watchers += 1
+        try:
+            await response.prepare(request)
+            last = None
+            while True:
+                version, now = self._contest.version, told()
+                text = json.dumps({"now": int(time.time()), **now})
+                await response.write(f"data: {text}\n\n".encode() if now != last else b": \n\n")
+                last = now
+                with contextlib.suppress(asyncio.TimeoutError):
+                    await asyncio.wait_for(self._contest.after(version), QUIET)
+        except (ConnectionError, asyncio.CancelledError):
+            return response
+        finally:
+            self._watchers -= 1
+
+    def _number(self, request: Any) -> int:
+        number = int(request.match_info["number"])
+        feed = self._contest.feed(number)
+        if feed is None or feed.match is None or not self._contest.may_open(number):
+            raise self._web.HTTPNotFound(text="pages of matches come when all matches are closed\n",
+                                         headers=headers(STRICT))
+        return number
+
+    def _data(self, request: Any) -> Dict[str, Any]:
+        number = self._number(request)
+        feed = self._contest.feed(number)
+        if feed is None or feed.match is None:
+            raise self._web.HTTPNotFound(headers=headers(STRICT))
+        is_open = not feed.match.closed
+        return {**data_of(f"match {number}", feed.match), "news": f"/match/{number}" if is_open else None}
+
+    async def match(self, request: Any) -> Any:
+        return self._said(page_of(self._data(request)), policy=WHOLE)
+
+    async def data(self, request: Any) -> Any:
+        return self._said(json.dumps(self._data(request)), "application/json")
+
+
+def headers(policy: str) -> Dict[str, str]:
+    """What each answer has: nothing is taken from elsewhere, framed or kept."""
+    return {"Content-Security-Policy": f"{policy}; frame-ancestors 'none'", "X-Content-Type-Options": "nosniff",
+            "Referrer-Policy": "no-referrer", "Cache-Control": "no-store"}
+
+
+def is_own_name(host: str, names: Collection[str]) -> bool:
+    """Whether a host that is asked for is this machine by its address or by one of these names. Another name may be one
+    that a page elsewhere has led here, to read what this machine alone may see."""
+    name = host.rpartition(":")[0] if re.search(r":\d+$", host) else host
+    with contextlib.suppress(ValueError):
+        ipaddress.ip_address(name.strip("[]"))
+        return True
+    return name.lower() in {"localhost", socket.gethostname().lower(), *names}
+
+
+def refusal(asked: Mapping[str, str], names: Collection[str]) -> str:
+    """Why a request is refused, by its headers, or nothing. A page elsewhere may lead to these pages, and not read
+    them."""
+    host, origin, site = (asked.get(name, "") for name in ("Host", "Origin", "Sec-Fetch-Site"))
+    if not is_own_name(host, names):
+        return f"this is no page of {host}: ask by the address of this machine, or name {host} by --host\n"
+    is_other = origin not in ("", f"http://{host}") or site not in ("", "none", "same-origin")
+    if is_other and asked.get("Sec-Fetch-Mode") != "navigate":
+        return "pages of other hosts may not read this one\n"
+    return ""
+
+
+def application(contest: ContestView, title: str, turns: Dict[str, int], names: Collection[str] = ()) -> Any:
+    """The web server's application, which looks at the files while it serves. It answers for this machine and for hosts
+    of these names."""
+    web = needed("aiohttp.web")
+
+    async def for_own_pages(request: Any, handler: Any) -> Any:
+        said = refusal(request.headers, names)
+        if said:
+            return web.Response(status=403, text=said, headers=headers(STRICT))
+        return await handler(request)
+
+    async def looking(app: Any) -> Any:
+        task = asyncio.create_task(contest.watch())
+        yield
+        task.cancel()
+    app = web.Application(middlewares=[web.middleware(for_own_pages)])
+    app.add_routes(ProjectorHandlers(web, contest, title, turns).routes())
+    app.cleanup_ctx.append(looking)
+    return app
+
+
+def show(tournament: pathlib.Path, prefix: str, place: Tuple[str, int], turns: Dict[str, int], is_open: bool,
+         names: Collection[str] = ()) -> None:
+    """Shows the contest of a tournament's file at an address and port until it is interrupted. Names of hosts are those
+    by which it may be asked for, besides addresses and this machine's name."""
+    web, matches, (address, port) = needed("aiohttp.web"), matches_of(tournament), place
+
+    async def made() -> Any:
+        return application(ContestView(matches, prefix, is_open), tournament.stem, turns, names)
+    web.run_app(made(), host=address, port=port, access_log=None, shutdown_timeout=1,
+                print=lambda *_: print(f"watch http://{address}:{port}/", flush=True))

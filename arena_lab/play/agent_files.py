@@ -1,0 +1,269 @@
+"""Agents in Python that run inside the lab, as words of the command line name them.
+
+    FILE.py[:FUNCTION] [WORD ..]
+
+The function is `search` unless another is named. It takes an agent, its key, and the words, which are whole numbers;
+`{nodes}` and `{links}` stand for the network's numbers and `{home}` for the home base. A parameter `sleep` behind the
+words gets a function to wait by. For agents that have a map, parameters `network` and `home` get the network's links as
+(node, port, node, port) and the home base.
+
+Each agent of each match has modules of its own, as a program outside has: its file, what it imports from beside it, and
+`random`, which begins with the agent's number as its seed. So agents share no variable with each other, nor with an
+earlier match.
+"""
+import contextlib
+import functools
+import hashlib
+import importlib
+import importlib.util
+import inspect
+import os
+import pathlib
+import random
+import sys
+from importlib.machinery import SourceFileLoader
+from types import CellType, CodeType, FunctionType, ModuleType
+from typing import Any, Callable, Dict, List, Sequence, Set, Tuple
+
+from arena_lab.play import kept_lines, foreign_files
+from arena_lab.play.imports import files_behind
+from arena_lab.play.own_modules import OwnModules
+from arena_lab.rules.model import Setup
+from arena_lab.support.built import LAB, TOP
+from arena_lab.support.faults import Fault
+
+# where the client is that sample agents share, for agents that have no copy beside them
+AGENTS = next((it for it in (TOP / "examples" / "agents", LAB / "examples" / "agents") if it.is_dir()),
+              TOP / "examples" / "agents")
+
+# the names that stand for numbers in words, and the parameters that get what is no number
+FACTS = ("nodes", "links", "home")
+GIVEN = ("sleep", "network", "home")
+PLAIN = (inspect.Parameter.POSITIONAL_ONLY, inspect.Parameter.POSITIONAL_OR_KEYWORD)
+
+Sleep = Callable[[float], None]
+# plays one agent: by what sends and receives lines, the agent's key, and what it waits by
+Script = Callable[[Any, str, Sleep], None]
+
+
+class NoAgent(Fault):
+    """Words that name no agent; says what does."""
+
+
+def file_of(name: str) -> pathlib.Path:
+    """The file that a word names. One that is not here is looked for where the lab was installed, so that the sample
+    agents have the same names everywhere, such as examples/agents/ring.py."""
+    path = pathlib.Path(name)
+    places = [AGENTS.parents[1] / path, TOP / path]
+    is_sample = path.parts[:1] in (("examples",), ("arena_lab",))
+    return next((it for it in places if it.is_file()), path) if is_sample and not path.exists() else path
+
+
+@functools.lru_cache(maxsize=None)
+def loaded(path: pathlib.Path) -> ModuleType:
+    """The module in a file, which may import what stands beside it, and the client of the sample agents."""
+    if not path.is_file():
+        raise NoAgent(f"{path}: there is no such file")
+    with OwnModules(0) as modules, foreign_files.loading():
+        return loaded_anew(path, modules)[0]
+
+
+@functools.lru_cache(maxsize=64)
+def compiled(path: str, text: bytes) -> CodeType:
+    """What a file of this text is compiled to. Each agent executes it anew, as often as a search tries it."""
+    made: CodeType = compile(text, path, "exec", dont_inherit=True)
+    return made
+
+
+def module_name(path: pathlib.Path) -> str:
+    """What the module in a file is called."""
+    return f"lab_agent_{path.stem}"
+
+
+def executed(path: pathlib.Path) -> ModuleType:
+    """The module in a file, which is executed now."""
+    spec = importlib.util.spec_from_file_location(module_name(path), path)
+    if spec is None or not isinstance(spec.loader, SourceFileLoader):
+        raise NoAgent(f"{path}: it is not in Python: its name ends with .py then")
+    module = importlib.util.module_from_spec(spec)
+    sys.modules[spec.name] = module
+    try:
+        exec(compiled(str(path), path.read_bytes()), vars(module))
+    except SyntaxError as fault:
+        raise NoAgent(f"{fault.filename}, line {fault.lineno}: {fault.msg}") from None
+    return module
+
+
+def member(word: str, usual: str) -> Any:
+    """What a word `FILE.py:NAME` names, or `FILE.py` with the usual name."""
+    path, _, name = word.partition(":")
+    module = loaded(file_of(path))
+    found = getattr(module, name or usual, None)
+    if not callable(found):
+        raise NoAgent(f"{path}: it has no function {name or usual}")
+    return found
+
+
+def numbers_of(words: Sequence[str], setup: Setup) -> List[int]:
+    """The whole numbers that the words say, of this match."""
+    facts = {"nodes": setup.nodes, "links": len(setup.links), "home": setup.home}
+    try:
+        return [int(word.format(**facts)) for word in words]
+    except (KeyError, ValueError, IndexError):
+        raise NoAgent(f"{' '.join(words)}: the words behind an agent's file are whole numbers, {{nodes}}, {{links}} or "
+                      "{home}") from None
+
+
+# the client of the sample agents keeps nothing, so all share it
+CLIENT = str(AGENTS / "client.py")
+
+
+@functools.lru_cache(maxsize=64)
+def folder_of(path: pathlib.Path, _here: str) -> str:
+    """The folder that a file stands in, by its path from here. It is asked each time that an agent begins."""
+    return str(path.parent.resolve())
+
+
+def loaded_anew(path: pathlib.Path, modules: OwnModules) -> Tuple[ModuleType, ModuleType]:
+    """The module in a file, and the client that it imports, among the modules of one agent."""
+    modules.begin([folder_of(path, os.getcwd()), str(AGENTS)], [CLIENT])
+    module, client = modules.kept.get(module_name(path)) or executed(path), importlib.import_module("client")
+    if client.__file__ == CLIENT:
+        kept_lines.use_in(client)
+    return module, client
+
+
+def script_of(words: str, setup: Setup) -> Script:
+    """The agent that these words name, as it plays this match."""
+    file, *rest = words.split()
+    name = file.partition(":")[2] or "search"
+    path = file_of(file.partition(":")[0])
+    numbers = numbers_of(rest, setup)
+    asked = asked_behind(words, inspect.signature(member(file, "search")), len(numbers))
+    # one tuple for all agents: it is named once
+    facts: Dict[str, Any] = {"network": tuple(setup.links), "home": setup.home}
+
+    def play(lines: Any, key: str, sleep: Sleep) -> None:
+        values: Dict[str, Any] = {"sleep": sleep, **facts}
+        given = {word: values[word] for word in asked if word in values}
+        module, client = loaded_anew(path, lines.modules)
+        try:
+            getattr(module, name)(client.Agent(lines), key, *numbers, **given)
+        except client.MatchOver:
+            pass
+    return play
+
+
+def asked_behind(words: str, signature: inspect.Signature, count: int) -> List[str]:
+    """The parameters behind the agent, its key and this many numbers, if the function takes these words."""
+    parameters = list(signature.parameters.values())[2:]
+    plain = [it.name for it in parameters if it.kind in PLAIN and it.name not in GIVEN]
+    needed = [it.name for it in parameters if it.name in plain and it.default is it.empty]
+    if count < len(needed):
+        raise NoAgent(f"{words}: it wants {', '.join(needed)} behind the file, as `{words} "
+                      f"{' '.join('{' + name + '}' if name in FACTS else '1' for name in needed[count:])}`")
+    if count > len(plain) and all(it.kind is not it.VAR_POSITIONAL for it in parameters):
+        raise NoAgent(f"{words}: it takes {', '.join(plain) or 'no numbers'} behind the file, and {count} are named")
+    return [it.name for it in parameters[count:]]
+
+
+# what an agent that is a function may have as parameters behind the agent and its key
+MAY_ASK = (*FACTS, "network", "sleep")
+
+
+def script_of_function(function: Callable[..., None], setup: Setup) -> Script:
+    """An agent that is a function of this process, as it plays this match. Parameters behind the agent and its key get
+    by their names what FILE.py gets as words: `nodes`, `links`, `home`, `network`, and `sleep`."""
+    asked = list(inspect.signature(function).parameters.values())[2:]
+    for it in asked:
+        if it.name not in MAY_ASK and it.default is it.empty and it.kind in (*PLAIN, it.KEYWORD_ONLY):
+            raise NoAgent(f"{function.__name__}: it has a parameter {it.name}; behind the agent and its key stand "
+                          f"{', '.join(MAY_ASK)}, and what has a default")
+    values: Dict[str, Any] = {"nodes": setup.nodes, "links": len(setup.links), "home": setup.home,
+                              "network": tuple(setup.links)}
+
+    def play(lines: Any, key: str, sleep: Sleep) -> None:
+        lines.modules.begin([])
+        given = {**values, "sleep": sleep}
+        client, own = client_module(), with_own_variables(function, lines.modules.random)
+        try:
+            own(client.Agent(lines), key, **{it.name: given[it.name] for it in asked if it.name in given})
+        except client.MatchOver:
+            pass
+    return play
+
+
+def client_module() -> ModuleType:
+    """The client of the sample agents."""
+    if str(AGENTS) not in sys.path:
+        sys.path.insert(0, str(AGENTS))
+    return importlib.import_module("client")
+
+
+def with_own_variables(function: Callable[..., None], drawing: ModuleType) -> Callable[..., None]:
+    """A function whose variables are its own, those of its notebook or file and those of functions around it, and those
+    of the functions that it calls out of there: what it assigns to them nobody else sees. It draws by this module
+    `random`. A list or another object that a variable has is shared."""
+    if not isinstance(function, FunctionType):
+        return function
+    own = Own(function.__globals__)
+    own.variables.update({name: drawing if value is random else own.value(value)
+                          for name, value in function.__globals__.items()})
+    found: Callable[..., None] = own.value(function)
+    return found
+
+
+class Own:
+    """Functions of a notebook or a file over variables of their own. Functions that share one go on sharing it."""
+
+    def __init__(self, shared: Dict[str, Any]) -> None:
+        self.variables: Dict[str, Any] = {}
+        self._shared = shared
+        self._made: Dict[int, Any] = {}
+        self._filled: Set[int] = set()
+
+    def value(self, value: Any) -> Any:
+        """A function over its own variables; another value as it is."""
+        if not isinstance(value, FunctionType) or value.__globals__ is not self._shared:
+            return value
+        if id(value) not in self._made:
+            cells = tuple(self._cell(cell) for cell in value.__closure__ or ())
+            made = FunctionType(value.__code__, self.variables, value.__name__, value.__defaults__, cells)
+            made.__kwdefaults__ = value.__kwdefaults__
+            self._made[id(value)] = made
+            self._fill(value)
+        return self._made[id(value)]
+
+    def _cell(self, cell: CellType) -> CellType:
+        """A variable of a function around others."""
+        found: CellType = self._made.setdefault(id(cell), CellType())
+        return found
+
+    def _fill(self, function: FunctionType) -> None:
+        """Gives the variables of functions around one what they have, which may be that function itself."""
+        for cell in function.__closure__ or ():
+            if id(cell) not in self._filled:
+                self._filled.add(id(cell))
+                # a variable may have no value yet
+                with contextlib.suppress(ValueError):
+                    self._made[id(cell)].cell_contents = self.value(cell.cell_contents)
+
+
+def source_digest(function: Callable[..., None]) -> str:
+    """The SHA-256 of a function's text, or of what it was compiled to if there is no text."""
+    try:
+        text = inspect.getsource(function).encode()
+    except (OSError, TypeError):
+        text = getattr(getattr(function, "__code__", None), "co_code", b"")
+    return hashlib.sha256(text).hexdigest()
+
+
+def digests(words: Sequence[str], is_inside: bool = True, more: Sequence[str] = ()) -> Dict[str, str]:
+    """The SHA-256 of each file that the words name, and of all that these import, so that a schedule says for which
+    agents it was made. What plays inside the lab may import what the lab can; a program outside, what is beside it.
+    `more` are names of modules that are imported too."""
+    folders = [str(AGENTS)] if is_inside else []
+    named = [word.partition(":")[0] for line in words for word in line.split()]
+    files = [file_of(word) if is_inside else pathlib.Path(word) for word in named]
+    return {name: digest for file in files if file.is_file()
+            for name, digest in files_behind(file, folders, more).items()}

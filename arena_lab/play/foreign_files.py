@@ -1,0 +1,116 @@
+"""Notes of programs inside the lab what they reach outside of them: files that they write, the environment, threads,
+other programs; and which files they read. Python tells an audit hook of these.
+"""
+import contextlib
+import importlib.util
+import os
+import pathlib
+import sys
+import sysconfig
+from typing import Any, Dict, Iterator, List, Optional, Set
+
+from arena_lab.play.imports import PACKAGE, digest_named, named, package_digest
+from arena_lab.support.built import LAB
+from arena_lab.support.missing import needed
+
+REACHES = {"os.putenv": "sets a variable of the environment", "os.unsetenv": "sets a variable of the environment",
+           "os.remove": "removes a file", "os.rename": "renames a file", "os.mkdir": "makes a folder",
+           "os.rmdir": "removes a folder", "os.chdir": "changes its folder", "os.truncate": "changes a file",
+           "os.link": "links a file", "os.symlink": "links a file", "os.chmod": "changes a file",
+           "os.utime": "changes a file", "os.chown": "changes a file", "os.setxattr": "changes a file",
+           "_thread.start_new_thread": "starts a thread", "subprocess.Popen": "starts a program",
+           "os.system": "starts a program", "os.fork": "starts a program", "os.posix_spawn": "starts a program",
+           "os.kill": "sends a signal", "sqlite3.connect": "opens a database", "socket.__new__": "opens a socket",
+           "ctypes.dlopen": "loads a library", "mmap.__new__": "maps a file"}
+WRITES = os.O_WRONLY | os.O_RDWR | os.O_CREAT | os.O_APPEND | os.O_TRUNC
+# folders whose files are no part of an agent: those of Python, of the lab, and of Linux
+PYTHONS = ("stdlib", "platstdlib", "purelib", "platlib")
+NOT_READ = tuple(f"{it}{os.sep}" for it in (*map(sysconfig.get_path, PYTHONS), LAB, "/usr/lib/python3", "/proc", "/sys",
+                                            "/dev"))
+IS_WATCHED: List[bool] = []
+
+
+class Notes:
+    """What a program has reached outside, or nothing, and what it has read: files and modules."""
+
+    def __init__(self) -> None:
+        self.reaches: Optional[str] = None
+        self.files: Set[str] = set()
+        self.modules: Set[str] = set()
+
+
+def notes_of(thread: Any) -> Notes:
+    """The notes of a program, which is a greenlet."""
+    found: Optional[Notes] = vars(thread).get("notes")
+    if found is None:
+        found = vars(thread)["notes"] = Notes()
+    return found
+
+
+# of files that are being loaded, to see which functions they have: also their notes
+LOADING: List[Notes] = []
+LOADED = Notes()
+
+
+@contextlib.contextmanager
+def loading(notes: Notes = LOADED) -> Iterator[None]:
+    """Notes what agents' files reach and read while they are loaded for the first time."""
+    LOADING.append(notes)
+    try:
+        yield
+    finally:
+        LOADING.pop()
+
+
+def watch() -> None:
+    """Begins to note it, once for this process."""
+    if IS_WATCHED:
+        return
+    IS_WATCHED.append(True)
+    current, noted = needed("greenlet").getcurrent, frozenset(("open", "import", *REACHES))
+
+    def note(event: str, given: Any) -> None:
+        if event not in noted:
+            # most events are of no interest, and each costs this much
+            return
+        thread = current()
+        if thread.parent is not None:
+            note_of(notes_of(thread), event, given)
+        elif LOADING:
+            note_of(LOADING[-1], event, given)
+    sys.addaudithook(note)
+
+
+def note_of(notes: Notes, event: str, given: Any) -> None:
+    """Notes one thing."""
+    if event == "import":
+        notes.modules.add(given[0].partition(".")[0])
+    elif event != "open":
+        notes.reaches = notes.reaches or f"what lies outside, since it {REACHES[event]}"
+    elif isinstance(given[0], (str, bytes)):
+        path, _, flags = given
+        if not (isinstance(flags, int) and flags & WRITES):
+            notes.files.add(os.fsdecode(path))
+        elif "__pycache__" not in os.fsdecode(path):
+            notes.reaches = notes.reaches or "what lies outside, since it writes a file"
+
+
+def read_by(thread: Any) -> Dict[str, str]:
+    """The SHA-256 of each file that a program has read, also while its file was loaded first, and of each installed
+    package, by their names."""
+    found: Set[str] = set()
+    for notes in (notes_of(thread), LOADED) if IS_WATCHED else ():
+        files = (source_of(os.path.abspath(file)) for file in notes.files)
+        found.update(named(pathlib.Path(file)) for file in files
+                     if not file.startswith(NOT_READ) and os.path.isfile(file))
+        found.update(f"{PACKAGE}{name}" for name in notes.modules if package_digest(name))
+    return {name: digest_named(name) for name in sorted(found)}
+
+
+def source_of(file: str) -> str:
+    """The file that a compiled one was made of, or the file itself."""
+    try:
+        return importlib.util.source_from_cache(file)
+    except ValueError:
+        return file
+

@@ -1,0 +1,53 @@
+"""Kits to begin an agent with, one for each language: a client, a sample agent that searches a ring, and a first test.
+
+A kit is a folder of examples/agents, and with it the files that it shares with the samples there.
+"""
+import pathlib
+import shutil
+from typing import Dict, NamedTuple, Tuple
+
+from arena_lab.play.agent_files import AGENTS
+from arena_lab.support.faults import Fault
+
+# of each kit, what building leaves in its folder
+MADE = ("out", "target", "Cargo.lock", "__pycache__", ".mypy_cache", "careful", "test_client")
+
+
+class Kit(NamedTuple):
+    """A language: its name, how its kit is built, tested and played, and the packages of Debian that it needs. `play`
+    stands before the words of the sample agent."""
+
+    name: str
+    build: str
+    test: str
+    play: str
+    packages: Tuple[str, ...]
+    shared: Tuple[str, ...] = ()
+
+
+KITS: Dict[str, Kit] = {
+    "python": Kit("Python", "", "python3 -m unittest", "python3 careful.py", ("python3",), ("client.py",)),
+    "javascript": Kit("JavaScript", "", "node --test", "node careful.js", ("nodejs",)),
+    "java": Kit("Java", "make", "make test", "java -cp out:/usr/share/java/gson.jar Careful",
+                ("openjdk-17-jdk-headless", "libgoogle-gson-java", "make")),
+    "c": Kit("C", "make", "make test", "./careful", ("gcc", "libc6-dev", "make")),
+    "cpp": Kit("C++", "make", "make test", "./careful", ("g++", "nlohmann-json3-dev", "make")),
+    "rust": Kit("Rust", "cargo build --release", "cargo test", "target/release/careful", ("cargo",)),
+    "go": Kit("Go", "go build", "go test", "./careful", ("golang-go",)),
+}
+
+
+def played(kit: Kit) -> str:
+    """The command by which `./arena-lab run` plays the sample agent of a kit, in its folder."""
+    return kit.play + " {host} {port} {key} {nodes}"
+
+
+def write_kit(language: str, folder: pathlib.Path) -> Kit:
+    """Copies the kit of a language to a folder that is not there yet, or is empty."""
+    kit, source = KITS[language], AGENTS / language
+    if folder.exists() and (not folder.is_dir() or any(folder.iterdir())):
+        raise Fault(f"{folder}: there is something already; name a new folder")
+    shutil.copytree(source, folder, ignore=shutil.ignore_patterns(*MADE), dirs_exist_ok=True)
+    for name in kit.shared:
+        shutil.copy(AGENTS / name, folder / name)
+    return kit

@@ -1,0 +1,281 @@
+"""Lines of agents that were refused: how many, the first, and the likeliest mistake behind it.
+
+A refusal says as little as the rules do, such as `{"no":"line"}`. Here stands what a student reads beside it.
+"""
+import difflib
+import json
+import re
+from typing import Any, Callable, Dict, List, NamedTuple, Optional, Sequence, Tuple
+
+from arena_lab.rules.model import MAX_LINE, SHAPES
+
+# characters of a line that are shown
+SHOWN = 80
+MARK = b"\xef\xbb\xbf"
+HTTP = re.compile(r"[A-Z]+ \S+ HTTP/\d")
+# members of an object whose names have no quotes, as JavaScript, Java and Rust print them; and the middle of an object
+# that was printed over several lines
+UNQUOTED, MIDDLE = re.compile(r"[\w.$]*\s*\{\s*[A-Za-z_]\w*\s*[:=]"), re.compile(r'[{}]|"\w+"\s*:.*,?')
+NOTHING = object()
+DECODER = json.JSONDecoder()
+
+
+class RefusedLine:
+    """A line that was refused: its bytes, its text, and the JSON value at its beginning with what follows."""
+
+    def __init__(self, raw: bytes) -> None:
+        self.raw = raw
+        self.text = raw.decode("utf-8", "replace").strip()
+        self.value: Any = NOTHING
+        self.rest = self.fault = ""
+        try:
+            self.value, end = DECODER.raw_decode(self.text)
+            self.rest = self.text[end:].strip()
+        except ValueError as fault:
+            self.fault = str(fault)
+        except RecursionError:
+            self.fault = "objects stand too deep in each other"
+
+    @property
+    def members(self) -> Dict[str, Any]:
+        """The members of the line, if it is one object."""
+        return self.value if isinstance(self.value, dict) and not self.rest else {}
+
+    @property
+    def do(self) -> str:
+        """The command that the line names, if there is such a command."""
+        do = self.members.get("do")
+        return do if isinstance(do, str) and do in SHAPES else ""
+
+    def of(self, kind: type) -> List[str]:
+        """The members of this kind that the command has."""
+        return [name for name, wanted in SHAPES.get(self.do, {}).items() if wanted is kind]
+
+    def port(self) -> Any:
+        """The port that the line names, if its command has one and the line has that member."""
+        return self.members.get("port", NOTHING) if "port" in self.of(int) else NOTHING
+
+
+def mark(line: RefusedLine) -> Optional[str]:
+    if line.raw.startswith(MARK):
+        return "a byte order mark stands before the line: open the stream as UTF-8 without a mark"
+    return None
+
+
+def utf16(line: RefusedLine) -> Optional[str]:
+    if b"\0" in line.raw or line.raw[:2] in (b"\xff\xfe", b"\xfe\xff"):
+        return "it has bytes of zero, as UTF-16 has: send UTF-8"
+    return None
+
+
+def too_long(line: RefusedLine) -> Optional[str]:
+    if len(line.raw) > MAX_LINE:
+        return f"it is longer than {MAX_LINE:,} bytes: end each command with a line feed, and write shorter texts"
+    return None
+
+
+def not_utf8(line: RefusedLine) -> Optional[str]:
+    try:
+        line.raw.decode("utf-8")
+        return None
+    except UnicodeDecodeError:
+        return "it is not UTF-8: send texts in UTF-8, and no bytes of numbers or structures"
+
+
+def of_http(line: RefusedLine) -> Optional[str]:
+    if HTTP.match(line.text):
+        return "it is a request of HTTP: open a socket of TCP and send the command as a line, without a web client"
+    return None
+
+
+def two_objects(line: RefusedLine) -> Optional[str]:
+    if isinstance(line.value, dict) and line.rest.lstrip(", ;").startswith("{"):
+        return "two commands stand in one line: end each with a line feed of its own"
+    return None
+
+
+def encoded_twice(line: RefusedLine) -> Optional[str]:
+    if isinstance(line.value, str) and line.value.lstrip().startswith("{"):
+        return "the whole command stands in quotes, as it was made JSON twice: make it JSON once"
+    return None
+
+
+def single_quotes(line: RefusedLine) -> Optional[str]:
+    if re.match(r"\{\s*'", line.text):
+        return ("it has single quotes, as Python prints a dict: JSON has double quotes, which json.dumps, or in "
+                "JavaScript JSON.stringify, writes")
+    return None
+
+
+def names_without_quotes(line: RefusedLine) -> Optional[str]:
+    if UNQUOTED.match(line.text):
+        return ('the names of members have no double quotes, as when an object is printed and not made JSON: write '
+                '{"do":..}, in JavaScript by JSON.stringify')
+    return None
+
+
+def over_several_lines(line: RefusedLine) -> Optional[str]:
+    if line.value is NOTHING and MIDDLE.fullmatch(line.text) or MIDDLE.fullmatch(line.text) and line.rest[:1] == ":":
+        return "it is a part of an object that stands over several lines: print each command in one line, not indented"
+    return None
+
+
+def no_do(line: RefusedLine) -> Optional[str]:
+    if isinstance(line.value, dict) and not line.rest and "do" not in line.value:
+        return f'it has no member "do", which names the command: {", ".join(SHAPES)}'
+    return None
+
+
+def unknown(line: RefusedLine) -> Optional[str]:
+    if not line.members or line.do:
+        return None
+    said = line.members["do"]
+    near = difflib.get_close_matches(str(said).lower()[:SHOWN], SHAPES, 1, 0.7)
+    known = f"did you mean {near[0]}?" if near else f"the commands are {', '.join(SHAPES)}"
+    return f"there is no command {json.dumps(said, ensure_ascii=False)[:SHOWN]}; {known}"
+
+
+def port_as_text(line: RefusedLine) -> Optional[str]:
+    if isinstance(line.port(), str):
+        return f'the port is a text: write the number without quotes, as in "port":{line.port()[:9].strip() or 0}'
+    return None
+
+
+def port_as_fraction(line: RefusedLine) -> Optional[str]:
+    if isinstance(line.port(), float):
+        return "the port is a fraction: write it as a whole number, as 0 and not 0.0"
+    return None
+
+
+def port_out_of_range(line: RefusedLine) -> Optional[str]:
+    if type(line.port()) is int:
+        return "the port is no number from 0 to 65535: ports are 0 to `ports` - 1 of the node"
+    return None
+
+
+def missing(line: RefusedLine) -> Optional[str]:
+    names = [name for name in SHAPES.get(line.do, {}) if name not in line.members]
+    if names:
+        return f"{line.do} needs {' and '.join(json.dumps(name) for name in names)} too: a member is missing"
+    return None
+
+
+def of_another_type(line: RefusedLine) -> Optional[str]:
+    for kind, said in ((str, "a text in double quotes"), (int, "a whole number")):
+        for name in line.of(kind):
+            if type(line.members.get(name)) is not kind:
+                return f'"{name}" has to be {said}; make other values a text first, as by json.dumps'
+    return None
+
+
+def bare_word(line: RefusedLine) -> Optional[str]:
+    word = re.split(r"\W", line.text.strip('"').lower(), 1)[0]
+    if word in SHAPES and not line.text.startswith(("{", "[")):
+        shape = {"do": word, **{name: kind() for name, kind in SHAPES[word].items()}}
+        return f"it is a word and no object: write {json.dumps(shape, separators=(',', ':'))}"
+    return None
+
+
+def broken(line: RefusedLine) -> Optional[str]:
+    if line.text.startswith("{"):
+        behind = "something stands behind the object" if line.rest else "half a character, or a number such as NaN"
+        return f"it is no JSON: {line.fault or behind}"
+    return None
+
+
+def no_object(line: RefusedLine) -> Optional[str]:
+    if line.value is not NOTHING and not line.rest and not isinstance(line.value, dict):
+        return "it is a JSON value and no object: a command is an object, one in a line"
+    return None
+
+
+def debug(line: RefusedLine) -> Optional[str]:
+    return "it is no JSON: print what is for you to standard error, and only commands where the server reads"
+
+
+# the first that fits is told
+MISTAKES: Tuple[Callable[[RefusedLine], Optional[str]], ...] = (
+    mark, utf16, too_long, not_utf8, of_http, two_objects, encoded_twice, single_quotes, names_without_quotes,
+    over_several_lines, no_do, unknown, port_as_text, port_as_fraction, port_out_of_range, missing, of_another_type,
+    bare_word, broken, no_object, debug)
+
+
+def likely(raw: bytes) -> str:
+    """The likeliest mistake behind a line that is no command."""
+    line = RefusedLine(raw)
+    return next(said for said in (fits(line) for fits in MISTAKES) if said)
+
+
+def plain(text: str) -> str:
+    """A text without characters that are not seen but do something, such as those that colour a terminal, hide what
+    stands before them or turn the direction of writing: the code of each stands in its place."""
+    return "".join(char if char.isprintable() else char.encode("unicode_escape").decode() for char in text)
+
+
+def shown(raw: bytes, most: int = SHOWN) -> str:
+    """A line of a stranger as it may be shown: escaped, and cut."""
+    text = raw[:4 * most + 4].decode("utf-8", "backslashreplace").strip()
+    text = "".join(f"\\u{ord(char):04x}" if char == "\ufeff" else char for char in text)
+    said = plain(text)
+    return said if len(said) <= most and len(raw) <= 4 * most else f"{said[:most]}.. ({len(raw):,} bytes)"
+
+
+# of each refusal what one line, and what several lines have done
+LINE, PORT, LONG, ENTER, UNENDED = "line", "port", "long", "enter", "unended"
+KINDS: Dict[str, Tuple[str, str]] = {
+    LINE: ("1 line was no command", "{} lines were no commands"),
+    PORT: ("1 line named a port that its node does not have", "{} lines named ports that their nodes do not have"),
+    LONG: ("1 text was longer than a whiteboard holds", "{} texts were longer than a whiteboard holds"),
+    ENTER: ("its first line was no enter", "{} first lines were no enter"),
+    UNENDED: ("what it sent last was not taken, as no line feed stands behind it", "{} lines have no line feed"),
+}
+# what the first line of a connection has to be
+FIRST = 'the first line is {"do":"enter","key":KEY}'
+
+
+class First(NamedTuple):
+    """The first line that an agent had refused in a way, and why."""
+
+    line: str
+    cause: str
+
+
+class Refusals:
+    """The lines of a match that were refused: of each agent and kind how many, and the first."""
+
+    def __init__(self, keys: Sequence[str]) -> None:
+        self._keys = [key.encode() for key in keys]
+        self._count: Dict[Tuple[int, str], int] = {}
+        self._first: Dict[Tuple[int, str], First] = {}
+
+    def note(self, agent: int, why: str, raw: bytes, told: Callable[[str], str], fact: str = "") -> None:
+        """Notes a line that was refused. A fact says of the node what the line missed. What is another on each run is
+        taken away, and so are keys."""
+        if why not in KINDS:
+            return
+        place = agent, why
+        self._count[place] = self._count.get(place, 0) + 1
+        if place not in self._first:
+            for key in self._keys:
+                raw = raw.replace(key, b"KEY")
+            self._first[place] = First(told(shown(raw)), cause(why, raw, fact))
+
+    def said(self) -> List[str]:
+        """A line for each agent and kind."""
+        return [f"agent {agent}: {counted(why, self._count[agent, why])}: `{first.line}`: {first.cause}"
+                for (agent, why), first in sorted(self._first.items())]
+
+
+def counted(why: str, count: int) -> str:
+    one, several = KINDS[why]
+    return one if count == 1 else f"{several.format(f'{count:,}')}; the first"
+
+
+def cause(why: str, raw: bytes, fact: str) -> str:
+    """What is said of a line besides that it was refused."""
+    if why == ENTER:
+        line = RefusedLine(raw)
+        return FIRST if line.do else f"{FIRST}; {likely(raw)}"
+    if why == UNENDED:
+        return "end each line with a line feed, and flush"
+    return likely(raw) if why == LINE else fact

@@ -1,0 +1,146 @@
+"""Modules that one agent inside the lab has for itself, as a program outside has: its file, what it imports from beside
+it, and `random`. They stand in their places while the agent runs, and those of the lab stand there else.
+"""
+import operator
+import os
+import random
+import sys
+import threading
+import weakref
+from types import ModuleType
+from typing import Collection, Dict, FrozenSet, List, Mapping, Sequence, Set, Tuple
+
+# one thread at a time changes which modules there are
+LOADING = threading.RLock()
+# all folders out of which agents were loaded
+FOLDERS: Set[str] = set()
+RANDOM = "random"
+# what of the module `random` belongs to one generator
+OF_ONE = [name for name, value in vars(random).items() if getattr(value, "__self__", None) is random._inst]
+# an object's identity as a number. Python tells the audit hook of each `id`, which costs more than to ask for this
+IDENTITY = object.__hash__
+# for each set of files that all agents share: the modules that no agent owns, by their identities
+FOREIGN: Dict[Tuple[str, ...], Dict[int, ModuleType]] = {}
+FOREIGN_TO: Set[str] = set()
+# for each set of such files: all modules, when none of them was an agent's last
+ALL_FOREIGN: Dict[Tuple[str, ...], Sequence[object]] = {}
+# of each module the folders that it stands in, as long as there is the module: it is asked at each turn of an agent
+STANDS_IN: "weakref.WeakKeyDictionary[ModuleType, FrozenSet[str]]" = weakref.WeakKeyDictionary()
+
+
+def is_beside(module: ModuleType, folders: Collection[str]) -> bool:
+    """Whether a module is a file in one of these folders, or a package in it."""
+    # what stands among the modules may be another object
+    found = STANDS_IN.get(module) if isinstance(module, ModuleType) else frozenset()
+    if found is None:
+        places: Sequence[str] = list(getattr(module, "__path__", None) or [getattr(module, "__file__", None) or ""])
+        found = STANDS_IN[module] = frozenset(os.path.dirname(place) for place in places)
+    return not found.isdisjoint(folders)
+
+
+def own_names(folders: Collection[str], shared: Collection[str] = ()) -> List[str]:
+    """The names of the loaded modules that stand in these folders, and of what is in them if they are packages; none of
+    the lab's, and none of the shared files."""
+    if folders is FOLDERS and len(FOREIGN_TO) != len(FOLDERS):
+        # what stands in none of the folders so far may stand in a new one
+        FOREIGN.clear()
+        ALL_FOREIGN.clear()
+        FOREIGN_TO.update(FOLDERS)
+    loaded, before = list(sys.modules.values()), ALL_FOREIGN.get(tuple(shared), ())
+    if len(loaded) == len(before) and all(map(operator.is_, loaded, before)):
+        return []
+    foreign = FOREIGN.setdefault(tuple(shared), {})
+    unknown = set(map(IDENTITY, loaded)).difference(foreign)
+    if not unknown:
+        ALL_FOREIGN[tuple(shared)] = loaded
+        return []
+    tops, others = set(), {}
+    for name, module in [(name, it) for name, it in list(sys.modules.items()) if IDENTITY(it) in unknown]:
+        if "." in name or name == "arena_lab":
+            others[IDENTITY(module)] = module
+        elif is_beside(module, folders) and getattr(module, "__file__", None) not in shared:
+            tops.add(name)
+        elif FOREIGN_TO.issuperset(folders) and (not is_beside(module, FOREIGN_TO) or folders is FOLDERS):
+            foreign[IDENTITY(module)] = module
+    if not tops and folders is FOLDERS:
+        # what is in a package that stands in none of the folders
+        foreign.update(others)
+    return [name for name in sys.modules if name.partition(".")[0] in tops] if tops else []
+
+
+def random_from(seed: int) -> ModuleType:
+    """A module `random` of its own that begins with this seed. It is not loaded anew, since each `random` that is
+    loaded stays in memory until the process ends, to be seeded again when it forks."""
+    own, made = random.Random(seed), ModuleType(RANDOM, random.__doc__)
+    vars(made).update(vars(random))
+    vars(made).update({name: getattr(own, name) for name in OF_ONE})
+    setattr(made, "_inst", own)
+    return made
+
+
+class OwnModules:
+    """The modules of one agent. Used by `with` around each of its turns, or around many; it begins in its first."""
+
+    def __init__(self, seed: int) -> None:
+        self.random = random_from(seed)
+        # loaded modules that it takes instead of loading them anew
+        self.kept: Mapping[str, ModuleType] = {}
+        self._own: Dict[str, ModuleType] = {}
+        self._folders: List[str] = []
+        self._files: Collection[str] = ()
+        self._shared: Dict[str, ModuleType] = {}
+        self._path: List[str] = []
+        # where imports look while the agent runs, and what that was made of: where they look else, of how many folders
+        self._ahead: List[str] = []
+        self._seen: Tuple[List[str], int] = ([], -1)
+        self._count = 0
+        self._depth = 0
+
+    def begin(self, folders: Sequence[str], files: Collection[str] = ()) -> None:
+        """From now on modules in these folders are the agent's own, but for these files, which all agents share."""
+        self._folders, self._files, self._seen = list(folders), files, ([], -1)
+        FOLDERS.update(folders)
+        self._shared.update({name: sys.modules.pop(name) for name in own_names(FOLDERS, files)})
+        self._own = {**self.kept, RANDOM: self.random}
+        self._put(self._own)
+
+    def own(self) -> Dict[str, ModuleType]:
+        """The modules of the agent, by their names."""
+        return self._own
+
+    def __enter__(self) -> "OwnModules":
+        LOADING.acquire()
+        self._depth += 1
+        if self._depth > 1:
+            return self
+        self._path, self._shared = sys.path[:], {}
+        if self._own:
+            self._put(self._own)
+        return self
+
+    def __exit__(self, *_: object) -> None:
+        self._depth -= 1
+        if self._depth:
+            LOADING.release()
+            return
+        if self._own and self._count != len(sys.modules):
+            names = own_names(self._folders, self._files)
+            self._own = {name: sys.modules[name] for name in names} | {RANDOM: self.random}
+        for name in self._own:
+            sys.modules.pop(name, None)
+        sys.modules.update(self._shared)
+        sys.path[:] = self._path
+        LOADING.release()
+
+    def _put(self, modules: Dict[str, ModuleType]) -> None:
+        """Puts modules in their places, and has imports look beside the agent first."""
+        loaded = sys.modules
+        for name, module in modules.items():
+            if name in loaded:
+                self._shared[name] = loaded[name]
+            loaded[name] = module
+        seen = sys.path[:], len(FOLDERS)
+        if seen != self._seen:
+            self._seen, self._ahead = seen, [*self._folders, *(it for it in sys.path if it not in FOLDERS)]
+        sys.path[:] = self._ahead
+        self._count = len(loaded)

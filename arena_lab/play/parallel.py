@@ -1,0 +1,198 @@
+"""Spreads the matches of a command over processes, or over the workers of a Dask scheduler.
+
+A job plays matches one by one. Its results come in the order of the matches, whoever plays them.
+"""
+import concurrent.futures
+import ctypes
+import functools
+import io
+import multiprocessing
+import os
+import pickle
+import signal
+import subprocess
+import sys
+import time
+from concurrent.futures.process import BrokenProcessPool
+from typing import Any, Dict, Generator, Iterable, List, NamedTuple, Protocol, Sequence
+
+from arena_lab.play.imports import digest_named, digest_of
+from arena_lab.support.built import TOP
+from arena_lab.support.faults import Fault
+from arena_lab.support.missing import needed
+
+# how many matches a Dask worker takes at a time, and how many seconds its scheduler may take to answer
+BATCH, SECONDS_TO_ANSWER = 20, 20
+# seconds in which a process ends that is asked to
+SECONDS_TO_END = 3.0
+# of Linux: asks for a signal when the parent ends
+PR_SET_PDEATHSIG = 1
+# what a Dask worker runs: the lab, in a process of its own
+PLAY = (f"import sys; sys.path.insert(0, {str(TOP)!r}); import arena_lab; arena_lab.with_one_order(); "
+        "from arena_lab.play.parallel import serve; serve()")
+
+
+KILLED = ("a process that plays was killed, as where memory is short: start the same command again, by fewer --workers "
+          "than {workers}")
+
+
+class NumberedTask(Protocol):
+    """A match that has a number."""
+
+    @property
+    def number(self) -> int: ...
+
+
+class Job(Protocol):
+    """Plays matches. It is sent to other processes."""
+
+    def play(self, case: Any) -> Any:
+        """What came of a match."""
+
+    def digests(self) -> Dict[str, str]:
+        """The SHA-256 of each file that results depend on, by name."""
+
+
+class Result(NamedTuple):
+    """What came of a match, or why nothing did."""
+
+    found: Any
+    fault: str
+
+
+class NoCluster(Fault):
+    """No Dask scheduler answers, or its workers cannot play; says what to change."""
+
+
+def result_of(job: Job, case: NumberedTask) -> Result:
+    if is_over is not None and is_over.is_set():
+        return Result(None, f"run {case.number}: it is not played any more")
+    try:
+        return Result(job.play(case), "")
+    except (Fault, OSError) as fault:
+        return Result(None, f"run {case.number}: {fault}")
+
+
+# of a worker: whether the command takes no more results
+is_over: Any = None
+
+
+def begin(over: Any, parent: int) -> None:
+    """Begins a worker. An interrupt of the command reaches the command alone, which then ends its workers."""
+    global is_over
+    is_over = over
+    signal.signal(signal.SIGINT, signal.SIG_IGN)
+    signal.signal(signal.SIGTERM, signal.SIG_DFL)
+    end_with(parent)
+
+
+def end_with(parent: int) -> None:
+    """Has Linux end this process when the process that started it ends, also by a signal that cannot be caught."""
+    ctypes.CDLL(None, use_errno=True).prctl(PR_SET_PDEATHSIG, signal.SIGTERM)
+    if os.getppid() != parent:
+        # it ended before
+        os._exit(1)
+
+
+def over_processes(job: Job, cases: Sequence[NumberedTask], workers: int, at_a_time: int = 4, is_cut_short: bool = False
+                   ) -> Generator[Result, None, None]:
+    """The results of all matches, in order, by this number of processes, each of which takes some at a time. If it is
+    cut short, what they play when no more results are taken is not waited for."""
+    over = multiprocessing.Event()
+    pool = concurrent.futures.ProcessPoolExecutor(workers, initializer=begin, initargs=(over, os.getpid()))
+    try:
+        yield from pool.map(functools.partial(result_of, job), cases, chunksize=at_a_time)
+        is_cut_short = False
+    except BrokenProcessPool:
+        yield Result(None, KILLED.format(workers=workers))
+    finally:
+        # also those that wait in the pipe of a worker, which cannot be cancelled
+        over.set()
+        if is_cut_short:
+            end_all(multiprocessing.active_children())
+        pool.shutdown(wait=True, cancel_futures=True)
+
+
+def end_all(processes: Sequence[Any]) -> None:
+    """Ends processes. One that waits for what another held when it ended does not end by being asked."""
+    for process in processes:
+        process.terminate()
+    last = time.monotonic() + SECONDS_TO_END
+    for process in processes:
+        process.join(max(0.0, last - time.monotonic()))
+    for process in processes:
+        process.kill()
+
+
+def over_cluster(job: Job, cases: Sequence[NumberedTask], address: str, at_a_time: int = BATCH
+                 ) -> Generator[Result, None, None]:
+    """The results of all matches, in order, by the workers of a Dask scheduler.
+
+    A worker plays a batch in a process of its own, as agents inside the lab need a main thread. So a worker needs
+    nothing of the lab but its folder, at the same path, and the same Python.
+    """
+    client = client_at(address)
+    batches = [cases[at:at + at_a_time] for at in range(0, len(cases), at_a_time)]
+    files = {**job.digests(), **own_digests()}
+    futures = [client.submit(subprocess.run, [sys.executable, "-c", PLAY], input=pickle.dumps((job, batch, files)),
+                             cwd=os.getcwd(), capture_output=True, pure=False) for batch in batches]
+    try:
+        for future in futures:
+            yield from results_in(future)
+    finally:
+        client.cancel(futures)
+        client.close()
+
+
+def client_at(address: str) -> Any:
+    """The client of a Dask scheduler that has workers."""
+    distributed = needed("distributed")
+    try:
+        client = distributed.Client(address, timeout=SECONDS_TO_ANSWER, set_as_default=False)
+    except (OSError, ValueError) as fault:
+        raise NoCluster(f"no Dask scheduler answers at {address} ({fault}): start one by `dask-scheduler`, and workers "
+                        "by `dask-worker ADDRESS`") from None
+    if not client.scheduler_info()["workers"]:
+        client.close()
+        raise NoCluster(f"the Dask scheduler at {address} has no workers: start some by `dask-worker {address}`")
+    return client
+
+
+def results_in(future: Any) -> List[Result]:
+    """The results of a batch."""
+    try:
+        ran = future.result()
+    except Exception as fault:
+        raise NoCluster(f"a Dask worker cannot play: {fault}; a worker needs the folder {TOP} and the program "
+                        f"{sys.executable}, as this machine has them") from None
+    if ran.returncode != 0:
+        said = ran.stderr.decode(errors="replace").strip().splitlines()
+        raise NoCluster(f"a Dask worker cannot play: {said[-1] if said else f'status {ran.returncode}'}")
+    found: List[Result] = pickle.loads(ran.stdout)
+    return found
+
+
+def own_digests() -> Dict[str, str]:
+    """The SHA-256 of each file of the lab that plays."""
+    return {str(path): digest_of(path) for path in sorted((TOP / "arena_lab").rglob("*.py")) if "tests" not
+            in path.parts}
+
+
+def other_files(files: Dict[str, str]) -> List[str]:
+    """The files that are other ones here."""
+    return [name for name, digest in files.items() if digest_named(name) != digest]
+
+
+def serve() -> None:
+    """Plays a batch that standard input gives, and writes the results to standard output."""
+    job, batch, files = pickle.load(sys.stdin.buffer)
+    answers, sys.stdout = sys.stdout.buffer, io.StringIO()
+    others = other_files(files)
+    if others:
+        sys.exit(f"{others[0]} is not the file that it is on the machine of the command: a worker needs the same "
+                 "folder at the same path")
+    pickle.dump(played(job, batch), answers)
+
+
+def played(job: Job, batch: Iterable[NumberedTask]) -> List[Result]:
+    return [result_of(job, case) for case in batch]

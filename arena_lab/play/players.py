@@ -1,0 +1,217 @@
+"""Players that run inside the lab: agents in Python. Each is a greenlet, and one runs at a time.
+
+A player runs until it waits for the answer to its line, for its arrival, or to be woken. `state` says which, and `line`
+is the line that it sent, or None if its input has ended.
+"""
+import operator
+import signal
+import sys
+import threading
+from collections import deque
+from typing import Any, Callable, Deque, Dict, List, Mapping, Optional, Sequence
+
+from arena_lab.play.agent_files import Script
+from arena_lab.play.bounds import LIMIT
+from arena_lab.play.foreign_files import read_by
+from arena_lab.play.own_modules import OwnModules
+from arena_lab.rules.model import GONE, LAST, spelled
+from arena_lab.support.missing import needed
+
+# an answer is due; an arrival is due; it sleeps; nothing more comes
+WAITS, TRAVELS, SLEEPS, DONE = "waits", "travels", "sleeps", "done"
+# what a client is told last
+DENIALS = {spelled({"no": why}) for why in ("enter", "key", "taken")}
+LAST_LINES = DENIALS | {spelled(reply) for reply in LAST}
+# behind this the next line is the arrival; and what stands in the place of a line for who sleeps
+DEPARTED, WAKES = spelled(GONE), "wakes"
+# what is never taken from lines ahead
+NEVER_AHEAD = LAST_LINES | {WAKES}
+# the parts of a player by which the lab plays its program: the program may not set them
+STAYS = ("number", "modules", "_team", "_heard", "_thread")
+CHANGED = "has changed {} of its lines, by which the lab plays it"
+
+# how many times longer an agent may sleep than compute: a machine with other work lets it wait too
+LONGER = 20
+
+
+class TooSlow(Exception):
+    """An agent's program computes or sleeps, and neither sends nor waits."""
+
+
+class Player:
+    """One agent's program. It has `send` and `receive`, by which the client asks, and `sleep`."""
+
+    # the lab finds these values if a program deletes such a part
+    state, errors, latest = WAITS, "", ""
+    line: Optional[bytes] = None
+    fault: Optional[str] = None
+    ahead: Optional[Deque[str]] = None
+    handled: Optional[BaseException] = None
+    _is_over = _is_closed = False
+
+    def __init__(self, team: "Team", number: int, key: str, script: Script) -> None:
+        self.number = number
+        self.state = WAITS
+        self.line = self.fault = None
+        self.errors = ""
+        # the line that it was told last, and those ahead of it on a way that it goes once more
+        self.latest = ""
+        self.ahead = None
+        # while it waits, the exception that it handles
+        self.handled = None
+        # those that the script loads for this agent alone
+        self.modules = OwnModules(number)
+        self._team = team
+        self._heard: Deque[str] = deque()
+        self._is_over = False
+        self._is_closed = False
+        self._thread = needed("greenlet").greenlet(lambda: self._run(script, key))
+
+    def read(self) -> Dict[str, str]:
+        """The SHA-256 of each file that the program has read, by their names, if that is noted."""
+        return read_by(self._thread)
+
+    def told(self, text: str) -> str:
+        """What the agent has said is the same on each run."""
+        return text
+
+    def rest(self) -> bytes:
+        """An agent inside sends whole lines."""
+        return b""
+
+    def hear(self, line: str) -> None:
+        """Tells the agent a line, and lets it go on."""
+        self.line, self.latest = None, line
+        self._heard.append(line)
+        self._is_over = self._is_over or line in LAST_LINES
+        self.go_on()
+
+    def go_on(self) -> None:
+        """Lets the program begin, wake, or read what it heard."""
+        self._team.turns += 1
+        changed = self._turn(self._thread.switch)
+        if changed is not None:
+            self.stop()
+            # this fault takes the place of any other
+            self.fault = CHANGED.format(changed)
+
+    def stop(self, fault: Optional[str] = None) -> None:
+        """Ends the program."""
+        self.fault = self.fault or fault
+        self.state = DONE
+        self._turn(self._thread.throw)
+
+    def _turn(self, begins: Callable[[], Any]) -> Optional[str]:
+        """Lets the program run until it waits or ends. If it has set a part that it may not set, puts the part back and
+        answers which."""
+        parts, kind = vars(self), type(self)
+        before = [*map(parts.get, STAYS)]
+        with self.modules:
+            begins()
+        if type(self) is kind and vars(self) is parts and all(map(operator.is_, before, map(parts.get, STAYS))):
+            return None
+        changed = [it for it, part in zip(STAYS, before) if parts.get(it) is not part]
+        object.__setattr__(self, "__class__", kind)
+        self.__dict__ = parts
+        parts.update(zip(STAYS, before))
+        return changed[0] if changed else "the class or the dict"
+
+    def send(self, line: str) -> None:
+        if self._is_closed:
+            raise ConnectionError("the agent has closed its connection")
+        self.line = line.encode(errors="replace")
+
+    def close(self) -> None:
+        """Closes the agent's connection, as a program outside may."""
+        self._is_closed = True
+
+    def receive(self) -> str:
+        if not self._heard:
+            ahead, state = self.ahead, WAITS if self.line is not None else TRAVELS
+            if ahead and ahead[0] not in NEVER_AHEAD and (self.latest == DEPARTED) == (state == TRAVELS):
+                # it is for an agent that waits as this one does: a way that was gone before is gone again in one turn.
+                # All that the program can read is as if it had waited
+                self._team.turns += 1
+                self.state, self.handled, self.line, self.latest = state, None, None, ahead.popleft()
+                return self.latest
+            self._wait(state)
+        return self._heard.popleft()
+
+    def sleep(self, _seconds: float) -> None:
+        self._wait(SLEEPS)
+
+    def _wait(self, state: str) -> None:
+        self.state, self.handled = state, sys.exception()
+        try:
+            self._thread.parent.switch()
+        finally:
+            self.handled = None
+
+    def _run(self, script: Script, key: str) -> None:
+        try:
+            script(self, key, self.sleep)
+        except TooSlow as fault:
+            self.fault = str(fault)
+        except (Exception, SystemExit) as fault:
+            self.fault = f"raises {type(fault).__name__}: {fault}"
+        # its connection is closed, as that of a program that ends
+        self.line, self.state = None, DONE if self._is_over else WAITS
+
+
+class Clock:
+    """Ends a program that is still in the same turn when the clock has rung twice."""
+
+    def __init__(self, team: "Team", signals: int, timer: int, seconds: float, does: str) -> None:
+        self._team, self._signal, self._timer, self._seconds = team, signals, timer, seconds
+        self._fault = f"has {does} for {seconds:g} s, and neither sends nor waits"
+        self._seen = 0
+        self._before: Any = None
+
+    def start(self) -> None:
+        # signals reach the main thread alone: in another one nobody ends a program that computes without end
+        if threading.current_thread() is threading.main_thread():
+            self._before = signal.signal(self._signal, self._look)
+            signal.setitimer(self._timer, self._seconds, self._seconds)
+
+    def stop(self) -> None:
+        if self._before is not None:
+            signal.setitimer(self._timer, 0)
+            signal.signal(self._signal, self._before)
+            self._before = None
+
+    def _look(self, *_: Any) -> None:
+        """Ends a program that has been running since the last look."""
+        if self._team.turns == self._seen and needed("greenlet").getcurrent().parent is not None:
+            raise TooSlow(self._fault)
+        self._seen = self._team.turns
+
+
+class Team:
+    """The players of a match. A player that computes longer than its limit is ended. That is time of the processor, as
+    one that is busy with other work must not end an agent; an agent that sleeps has a longer limit."""
+
+    def __init__(self, keys: Sequence[str], scripts: Mapping[int, Script], seconds: float = LIMIT) -> None:
+        """The scripts are by the number of their agent."""
+        self.turns = 0
+        self.players = [Player(self, number, keys[number], script) for number, script in scripts.items()]
+        self._clocks = [Clock(self, signal.SIGPROF, signal.ITIMER_PROF, seconds, "computed"),
+                        Clock(self, signal.SIGALRM, signal.ITIMER_REAL, seconds * LONGER, "slept or computed")]
+
+    def start(self) -> None:
+        """Begins all programs, in order."""
+        for clock in self._clocks:
+            clock.start()
+        for player in self.players:
+            player.go_on()
+
+    def stop(self) -> None:
+        """Ends all programs."""
+        for clock in self._clocks:
+            clock.stop()
+        for player in self.players:
+            player.stop()
+
+
+def faults_of(players: Sequence[Any]) -> List[str]:
+    """A line for each player that has a fault, which names its agent."""
+    return [f"agent {player.number}: {player.fault}" for player in players if player.fault]

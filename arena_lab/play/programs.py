@@ -1,0 +1,479 @@
+"""Players that are programs of their own, in any language, as a team would bring them.
+
+The lab starts each program by its command line with host, port and key. The program connects over loopback and plays as
+in a contest. It has a port of its own, so the lab knows whose each connection is. The lab takes a step once each
+program has sent a line, waits for its arrival, or has ended, however long that takes, up to a limit. So a seed gives
+the same match on every run and every machine, as long as each program is a function of what it is told. A program that
+breaks the rules ends its own play, and a line names it.
+
+What a program has sent counts, also if it ends before it is answered, as for `arena serve`.
+"""
+import hashlib
+import math
+import os
+import shlex
+import signal
+import socket
+import struct
+import subprocess
+import threading
+import time
+from collections import deque
+from typing import Any, Callable, Deque, Dict, List, Mapping, NamedTuple, Optional, Protocol, Sequence, Sized, Tuple
+
+from arena_lab.play.agent_files import NoAgent
+from arena_lab.play.bounds import READ_NOTHING, SENT_NOTHING, TimeBound, Room
+from arena_lab.play.last_words import error_in
+from arena_lab.play.mistakes import plain
+from arena_lab.play.players import DENIALS, DONE, LAST_LINES, TRAVELS, WAITS
+from arena_lab.rules.fixtures import Fixture
+from arena_lab.rules.model import MAX_LINE
+
+HOST = "127.0.0.1"
+GONE = '{"ok":"gone"}'
+PIECE = 65_536
+# bytes that are kept of what a program sends before they are due
+AHEAD = 8 << 20
+# seconds that a program has to end by itself when it has been told that the match is over
+GRACE = 0.5
+# seconds after which the lab looks whether a program that says nothing has ended, or has connected twice
+SLICE = 0.02
+# characters of a program's last words that are told
+WORDS = 200
+
+
+class NoStart(Exception):
+    """A program cannot be started, and its team is to blame; says why."""
+
+
+# a program that was started, and what waits until it begins and gives the listener to which it is to connect
+Started = Tuple["subprocess.Popen[bytes]", Callable[[], socket.socket]]
+
+
+class Ground(Protocol):
+    """Where a program runs. Its facts are what stands there for words of a command, by name."""
+
+    @property
+    def facts(self) -> Mapping[str, str]: ...
+
+    def start(self, words: Sequence[str], seed: int, errors: Any) -> Started:
+        """Starts a program, which finds the seed in ARENA_SEED. The port of its listener stands for `{port}`."""
+
+    def kill(self, child: "subprocess.Popen[bytes]") -> None:
+        """Ends a program that was started, and all that it has started."""
+
+    def hurry(self, child: "subprocess.Popen[bytes]") -> None:
+        """Tells a program to end that is going to be ended, so that those of a match end at the same time."""
+
+    def told(self, text: str) -> str:
+        """What a program has said, without what is another on each run."""
+
+    def hint(self, words: str) -> str:
+        """What to change, as far as a program's last words show it."""
+
+    def fault(self) -> str:
+        """Why the ground has ended the program, if it has."""
+
+
+class LocalRunner:
+    """A program runs as the user who starts the lab, in the same folder."""
+
+    facts: Mapping[str, str] = {}
+
+    def start(self, words: Sequence[str], seed: int, errors: Any) -> Started:
+        listener = socket.create_server((HOST, 0))
+        command = [word.replace("{port}", str(listener.getsockname()[1])) for word in words]
+        try:
+            return subprocess.Popen(command, stdin=subprocess.DEVNULL, stdout=subprocess.DEVNULL, stderr=errors,
+                                    env={**os.environ, **seeds(seed)}, start_new_session=True), lambda: listener
+        except OSError:
+            listener.close()
+            raise
+
+    def kill(self, child: "subprocess.Popen[bytes]") -> None:
+        self.hurry(child)
+        child.wait()
+
+    def hurry(self, child: "subprocess.Popen[bytes]") -> None:
+        try:
+            os.killpg(child.pid, signal.SIGKILL)
+        except ProcessLookupError:
+            pass
+
+    def told(self, text: str) -> str:
+        return text
+
+    def hint(self, words: str) -> str:
+        return ""
+
+    def fault(self) -> str:
+        return ""
+
+
+class Nowhere(NamedTuple):
+    """No program can run; says why."""
+
+    why: str
+    facts: Mapping[str, str] = {}
+
+    def start(self, words: Sequence[str], seed: int, errors: Any) -> Started:
+        raise NoStart(self.why)
+
+    def kill(self, child: "subprocess.Popen[bytes]") -> None:
+        pass
+
+    def hurry(self, child: "subprocess.Popen[bytes]") -> None:
+        pass
+
+    def told(self, text: str) -> str:
+        return text
+
+    def hint(self, words: str) -> str:
+        return ""
+
+    def fault(self) -> str:
+        return ""
+
+
+class Lines:
+    """The lines that a program sends, which are read as they come: so what it has sent before it ended is not lost."""
+
+    def __init__(self, connection: socket.socket) -> None:
+        self._connection = connection
+        self._changed = threading.Condition()
+        self._lines: Deque[bytes] = deque()
+        self._kept = 0
+        self._is_over = False
+        # what stands behind the last line feed
+        self.rest = b""
+        threading.Thread(target=self._read, daemon=True).start()
+
+    def next(self, seconds: float) -> Optional[bytes]:
+        """The next line, or None at the end. If there is neither within this time, TimeoutError."""
+        with self._changed:
+            if not self._changed.wait_for(lambda: self._lines or self._is_over, seconds):
+                raise TimeoutError
+            if not self._lines:
+                return None
+            self._kept -= len(self._lines[0])
+            self._changed.notify()
+            return self._lines.popleft()
+
+    def close(self) -> None:
+        """Reads no more."""
+        with self._changed:
+            self._is_over = True
+            self._changed.notify()
+        try:
+            self._connection.shutdown(socket.SHUT_RDWR)
+        except OSError:
+            pass
+
+    def _read(self) -> None:
+        """Reads to the end. Of a line that is too long no more is kept than shows that it is."""
+        left = b""
+        while piece := self._piece():
+            *whole, left = (left + piece).split(b"\n")
+            self.rest = left = left[:MAX_LINE + 1]
+            self._keep([line[:MAX_LINE + 1] for line in whole if line.strip(b" \t\r")])
+        with self._changed:
+            self._is_over = True
+            self._changed.notify()
+
+    def _piece(self) -> bytes:
+        try:
+            return self._connection.recv(PIECE)
+        except OSError:
+            # the program has reset its connection
+            return b""
+
+    def _keep(self, lines: List[bytes]) -> None:
+        with self._changed:
+            self._lines.extend(lines)
+            self._kept += sum(map(len, lines))
+            self._changed.notify()
+            self._changed.wait_for(lambda: self._kept < AHEAD or self._is_over)
+
+
+class Player:
+    """One program, its connection, and what it has sent and was not taken yet."""
+
+    def __init__(self, team: "Team", number: int, words: str, ground: Ground) -> None:
+        self.number = number
+        self.words = words
+        self.state = WAITS
+        self.line: Optional[bytes] = None
+        self.fault: Optional[str] = None
+        self._team = team
+        self._has_ended = False
+        self._connection: Optional[socket.socket] = None
+        self._lines: Optional[Lines] = None
+        self._child: Optional["subprocess.Popen[bytes]"] = None
+        self._listener_of: Optional[Callable[[], socket.socket]] = None
+        self._listener: Optional[socket.socket] = None
+        self._ground = ground
+        # what the program wrote to standard error, once it has ended
+        self.errors = ""
+        # in memory: what is free on a disk is seen by all programs
+        self._errors = open(os.memfd_create("errors"), "w+b")
+
+    def start(self) -> None:
+        """Starts the program. It is the first of a group of its own, so that all that it starts can be ended."""
+        words = command_of(self.words, self._team.fixture, self.number, self._ground.facts)
+        try:
+            seed = self._team.seeds[self.number]
+            self._child, self._listener_of = self._ground.start(words, seed, self._errors)
+        except NoStart as fault:
+            self._end(f"cannot be started: {fault}")
+        except OSError as fault:
+            raise NoAgent(f"{self.words}: {fault.strerror}") from None
+
+    def begin(self) -> None:
+        """Waits until the program begins."""
+        try:
+            if self._listener_of is not None:
+                self._listener = self._listener_of()
+        except NoStart as fault:
+            self._end(f"cannot be started: {fault}")
+
+    def settle(self) -> None:
+        """Waits until the program has sent a line, or its input has ended."""
+        if self.state != WAITS or self.line is not None or self._has_ended:
+            return
+        with self._team.clock as until:
+            try:
+                self._connect(until)
+                while self.line is None and not self._has_ended:
+                    self._take(until)
+                self._look_for_strangers()
+            except TimeoutError:
+                self._end(self._hung())
+            if self._has_ended and not self.fault:
+                self._note_status(until)
+
+    def hear(self, line: str) -> None:
+        """Tells the program a line, and waits for its next one if it is due. A program that has gone hears nothing, but
+        what it sent before is taken."""
+        self.line = None
+        self.state = TRAVELS if line == GONE else DONE if line in LAST_LINES else WAITS
+        if line in DENIALS:
+            self.fault = self.fault or f"was not let in: {line}"
+        self._count(line)
+        if self._connection is not None and not self._has_ended:
+            with self._team.clock as until:
+                seconds, part = divmod(max(SLICE, until - time.monotonic()), 1)
+                # for sending alone: a timeout of the socket would be one of the thread that reads, too
+                self._connection.setsockopt(socket.SOL_SOCKET, socket.SO_SNDTIMEO,
+                                            struct.pack("ll", int(seconds), int(part * 1_000_000)))
+                try:
+                    self._connection.sendall(line.encode() + b"\n")
+                except BlockingIOError:
+                    self._end(self._team.clock.says(READ_NOTHING))
+                except OSError:
+                    pass
+        self.settle()
+
+    def _count(self, line: Sized) -> None:
+        """Counts a line, and ends the program's play if there is no room for it."""
+        try:
+            self._team.room.take(line)
+        except ValueError as fault:
+            self._end(str(fault))
+
+    def go_on(self) -> None:
+        """A program sleeps as it likes, so it is never woken."""
+
+    def read(self) -> Dict[str, str]:
+        """What a program of its own reads is not noted."""
+        return {}
+
+    def told(self, text: str) -> str:
+        """What the program has said, without what is another on each run."""
+        return self._ground.told(text)
+
+    def rest(self) -> bytes:
+        """What the program has sent behind its last line feed."""
+        return b"" if self._lines is None else self._lines.rest.strip()
+
+    def stop(self, fault: Optional[str] = None) -> None:
+        """Ends the program and all that it started."""
+        self.fault = self.fault or fault
+        self.state = DONE
+        self._look_for_strangers()
+        if self._child is not None:
+            self._ground.kill(self._child)
+        self.fault = self._ground.fault() or self.fault
+        self.errors = self._errors_of()
+        if self._lines is not None:
+            self._lines.close()
+        for it in (self._connection, self._listener, self._errors):
+            if it is not None:
+                it.close()
+
+    def hurry(self) -> None:
+        """Tells the program to end, without waiting until it has."""
+        if self._child is not None:
+            self._ground.hurry(self._child)
+
+    def is_alive(self) -> bool:
+        return self._child is not None and self._child.poll() is None
+
+    def _look_for_strangers(self) -> None:
+        """A second connection ends the program's play."""
+        other = self._accepted(0) if self._connection is not None else None
+        if other is not None:
+            other.close()
+            self._end("has connected twice")
+
+    def _accepted(self, seconds: float) -> Optional[socket.socket]:
+        """A connection of the program, if it makes one within this time."""
+        if self._listener is None or self._listener.fileno() < 0:
+            return None
+        self._listener.settimeout(seconds)
+        try:
+            return self._listener.accept()[0]
+        except OSError:
+            return None
+
+    def _connect(self, until: float) -> None:
+        """Waits for the program's connection; a program that ends before has none."""
+        while self._connection is None:
+            was_alive = self.is_alive()
+            self._connection = self._accepted(SLICE if was_alive else 0)
+            if self._connection is not None:
+                self._connection.settimeout(None)
+                self._connection.setsockopt(socket.IPPROTO_TCP, socket.TCP_NODELAY, 1)
+                self._lines = Lines(self._connection)
+            elif not was_alive:
+                status = self._child.returncode if self._child else None
+                self._end(f"has ended with status {status} before it connected{self._last_words()}")
+                return
+            elif time.monotonic() > until:
+                raise TimeoutError
+
+    def _take(self, until: float) -> None:
+        """Takes a line or the end, or waits on."""
+        try:
+            if self._lines is None:
+                raise TimeoutError
+            self.line = self._lines.next(SLICE)
+            self._has_ended = self.line is None
+            self._count(self.line or b"")
+        except TimeoutError:
+            if time.monotonic() > until:
+                raise
+            self._look_for_strangers()
+
+    def _note_status(self, until: float) -> None:
+        """Says how the program ended, if that is a failure."""
+        if self._child is None:
+            return
+        try:
+            status = self._child.wait(max(GRACE, until - time.monotonic()))
+        except subprocess.TimeoutExpired:
+            return
+        if status != 0:
+            self.fault = f"has ended with status {status} in the middle of its match{self._last_words()}"
+
+    def _errors_of(self) -> str:
+        """The end of what the program wrote to standard error, without what is another on each run."""
+        if self._errors.closed:
+            return self.errors
+        size = self._errors.seek(0, os.SEEK_END)
+        self._errors.seek(max(0, size - PIECE))
+        lines = self._errors.read().decode(errors="replace").split("\n")
+        return "\n".join(plain(self._ground.told(line)) for line in lines)
+
+    def _last_words(self) -> str:
+        """The line that names the error in what the program wrote to standard error, as one that changes nothing where
+        it is shown."""
+        size = self._errors.seek(0, os.SEEK_END)
+        self._errors.seek(max(0, size - PIECE))
+        text = self._errors.read().decode(errors="replace")
+        words = self._ground.told(error_in(text))
+        if not words:
+            return ""
+        return f": {plain(words)[:WORDS]}{self._ground.hint(words) or self._ground.hint(text.strip()[-PIECE // 64:])}"
+
+    def _hung(self) -> str:
+        """What is said of the program once the lab waits for it no more, with what it may have forgotten."""
+        said, words = self._team.clock.says(SENT_NOTHING), self._last_words()
+        if words or not said.startswith(SENT_NOTHING):
+            return f"{said}{words}"
+        asks = "does it end each line with a line feed, and flush?" if self.rest() else "does it flush after each line?"
+        return f"{said}; {asks}"
+
+    def _end(self, fault: str) -> None:
+        """Ends the program's play; its agent leaves the match if it is in it."""
+        self.fault = self.fault or fault
+        self._has_ended, self.line = True, None
+        if self._child is not None:
+            self._ground.kill(self._child)
+
+
+def seed_of(key: str) -> int:
+    """The number from which a program may draw its chance. It comes from the agent's key, so it is the same when a
+    match is played again. It fits in an int of C, and Python takes it as the seed of its hashes."""
+    return int(hashlib.sha256(key.encode(errors="replace")).hexdigest()[:7], 16)
+
+
+def seeds_of(fixture: Fixture) -> List[int]:
+    """The numbers of a match's agents."""
+    return list(map(seed_of, fixture.keys))
+
+
+def seeds(seed: int) -> Dict[str, str]:
+    """The variables that tell a program its seed. With them Python goes through sets of texts in the same order on each
+    run."""
+    return {"ARENA_SEED": str(seed), "PYTHONHASHSEED": str(seed)}
+
+
+def command_of(words: str, fixture: Fixture, number: int, others: Mapping[str, str]) -> List[str]:
+    """The words of a command that starts an agent's program, but for the port, which is not known yet."""
+    setup = fixture.setup
+    facts = {"host": HOST, "port": "{port}", "key": fixture.keys[number], "nodes": setup.nodes,
+             "links": len(setup.links), "home": setup.home, **others}
+    try:
+        command = [word.format(**facts) for word in shlex.split(words)]
+    except (KeyError, IndexError, ValueError):
+        command = []
+    if not command:
+        names = [f"{{{name}}}" for name in facts]
+        raise NoAgent(f"{words}: in a command stand {', '.join(names[:-1])} and {names[-1]}")
+    return command
+
+
+class Team:
+    """The programs of a match, with a limit of seconds for each line and one for the whole match."""
+
+    def __init__(self, fixture: Fixture, commands: Mapping[int, str], seconds: float,
+                 grounds: Optional[Mapping[int, Ground]] = None, in_all: float = math.inf,
+                 seeds: Optional[Sequence[int]] = None, room: float = math.inf) -> None:
+        """The commands are by the numbers of agents, and the grounds too. Seeds are those of the keys unless others are
+        given."""
+        self.fixture = fixture
+        self.room = Room(room)
+        self.seeds = seeds_of(fixture) if seeds is None else seeds
+        self.clock = TimeBound(seconds, in_all)
+        self.players: List[Player] = [Player(self, number, words, grounds[number] if grounds else LocalRunner())
+                                      for number, words in commands.items()]
+
+    def start(self) -> None:
+        """Starts all programs, and waits for their first lines, for all of them together."""
+        for step in (Player.start, Player.begin):
+            for player in self.players:
+                step(player)
+        self.clock.begin()
+        for player in self.players:
+            player.settle()
+        self.clock.begin(False)
+
+    def stop(self) -> None:
+        """Ends all programs; those that have been told that the match is over may end by themselves."""
+        until = time.monotonic() + GRACE
+        while any(player.is_alive() for player in self.players) and time.monotonic() < until:
+            time.sleep(0.005)
+        for player in self.players:
+            player.hurry()
+        for player in self.players:
+            player.stop()

@@ -1,0 +1,133 @@
+"""Teams of players inside the lab and outside, and the games that they play."""
+import pathlib
+from typing import Callable, Dict, List, NamedTuple, Optional, Sequence
+
+from arena_lab.play.agent_files import NoAgent, Script, digests, script_of, script_of_function, source_digest
+from arena_lab.play.bounds import LIMIT
+from arena_lab.play.matches import Team
+from arena_lab.play.players import Team as Inside
+from arena_lab.play.programs import Team as Outside
+from arena_lab.play.programs import seeds_of
+from arena_lab.rules import networks
+from arena_lab.rules.fixtures import Fixture, NoMatch, fixture_of
+from arena_lab.rules.limits import MOST_AGENTS, SMALL_BOARD, SMALL_QUOTA
+from arena_lab.rules.model import Place, Setup
+from arena_lab.rules.networks import Network
+
+INSIDE, OUTSIDE = "agent", "command"
+# what a match has if nothing else is asked for
+QUOTA, BOARD = SMALL_QUOTA, SMALL_BOARD
+NETWORK = "ring:8"
+NAPS = 2
+
+
+class AgentWords(NamedTuple):
+    """How one agent is played: inside the lab or by a program of its own, and the words that name it."""
+
+    kind: str
+    words: str
+    # an agent inside that is a function of this process, whatever the words
+    function: Optional[Callable[..., None]] = None
+
+    def name(self) -> str:
+        """What it is called in a title: its file, or the function that it is."""
+        words = [word.partition(":")[0] for word in self.words.split() if not word.startswith("{")]
+        named = [word for word in words if pathlib.PurePath(word).suffix in (".py", ".sh", ".jar", ".js")]
+        return self.words.partition(":")[2] if self.function else pathlib.PurePath((named or words or ["?"])[0]).name
+
+    def script(self, setup: Setup) -> Script:
+        """An agent inside, as it plays this match."""
+        return script_of_function(self.function, setup) if self.function else script_of(self.words, setup)
+
+    def digests(self) -> Dict[str, str]:
+        """The SHA-256 of each file that the agent is made of."""
+        if self.function:
+            return {self.words: source_digest(self.function)}
+        # each agent inside has a client, also one whose file does not import it
+        return digests([self.words], True, ["client"]) if self.kind == INSIDE else digests([self.words], False)
+
+
+def digests_of(agents: Sequence[AgentWords]) -> Dict[str, str]:
+    """The SHA-256 of each file that some of the agents are made of."""
+    return {name: digest for agent in dict.fromkeys(agents) for name, digest in agent.digests().items()}
+
+
+def filled(named: Sequence[AgentWords], wanted: Optional[int] = None) -> List[AgentWords]:
+    """The agents of a team: one that is named stands for all. They are two if it is not said how many."""
+    wanted = (2 if len(named) == 1 else len(named)) if wanted is None else wanted
+    if not 1 <= wanted <= MOST_AGENTS:
+        raise NoMatch(f"a match has 1 to {MOST_AGENTS} agents, and not {wanted}")
+    if len(named) not in (1, wanted):
+        raise NoAgent(f"{len(named)} agents are named, and the match has {wanted}")
+    return list(named) * wanted if len(named) == 1 else list(named)
+
+
+class Together:
+    """A team of players inside the lab and outside."""
+
+    def __init__(self, agents: Sequence[AgentWords], fixture: Fixture, seconds: float) -> None:
+        inside = {number: agent.script(fixture.setup) for number, agent in enumerate(agents)
+                  if agent.kind == INSIDE}
+        outside = {number: agent.words for number, agent in enumerate(agents) if agent.kind == OUTSIDE}
+        self._teams: List[Team] = [Inside(fixture.keys, inside, seconds)] if inside else []
+        self._teams += [Outside(fixture, outside, seconds)] if outside else []
+        players = [player for team in self._teams for player in team.players]
+        self.players = sorted(players, key=lambda player: player.number)
+
+    def start(self) -> None:
+        for team in self._teams:
+            team.start()
+
+    def stop(self) -> None:
+        for team in self._teams:
+            team.stop()
+
+
+def alone(number: int, agent: AgentWords, again: Fixture, fixture: Fixture, seconds: float) -> Team:
+    """A team of one agent of a match, which plays with the keys of `again`, and has the chance that it had before."""
+    if agent.kind == INSIDE:
+        return Inside(again.keys, {number: agent.script(again.setup)}, seconds)
+    return Outside(again, {number: agent.words}, seconds, seeds=seeds_of(fixture))
+
+
+class Game(NamedTuple):
+    """What is played, as far as a seed does not choose it: a network by its name, a team, and what destroys; if nothing
+    does, each seed has a black hole of its own. Or else the match of a tournament."""
+
+    name: str
+    network: Network
+    agents: List[AgentWords]
+    home: int = 0
+    holes: Sequence[int] = ()
+    dark: Sequence[Place] = ()
+    quota: int = QUOTA
+    board: int = BOARD
+    naps: int = NAPS
+    limit: float = LIMIT
+    match: Optional[Fixture] = None
+    origin: str = ""
+
+    def fixture(self, seed: int, home: Optional[int] = None) -> Fixture:
+        """The match of a seed."""
+        if self.match:
+            return self.match._replace(naps=self.naps)
+        home = self.home if home is None else home
+        if not 0 <= home < self.network.nodes:
+            raise networks.NoNetwork(f"{self.name}: it has no node {home}")
+        others = [v for v in range(self.network.nodes) if v != home]
+        holes = list(self.holes) or ([] if self.dark else [others[seed % len(others)]])
+        setup = Setup(self.network.nodes, self.network.links, home, sorted(holes), len(self.agents), self.quota,
+                      self.board, list(self.dark))
+        return fixture_of(setup)._replace(naps=self.naps)
+
+    def where(self) -> str:
+        """Where it is played, as origins of schedules say it."""
+        return self.origin if self.match else f" on {self.name}"
+
+    def fixtures(self) -> List[Fixture]:
+        """Its matches: one, or one for each node but the home base as the black hole."""
+        return [self.fixture(seed) for seed in range(1 if self.is_fixed() else self.network.nodes - 1)]
+
+    def is_fixed(self) -> bool:
+        """Whether all seeds have the same match."""
+        return bool(self.match or self.holes or self.dark)

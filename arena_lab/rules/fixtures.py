@@ -1,0 +1,161 @@
+"""Fixtures: the matches of a tournament, before they are played."""
+import json
+import pathlib
+import tomllib
+from typing import Any, Dict, Iterable, List, NamedTuple, Optional, Sequence, Tuple
+
+from arena_lab.rules import networks
+from arena_lab.rules.delays import OBLIVIOUS, Delays
+from arena_lab.rules.limits import MOST_AGENTS, MOST_BOARD, MOST_QUOTA, SMALL_BOARD, SMALL_QUOTA
+from arena_lab.rules.model import Object, Place, Setup, command_of, place_of, text_of
+
+SEED_BYTES = 32
+SEED = "0" * 2 * SEED_BYTES
+# the team of a match that has none
+OWN_TEAM = "lab"
+
+
+class Fixture(NamedTuple):
+    """A match to be played: whose it is, its setup, the key of each agent, the links over which nobody arrives, each as
+    (node, port) of the departure, and how often an agent may wake again though nothing has changed in front of it."""
+
+    team: str
+    setup: Setup
+    keys: List[str]
+    held: List[Place] = []
+    naps: int = 0
+
+
+class NoMatch(networks.NoNetwork):
+    """No match is set up so; says why."""
+
+
+def twice(found: Sequence[Any]) -> List[Any]:
+    """What stands more than once."""
+    return [one for place, one in enumerate(found) if one in found[:place]]
+
+
+def checked(setup: Setup) -> Setup:
+    """A setup, if the program takes it. Whether its links make a network is not asked here."""
+    ports = {(v, p): (w, q) for v, p, w, q in setup.links} | {(w, q): (v, p) for v, p, w, q in setup.links}
+    unknown = [place for place in setup.dark if place not in ports]
+    ends = [min(place, ports.get(place, place)) for place in setup.dark]
+    if not 1 <= setup.agents <= MOST_AGENTS:
+        raise NoMatch(f"a match has 1 to {MOST_AGENTS} agents, and not {setup.agents}")
+    if not 1 <= setup.quota <= MOST_QUOTA:
+        raise NoMatch(f"an agent has 1 to {MOST_QUOTA} commands, and not {setup.quota}: name another number by --quota")
+    if not 0 <= setup.board <= MOST_BOARD:
+        raise NoMatch(f"a whiteboard has 0 to {MOST_BOARD} bytes, and not {setup.board}: name another number by "
+                      "--board")
+    if any(not 0 <= node < setup.nodes for v, _, w, _ in setup.links for node in (v, w)):
+        raise NoMatch(f"a link has an end that does not exist: nodes are 0 to {setup.nodes - 1}")
+    if not 0 <= setup.home < setup.nodes:
+        raise NoMatch(f"the home base {setup.home} does not exist: nodes are 0 to {setup.nodes - 1}")
+    if any(hole == setup.home or not 0 <= hole < setup.nodes for hole in setup.holes):
+        raise NoMatch(f"black holes are nodes from 0 to {setup.nodes - 1} other than the home base {setup.home}")
+    if twice(setup.holes):
+        raise NoMatch(f"node {twice(setup.holes)[0]} is named as a black hole twice")
+    if unknown:
+        raise NoMatch(f"node {unknown[0][0]} has no port {unknown[0][1]}, so no dark link is there")
+    if twice(ends):
+        raise NoMatch("a dark link is named twice: name it by one of its ends")
+    return setup
+
+
+def fixture_of(setup: Setup) -> Fixture:
+    """A fixture with keys of its own."""
+    return Fixture(OWN_TEAM, checked(setup), [f"k{agent}" for agent in range(setup.agents)])
+
+
+def enters_as_another(fixture: Fixture, number: int, line: bytes) -> bool:
+    """Whether an agent's line enters with the key of another agent."""
+    key = command_of(text_of(line)).get("key")
+    return key in fixture.keys and key != fixture.keys[number]
+
+
+class Tournament(NamedTuple):
+    """A tournament's file: its seed, its fixtures, and its delays if its schedule is the oblivious one."""
+
+    seed: str
+    fixtures: List[Fixture]
+    delays: Optional[Delays] = None
+
+
+def read_tournament(path: str) -> Tournament:
+    """The tournament of a file, which must be right: ask `arena check`."""
+    try:
+        found = tomllib.loads(pathlib.Path(path).read_text(encoding="utf-8"))
+        fixtures = [fixture_in(row, pathlib.Path(path).parent) for row in found["match"]]
+        return Tournament(seed_in(found), fixtures, delays_in(found))
+    except (ValueError, KeyError, TypeError) as fault:
+        raise NoMatch(f"{path}: it is no tournament ({networks.fault_text(fault)}); `arena check` says more") from None
+
+
+def seed_in(found: Object) -> str:
+    """The seed of a tournament."""
+    seed: str = found["seed"]
+    if len(bytes.fromhex(seed)) != SEED_BYTES:
+        raise ValueError(f"its seed has not {2 * SEED_BYTES} hexadecimal digits")
+    return seed
+
+
+def delays_in(found: Object) -> Optional[Delays]:
+    """The delays of a tournament whose schedule is the oblivious one."""
+    return Delays(found["delay_scales"], found["delay_odds"]) if found.get("schedule") == OBLIVIOUS else None
+
+
+def fixture_in(row: Dict[str, Any], folder: pathlib.Path) -> Fixture:
+    """The fixture of a match's table, in a tournament whose file is in this folder."""
+    network = networks.in_file(network_path(row["network"], folder))
+    holes = row["holes"] if "holes" in row else [row["hole"]] if row["hole"] != "none" else []
+    dark = list(map(place_of, row.get("dark", [])))
+    setup = Setup(network.nodes, network.links, row["home"], holes, len(row["keys"]), row["quota"], row["board"], dark)
+    return Fixture(row["team"], checked(setup), row["keys"], list(map(place_of, row.get("held", []))))
+
+
+def network_path(name: str, folder: pathlib.Path) -> str:
+    """The file of a network: from the working directory or, if nothing is there, from the tournament's folder."""
+    near = folder / name
+    return str(near) if near.exists() and not pathlib.Path(name).exists() else name
+
+
+def match_text(fixture: Fixture, network: str) -> str:
+    """The table of a match, whose network stands in this file."""
+    setup = fixture.setup
+    rows: Object = {
+        "team": fixture.team, "network": network, "home": setup.home, "holes": setup.holes,
+        "dark": pairs(setup.dark), "quota": setup.quota, "board": setup.board, "keys": fixture.keys,
+        "held": pairs(fixture.held),
+    }
+    return "\n[[match]]\n" + "".join(f"{key} = {toml_of(value)}\n" for key, value in rows.items())
+
+
+def toml_of(value: Any) -> str:
+    """A text, a number or a list of these in TOML. It is what JSON spells, but for escapes of half a character, and for
+    a control character that TOML has escaped."""
+    return json.dumps(value, ensure_ascii=False).replace("\x7f", "\\u007f")
+
+
+def tournament_text(seed: str, matches: Iterable[Tuple[Fixture, str]], delays: Optional[Delays] = None) -> str:
+    """The file of a tournament: its seed, the delays of the oblivious schedule if it has that one, and its matches with
+    the files of their networks."""
+    rows = list(matches)
+    is_old = all(it.setup.quota <= SMALL_QUOTA and it.setup.board <= SMALL_BOARD for it, _ in rows) and not delays
+    head = f'version = {2 if is_old else 3}\nseed = "{seed}"\n'
+    if delays:
+        head += f'schedule = "{OBLIVIOUS}"\ndelay_scales = {delays.scales}\ndelay_odds = {delays.odds}\n'
+    return head + "".join(match_text(*match) for match in rows)
+
+
+def write_tournament(fixture: Fixture, folder: pathlib.Path) -> pathlib.Path:
+    """Writes a tournament of this one match, tournament.toml with network.toml beside it. The program is to be run in
+    that folder."""
+    network = networks.Network(fixture.setup.nodes, fixture.setup.links)
+    (folder / "network.toml").write_text(networks.text_of(network), encoding="utf-8")
+    path = folder / "tournament.toml"
+    path.write_text(tournament_text(SEED, [(fixture, "network.toml")]), encoding="utf-8")
+    return path
+
+
+def pairs(places: Sequence[Place]) -> List[List[int]]:
+    return [list(place) for place in places]

@@ -1,0 +1,275 @@
+"""Networks by name, by a seed, or out of a file.
+
+    ring:N          a ring of N nodes: port 0 leads to the next node, port 1 to the one before
+    hypercube:D     2^D nodes: port I leads to the node whose number differs in bit I
+    complete:N      N nodes, each joined to all others: port P of node V leads to node V + P + 1, round and round
+    torus:RxC       R rows and C columns: ports 0 to 3 lead east, west, south and north
+    ccc:D           the cube-connected cycles of D 2^D nodes: node D W + I stands at place I of the cycle W; port 0
+                    leads on along the cycle, port 1 back, and port 2 to the cycle whose number differs in bit I
+    random:SEED     3 to 24 nodes with 2 to 6 ports each, drawn by the seed; ports are numbered by chance
+    random:N:degK:seedS
+                    N nodes with K ports each, drawn by the seed S; ports are numbered by chance
+    FILE            a network file, as `arena check` reads it
+"""
+import collections
+import pathlib
+import random
+import re
+import tomllib
+from typing import Any, Callable, Collection, Dict, List, NamedTuple, Sequence, Tuple
+
+from arena_lab.rules.limits import MOST_NODES, SMALL_NODES
+from arena_lab.rules.model import Place, link_of
+from arena_lab.support.faults import Fault
+from arena_lab.support.missing import needed
+
+Link = Tuple[int, int, int, int]
+
+NAMES = "ring:N, hypercube:D, complete:N, torus:RxC, ccc:D, random:SEED, random:N:degK:seedS"
+LARGEST = 24
+LARGEST_DEGREE = 6
+
+
+def places_into(links: Sequence[Link], nodes: Collection[int]) -> List[Place]:
+    """The places, each a node and a port, from which a link leads to one of these nodes. If all of them are held,
+    nobody arrives there."""
+    return sorted([(v, p) for v, p, w, _ in links if w in nodes] + [(w, q) for v, _, w, q in links if v in nodes])
+
+
+class Network(NamedTuple):
+    """A network: how many nodes, and its links as (node, port, node, port)."""
+
+    nodes: int
+    links: List[Link]
+
+    def degrees(self) -> List[int]:
+        """How many ports each node has."""
+        found = [0] * self.nodes
+        for v, _, w, _ in self.links:
+            found[v] += 1
+            found[w] += 1
+        return found
+
+
+class NoNetwork(Fault):
+    """A name that names no network; says what does."""
+
+
+class NoNetworkFile(NoNetwork, ValueError):
+    """A file that is of another kind."""
+
+
+def ring(nodes: int) -> Network:
+    return Network(nodes, [(v, 0, (v + 1) % nodes, 1) for v in range(nodes)])
+
+
+def flipped_ring(nodes: int, chance: random.Random) -> Network:
+    """A ring at whose nodes, the home base aside, the two ports may stand the other way round."""
+    flips = [0] + [chance.randrange(2) for _ in range(1, nodes)]
+    return Network(nodes, [(v, flips[v], (v + 1) % nodes, 1 - flips[(v + 1) % nodes]) for v in range(nodes)])
+
+
+def hypercube(dimension: int) -> Network:
+    nodes = 2 ** dimension
+    pairs = [(v, bit) for v in range(nodes) for bit in range(dimension)]
+    return Network(nodes, [(v, bit, v ^ 1 << bit, bit) for v, bit in pairs if v < v ^ 1 << bit])
+
+
+def complete(nodes: int) -> Network:
+    pairs = [(v, w) for v in range(nodes) for w in range(v + 1, nodes)]
+    return Network(nodes, [(v, w - v - 1, w, v - w + nodes - 1) for v, w in pairs])
+
+
+def torus(rows: int, columns: int) -> Network:
+    links = []
+    for node in range(rows * columns):
+        row, column = divmod(node, columns)
+        links.append((node, 0, row * columns + (column + 1) % columns, 1))
+        links.append((node, 2, (row + 1) % rows * columns + column, 3))
+    return Network(rows * columns, links)
+
+
+def cube_connected_cycles(dimension: int) -> Network:
+    """A hypercube with a cycle in the place of each node."""
+    links = []
+    for node in range(dimension * 2 ** dimension):
+        cycle, spot = divmod(node, dimension)
+        links.append((node, 0, cycle * dimension + (spot + 1) % dimension, 1))
+        if not cycle >> spot & 1:
+            links.append((node, 2, (cycle | 1 << spot) * dimension + spot, 2))
+    return Network(dimension * 2 ** dimension, links)
+
+
+def regular(nodes: int, degree: int, seed: int) -> Network:
+    """A network drawn among those whose nodes all have this degree. It may have a cut node: ask `cut_of`."""
+    if nodes > MOST_NODES:
+        raise NoNetwork(f"a network has 3 to {MOST_NODES} nodes, and not {nodes}")
+    if nodes * degree % 2 or not 2 <= degree < nodes:
+        raise ValueError("no such network")
+    graph = needed("networkx").random_regular_graph(degree, nodes, seed=seed)
+    pairs = sorted((min(pair), max(pair)) for pair in graph.edges)
+    return Network(nodes, numbered(nodes, pairs, random.Random(seed)))
+
+
+def shuffled(network: Network, seed: int) -> Network:
+    """The network with the ports of each node numbered anew by the seed."""
+    chance = random.Random(seed)
+    labels = [list(range(degree)) for degree in network.degrees()]
+    for ports in labels:
+        chance.shuffle(ports)
+    return Network(network.nodes, [(v, labels[v][p], w, labels[w][q]) for v, p, w, q in network.links])
+
+
+def ports_seed(word: str) -> int:
+    """The seed of `shuffled:SEED`, by which ports are numbered anew."""
+    found = re.fullmatch(r"shuffled:(\d+)", word)
+    if not found:
+        raise NoNetwork(f"{word}: ports are numbered by shuffled:SEED, such as shuffled:3")
+    return int(found[1])
+
+
+def cut_of(network: Network) -> str:
+    """Why the network is not biconnected, or nothing if it is."""
+    networkx = needed("networkx")
+    graph = networkx.Graph()
+    graph.add_nodes_from(range(network.nodes))
+    graph.add_edges_from((v, w) for v, _, w, _ in network.links)
+    if not networkx.is_connected(graph):
+        apart = sorted(min(part) for part in networkx.connected_components(graph))
+        return f"no path joins node {apart[0]} to node {apart[1]}"
+    cuts = sorted(networkx.articulation_points(graph))
+    return f"without node {cuts[0]} some other nodes are apart" if cuts else ""
+
+
+def drawn(chance: random.Random, largest: int = LARGEST) -> Network:
+    """A network made of a ring by adding ears, which makes every biconnected one, and then some links by chance."""
+    nodes = chance.randint(3, largest)
+    size = chance.randint(3, nodes)
+    pairs = [(v, (v + 1) % size) for v in range(size)]
+    degree = [2] * size + [0] * (nodes - size)
+    while size < nodes:
+        one, two = chance.sample([v for v in range(size) if degree[v] < LARGEST_DEGREE], 2)
+        new = chance.randint(1, nodes - size)
+        path = [one, *range(size, size + new), two]
+        pairs += list(zip(path, path[1:]))
+        for v in path[:-1] + path[1:]:
+            degree[v] += 1
+        size += new
+    for _ in range(chance.choice((0, nodes // 2, 3 * nodes))):
+        one, two = chance.sample(range(nodes), 2)
+        if max(degree[one], degree[two]) < LARGEST_DEGREE and not {(one, two), (two, one)} & set(pairs):
+            pairs.append((one, two))
+            degree[one] += 1
+            degree[two] += 1
+    return Network(nodes, numbered(nodes, pairs, chance))
+
+
+def numbered(nodes: int, pairs: List[Tuple[int, int]], chance: random.Random) -> List[Link]:
+    """The links between these pairs, each node's ports being numbered by chance."""
+    degrees = collections.Counter(node for pair in pairs for node in pair)
+    ports: Dict[int, List[int]] = {node: list(range(degrees[node])) for node in range(nodes)}
+    for labels in ports.values():
+        chance.shuffle(labels)
+    return [(v, ports[v].pop(), w, ports[w].pop()) for v, w in pairs]
+
+
+def in_file(path: str) -> Network:
+    """The network of a file, which must be right: ask `arena check`."""
+    try:
+        found = tomllib.loads(pathlib.Path(path).read_text(encoding="utf-8"))
+        return Network(found["nodes"], list(map(link_of, found["links"])))
+    except (ValueError, KeyError, TypeError) as fault:
+        raise NoNetworkFile(f"{path}: it is no network file ({fault_text(fault)}); `arena check` says more") from None
+
+
+def fault_text(fault: Exception) -> str:
+    """What is wrong with a file of TOML, by the exception of its reader."""
+    return f"it has no key {fault}" if isinstance(fault, KeyError) else str(fault)
+
+
+def of_graph(graph: Any) -> Network:
+    """The network of a networkx graph. Nodes are numbered in the graph's order, and the ports of each node in the order
+    of its neighbours."""
+    if graph.is_directed() or graph.is_multigraph() or any(v == w for v, w in graph.edges):
+        raise NoNetwork("a network is a graph without directions, in which a link joins two nodes and no other does")
+    if not 3 <= graph.number_of_nodes() <= MOST_NODES:
+        raise NoNetwork(f"a network has 3 to {MOST_NODES} nodes, and this graph has {graph.number_of_nodes()}")
+    number = {node: place for place, node in enumerate(graph.nodes)}
+    ports = {node: {other: port for port, other in enumerate(graph.adj[node])} for node in graph.nodes}
+    network = Network(len(number), [(number[v], ports[v][w], number[w], ports[w][v]) for v, w in graph.edges])
+    return checked(network, str(getattr(graph, "name", "")) or "the graph")
+
+
+def named(name: str) -> Network:
+    """The network that a word of the command line names."""
+    kind, colon, size = name.partition(":")
+    if not colon:
+        if not pathlib.Path(name).is_file():
+            raise NoNetwork(f"{name}: there is no such file; a network is {NAMES} or a file")
+        return in_file(name)
+    try:
+        sizes, made = sizes_of(kind, size), MADE[kind]
+        if not SMALLEST.get(kind, 0) <= min(sizes) or sizes[0] > LARGEST_SIZE.get(kind, sizes[0]):
+            raise NoNetwork(f"{name}: a network has 3 to {MOST_NODES} nodes, a torus 3 rows and columns or more, and "
+                            "cube-connected cycles 3 dimensions or more")
+        network: Network = made(*sizes)
+    except (KeyError, TypeError, ValueError):
+        raise NoNetwork(f"{name}: a network is {NAMES} or a file; N times K is even, and K less than N") from None
+    if not 3 <= network.nodes <= MOST_NODES:
+        raise NoNetwork(f"{name}: a network has 3 to {MOST_NODES} nodes, and this one has {network.nodes}")
+    return network
+
+
+def in_range(name: str) -> List[str]:
+    """The names that a word names: `ring:3..8` is those of all sizes from 3 to 8."""
+    found = re.fullmatch(r"(\w+):(\d+)\.\.(\d+)", name)
+    if not found:
+        return [name]
+    first, last = int(found[2]), int(found[3])
+    if first > last:
+        raise NoNetwork(f"{name}: the first size is the smaller one, as in {found[1]}:{last}..{first}")
+    return [f"{found[1]}:{size}" for size in range(first, last + 1)]
+
+
+MADE: Dict[str, Callable[..., Network]] = {
+    "ring": ring, "hypercube": hypercube, "complete": complete, "torus": torus, "ccc": cube_connected_cycles,
+    "random": lambda *sizes: regular(*sizes) if len(sizes) == 3 else drawn(random.Random(*sizes)),
+}
+SMALLEST = {"torus": 3, "ccc": 3}
+LARGEST_SIZE = {"hypercube": 12, "ccc": 9, "ring": MOST_NODES, "complete": SMALL_NODES, "torus": MOST_NODES}
+
+
+def sizes_of(kind: str, size: str) -> List[int]:
+    """The numbers behind the kind of a network."""
+    found = re.fullmatch(r"(\d+):deg(\d+):seed(\d+)", size)
+    if found and kind == "random":
+        return [int(number) for number in found.groups()]
+    return [int(word) for word in size.split("x")]
+
+
+def biconnected(name: str) -> Network:
+    """The network that a word names, or else a line that says where it can be cut."""
+    return checked(named(name), name)
+
+
+def checked(network: Network, name: str) -> Network:
+    """The network, or else a line that says which rule it breaks, and where it can be cut."""
+    ends = [end for v, p, w, q in network.links for end in ((v, p), (w, q))]
+    pairs = [frozenset((v, w)) for v, _, w, _ in network.links]
+    if not 3 <= network.nodes <= MOST_NODES:
+        raise NoNetwork(f"{name}: a network has 3 to {MOST_NODES} nodes, and not {network.nodes}")
+    if sorted(ends) != [(v, p) for v, degree in enumerate(network.degrees()) for p in range(degree)]:
+        raise NoNetwork(f"{name}: a node with D links has the ports 0 to D - 1, each once")
+    if len(set(pairs)) < len(pairs) or any(len(pair) < 2 for pair in pairs):
+        raise NoNetwork(f"{name}: a link joins two nodes, and no other link joins them")
+    cut = cut_of(network)
+    if cut:
+        advice = "take another seed" if name.startswith("random") else "add a link"
+        raise NoNetwork(f"{name}: the network is not biconnected: {cut}; {advice}")
+    return network
+
+
+def text_of(network: Network) -> str:
+    """The network's file."""
+    version = 1 if network.nodes <= SMALL_NODES else 2
+    return f"version = {version}\nnodes = {network.nodes}\nlinks = {[list(link) for link in network.links]}\n"

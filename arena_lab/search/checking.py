@@ -1,0 +1,123 @@
+"""How `explore` checks that agents are the machines for which the lab takes them: the merges of their histories, drawn
+schedules that the agents play, and on small matches the Python model's search, which merges nothing."""
+from typing import Any, List, NamedTuple, Optional, Protocol
+
+from arena_lab.play.teams import INSIDE, AgentWords
+from arena_lab.rules.engines import Differs
+from arena_lab.rules.fixtures import Fixture
+from arena_lab.search.program_search import BREAKS, COMES, ENDLESS, FAILS, SOLVES, Found
+from arena_lab.search.explore import Explored, explored
+from arena_lab.search.sampled_runs import follow
+from arena_lab.search.machines import Machines
+from arena_lab.search.history_tree import NoFunction
+
+# for how many seconds of a processor the Python model searches a match beside the program, and how many states
+SECONDS, STATES = 1.0, 20_000
+
+
+class Counted(NamedTuple):
+    """What was checked of matches, and agreed: how many merges of histories of how many, drawn schedules, and matches
+    that the Python model searched, of how many. `str` says it."""
+
+    checked: int = 0
+    merged: int = 0
+    schedules: int = 0
+    searched: int = 0
+    matches: int = 0
+    is_wanted: bool = True
+
+    def more(self, other: "Counted") -> "Counted":
+        """What was checked in both."""
+        return Counted(self.checked + other.checked, self.merged + other.merged, self.schedules + other.schedules,
+                       self.searched + other.searched, self.matches + other.matches,
+                       self.is_wanted and other.is_wanted)
+
+    def since(self, other: "Counted") -> "Counted":
+        """What was checked since then."""
+        return Counted(self.checked - other.checked, self.merged - other.merged, self.schedules - other.schedules,
+                       self.searched - other.searched, self.matches - other.matches, self.is_wanted)
+
+    def __str__(self) -> str:
+        merges = f"{self.checked} of {self.merged} merges of histories"
+        if not self.is_wanted:
+            return f"nothing was checked: {merges}"
+        said = [merges, f"{self.schedules} drawn schedules"]
+        if self.searched:
+            said.append(f"the Python model's search of {self.searched} of {self.matches} matches")
+        return f"checked, and all agree: {', '.join(said)}"
+
+
+class Matches(Protocol):
+    """Matches that one team plays, such as those of a `Game`."""
+
+    @property
+    def agents(self) -> List[AgentWords]: ...
+    @property
+    def limit(self) -> float: ...
+    def fixtures(self) -> List[Fixture]: ...
+
+
+class Checks:
+    """What was checked of a search. `str` says what, and that it agreed."""
+
+    def __init__(self, machines: Machines, game: Matches, schedules: int, matches: int) -> None:
+        """Of this many schedules each match gets its part."""
+        self._machines, self._game, self._wanted, self._matches = machines, game, schedules, matches
+        self._seen = self._schedules = self._searched = 0
+        # whether the Python model's search of each match has come to an end in time so far
+        self._is_small = all(agent.kind == INSIDE for agent in game.agents)
+
+    def check(self, fixture: Fixture, found: Optional[Found], shown: Any, number: int) -> None:
+        """Checks the match of a number, of which the program has found this."""
+        self._seen += 1
+        if not self._wanted or found is None:
+            return
+        if found["found"] in (SOLVES, COMES):
+            first, last = (self._wanted * it // self._matches for it in (number, number + 1))
+            for seed in range(first, last):
+                follow(fixture, self._game.agents, self._machines, seed, self._game.limit)
+            self._schedules += last - first
+        if found["found"] != COMES and self._is_small:
+            self._is_small = self._is_searched(fixture, found, shown)
+            self._searched += self._is_small
+
+    def _is_searched(self, fixture: Fixture, found: Found, shown: Any) -> bool:
+        """Whether the Python model's search comes to an end in time; then it must come to the same."""
+        try:
+            beside = explored(fixture, self._game.agents, shown, STATES, self._game.limit, SECONDS)
+        except NoFunction:
+            # it refuses agents that enter as another one, of which the program says that they fail
+            if found["found"] == SOLVES:
+                raise
+            return False
+        finally:
+            shown.clear()
+        return compared(fixture, found, beside)
+
+    def counted(self) -> Counted:
+        """What was checked so far."""
+        beside = self._machines.beside
+        return Counted(beside.checked, beside.merged, self._schedules, self._searched, self._seen, bool(self._wanted))
+
+    def __str__(self) -> str:
+        return str(self.counted())
+
+
+def compared(fixture: Fixture, found: Found, beside: Explored) -> bool:
+    """Whether the Python model's search was as far as to be compared with what the program found; they must agree."""
+    worst = beside.explorer.worst
+    has_failed, fails = worst is not None and worst.has_failed, found["found"] in (FAILS, BREAKS, ENDLESS)
+    if not beside.is_whole and not has_failed:
+        return False
+    if has_failed != fails:
+        raise Differs(f"home {fixture.setup.home} holes {fixture.setup.holes}: {'a' if fails else 'no'} schedule fails "
+                      f"by the program, and {'one' if has_failed else 'none'} by the Python model's search: {ODD}")
+    most = (worst.verdict.moves if worst else 0, 0 if fixture.held else beside.explorer.most_lost)
+    told = (found["moves"], 0 if fixture.held else found["lost"]) if found["found"] == SOLVES else most
+    if not fails and most != told:
+        raise Differs(f"home {fixture.setup.home} holes {fixture.setup.holes}: by the program the most moves and lost "
+                      f"agents are {told}, and {most} by the Python model's search: {ODD}")
+    return True
+
+
+ODD = "the agents are no functions of what they are told, or the lab has a mistake, of which we would like to hear"

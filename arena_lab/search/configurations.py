@@ -1,0 +1,160 @@
+"""Pictures of a match: what agents and the referee can tell of it, as crates/bhs_protocols/specs/Configurations.antt
+has
+them. A candidate invariant is a test of pictures, and its file imports what it needs from here.
+
+Positions, histories, what is used, accusations and wakings stand by the number of the agent, whiteboards by the number
+of the node.
+"""
+import functools
+import json
+from dataclasses import dataclass
+from typing import Any, Callable, Dict, FrozenSet, List, NamedTuple, Optional, Sequence, Tuple, TypeVar, Union
+
+from arena_lab.play.players import SLEEPS, WAITS
+from arena_lab.rules.model import AWAY, BYE, OUTSIDE, PRESENT, Match, Object, Place
+from arena_lab.search.history_tree import Past, HistoryState, is_unanswered
+
+Memory = TypeVar("Memory")
+
+
+@dataclass(frozen=True)
+class Before:
+    """An agent that has not entered."""
+
+
+@dataclass(frozen=True)
+class At:
+    """An agent at a node, and the port by which it came, or None if it entered there."""
+
+    node: int
+    came: Optional[int]
+
+
+@dataclass(frozen=True)
+class Bound:
+    """An agent on a link, by the node that it left and the port."""
+
+    node: int
+    port: int
+
+
+@dataclass(frozen=True)
+class After:
+    """An agent that has accused or left."""
+
+
+Position = Union[Before, At, Bound, After]
+# what has happened to an agent: a reply, as its client is sent it, or that it woke
+WOKE = None
+Item = Optional[Object]
+# all that has happened to an agent, the newest first
+History = Tuple[Item, ...]
+
+
+class Configuration(NamedTuple):
+    """A match as it stands after some turns."""
+
+    position: Tuple[Position, ...]
+    history: Tuple[History, ...]
+    woken: Tuple[int, ...]
+    used: Tuple[int, ...]
+    shown: Tuple[str, ...]
+    accused: Tuple[Optional[Place], ...]
+    # the nodes at which an agent has arrived
+    reached: FrozenSet[int]
+    moves: int
+
+
+class Bounds(NamedTuple):
+    """The most moves that are made, agents that are lost, commands of an agent, and turns that move. Commands may be
+    one number for each agent; None bounds nothing."""
+
+    moves: Optional[int] = None
+    lost: Optional[int] = None
+    commands: Union[int, Sequence[int], None] = None
+    turns: Optional[int] = None
+
+
+class World:
+    """The network of a match and what does not change in it."""
+
+    def __init__(self, match: Match) -> None:
+        setup = match.setup
+        self.nodes, self.home, self.holes, self.dark = setup.nodes, setup.home, tuple(setup.holes), tuple(setup.dark)
+        self.agents, self.quota, self.board = setup.agents, setup.quota, setup.board
+        self._match = match
+
+    def degree(self, node: int) -> int:
+        """How many links a node has."""
+        return len(self._match.far[node])
+
+    def far(self, node: int, port: int) -> Place:
+        """Where the link of a port leads: the node at its far end, and the label that it has there."""
+        return self._match.far[node][port]
+
+    def doomed(self, node: int, port: int) -> bool:
+        """Whether an agent that departs by this port is destroyed."""
+        return self._match.doomed(node, port)
+
+
+def held_after(start: Memory, after: Callable[[Memory, Item], Memory], history: History) -> Memory:
+    """What an agent holds after a history, by what it holds at the start and after one thing more has happened."""
+    return functools.reduce(after, reversed(history), start)
+
+
+class Configurations:
+    """The pictures of a match by its states."""
+
+    def __init__(self) -> None:
+        self._histories: Dict[Past, History] = {}
+
+    def of(self, state: HistoryState) -> Configuration:
+        """The picture of a state."""
+        pasts = state.pasts
+        return Configuration(tuple(map(position_of, pasts)), tuple(map(self._history, pasts)), state.woken,
+                       tuple(past.agent.used for past in pasts), state.boards, tuple(map(accused_by, pasts)),
+                       frozenset().union(*(past.reached for past in pasts)), sum(past.moves for past in pasts))
+
+    def _history(self, past: Past) -> History:
+        """What has happened to an agent up to a past."""
+        waiting: List[Past] = []
+        at: Optional[Past] = past
+        while at is not None and at not in self._histories:
+            waiting.append(at)
+            at = at.before
+        history: History = self._histories[at] if at is not None else ()
+        for later in reversed(waiting):
+            history = self._histories[later] = (*news_of(later), *history)
+        return history
+
+
+def news_of(past: Past) -> History:
+    """What has happened to an agent last, the newest first."""
+    before = past.before
+    if before is None or is_unanswered(before):
+        return ()
+    if before.state == SLEEPS:
+        return (WOKE,)
+    if before.state == WAITS and before.line is None:
+        # its program has ended, and it leaves
+        return (BYE,)
+    return tuple(object_in(line) for line in reversed(past.heard))
+
+
+@functools.lru_cache(maxsize=None)
+def object_in(line: str) -> Any:
+    return json.loads(line)
+
+
+def position_of(past: Past) -> Position:
+    agent = past.agent
+    if agent.standing == OUTSIDE:
+        return Before()
+    if agent.standing == PRESENT:
+        return At(agent.node, agent.came)
+    return Bound(agent.node, agent.port) if agent.standing == AWAY else After()
+
+
+def accused_by(past: Past) -> Optional[Place]:
+    """The link that an agent has accused, by its node and port."""
+    return past.accused[-1] if past.accused else None

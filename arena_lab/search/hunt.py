@@ -1,0 +1,159 @@
+"""Looks for schedules by Hypothesis, which changes the most promising ones and makes its find small.
+"""
+import pathlib
+from typing import Any, Callable, Dict, NamedTuple, Optional, Sequence, Tuple
+
+from arena_lab.play import teams
+from arena_lab.play.matches import PlayedMatch, play
+from arena_lab.play.repeating import all_repeated
+from arena_lab.play.schedulers import in_runs
+from arena_lab.play.schedules import Schedule, schedule_of
+from arena_lab.play.teams import Game
+from arena_lab.rules.fixtures import Fixture
+from arena_lab.rules.rehearsal import Rehearsal
+from arena_lab.support.missing import needed
+
+FAILURE, MOVES, LOST = "failure", "moves", "lost"
+RUNS = 3000
+MOST_BLOCKS, LONGEST_BLOCK = 60, 40
+
+Blocks = Sequence[Tuple[int, int]]
+
+
+class Hunt(NamedTuple):
+    """What a hunt looks for, in which game: a failure, the most moves or the most lost agents."""
+
+    game: Game
+    looked_for: str = FAILURE
+    any_home: bool = False
+    runs: int = RUNS
+    seed: int = 0
+    database: Optional[pathlib.Path] = None
+    # whether a team fails if one of its agents does not say the same when it is repeated alone
+    repeats: bool = False
+
+    def origin(self) -> str:
+        return f"hunt for {self.looked_for} {self.seed}{self.game.where()}"
+
+    def key(self) -> bytes:
+        """What is looked for and of whom: Hypothesis keeps its examples by this."""
+        game = self.game
+        drawn = game.quota, game.board, game.naps, self.looked_for, self.any_home, *([True] if self.repeats else [])
+        network = game.name, game.network, game.home, game.holes, game.dark, game.match
+        return repr((network, drawn, [agent[:2] for agent in game.agents])).encode()
+
+
+class Stop(Exception):
+    """A schedule is what was looked for: Hypothesis makes it small."""
+
+
+class Trial(NamedTuple):
+    """A schedule that was tried, and what it is worth."""
+
+    worth: int
+    has_failed: bool
+    fixture: Fixture
+    played: PlayedMatch
+
+
+class Hunter:
+    """A hunt: what it looks for, what it tried, and the best until now."""
+
+    def __init__(self, asked: Hunt, shown: Any) -> None:
+        self.asked = asked
+        self.tried = 0
+        self.best: Optional[Trial] = None
+        self.wanted: Optional[int] = None
+        self.was_stopped = False
+        self._shown = shown
+        self._kept: Any = None
+        self._fixtures: Dict[Tuple[int, int], Fixture] = {}
+        game = asked.game
+        nodes = game.network.nodes
+        self._holes = 1 if game.is_fixed() else nodes - 1
+        self._homes = range(nodes) if asked.any_home and not game.match else [game.home]
+
+    def play(self, home: int, hole: int, blocks: Blocks) -> Trial:
+        """Plays a schedule, and keeps it if it is the best."""
+        fixture = self._fixtures.get((home, hole))
+        if fixture is None:
+            fixture = self._fixtures[home, hole] = self.asked.game.fixture(hole, home)
+        team = teams.Together(self.asked.game.agents, fixture, self.asked.game.limit)
+        played = self._repeated(play(Rehearsal(fixture), team, in_runs(blocks), fixture), fixture)
+        verdict = played.verdict()
+        worth = {FAILURE: 0, MOVES: verdict.moves, LOST: verdict.lost}[self.asked.looked_for]
+        trial = Trial(worth, played.has_failed(), fixture, played)
+        self.tried += 1
+        if self.best is None or (trial.has_failed, worth) > (self.best.has_failed, self.best.worth):
+            self.best = trial
+            self._shown.set_postfix_str(str(verdict))
+        self._shown.update()
+        return trial
+
+    def search(self, phases: Sequence[str]) -> None:
+        """One search by Hypothesis; it ends early once it has what it looks for, made small."""
+        test = self._test(phases)
+        try:
+            test()
+        except (Stop, needed("hypothesis").errors.Flaky):
+            # flaky is what does not fail again under the same schedule, as a program that does not repeat
+            if self.best is None or not self.best.has_failed and self.wanted is None:
+                raise
+
+    def schedule(self) -> Schedule:
+        """The schedule of the best."""
+        if self.best is None:
+            raise ValueError("nothing was tried")
+        game = self.asked.game
+        return schedule_of(self.best.fixture, game.agents, self.asked.origin(), self.best.played.choices, game.limit)
+
+    def _repeated(self, played: PlayedMatch, fixture: Fixture) -> PlayedMatch:
+        """The match, with what its agents say otherwise when they are repeated, if that is asked for."""
+        if not self.asked.repeats or played.faults:
+            return played
+        game = self.asked.game
+        return played._replace(faults=all_repeated(played.replay.decode(), game.agents, fixture, game.limit))
+
+    def _database(self) -> Any:
+        """Where Hypothesis keeps its examples: in a folder, or as long as the hunt goes on."""
+        if self._kept is None:
+            stores, folder = needed("hypothesis.database"), self.asked.database
+            self._kept = stores.DirectoryBasedExampleDatabase(folder) if folder else stores.InMemoryExampleDatabase()
+        return self._kept
+
+    def _test(self, phases: Sequence[str]) -> Callable[[], None]:
+        hypothesis, asked = needed("hypothesis"), self.asked
+        given = needed("hypothesis.strategies")
+        settings = hypothesis.settings(
+            max_examples=asked.runs, deadline=None, report_multiple_bugs=False, print_blob=False,
+            database=self._database(), verbosity=hypothesis.Verbosity.quiet,
+            suppress_health_check=list(hypothesis.HealthCheck),
+            phases=[hypothesis.Phase[phase] for phase in phases])
+        agents = len(asked.game.agents)
+        blocks = given.tuples(given.integers(0, max(1, agents - 1)), given.integers(1, LONGEST_BLOCK))
+
+        def trial(home: int, hole: int, blocks: Blocks) -> None:
+            tried = self.play(home, hole, blocks)
+            hypothesis.target(float(tried.worth))
+            if tried.has_failed or self.wanted is not None and tried.worth >= self.wanted:
+                self.best = tried
+                raise Stop
+        draws = hypothesis.given(given.sampled_from(list(self._homes)), given.integers(0, self._holes - 1),
+                                 given.lists(blocks, max_size=MOST_BLOCKS))
+        # a seed takes the database away, so it comes before the settings
+        test: Callable[[], None] = settings(hypothesis.seed(asked.seed)(draws(trial)))
+        test._hypothesis_internal_database_key = asked.key()  # type: ignore[attr-defined]
+        return test
+
+
+def hunted(hunter: Hunter) -> None:
+    """Searches, and makes what was found small. An interrupt ends the search, and leaves what was found."""
+    try:
+        hunter.search(["reuse", "generate", "target", "shrink"])
+        best = hunter.best
+        if best is not None and not best.has_failed and best.worth > 0:
+            hunter.wanted = best.worth
+            hunter.search(["reuse", "shrink"])
+            hunter.best = max(hunter.best or best, best, key=lambda trial: (trial.has_failed, trial.worth))
+    except KeyboardInterrupt:
+        hunter.was_stopped = True

@@ -1,0 +1,176 @@
+"""The program's own search through all schedules: `arena explore` asks what agents hold, and the lab answers."""
+import json
+import pathlib
+import subprocess
+import tempfile
+import threading
+import time
+from typing import Any, Callable, Dict, List, NamedTuple, Optional, Tuple
+
+from arena_lab.play.players import WAKES
+from arena_lab.rules.engines import EngineRefused, text_of_fault
+from arena_lab.rules.fixtures import Fixture, write_tournament
+from arena_lab.search.machines import Machines
+from arena_lab.search.agent_processes import SAYS, SLEEP
+
+SOLVES, COMES, FAILS, BREAKS, ENDLESS, EXCEEDS = "solves", "comes", "fails", "breaks", "endless", "exceeds"
+TOO_MANY = "states"
+# how the program's questions begin
+BEGIN, ASK = b'{"begin":', b'{"ask":'
+QUESTIONS = BEGIN, ASK
+STOPPED, MORE = "stopped", "more states than were to be visited"
+LONGER = "a drawn schedule has more turns than --max-states allows"
+Found = Dict[str, Any]
+# seconds between two looks at the program while it works
+PAUSE = 1.0
+
+
+class SampleRequest(NamedTuple):
+    """How many schedules are drawn of each match, from which seed, whose turn it is in them, and what is hunted for."""
+
+    schedules: int
+    seed: int
+    scheduler: str
+    hunt: Optional[str]
+
+    def words(self) -> List[str]:
+        """The words by which the program draws them."""
+        words = ["--draws", str(self.schedules), "--seed", str(self.seed), "--scheduler", self.scheduler]
+        return [*words, "--objective", self.hunt] if self.hunt else words
+
+
+class ExploreAnswer(NamedTuple):
+    """What the program found in one match, how much it visited, and in how many seconds. If `found` is None, it was
+    stopped before all was visited, and `why` says why. `unwoken` counts the memories that sleep and go on to something
+    that was never asked, if they wake once more and see the same: agents that hold them have napped as often as they
+    may."""
+
+    found: Optional[Found]
+    counts: Found
+    seconds: float
+    why: str = ""
+    unwoken: int = 0
+
+
+class ProgramRun:
+    """One run of the program: its memories have numbers in the order of this run."""
+
+    def __init__(self, machines: Machines) -> None:
+        self._machines = machines
+        self._answers: Dict[int, bytes] = {}
+        self.back: List[int] = []
+        self._after: Dict[Tuple[int, str], int] = {}
+
+    def unwoken(self) -> int:
+        """How many memories sleep and go on to something that was never asked, if they wake and see the same."""
+        return sum(self._is_unwoken(memory) for memory in self.back)
+
+    def _is_unwoken(self, memory: int) -> bool:
+        if self._machines.steps[memory].does != SLEEP:
+            return False
+        woken = self._after.get((memory, WAKES))
+        if woken is None:
+            return True
+        seen = self._machines.seen_by(memory) if self._machines.looks(woken) else None
+        return seen is not None and (woken, seen) not in self._after
+
+    def answer(self, line: bytes) -> bytes:
+        """The lines that answer a question, which is a line of the program."""
+        machines = self._machines
+        if line.startswith(ASK):
+            number, _, told = line[len(ASK):].partition(b",")
+            before, news = self.back[int(number)], machines.news_in(told)
+            memory = self._after[before, news] = machines.next(before, news)
+        else:
+            memory = machines.begin(json.loads(line)["begin"])
+        found = self._answers.get(memory)
+        if found is None:
+            step = machines.steps[memory]
+            said = b"\n%b\n" % step.line if step.does == SAYS else b"\n"
+            found = self._answers[memory] = b"%d %b%b" % (len(self.back), step.does.encode(), said)
+            self.back.append(memory)
+        return found
+
+
+class ProgressWatch:
+    """Says now and then how long the program works, how much memory it takes and how far it is, also while it asks
+    nothing."""
+
+    def __init__(self, child: "subprocess.Popen[bytes]", said: Callable[[str], None]) -> None:
+        self._child, self._said, self._started = child, said, time.monotonic()
+        self._far = ""
+        self._ended = threading.Event()
+        self._thread = threading.Thread(target=self._watch, daemon=True)
+
+    def __enter__(self) -> "ProgressWatch":
+        self._thread.start()
+        return self
+
+    def __exit__(self, *_: object) -> None:
+        self._ended.set()
+        self._thread.join()
+
+    def visited(self, told: Found) -> None:
+        """Takes what the program tells of how far it is."""
+        states, speed = told["visited"], told["visited"] / max(time.monotonic() - self._started, 1e-9)
+        self._far = f": {states:,} states, {speed:,.0f} a second, {told['depth']} turns on the path"
+
+    def _watch(self) -> None:
+        while not self._ended.wait(PAUSE):
+            seconds = time.monotonic() - self._started
+            self._said(f"the program works for {seconds:.0f} s and takes {megabytes_of(self._child.pid)} MB{self._far}")
+
+
+def megabytes_of(pid: int) -> int:
+    """How much memory a process takes; 0 once it has ended."""
+    try:
+        status = pathlib.Path(f"/proc/{pid}/status").read_text(encoding="utf-8")
+    except OSError:
+        return 0
+    return next((int(line.split()[1]) // 1024 for line in status.splitlines() if line.startswith("VmRSS")), 0)
+
+
+def silent(_text: str) -> None:
+    """Shows nothing."""
+
+
+def asked(program: str, fixture: Fixture, machines: Machines, most: int, shown: Callable[[int], None],
+          said: Callable[[str], None] = silent, draws: Optional[SampleRequest] = None) -> ExploreAnswer:
+    """Lets the program try all schedules of a match, or draw some, and answers its questions. Ctrl-C stops it."""
+    started, run, last, errors = time.monotonic(), ProgramRun(machines), [], b""
+    with tempfile.TemporaryDirectory(prefix="lab-") as name:
+        write_tournament(fixture, pathlib.Path(name))
+        words = [program, "explore", "tournament.toml", "0", "--max-states", str(most), "--spurious-wakeups",
+                 str(fixture.naps)]
+        words += draws.words() if draws else []
+        child = subprocess.Popen(words, cwd=name, stdin=subprocess.PIPE, stdout=subprocess.PIPE, stderr=subprocess.PIPE)
+        assert child.stdin and child.stdout
+        try:
+            with ProgressWatch(child, said) as watch:
+                for line in child.stdout:
+                    if line.startswith(QUESTIONS):
+                        child.stdin.write(run.answer(line))
+                        child.stdin.flush()
+                        shown(1)
+                        continue
+                    told = json.loads(line)
+                    if "visited" in told:
+                        watch.visited(told)
+                    else:
+                        last.append(told)
+                _, errors = child.communicate()
+        except BrokenPipeError:
+            # the program has ended, and says why
+            _, errors = child.communicate()
+        except KeyboardInterrupt:
+            return ExploreAnswer(None, {}, time.monotonic() - started, STOPPED)
+        finally:
+            if child.poll() is None:
+                child.kill()
+                child.communicate()
+    if len(last) == 2:
+        return ExploreAnswer(last[0], last[1], time.monotonic() - started, unwoken=run.unwoken())
+    fault = text_of_fault(errors)
+    if fault == f"host: {TOO_MANY}":
+        return ExploreAnswer(None, {}, time.monotonic() - started, LONGER if draws else MORE)
+    raise EngineRefused(fault, child.returncode)

@@ -1,0 +1,79 @@
+"""Drawn schedules of a match, played by the agents' programs and followed in what they answered before: the check that
+a memory names all that a program holds."""
+import random
+from typing import List
+
+from arena_lab.play.matches import Player, MatchRun
+from arena_lab.play.players import DONE, SLEEPS, WAITS, WAKES
+from arena_lab.play.teams import AgentWords, Together
+from arena_lab.rules.fixtures import Fixture
+from arena_lab.rules.model import AWAY, ENDED
+from arena_lab.rules.rehearsal import Rehearsal
+from arena_lab.search.machines import Machines
+from arena_lab.search.history_tree import NoFunction
+from arena_lab.search.agent_processes import SLEEP, STOP, AgentStep
+
+
+class SampledProgram:
+    """An agent's program that plays, and what it holds by what was answered."""
+
+    def __init__(self, machines: Machines, player: Player) -> None:
+        self._machines, self.player = machines, player
+        self.memory = machines.begin(player.number)
+        self.hear = player.hear
+        setattr(player, "hear", self._hear)
+
+    def _hear(self, line: str) -> None:
+        self.hear(line)
+        self.go_on(line)
+
+    def go_on(self, news: str) -> None:
+        """Goes on in what was answered. A memory that nobody asked for is asked for now. Who sees nothing was woken at
+        once."""
+        if news == WAKES and self._machines.steps[self.memory].does != SLEEP:
+            return
+        self.memory = self._machines.next(self.memory, news)
+
+    def compare(self, step_number: int, is_blind: bool, has_ended: bool) -> None:
+        """Compares what the program does next with what was answered. Who sees nothing may still sleep."""
+        player, step = self.player, self._machines.steps[self.memory]
+        if has_ended and step.does == STOP:
+            # nobody answers what it still says
+            return
+        if player.state == SLEEPS and not is_blind:
+            does = AgentStep(SLEEP)
+        elif player.state == WAITS and player.line is not None:
+            does = AgentStep("says", player.line)
+        else:
+            # it has ended or travels, and says nothing more or leaves
+            return
+        if does != step:
+            raise NoFunction(f"after {step_number} choices of a drawn schedule agent {player.number} {does.does} "
+                             f"{does.line!r}, and it answered {step.does} {step.line!r}: what names its memory leaves "
+                             "something out, or it is no function of what it holds")
+
+
+def follow(fixture: Fixture, agents: List[AgentWords], machines: Machines, seed: int, seconds: float) -> int:
+    """Plays a drawn schedule, and compares each step; gives how many there were."""
+    chance, team = random.Random(seed), Together(agents, fixture, seconds)
+    run = MatchRun(Rehearsal(fixture), team, fixture)
+    team.start()
+    try:
+        followed = [SampledProgram(machines, player) for player in team.players]
+        steps = 0
+        while True:
+            choices = run.may_happen()
+            if not choices:
+                return steps
+            choice = chance.choice(choices)
+            one = followed[choice.agent]
+            is_waking = one.player.state == SLEEPS
+            run.happen(choice)
+            if is_waking:
+                one.go_on(WAKES)
+            steps += 1
+            if one.player.state != DONE:
+                standing = run.match.agents[choice.agent].standing
+                one.compare(steps, standing in (AWAY, ENDED), standing == ENDED)
+    finally:
+        team.stop()

@@ -1,0 +1,27 @@
+"""What pip and Debian install as commands: `arena` starts the program, `arena-lab` the lab."""
+import os
+import sys
+
+from arena_lab import INSTALLED, with_one_order
+from arena_lab.support import built
+
+
+def arena() -> int:
+    """Becomes the program that was installed with the lab; `--version` says what it was built of."""
+    program = built.released()
+    if program is None:
+        print("arena: no program was installed with this lab: take a release whose name has your machine",
+              file=sys.stderr)
+        return 1
+    build = program.with_name("BUILD")
+    if sys.argv[1:] == ["--version"] and build.is_file():
+        print(build.read_text(encoding="utf-8"), end="")
+        return 0
+    os.execv(program, ["arena", *sys.argv[1:]])
+
+
+def lab() -> int:
+    """Runs the lab under the name by which it was installed."""
+    with_one_order()
+    from arena_lab.__main__ import main
+    return main(None, INSTALLED)

@@ -1,0 +1,20 @@
+"""Progress on long work, on standard error."""
+import sys
+from typing import Any, Iterable, Iterator, Optional, TypeVar
+
+from arena_lab.support.missing import needed
+
+Item = TypeVar("Item")
+
+
+def bar(total: Optional[int], unit: str) -> Any:
+    """A bar of Debian's python3-tqdm. It is silent if standard error is no terminal."""
+    return needed("tqdm").tqdm(total=total, unit=unit, disable=not sys.stderr.isatty(), leave=False)
+
+
+def along(items: Iterable[Item], total: int, unit: str) -> Iterator[Item]:
+    """The items, with a bar that counts them."""
+    with bar(total, unit) as shown:
+        for item in items:
+            yield item
+            shown.update()

@@ -1,0 +1,303 @@
+"""A sweep's file: which teams are played on which networks, with which black holes, under which schedules.
+
+    title = "Two agents on rings"
+    networks = ["ring:8", "ring:16", "ring:32"]
+    holes = "by seed"
+    schedulers = ["fair", "slow-agents"]
+    seeds = 20
+    bound = "2 n log2 n"
+
+    [[team]]
+    name = "ring"
+    agents = 2
+    agent = "examples/agents/ring.py {nodes}"
+
+    title         what the report is called
+    networks      names of networks, as --network takes them, or files
+    ports         "shuffled:SEED" numbers the ports of each node anew; may be absent
+    home          the home base (0)
+    holes         "by seed": seed S has a black hole of its own, as `run` takes it; "all": each node in turn; a number:
+                  this number of nodes, drawn for each network; a list: these nodes, each in turn, or in the place of a
+                  node a list of nodes that are all black holes, or [] for no black hole ("by seed")
+    dark          dark links, each by the node and the port of one of its ends, such as [[0, 1]] ([])
+    schedulers    as --scheduler takes them (["fair"])
+    seeds         how many seeds each scheduler gets (1)
+    quota, board  commands of an agent, and bytes of a whiteboard (1000, 4096)
+    bound         moves that the plots show beside: "2 n log2 n", "n log2 n" or "n^2"; may be absent
+
+Each [[team]] has a `name`, `agents`, a number or "degree" for one more than the network's greatest degree (2), and
+either `agent` or `command`, the words that --agent or --command takes.
+"""
+import functools
+import math
+import pathlib
+import random
+import tomllib
+from typing import Any, Callable, Dict, Iterable, Iterator, List, NamedTuple, Optional, Tuple, Union
+
+from arena_lab.play.agent_files import digests
+from arena_lab.play.teams import BOARD, INSIDE, OUTSIDE, QUOTA, AgentWords, digests_of
+from arena_lab.rules import networks
+from arena_lab.rules.fixtures import Fixture, NoMatch, checked, fixture_of
+from arena_lab.rules.limits import MOST_BOARD, MOST_QUOTA
+from arena_lab.rules.model import Place, Setup
+from arena_lab.rules.networks import Network, NoNetwork
+from arena_lab.support.faults import Fault
+
+BY_SEED, ALL, DEGREE = "by seed", "all", "degree"
+BOUNDS: Dict[str, Callable[[float], float]] = {
+    "2 n log2 n": lambda nodes: 2 * nodes * math.log2(nodes),
+    "n log2 n": lambda nodes: nodes * math.log2(nodes),
+    "n^2": lambda nodes: nodes ** 2,
+}
+KEYS = {"title", "networks", "ports", "home", "holes", "dark", "schedulers", "seeds", "quota", "board", "bound", "team"}
+TEAM_KEYS = {"name", "agents", INSIDE, OUTSIDE}
+
+
+class NoSweep(Fault):
+    """A file is no sweep, or its folder has another; says what to change."""
+
+
+class TeamRow(NamedTuple):
+    """A team: its name, how many agents it has, and how each is played."""
+
+    name: str
+    agents: Union[int, str]
+    words: AgentWords
+
+
+class Case(NamedTuple):
+    """A run of the sweep: its number, and what is played. It may have a home base of its own, and a seed by which the
+    ports of each node are numbered anew."""
+
+    number: int
+    network: str
+    holes: Tuple[int, ...]
+    team: TeamRow
+    scheduler: str
+    seed: int
+    home: Optional[int] = None
+    ports: Optional[int] = None
+
+    @property
+    def hole(self) -> str:
+        """Its black holes, as a row has them."""
+        return " ".join(map(str, self.holes))
+
+
+class Grid(NamedTuple):
+    """What a sweep's file says."""
+
+    title: str
+    names: List[str]
+    networks: Dict[str, Network]
+    home: int
+    holes: Union[str, int, List[Tuple[int, ...]]]
+    dark: List[Place]
+    schedulers: List[str]
+    seeds: int
+    quota: int
+    board: int
+    bound: Optional[str]
+    teams: List[TeamRow]
+
+    def cases(self, secret: str = "") -> Iterator[Case]:
+        """All runs, in the order of their numbers. Black holes are drawn from a secret, if there is one."""
+        number = 0
+        for name in self.names:
+            for holes in self._holes(name, secret):
+                for team in self.teams:
+                    for scheduler in self.schedulers:
+                        for seed in range(self.seeds):
+                            yield Case(number, name, holes[seed % len(holes)], team, scheduler, seed)
+                            number += 1
+
+    def fixture(self, case: Case) -> Fixture:
+        """The match of a run."""
+        network, agents = self.networks[case.network], case.team.agents
+        network = network if case.ports is None else networks.shuffled(network, case.ports)
+        count = max(network.degrees()) + 1 if isinstance(agents, str) else agents
+        home = self.home if case.home is None else case.home
+        return fixture_of(Setup(network.nodes, network.links, home, list(case.holes), count, self.quota, self.board,
+                                self.dark))
+
+    def files(self) -> Dict[str, str]:
+        """The digest of each file that the runs depend on."""
+        others = digests([*self.schedulers, *self.names])
+        return {**others, **digests_of([team.words for team in self.teams])}
+
+    def _holes(self, name: str, secret: str) -> List[List[Tuple[int, ...]]]:
+        """The black holes of a network: each seed takes the next of these lists."""
+        if isinstance(self.holes, list):
+            return [[holes] for holes in self.holes]
+        others = [node for node in range(self.networks[name].nodes) if node != self.home]
+        chance = random.Random(f"{secret}{name} {self.holes}")
+        if self.holes == BY_SEED:
+            return [[(hole,) for hole in (chance.sample(others, len(others)) if secret else others)]]
+        drawn = others if isinstance(self.holes, str) else sorted(chance.sample(others, min(self.holes, len(others))))
+        return [[(hole,)] for hole in drawn]
+
+
+def read(path: pathlib.Path) -> Grid:
+    """The grid of a sweep's file."""
+    try:
+        return grid_of(text_in(path))
+    except NoSweep as fault:
+        raise NoSweep(f"{path}: {fault}") from None
+
+
+def text_in(path: pathlib.Path) -> str:
+    """The text of a file."""
+    try:
+        return path.read_text(encoding="utf-8")
+    except FileNotFoundError:
+        raise NoSweep("there is no such file") from None
+    except UnicodeDecodeError:
+        raise NoSweep("it is no text in UTF-8") from None
+
+
+@functools.lru_cache(maxsize=4)
+def grid_of(text: str) -> Grid:
+    """The grid that a sweep's text says."""
+    found = table_of(text)
+    check_keys(found, KEYS, "it")
+    return grid_in(found)
+
+
+def table_of(text: str) -> Dict[str, Any]:
+    """The keys of a file, and what they say."""
+    try:
+        return tomllib.loads(text)
+    except tomllib.TOMLDecodeError as fault:
+        raise NoSweep(f"it is no TOML: {fault}") from None
+
+
+def check_keys(table: Dict[str, Any], keys: Iterable[str], name: str) -> None:
+    """Refuses a table that has other keys than these."""
+    unknown = sorted(set(table) - set(keys))
+    if unknown:
+        raise NoSweep(f"{name} has no key {unknown[0]}; its keys are {', '.join(sorted(keys))}")
+
+
+def grid_in(found: Dict[str, Any], folder: pathlib.Path = pathlib.Path()) -> Grid:
+    """The grid that these keys say. Files of networks are looked for in the folder."""
+    title = taken(found, "title", is_text, "a text")
+    names = taken(found, "networks", is_texts, "a list of names, such as [\"ring:8\"]")
+    ports = ports_in(found)
+    grid = Grid(
+        title, names, {name: numbered(name, ports, folder) for name in names},
+        taken(found, "home", is_number, "a node", 0), holes_of(taken(found, "holes", is_holes, HOLES_ARE, BY_SEED)),
+        [(v, p) for v, p in taken(found, "dark", is_dark, "a list of nodes with ports, such as [[0, 1]]", [])],
+        taken(found, "schedulers", is_texts, "a list of names, such as [\"fair\"]", ["fair"]),
+        taken(found, "seeds", is_count, "a whole number from 1", 1),
+        taken(found, "quota", lambda it: is_count(it) and it <= MOST_QUOTA, f"1 to {MOST_QUOTA}", QUOTA),
+        taken(found, "board", lambda it: is_number(it) and it <= MOST_BOARD, f"0 to {MOST_BOARD}", BOARD),
+        taken(found, "bound", lambda it: it in [None, *BOUNDS], f"one of {', '.join(BOUNDS)}", None),
+        [team_of(row) for row in taken(found, "team", is_tables, "given: write [[team]] and its keys below it")])
+    check_nodes(grid)
+    return grid
+
+
+HOLES_ARE = f'"{BY_SEED}", "{ALL}", how many to draw, or a list of nodes and of lists of nodes'
+
+
+def ports_in(found: Dict[str, Any]) -> Optional[int]:
+    """The seed by which ports are numbered anew, if there is one."""
+    said = taken(found, "ports", lambda it: it is None or is_text(it), PORTS_ARE, None)
+    try:
+        return None if said is None else networks.ports_seed(said)
+    except NoNetwork:
+        raise NoSweep(f"ports must be {PORTS_ARE}, and not {said}") from None
+
+
+PORTS_ARE = '"shuffled:SEED" with a whole number, such as "shuffled:3"'
+
+
+def numbered(name: str, ports: Optional[int], folder: pathlib.Path) -> Network:
+    """The network of a name or a file, with its ports numbered anew if there is a seed."""
+    try:
+        network = networks.named(name if ":" in name else str(folder / name))
+    except (KeyError, TypeError, ValueError):
+        raise NoSweep(f"networks has {name}, which is no network file: `arena check` says what is wrong") from None
+    return network if ports is None else networks.shuffled(network, ports)
+
+
+def check_nodes(grid: Grid) -> None:
+    """Refuses a home base or a black hole that is not in the network."""
+    listed = [hole for holes in grid.holes for hole in holes] if isinstance(grid.holes, list) else []
+    for name, network in grid.networks.items():
+        if grid.home >= network.nodes:
+            raise NoSweep(f"home is {grid.home}, and {name} has the nodes 0 to {network.nodes - 1}")
+        for hole in listed:
+            if hole >= network.nodes or hole == grid.home:
+                raise NoSweep(f"holes has {hole}, and a black hole of {name} is a node up to {network.nodes - 1} other "
+                              "than the home base")
+        check_setups(grid, name, network)
+    if len({team.name for team in grid.teams}) < len(grid.teams):
+        raise NoSweep("two teams have the same name")
+
+
+def check_setups(grid: Grid, name: str, network: Network) -> None:
+    """Refuses dark links that the network does not have, and what is named twice."""
+    for holes in grid.holes if isinstance(grid.holes, list) else [()]:
+        try:
+            checked(Setup(network.nodes, network.links, grid.home, list(holes), 1, grid.quota, grid.board, grid.dark))
+        except NoMatch as fault:
+            raise NoSweep(f"{name}: {fault}") from None
+
+
+def team_of(row: Dict[str, Any]) -> TeamRow:
+    """The team of a [[team]] table."""
+    check_keys(row, TEAM_KEYS, "a team")
+    kinds = [kind for kind in (INSIDE, OUTSIDE) if kind in row]
+    if len(kinds) != 1:
+        raise NoSweep(f"each team needs either {INSIDE} or {OUTSIDE}, the words that play an agent")
+    agents = taken(row, "agents", lambda it: it == DEGREE or is_count(it) and it <= 64, '1 to 64, or "degree"', 2)
+    words = AgentWords(kinds[0], taken(row, kinds[0], is_text, "a text"))
+    return TeamRow(taken(row, "name", is_text, "a text"), agents, words)
+
+
+NEEDED = object()
+
+
+def taken(table: Dict[str, Any], key: str, is_right: Callable[[Any], bool], wanted: str, usual: Any = NEEDED) -> Any:
+    """The value of a key, or the default if it is absent."""
+    value = table.get(key, usual)
+    if value is NEEDED or not is_right(value):
+        raise NoSweep(f"{key} must be {wanted}")
+    return value
+
+
+def is_text(value: Any) -> bool:
+    return isinstance(value, str) and value != "" and "\n" not in value
+
+
+def is_texts(value: Any) -> bool:
+    return isinstance(value, list) and value != [] and all(map(is_text, value)) and len(set(value)) == len(value)
+
+
+def is_number(value: Any) -> bool:
+    return isinstance(value, int) and not isinstance(value, bool) and value >= 0
+
+
+def is_count(value: Any) -> bool:
+    return is_number(value) and value > 0
+
+
+def is_holes(value: Any) -> bool:
+    return value in (BY_SEED, ALL) or is_count(value) or isinstance(value, list) and value != [] and all(
+        is_number(it) or isinstance(it, list) and all(map(is_number, it)) for it in value)
+
+
+def holes_of(value: Any) -> Any:
+    """Black holes as the grid has them: for each match all of them."""
+    return [tuple(sorted(it)) if isinstance(it, list) else (it,) for it in value] if isinstance(value, list) else value
+
+
+def is_dark(value: Any) -> bool:
+    return isinstance(value, list) and all(
+        isinstance(it, list) and len(it) == 2 and all(map(is_number, it)) for it in value)
+
+
+def is_tables(value: Any) -> bool:
+    return isinstance(value, list) and value != [] and all(isinstance(row, dict) for row in value)

@@ -1,0 +1,117 @@
+"""The folder of `explore --out`: a row for each match all of whose schedules solve it, and a plot of the most moves."""
+import hashlib
+import pathlib
+from typing import Any, Dict, Iterable, List, NamedTuple, Sequence, Tuple
+
+from arena_lab.play.agent_files import digests
+from arena_lab.play.teams import Game, digests_of
+from arena_lab.rules.fixtures import Fixture
+from arena_lab.search.program_search import SOLVES, ExploreAnswer
+from arena_lab.search.proving import MatchResult, found_in
+from arena_lab.sweep.grid import BOUNDS
+from arena_lab.sweep.report import COLOURS, POINTS, moves_up, new_figure, over_nodes, svg_of
+from arena_lab.sweep.tables import NoTable, cells_in, checked, line_of, made_by, prepared
+
+MATCHES, PLOT = "matches.csv", "moves.svg"
+# of a match: where it stands, what is proved of it, and how many memories sleep and were never woken once more
+COLUMNS = ("match", "network", "nodes", "links", "home", "holes", "agents", "naps", "states", "moves", "lost", "turns",
+           "asleep", "check")
+PROVED = COLUMNS[COLUMNS.index("states"):-1]
+
+
+class Proved(NamedTuple):
+    """The most moves and lost agents of all matches on a network, under every schedule."""
+
+    network: str
+    nodes: int
+    moves: int
+    lost: int
+
+
+def asked_of(number: int, game: Game, fixture: Fixture) -> List[str]:
+    """The columns that say which match a row is of."""
+    setup = fixture.setup
+    return list(map(str, (number, game.name, setup.nodes, len(setup.links), setup.home,
+                          " ".join(map(str, setup.holes)), setup.agents, fixture.naps)))
+
+
+class Folder:
+    """The rows of matches of some games, in order. What is there already is not tried again."""
+
+    def __init__(self, path: pathlib.Path, games: Sequence[Game], program: str) -> None:
+        self._path = path
+        matches = ((game, fixture) for game in games for fixture in game.fixtures())
+        self._asked = [asked_of(number, *match) for number, match in enumerate(matches)]
+        self._count = prepared(path, made_of(games, program), MATCHES, COLUMNS)
+        self._check()
+
+    def _check(self) -> None:
+        """Refuses rows that are not those of these matches."""
+        path = self._path / MATCHES
+        for number, row in enumerate(cells_in(path, COLUMNS)):
+            wanted = self._asked[number] if number < len(self._asked) else []
+            if row[:len(wanted)] != wanted or not wanted:
+                raise NoTable(f"{path}: line {number + 2} is of another match than these: name another folder by --out")
+
+    def of(self, games: Sequence[Game], place: int) -> List[MatchResult]:
+        """The matches of a game that have rows."""
+        first = sum(len(game.fixtures()) for game in games[:place])
+        rows = cells_in(self._path / MATCHES, COLUMNS)[first:]
+        return [tried_of(fixture, row) for fixture, row in zip(games[place].fixtures(), rows)]
+
+    def add(self, tried: MatchResult) -> None:
+        """Writes the row of the next match."""
+        if tried.beside is not None:
+            raise NoTable("an agent may use more commands than its quota, of which nothing is proved, and --out writes "
+                          "what is proved alone: give a larger --quota")
+        found, answered = found_in(tried), tried.answered
+        proved = answered.counts["states"], found["moves"], found["lost"], found["turns"], answered.unwoken
+        cells = [*self._asked[self._count], *map(str, proved)]
+        with (self._path / MATCHES).open("a", encoding="utf-8", newline="") as file:
+            file.write(line_of(checked(cells, COLUMNS)))
+        self._count += 1
+
+    def draw(self, bounds: Sequence[str]) -> str:
+        """Draws the most moves of each network; gives the name of the file."""
+        rows = [dict(zip(COLUMNS, cells)) for cells in cells_in(self._path / MATCHES, COLUMNS)]
+        (self._path / PLOT).write_text(plot(proved_in(rows), bounds), encoding="utf-8")
+        return str(self._path / PLOT)
+
+
+def tried_of(fixture: Fixture, row: Sequence[str]) -> MatchResult:
+    """A match as its row has it. What it took is not in it."""
+    states, moves, lost, turns, asleep = (int(dict(zip(COLUMNS, row))[name]) for name in PROVED)
+    found = {"found": SOLVES, "moves": moves, "lost": lost, "turns": turns}
+    return MatchResult(fixture, ExploreAnswer(found, {"states": states}, 0.0, unwoken=asleep))
+
+
+def made_of(games: Sequence[Game], program: str) -> Dict[str, Any]:
+    """What the rows depend on. How many states may be visited is no part of it: more may be allowed to go on."""
+    files = {**digests([game.name for game in games]), **digests_of([it for game in games for it in game.agents])}
+    asked = repr([(game.agents, game.fixtures()) for game in games])
+    return {**made_by(program), "files": files, "matches": hashlib.sha256(asked.encode()).hexdigest()}
+
+
+def proved_in(rows: Iterable[Dict[str, str]]) -> List[Proved]:
+    """What is proved of each network, in order."""
+    found: Dict[Tuple[str, int], List[Dict[str, str]]] = {}
+    for row in rows:
+        found.setdefault((row["network"], int(row["nodes"])), []).append(row)
+    return [Proved(*name, *(max(int(row[what]) for row in of) for what in ("moves", "lost")))
+            for name, of in found.items()]
+
+
+def plot(proved: Sequence[Proved], bounds: Sequence[str]) -> str:
+    """The plot of the most moves over the nodes, as an SVG element, with the bounds that are named."""
+    figure = new_figure()
+    axes = figure.add_subplot()
+    nodes = [one.nodes for one in proved]
+    axes.plot(nodes, [one.moves for one in proved], color=COLOURS[0], linestyle="", marker="o", markersize=4,
+              label="most moves under every schedule")
+    first, last = min(nodes), max(nodes)
+    across = [first + (last - first) * point / POINTS for point in range(POINTS + 1)]
+    for name, colour in zip(bounds, COLOURS[1:]):
+        axes.plot(across, [BOUNDS[name](it) for it in across], linestyle="--", color=colour, linewidth=1, label=name)
+    over_nodes(axes)
+    moves_up(axes)
+    return svg_of(figure)

@@ -1,0 +1,69 @@
+"""The commands of the lessons do what the sheets say, in the order in which they stand there."""
+import os
+import pathlib
+import re
+import shlex
+import subprocess
+import sys
+import tempfile
+import unittest
+from typing import List
+
+from arena_lab.rules.engines import TOP
+
+LESSONS = TOP / "examples" / "lessons"
+COMMAND = re.compile(r" {7}(./arena-lab .*)")
+# what the second sheet adds to the agent
+PLAYED = re.compile(r"( {7}def played\(.*\n(?: {7}.*\n)+)")
+# commands that ask nobody, each with what it says
+WANTED = {"new": "an agent in Python", "run": "50 schedules: solved 50; failed 0", "hunt": "solved",
+          "explore": "solve", "play": "The match is over"}
+
+
+def commands(sheet: str) -> List[List[str]]:
+    text = (LESSONS / sheet).read_text(encoding="utf-8")
+    return [shlex.split(it) for it in COMMAND.findall(text)]
+
+
+class TestLessons(unittest.TestCase):
+    def setUp(self) -> None:
+        folder = tempfile.TemporaryDirectory()
+        self.addCleanup(folder.cleanup)
+        self.folder = pathlib.Path(folder.name)
+        for name in ("examples", "arena_lab"):
+            (self.folder / name).symlink_to(TOP / name)
+
+    def said(self, words: List[str]) -> str:
+        ran = subprocess.run([sys.executable, "-m", "arena_lab", *words[1:]], cwd=self.folder, input="enter\nwait\n", text=True,
+                             stdout=subprocess.PIPE, stderr=subprocess.STDOUT, timeout=300,
+                             env={**os.environ, "PYTHONPATH": str(TOP)})
+        self.assertIn(ran.returncode, (0, 1), ran.stdout)
+        return ran.stdout
+
+    def test_by_hand(self) -> None:
+        found = commands("1-by-hand.md")
+        self.assertEqual(4, len(found))
+        for words in found:
+            with self.subTest(words):
+                self.assertIn(WANTED["play"], self.said([it for it in words if it != "--page"]))
+
+    def test_a_ring(self) -> None:
+        for words in commands("2-a-ring.md"):
+            with self.subTest(words):
+                self.assertIn(WANTED[words[1]], self.said(words))
+                if words[1] == "new":
+                    text = (LESSONS / "2-a-ring.md").read_text(encoding="utf-8")
+                    added = "\n\n".join(PLAYED.findall(text)).replace(" " * 7, "")
+                    with open(self.folder / words[-1] / "careful.py", "a", encoding="utf-8") as agent:
+                        agent.write(f"\n\n{added}")
+
+    def test_fewer_moves(self) -> None:
+        two, halves, wrong = commands("3-fewer-moves.md")
+        for words in (two, halves):
+            with self.subTest(words):
+                self.assertIn("solve", self.said(words))
+        self.assertIn("silent", self.said(wrong))
+
+
+if __name__ == "__main__":
+    unittest.main()

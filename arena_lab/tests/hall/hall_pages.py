@@ -1,0 +1,91 @@
+"""What the tests of a hall's pages share: a hall without servers, its teams with their tokens, and matches as they
+stand. Django begins when this is loaded."""
+import json
+import shutil
+from typing import Any
+
+from arena_lab.hall import machine
+from arena_lab.rules.model import Match as Played
+from arena_lab.rules.model import Setup, spelled
+from arena_lab.rules.networks import ring
+from arena_lab.tests.hall import halls
+
+PLACE = halls.begun()
+
+from django.test import Client, TestCase  # noqa: E402
+from django.utils import timezone, translation  # noqa: E402
+
+from arena_lab.hall import keys  # noqa: E402
+from arena_lab.hall.attempts import seen, shown  # noqa: E402
+from arena_lab.hall.attempts.models import Attempt, Match  # noqa: E402
+from arena_lab.hall.handins import taking  # noqa: E402
+from arena_lab.hall.teams import guards  # noqa: E402
+from arena_lab.hall.teams.models import Team  # noqa: E402
+
+PASSWORD = "a long password"
+TEXT = "</script><script>alert(2)</script>"
+
+
+class Hall(TestCase):
+    """A hall with three teams and their tokens."""
+
+    def setUp(self) -> None:
+        for buckets in (guards.asked, guards.tried, taking.sent):
+            buckets.clear()
+        # numbers of attempts come again in each test
+        shown.PARTS = seen.Parts()
+        self.tokens = {team.name: team.new_token() for team in Team.objects.all()}
+        keys.set_password(PASSWORD)
+        self.addCleanup(shutil.rmtree, PLACE.folder / "attempts", True)
+        self.addCleanup(shutil.rmtree, PLACE.folder / "hand-ins", True)
+        self.addCleanup(translation.activate, "en")
+
+    def team(self, name: str) -> Team:
+        return Team.objects.get(name=name)
+
+    def client_of(self, name: str) -> Client:
+        client = Client()
+        self.assertEqual(client.post("/login", {"token": self.tokens[name]}).status_code, 302)
+        return client
+
+    def teacher(self) -> Client:
+        client = Client()
+        self.assertTrue(client.login(username="teacher", password=PASSWORD))
+        return client
+
+    def rest(self, how: str, path: str, name: str = "amber", body: Any = None, **given: Any) -> Any:
+        ask = getattr(Client(), how)
+        more = {} if how == "get" else {"data": json.dumps(body), "content_type": "application/json"}
+        header = {"HTTP_AUTHORIZATION": f"Bearer {self.tokens[name]}"} if name else {}
+        return ask(path, **more, **header, **given)
+
+    def running(self, match: Any, name: str = "amber") -> Attempt:
+        """An attempt whose match goes on like this one."""
+        made = Attempt.objects.create(team=self.team(name), network="ring of 5", kind="practice", runs=1,
+                                      state=machine.RUNNING, holder="one", begun=timezone.now())
+        found = Match.objects.create(attempt=made, number=0, run=1, host="127.0.0.1", port=4100, keys=["ka", "kb"])
+        found.part.parent.mkdir(parents=True)
+        self.write(found, match)
+        return made
+
+    def write(self, found: Match, match: Any) -> None:
+        found.part.write_text("".join(spelled(line) + "\n" for line in [match.head(), *match.log]))
+
+    def over(self, match: Any, name: str = "amber", kind: str = "practice") -> Attempt:
+        """An attempt that is over."""
+        made = self.running(match, name)
+        match.close()
+        found = made.matches.get()
+        found.replay.write_text(match.replay())
+        found.page.write_text("<script>watch()</script>")
+        Match.objects.filter(pk=found.pk).update(outcome="solved", moves=7, lost=1)
+        Attempt.objects.filter(pk=made.pk).update(state=machine.OVER, ended=timezone.now(), holder="", kind=kind)
+        return Attempt.objects.get(pk=made.pk)
+
+
+def played(hole: int = 3) -> Any:
+    """A match in which an agent has written on a whiteboard."""
+    match = Played(Setup(5, ring(5).links, 0, [hole], 2, 1000, 4096))
+    match.tell(0, {"do": "enter"})
+    match.tell(0, {"do": "write", "expect": "", "put": TEXT})
+    return match

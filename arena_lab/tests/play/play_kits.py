@@ -1,0 +1,26 @@
+"""The kits of three languages are written, built and played; `python3 -m tools.play.kits PROGRAM` plays all."""
+import pathlib
+import tempfile
+import unittest
+
+from arena_lab.tests.play.kits_played import Played
+from arena_lab.tests.playing import program
+
+
+class TestKits(unittest.TestCase):
+    def play(self, language: str) -> None:
+        with tempfile.TemporaryDirectory() as folder:
+            Played(language, pathlib.Path(folder), program()).all()
+
+    def test_python(self) -> None:
+        self.play("python")
+
+    def test_c(self) -> None:
+        self.play("c")
+
+    def test_javascript(self) -> None:
+        self.play("javascript")
+
+
+if __name__ == "__main__":
+    unittest.main()

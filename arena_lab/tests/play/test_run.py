@@ -1,0 +1,49 @@
+"""The words of `run`, and what is worth most of the matches that were played."""
+import argparse
+import io
+import unittest
+from typing import Any, Dict
+from unittest import mock
+
+from arena_lab.commands.run import Tally, rank, report, seeds
+
+
+def row(**more: Any) -> Dict[str, Any]:
+    return {"outcome": "solved", "failed": False, "moves": 5, "choices": 9, **more}
+
+
+class Words(unittest.TestCase):
+    def test_seeds(self) -> None:
+        self.assertEqual(list(seeds("3:6")), [3, 4, 5])
+        self.assertEqual(list(seeds("-2:0")), [-2, -1])
+        for wrong in ("3", "3:3", "4:3", "a:b", "1:2:3", ""):
+            with self.assertRaisesRegex(argparse.ArgumentTypeError, "write A:B for those from A up to B"):
+                seeds(wrong)
+
+
+class Tallies(unittest.TestCase):
+    def test_the_most_moves_or_the_shortest_failure(self) -> None:
+        tally: Any = Tally()
+        for given in (row(), row(moves=7), row(moves=6), row(failed=True, outcome="guess 1", choices=20)):
+            tally.add(given)
+        self.assertEqual(tally.outcomes, {"solved": 3, "guess": 1})
+        self.assertEqual((tally.failed, tally.best["choices"]), (1, 20))
+        tally.add(row(failed=True, choices=8))
+        self.assertEqual(tally.best["choices"], 8)
+        self.assertGreater(rank(row(moves=7)), rank(row()))  # type: ignore[arg-type]
+
+    def test_networks_that_are_solved_while_an_agent_fails(self) -> None:
+        """Of sixty matches that are solved, in all of which an agent fails, it is said that they are the same."""
+        tally, said = Tally(), io.StringIO()
+        for _ in range(60):
+            tally.add(row(failed=True, seed=0, home=0, holes=[1]))  # type: ignore[arg-type]
+        best: Any = mock.Mock()
+        best.match().faults.return_value = []
+        best.match().played.refused = []
+        best.__getitem__ = mock.Mock(return_value=0)
+        report(tally, best, None, said)
+        self.assertIn("60 schedules: solved 60; failed 60, of which 60 solved, but an agent failed\n", said.getvalue())
+
+
+if __name__ == "__main__":
+    unittest.main()

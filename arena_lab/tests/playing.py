@@ -1,0 +1,93 @@
+"""What the tests that play share: the program, and matches of the sample agents."""
+import os
+import pathlib
+import random
+import tempfile
+import unittest
+from typing import Any
+
+from arena_lab.play import schedulers
+from arena_lab.play.matches import PlayedMatch, play
+from arena_lab.play.teams import INSIDE, AgentWords, Together
+from arena_lab.rules.engines import TOP, program_at
+from arena_lab.rules.fixtures import Fixture, fixture_of
+from arena_lab.rules.model import Setup
+from arena_lab.rules.networks import Network, drawn, flipped_ring, ring
+from arena_lab.rules.rehearsal import Rehearsal
+
+AGENTS = TOP / "examples" / "agents"
+RING = AgentWords(INSIDE, f"{AGENTS / 'ring.py'} {{nodes}}")
+MAP = AgentWords(INSIDE, f"{AGENTS / 'map.py'} {{nodes}} {{links}}")
+KNOWN_MAP = AgentWords(INSIDE, str(AGENTS / "known_map.py"))
+
+# agents with a fault each, which several tests play: the text of a file
+FAULTY = '''
+from client import MatchOver
+
+
+def raises(agent, key):
+    agent.enter(key)
+    raise KeyError("west")
+
+
+def refused(agent, key):
+    agent.enter(key)
+    while True:
+        try:
+            agent.depart(9)
+        except Exception:
+            pass
+
+
+def sleeps(agent, key, sleep):
+    agent.enter(key)
+    while True:
+        sleep(1)
+        agent.look()
+
+
+def crashes_when_it_is_over(agent, key, port):
+    agent.enter(key)
+    try:
+        agent.depart(port)
+    except MatchOver:
+        raise AttributeError("nothing was seen")
+'''
+
+
+def program() -> str:
+    """The built program: ARENA_PROGRAM names it, as tools/play/lab_tests.py does."""
+    return program_at(os.environ.get("ARENA_PROGRAM"))
+
+
+def fixture(network: Network, hole: int, agents: int = 2, board: int = 4096, home: int = 0) -> Fixture:
+    return fixture_of(Setup(network.nodes, network.links, home, [hole], agents, 1000, board))
+
+
+def ring_fixture(nodes: int, hole: int, chance: random.Random) -> Fixture:
+    """A ring whose labels agree around it, or are mixed."""
+    return fixture(ring(nodes) if chance.random() < 0.5 else flipped_ring(nodes, chance), hole, board=32)
+
+
+def network_fixture(chance: random.Random) -> Fixture:
+    """A network by chance, with more agents than its greatest degree."""
+    network = drawn(chance)
+    home, hole = chance.sample(range(network.nodes), 2)
+    return fixture(network, hole, max(network.degrees()) + 1, home=home)
+
+
+def played(given: Fixture, agent: AgentWords, seed: int, maker: schedulers.Maker = schedulers.slow_agents,
+           engine: Any = Rehearsal) -> PlayedMatch:
+    """A match of agents that are alike."""
+    return play(engine(given), Together([agent] * given.setup.agents, given, 5), maker(seed), given)
+
+
+class InFolder(unittest.TestCase):
+    """Tests that run at the top of the repository, each with a folder of its own."""
+
+    def setUp(self) -> None:
+        folder = tempfile.TemporaryDirectory()
+        self.addCleanup(folder.cleanup)
+        self.addCleanup(os.chdir, os.getcwd())
+        os.chdir(TOP)
+        self.folder = pathlib.Path(folder.name)

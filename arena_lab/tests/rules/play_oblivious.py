@@ -1,0 +1,108 @@
+"""Under the oblivious schedule a match of the lab is the contest's: the replay of a served contest and that of
+`./arena-lab run --scheduler oblivious` are equal byte for byte, of agents that answer within their turn. A picked
+agent, a delay, or a turn of departure that is another one delivers in another order; so does the adaptive schedule."""
+import contextlib
+import pathlib
+import subprocess
+import threading
+import time
+import unittest
+from types import ModuleType
+from typing import List
+
+from examples.agents import client
+from examples.contest import free_port
+from arena_lab.play.matches import play
+from arena_lab.play.schedulers import Oblivious, Scheduler, fair
+from arena_lab.play.teams import INSIDE, AgentWords, Together
+from arena_lab.rules.delays import Delays
+from arena_lab.rules.fixtures import Fixture, fixture_of, tournament_text
+from arena_lab.rules.model import Setup
+from arena_lab.rules.networks import ring, text_of
+from arena_lab.rules.rehearsal import Rehearsal
+from arena_lab.tests.playing import InFolder, program
+
+SEED = 7
+DELAYS = Delays(3, 6)
+# each agent goes to and fro; the third goes into the black hole, the last over the link that is held
+STEPS = ["010101010101", "1001100110011001", "0w1w00w", "11"]
+WALKS = f"""
+STEPS = {STEPS}
+
+def walks(agent, key, number):
+    agent.enter(key)
+    for step in STEPS[number]:
+        if step == "w":
+            agent.write("", "x")
+        else:
+            agent.depart(int(step))
+    agent.leave()
+"""
+PAUSE, TURNS, LIMIT = 40, 220, 60
+# how long an agent may take until it is on a link, before the next is started
+SETTLES = 0.3
+# on a busy machine an agent may answer a turn late
+TRIES = 3
+
+
+def match() -> Fixture:
+    network = ring(7)
+    setup = Setup(network.nodes, network.links, 0, [2], len(STEPS), 100, 8)
+    return fixture_of(setup)._replace(held=[(6, 1)])
+
+
+def walks_of(agents: ModuleType, port: int, number: int, key: str) -> None:
+    with contextlib.closing(client.Agent.connect("127.0.0.1", port)) as agent, contextlib.suppress(client.Refused):
+        agents.walks(agent, key, number)
+
+
+class ObliviousTest(InFolder):
+    def setUp(self) -> None:
+        super().setUp()
+        self.fixture = match()
+        self.file = self.folder / "walks.py"
+        self.file.write_text(WALKS)
+        (self.folder / "network.toml").write_text(text_of(ring(7)))
+        rows = [(self.fixture, "network.toml")]
+        (self.folder / "cup.toml").write_text(tournament_text(f"{SEED:064x}", rows, DELAYS))
+
+    def served(self) -> bytes:
+        """The replay of a contest over TCP. Turns begin once the last agent has entered."""
+        port, agents = free_port(), ModuleType("walks")
+        exec(WALKS, agents.__dict__)
+        words = [program(), "serve", "cup.toml", "--port", str(port), "--sessions", str(len(STEPS)), "--turns",
+                 str(TURNS), "--pause", str(PAUSE), "--replay", "m", "--gather", "30000", "--grace", "1000"]
+        with subprocess.Popen(words, cwd=self.folder, stdout=subprocess.PIPE, stderr=subprocess.DEVNULL) as server:
+            stop = threading.Timer(LIMIT, server.kill)
+            stop.start()
+            server.stdout.readline()
+            for number, key in enumerate(self.fixture.keys):
+                threading.Thread(target=walks_of, args=(agents, port, number, key), daemon=True).start()
+                time.sleep(SETTLES if number + 1 < len(STEPS) else 0)
+            server.wait()
+            stop.cancel()
+        return pathlib.Path(self.folder, "m0.jsonl").read_bytes()
+
+    def inside(self, scheduler: Scheduler) -> bytes:
+        """The replay of a match in the lab."""
+        agents: List[AgentWords] = [AgentWords(INSIDE, f"{self.file}:walks {number}") for number in range(len(STEPS))]
+        team = Together(agents, self.fixture, 5)
+        return play(Rehearsal(self.fixture), team, scheduler, self.fixture).replay
+
+    def test_a_served_contest_and_the_lab_write_one_replay(self) -> None:
+        wanted = self.inside(Oblivious(SEED, DELAYS))
+        self.assertIn(b'"do":"deliver","reply":null', wanted)
+        for _ in range(TRIES):
+            found = self.served()
+            if found == wanted:
+                break
+        self.assertEqual(found.decode(), wanted.decode())
+
+    def test_another_schedule_writes_another(self) -> None:
+        wanted = self.inside(Oblivious(SEED, DELAYS))
+        for other in (fair(SEED), Oblivious(SEED + 1, DELAYS), Oblivious(SEED, Delays(0, 6)), Oblivious(SEED)):
+            self.assertNotEqual(self.inside(other), wanted)
+
+
+if __name__ == "__main__":
+    unittest.main()

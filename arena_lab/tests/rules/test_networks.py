@@ -1,0 +1,94 @@
+"""Networks by name, and how their ports are numbered."""
+import argparse
+import contextlib
+import io
+import random
+import unittest
+
+from arena_lab.__main__ import main
+from arena_lab.commands.network import ports_seed
+from arena_lab.commands.tournament import number_or, team_name
+from arena_lab.rules import networks
+
+NAMES = ("ring:5", "hypercube:3", "torus:3x4", "complete:5", "ccc:3", "ccc:5", "random:7")
+
+
+def far_ends(network: networks.Network) -> dict:
+    """Where each port leads."""
+    ends = {(v, p): (w, q) for v, p, w, q in network.links}
+    return {**ends, **{far: near for near, far in ends.items()}}
+
+
+class Networks(unittest.TestCase):
+    def test_each_node_has_its_ports_in_a_row(self) -> None:
+        for name in NAMES:
+            network = networks.named(name)
+            for made in (network, networks.shuffled(network, 3)):
+                with self.subTest(name):
+                    wanted = [(v, p) for v, degree in enumerate(made.degrees()) for p in range(degree)]
+                    self.assertEqual(sorted(far_ends(made)), wanted)
+
+    def test_cube_connected_cycles(self) -> None:
+        far = far_ends(networks.named("ccc:3"))
+        self.assertEqual(far[3 * 5 + 2, 0], (3 * 5 + 0, 1))
+        self.assertEqual(far[3 * 5 + 1, 2], (3 * 7 + 1, 2))
+        self.assertEqual(far[3 * 5 + 0, 2], (3 * 4 + 0, 2))
+
+    def test_shuffled_ports_join_the_same_nodes_by_other_labels(self) -> None:
+        network = networks.named("torus:4x4")
+        one, two = networks.shuffled(network, 1), networks.shuffled(network, 2)
+        pairs = [[(v, w) for v, _, w, _ in it.links] for it in (network, one, two)]
+        self.assertEqual(pairs[0], pairs[1])
+        self.assertEqual(pairs[0], pairs[2])
+        self.assertEqual(one, networks.shuffled(network, 1))
+        self.assertEqual(len({tuple(it.links) for it in (network, one, two)}), 3)
+
+    def test_drawn_networks_join_two_nodes_once_and_have_few_ports(self) -> None:
+        for seed in range(300):
+            network = networks.drawn(random.Random(seed))
+            pairs = {frozenset((v, w)) for v, _, w, _ in network.links}
+            with self.subTest(seed):
+                self.assertEqual(len(pairs), len(network.links))
+                self.assertEqual({len(pair) for pair in pairs}, {2})
+                self.assertLessEqual(max(network.degrees()), networks.LARGEST_DEGREE)
+                self.assertGreaterEqual(min(network.degrees()), 2)
+
+    def test_names_that_name_none(self) -> None:
+        for name, said in (("ccc:2", "cube-connected cycles 3 dimensions or more"), ("hypercube:40", "3 to 4096 nodes"),
+                           ("complete:100000", "3 to 4096 nodes"), ("ccc:9", "this one has 4608"),
+                           ("random:9:deg3:seed1", "N times K is even"), ("ring:8:deg2:seed1", "a network is ring:N"),
+                           ("random:5000:deg3:seed1", "3 to 4096 nodes")):
+            with self.subTest(name), self.assertRaisesRegex(networks.NoNetwork, said):
+                networks.named(name)
+
+
+class Ranges(unittest.TestCase):
+    def test_a_range_names_all_sizes(self) -> None:
+        self.assertEqual(["ring:3", "ring:4", "ring:5"], networks.in_range("ring:3..5"))
+        for name in ("torus:3x4", "random:6:deg3:seed1", "ring.toml"):
+            self.assertEqual([name], networks.in_range(name))
+        with self.assertRaisesRegex(networks.NoNetwork, "as in ring:3..5"):
+            networks.in_range("ring:5..3")
+
+    def test_a_second_network_is_refused_and_not_taken_in_silence(self) -> None:
+        said = io.StringIO()
+        with contextlib.redirect_stderr(said), self.assertRaises(SystemExit):
+            main(["run", "--network", "ring:3", "--network", "ring:4", "--agent", "examples/agents/ring.py 4"])
+        self.assertIn("--network is given twice: name one", said.getvalue())
+
+
+class Words(unittest.TestCase):
+    def test_words_that_are_taken(self) -> None:
+        self.assertEqual(ports_seed("shuffled:17"), 17)
+        self.assertEqual(team_name("red-2"), "red-2")
+        self.assertEqual([number_or("all")(word) for word in ("all", "12")], ["all", 12])
+
+    def test_words_that_are_refused(self) -> None:
+        for taken, word in ((ports_seed, "shuffled"), (ports_seed, "3"), (team_name, "Red"), (team_name, "r" * 17),
+                            (number_or("all"), "0"), (number_or("all"), "few")):
+            with self.subTest(word), self.assertRaises(argparse.ArgumentTypeError):
+                taken(word)
+
+
+if __name__ == "__main__":
+    unittest.main()

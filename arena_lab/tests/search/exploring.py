@@ -1,0 +1,46 @@
+"""What the tests of `explore` share: the command, a game with one match, and what the program answers of it."""
+import contextlib
+import io
+from typing import Callable, List, Optional, Tuple
+
+from arena_lab.__main__ import main, parser
+from arena_lab.commands.words import games_of
+from arena_lab.play.teams import AgentWords, Game
+from arena_lab.rules.fixtures import Fixture
+from arena_lab.search.program_search import ExploreAnswer, SampleRequest, asked, silent
+from arena_lab.search.sampled_runs import follow
+from arena_lab.search.machines import Machines
+from arena_lab.tests.playing import InFolder, program
+
+
+class InExplore(InFolder):
+    """Tests that explore by the program. `said` is what the last command printed."""
+
+    said = ""
+
+    def command(self, *words: object) -> int:
+        """The exit status of `explore` with these words."""
+        said = io.StringIO()
+        with contextlib.redirect_stdout(said), contextlib.redirect_stderr(said):
+            status = main(["explore", *map(str, words), "--program", program(), "--keep", str(self.folder / "find")])
+        self.said = said.getvalue()
+        return status
+
+    def game(self, *words: str) -> Tuple[Game, Fixture]:
+        """A game, and its one match."""
+        (game,) = games_of(parser().parse_args(["explore", *words]))
+        (fixture,) = game.fixtures()
+        return game, fixture
+
+    def answered(self, fixture: Fixture, agents: List[AgentWords], *, draws: Optional[SampleRequest] = None,
+                 said: Callable[[str], None] = silent, check: int = 0) -> ExploreAnswer:
+        """What the program answers of all schedules, or of drawn ones. Then this many drawn schedules are followed."""
+        machines = Machines(fixture, agents, 5)
+        machines.start()
+        try:
+            answered = asked(program(), fixture, machines, 1_000_000, lambda count: None, said, draws)
+            for seed in range(check):
+                follow(fixture, agents, machines, seed, 5)
+            return answered
+        finally:
+            machines.stop()

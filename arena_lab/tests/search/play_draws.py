@@ -1,0 +1,107 @@
+"""What `explore --draws` finds by the program: drawn schedules lie within what a search of all schedules proves, a hunt
+comes to the most moves on small rings, and the schedule that is kept comes to the same when the agents play it."""
+import statistics
+from typing import Optional
+from unittest import main as run_tests
+
+from arena_lab import api as lab
+from arena_lab.__main__ import main
+from arena_lab.commands.explore_samples import moves_of
+from arena_lab.commands.explore import SCHEDULERS
+from arena_lab.commands.mutants import FOLDER
+from arena_lab.search.program_search import ExploreAnswer, SampleRequest
+from arena_lab.tests.search.exploring import InExplore
+from arena_lab.tests.playing import RING, program
+
+
+class Drawing(InExplore):
+    def on_ring(self, network: str, hole: int, draws: Optional[SampleRequest]) -> ExploreAnswer:
+        """What the program finds of two agents on a ring, under all schedules or under those that are drawn."""
+        game, fixture = self.game("--network", network, "--hole", str(hole), "--agent", RING.words)
+        return self.answered(fixture, game.agents, draws=draws)
+
+    def test_drawn_schedules_lie_within_what_is_proved(self) -> None:
+        for network, hole in (("ring:4", 2), ("ring:5", 1), ("ring:5", 3)):
+            proved = self.on_ring(network, hole, None).found
+            assert proved is not None
+            for scheduler in SCHEDULERS:
+                with self.subTest(network=network, hole=hole, scheduler=scheduler):
+                    found, counts, *_ = self.on_ring(network, hole, SampleRequest(200, 1, scheduler, None))
+                    assert found is not None
+                    self.assertEqual((found["found"], counts["solved"], counts["failed"]), ("comes", 200, 0))
+                    self.assertEqual([sum(times for _, times in counts[what]) for what in ("moves", "lost")],
+                                     [200, 200])
+                    self.assertEqual(found["moves"], counts["moves"][-1][0])
+                    self.assertLessEqual(found["moves"], proved["moves"])
+                    self.assertLessEqual(len(found["schedule"]), proved["turns"])
+                    self.assertLessEqual(counts["turns"], 200 * proved["turns"])
+                    self.assertLessEqual(counts["lost"][-1][0], proved["lost"])
+
+    def test_a_hunt_comes_to_the_most_moves(self) -> None:
+        for network, hole, scheduler in (("ring:5", 1, "fair"), ("ring:5", 2, "fair"), ("ring:6", 4, "slow-agents")):
+            with self.subTest(network=network, hole=hole):
+                proved, hunted = (self.on_ring(network, hole, draws).found
+                                  for draws in (None, SampleRequest(2000, 2, scheduler, "moves")))
+                assert proved is not None and hunted is not None
+                self.assertEqual(hunted["moves"], proved["moves"])
+
+    def test_schedules_are_drawn_as_the_schedulers_of_the_lab_draw(self) -> None:
+        for scheduler in SCHEDULERS:
+            with self.subTest(scheduler=scheduler):
+                _, counts, *_ = self.on_ring("ring:8", 4, SampleRequest(5000, 3, scheduler, None))
+                rows = lab.play("ring:8", RING.words, scheduler, count=2, holes=[4], seeds=300, engine="model")
+                moves = [row["moves"] for row in rows]
+                error = statistics.stdev(moves) / len(moves) ** 0.5
+                self.assertAlmostEqual(moves_of(counts["moves"]).mean, statistics.fmean(moves), delta=5 * error + 0.01)
+
+    def test_what_is_drawn_is_a_function_of_the_seed(self) -> None:
+        runs = [self.on_ring("ring:6", 3, SampleRequest(100, seed, "slow-agents", None)) for seed in (1, 1, 2)]
+        self.assertEqual((runs[0].found, runs[0].counts), (runs[1].found, runs[1].counts))
+        self.assertNotEqual(runs[0].counts["turns"], runs[2].counts["turns"])
+
+    def test_the_agents_play_what_is_kept(self) -> None:
+        status = self.command("--network", "ring:5", "--agent", RING.words, "--draws", 1000, "--objective", "moves",
+                              "--check", 2)
+        self.assertEqual(status, 0, self.said)
+        self.assertIn("4000 drawn schedules, ", self.said)
+        self.assertRegex(self.said, r"checked, and all agree: (\d+) of \1 merges of histories, 2 drawn schedules\n")
+        self.assertIn("most moves: home 0 holes [1], solved moves 14 lost 1\n", self.said)
+        self.assertIn("the program's verdict: solved moves 14 lost 1", self.said)
+        self.assertEqual(main(["replay", str(self.folder / "find"), "--program", program()]), 0)
+
+    def test_a_wrong_version_is_found_out(self) -> None:
+        for hunt in ([], ["--objective", "lost"]):
+            with self.subTest(hunt=hunt):
+                agent = f"{FOLDER / 'reads_once'}.py {{nodes}}"
+                self.assertEqual(self.command("--network", "ring:8", "--agent", agent, "--draws", 2000, *hunt), 1)
+                self.assertIn("a schedule fails\nit comes to: ", self.said)
+                verdict = self.said.partition("it comes to: ")[2].partition("\n")[0].rpartition(", ")[2]
+                self.assertIn(f"the program's verdict: {verdict}", self.said)
+
+    def test_what_has_too_many_turns(self) -> None:
+        self.assertEqual(self.command("--network", "ring:5", "--agent", RING.words, "--draws", 5, "--max-states", 9),
+                         130)
+        self.assertIn("a drawn schedule has more turns than --max-states allows", self.said)
+
+    def test_a_quota_that_does_not_suffice(self) -> None:
+        words = ["--network", "ring:5", "--agent", RING.words, "--draws", 5]
+        self.assertNotEqual(self.command(*words, "--quota", 6), 0)
+        self.assertIn("give a larger --quota", self.said)
+
+    def test_options_of_draws_need_draws(self) -> None:
+        ring = ["--network", "ring:4", "--agent", RING.words]
+        for words, told in ((["--seed", 1], "--seed needs --draws"), (["--scheduler", "fair"],
+                                                                      "--scheduler needs --draws"),
+                            (["--objective", "lost"], "--objective needs --draws"),
+                            (["--draws", 2, "--search", "model"], "--draws needs the program's search")):
+            with self.subTest(words=words):
+                self.assertEqual(self.command(*ring, *words), 2)
+                self.assertIn(told, self.said)
+
+    def test_least_mean_median_and_most(self) -> None:
+        self.assertEqual(moves_of([(2, 1), (4, 2), (9, 1)]), (2, 4.75, 4, 9))
+        self.assertEqual(moves_of([(2, 1), (5, 1)]), (2, 3.5, 3.5, 5))
+
+
+if __name__ == "__main__":
+    run_tests()

@@ -1,0 +1,189 @@
+"""What `explore` and `hunt` find: the worst that is known of the sample search, and what its wrong versions do."""
+import argparse
+import contextlib
+import io
+import pathlib
+import tempfile
+import unittest
+from typing import Iterator, List, Sequence
+from unittest import mock
+
+from arena_lab.__main__ import main, parser
+from arena_lab.commands import mutants
+from arena_lab.commands.words import games_of
+from arena_lab.play.matches import play
+from arena_lab.play.schedulers import Choice
+from arena_lab.play.teams import INSIDE, AgentWords, Together
+from arena_lab.rules.fixtures import Fixture
+from arena_lab.rules.model import Verdict
+from arena_lab.rules.networks import ring
+from arena_lab.rules.rehearsal import Rehearsal
+from arena_lab.search import explore, hunt, history_tree
+from arena_lab.tests.playing import FAULTY, MAP, RING, fixture, program
+
+WORST = {3: 4, 4: 9, 5: 14, 6: 23}
+BY_MODEL = ("--search", "model")
+# agents that do something else although they are told the same, or have other faults
+ODD = FAULTY + '''
+import random
+from ring import Search, Walker
+
+def drawn(agent, key, nodes):
+    walker = Walker(agent, agent.enter(key))
+    for _ in range(random.SystemRandom().randrange(5)):
+        agent.look()
+    Search(walker, nodes).run()
+
+def computes(agent, key):
+    agent.enter(key)
+    while True:
+        pass
+'''
+
+
+FORGETFUL = mutants.FOLDER / "forgets_to_mark.py"
+
+
+def one_by_one(given: Fixture, agent: AgentWords) -> Iterator[Verdict]:
+    """The verdict under each schedule, each played from its beginning."""
+    fronts: List[List[int]] = [[]]
+    while fronts:
+        front, made = fronts.pop(), []
+
+        def choose(choices: Sequence[Choice], state: object) -> Choice:
+            made.append((front[len(made)] if len(made) < len(front) else 0, len(choices)))
+            return choices[made[-1][0]]
+        yield play(Rehearsal(given), Together([agent] * given.setup.agents, given, 5), choose, given).verdict()
+        for place in range(len(front), len(made)):
+            before = [number for number, _ in made[:place]]
+            fronts += [[*before, number] for number in range(1, made[place][1])]
+
+
+class Searches(unittest.TestCase):
+    def setUp(self) -> None:
+        folder = tempfile.TemporaryDirectory()
+        self.addCleanup(folder.cleanup)
+        self.folder = pathlib.Path(folder.name)
+        (self.folder / "odd.py").write_text(ODD, encoding="utf-8")
+
+    def command(self, *words: str) -> int:
+        said = io.StringIO()
+        with contextlib.redirect_stdout(said), contextlib.redirect_stderr(said):
+            status = main([*map(str, words), "--program", program()])
+        self.said = said.getvalue()
+        return status
+
+    def kept(self) -> List[str]:
+        return ["--keep", str(self.folder / "find")]
+
+
+class Exploring(Searches):
+    def explored(self, *words: str) -> explore.Explorer:
+        given: argparse.Namespace = parser().parse_args(["explore", *words])
+        (game,) = games_of(given)
+        return explore.explored(game.fixtures()[-1], game.agents, mock.Mock()).explorer
+
+    def test_the_most_moves_on_rings(self) -> None:
+        for nodes, moves in WORST.items():
+            with self.subTest(nodes=nodes):
+                status = self.command("explore", *BY_MODEL, "--network", f"ring:{nodes}", "--agent", RING.words,
+                                      *self.kept())
+                self.assertEqual(status, 0, self.said)
+                self.assertIn("no schedule fails, of the Python model", self.said)
+                self.assertIn(f"the program's verdict: solved moves {moves} lost 1", self.said)
+
+    def test_steps_that_meet_nobody_need_no_other_order(self) -> None:
+        for words in (["--network", "ring:5", "--hole", "3", "--agent", RING.words],
+                      ["--network", "ring:3", "--hole", "2", "--agents", "3", "--agent", MAP.words]):
+            with self.subTest(words=words):
+                few = self.explored(*words)
+                with mock.patch.object(history_tree.Pasts, "_is_local", lambda self, past: False):
+                    all_orders = self.explored(*words)
+                self.assertLess(few.states(), all_orders.states())
+                self.assertEqual(few.worst[:2], all_orders.worst[:2])
+
+    def test_all_schedules_one_by_one_come_to_the_same(self) -> None:
+        for name, words in (("the search", RING.words), ("a wrong one", f"{FORGETFUL} {{nodes}}")):
+            with self.subTest(name):
+                found = self.explored("--network", "ring:3", "--hole", "1", "--agent", words)
+                ends = list(one_by_one(fixture(ring(3), 1), AgentWords(INSIDE, words)))
+                self.assertGreater(len(ends), 100)
+                self.assertIn(found.worst.verdict, ends)
+                self.assertEqual(found.worst.has_failed, any(end.outcome != "solved" for end in ends))
+                if not found.worst.has_failed:
+                    self.assertEqual(found.worst.verdict.moves, max(end.moves for end in ends))
+
+    def test_an_agent_that_is_no_function_is_told(self) -> None:
+        agent = f"{self.folder}/odd.py:drawn 4"
+        status = self.command("explore", *BY_MODEL, "--network", "ring:4", "--agent", agent, *self.kept())
+        self.assertEqual(status, 2)
+        self.assertIn("explore needs agents that are functions of what they are told", self.said)
+
+    def test_it_stops_at_the_most_states(self) -> None:
+        words = ["explore", *BY_MODEL, "--network", "ring:6", "--max-states", "5000", "--agent", RING.words]
+        self.assertEqual(self.command(*words, *self.kept()), 130)
+        self.assertIn("stopped before all were visited", self.said)
+
+    def test_what_is_kept_is_played_to_the_same_moves(self) -> None:
+        """Also where agents sleep."""
+        words = ["--network", "ring:3", "--hole", "1", "--agents", "3", "--agent", MAP.words]
+        worst = self.explored(*words).worst.verdict
+        self.command("explore", *BY_MODEL, *words, *self.kept())
+        self.assertIn(f"the program's verdict: {worst}", self.said)
+
+
+class Hunting(Searches):
+    def test_the_most_moves_of_a_ring(self) -> None:
+        status = self.command("hunt", "--network", "ring:8", "--agent", RING.words, "--objective", "moves", "--runs",
+                              "1000",
+                              "--database", str(self.folder / "db"), *self.kept())
+        self.assertEqual(status, 0, self.said)
+        self.assertIn("the program's verdict: solved moves 37 lost 1", self.said)
+        self.assertEqual(self.command("replay", self.folder / "find"), 0)
+
+    def test_agents_with_faults(self) -> None:
+        for name, fault in (("raises", "agent 0: raises KeyError: 'west'"),
+                            ("refused", "agent 0: was refused 1000 times in a row"),
+                            ("sleeps", "agent 0: sleeps, and nothing changes any more"),
+                            ("computes", "agent 0: has computed for 0.2 s, and neither sends nor waits")):
+            with self.subTest(name):
+                status = self.command("run", "--network", "ring:3", "--timeout", "0.2", "--agent",
+                                      f"{self.folder}/odd.py:{name}")
+                self.assertEqual(status, 1)
+                self.assertIn(fault, self.said)
+
+    def test_a_hunt_that_is_interrupted_says_what_it_has(self) -> None:
+        real, tries = hunt.play, iter(range(10))
+
+        def play(*given: object) -> object:
+            if next(tries, None) is None:
+                raise KeyboardInterrupt
+            return real(*given)
+        with mock.patch.object(hunt, "play", play):
+            status = self.command("hunt", "--network", "ring:8", "--agent", RING.words, "--objective", "moves",
+                                  "--database", str(self.folder / "db"), *self.kept())
+        self.assertEqual(status, 130, self.said)
+        self.assertIn("interrupted; this was found:\n10 schedules were tried", self.said)
+
+
+class Mutants(Searches):
+    def test_two_are_caught(self) -> None:
+        for name in ("reads_once", "counts_nodes_alone", "counts_naps"):
+            with self.subTest(name):
+                for found in mutants.caught(name, program()):
+                    self.assertTrue(found.is_caught)
+                    self.assertNotEqual(found.verdict.outcome, "solved")
+
+    def test_a_timeout_fails_under_a_scheduler_if_agents_may_nap(self) -> None:
+        agent = f"{mutants.FOLDER / 'counts_naps.py'} {{nodes}} {{links}}"
+        words = ["run", "--network", "ring:8", "--agents", "3", "--agent", agent, "--runs", "10", "--engine", "model"]
+        self.assertEqual(self.command(*words, "--spurious-wakeups", "1"), 0)
+        self.assertEqual(self.command(*words, *self.kept()[:2]), 1)
+        self.assertEqual(self.command("replay", self.folder / "find", "--engine", "model"), 0)
+
+    def test_each_has_a_plan(self) -> None:
+        self.assertEqual(sorted(path.stem for path in mutants.FOLDER.glob("*.py")), sorted(mutants.PLANS))
+
+
+if __name__ == "__main__":
+    unittest.main()

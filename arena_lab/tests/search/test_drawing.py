@@ -1,0 +1,50 @@
+"""What is said of drawn schedules: counts of all matches, the worst of all, and failures that are counted alone."""
+import contextlib
+import io
+import unittest
+from typing import Any, List
+from unittest import mock
+
+from arena_lab.commands import explore_samples
+from arena_lab.commands.explore_program import Search
+from arena_lab.rules.engines import Differs
+from arena_lab.rules.fixtures import Fixture
+from arena_lab.rules.model import Setup
+from arena_lab.rules.networks import ring
+from arena_lab.search.program_search import ExploreAnswer, SampleRequest
+from arena_lab.search.proving import MatchResult
+
+
+def tried(hole: int, moves: int, lost: int, solved: int = 7, failed: int = 0) -> MatchResult:
+    """A match whose drawn schedules come to this."""
+    fixture = Fixture("lab", Setup(3, ring(3).links, 0, [hole], 1, 10, 8), ["k"], [])
+    found = {"found": "comes", "moves": moves, "lost": lost, "schedule": []}
+    return MatchResult(fixture, ExploreAnswer(found, {"solved": solved, "failed": failed, "turns": 9}, 1.0))
+
+
+class Drawing(unittest.TestCase):
+    def told(self, tries: List[MatchResult], hunt: Any = None) -> str:
+        said, checks = io.StringIO(), mock.Mock(__str__=lambda _: "checked")
+        wanted: Any = None
+        with contextlib.redirect_stdout(said), mock.patch.object(explore_samples, "shown_schedule"):
+            self.assertEqual(explore_samples.report_samples(wanted, SampleRequest(7, 1, "fair", hunt), Search(tries,
+                                                                                                              checks)),
+                                                                                                              0)
+        return said.getvalue()
+
+    def test_counts_are_those_of_all_matches(self) -> None:
+        self.assertIn("14 drawn schedules, 18 steps in 2.0 s: none of them fails", self.told([tried(2, 1, 0)] * 2))
+
+    def test_the_worst_of_all_matches_is_told(self) -> None:
+        few, many = tried(1, 2, 1), tried(2, 3, 0)
+        for tries in ([few, many], [many, few]):
+            self.assertIn("holes [2], solved moves 3 lost 0", self.told(tries, "moves"))
+            self.assertIn("holes [1], solved moves 2 lost 1", self.told(tries, "lost"))
+
+    def test_a_failure_that_is_only_counted_is_no_success(self) -> None:
+        with self.assertRaisesRegex(Differs, "counts 2 drawn schedules that fail, and tells one that solves"):
+            self.told([tried(2, 1, 0, 5, 2)])
+
+
+if __name__ == "__main__":
+    unittest.main()

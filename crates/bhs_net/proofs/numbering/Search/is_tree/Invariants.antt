@@ -1,5 +1,0 @@
-use Rattle.bhs_net.proofs.TreeLemmas.{AllHang}
-use Rattle.bhs_net.proofs.numbering.Search.is_tree.Given as goal
-
-abbrev pub invariant-loop-node : goal.invariant-loop-node
-invariant-loop-node l = AllHang l.rows l.self l.node

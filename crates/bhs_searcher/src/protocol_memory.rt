@@ -1,0 +1,154 @@
+//! Protocols, and what an agent holds that runs one.
+
+ghost use Rattle.std.specs.Prelude.{◌≡◌, ◌-◌, ◌/◌, ◌==◌, if◌then◌else◌, [], IfOk};
+ghost use Rattle.bhs_searcher.specs.declared.protocol_memory.MemoryFault.{MemoryFault};
+ghost use Rattle.bhs_explore.specs.Strategies.{Heard};
+ghost use Rattle.bhs_protocols.specs.Halves as halves_specs;
+ghost use Rattle.bhs_protocols.specs.Shuttle as shuttle_specs;
+ghost use Rattle.bhs_searcher.specs.Protocols as specs;
+
+use bhs_explore::Step;
+use bhs_model::Reply;
+use bhs_protocols::{halves, shuttle};
+use std::alloc::{AllocError, Global};
+use thiserror::Error;
+
+// The programs of the searches are proved for numbers below this one.
+const MOST: u16 = 4094;
+
+/// How two agents search a ring that know its number of nodes. Each protocol is proved to solve every ring.
+#[derive(Clone, Copy, Debug, PartialEq, Eq, Drop)]
+pub enum Protocol {
+    /// The agents divide what is left into halves.
+    Halves,
+    /// Each agent comes back to the home base after each node.
+    Shuttle,
+}
+
+/// What an agent holds.
+#[derive(Clone, Copy, Debug, PartialEq, Eq, Drop)]
+pub enum ProtocolMemory {
+    Halves(halves::Memory),
+    Shuttle(shuttle::Memory),
+}
+
+/// Why an agent cannot go on.
+#[derive(Clone, Copy, Debug, PartialEq, Eq, Drop, Error)]
+pub enum MemoryFault {
+    /// A number has come to 4,094 or more: the ring has too many nodes, or a whiteboard has a strange mark.
+    #[error("size")]
+    Size,
+    /// Memory ran out.
+    #[error("memory")]
+    Memory,
+}
+
+impl From<AllocError> for MemoryFault {
+    ghost from_gives = { λ _ fault. fault ≡ MemoryFault.Memory };
+
+    fn from(_refused: AllocError) -> MemoryFault {
+        MemoryFault::Memory
+    }
+}
+
+/// What agent 0 or 1 of a protocol holds at the start.
+pub fn begun(protocol: Protocol, nodes: u16, agent: u16) -> ProtocolMemory
+    ensures { result ≡ specs.held_by protocol nodes agent [] }
+{
+    match protocol {
+        Protocol::Halves => ProtocolMemory::Halves(halves::Memory {
+            side: agent,
+            mine: 0,
+            theirs: 0,
+            target: first_target(nodes, agent),
+            own: 0,
+            other: 0,
+            phase: halves::Phase::Begins,
+        }),
+        Protocol::Shuttle => ProtocolMemory::Shuttle(shuttle::Memory {
+            side: agent,
+            mine: 0,
+            theirs: 0,
+            phase: shuttle::Phase::Begins,
+        }),
+    }
+}
+
+// How far an agent is to explore at first: agent 0 takes the greater half.
+fn first_target(nodes: u16, agent: u16) -> u16
+    ensures { result ≡ (if agent == 0 then nodes / 2 else (nodes - 1) / 2) }
+{
+    if agent == 0 {
+        nodes / 2
+    } else {
+        nodes.saturating_sub(1) / 2
+    }
+}
+
+/// What an agent that holds this does next on a ring of this number of nodes.
+pub fn step_of(alloc: Global, nodes: u16, held: ProtocolMemory) -> Result<Step, MemoryFault>
+    ensures { IfOk result (λ step. step ≡ specs.does_in nodes held) }
+{
+    match held {
+        ProtocolMemory::Halves(memory) => {
+            if memory.mine >= MOST || memory.own >= MOST || memory.other >= MOST {
+                return Err(MemoryFault::Size);
+            }
+            Ok(halves::does(alloc, nodes, memory)?)
+        }
+        ProtocolMemory::Shuttle(memory) => {
+            if memory.mine >= MOST || memory.theirs >= MOST {
+                return Err(MemoryFault::Size);
+            }
+            Ok(shuttle::does(alloc, nodes, memory)?)
+        }
+    }
+}
+
+/// What an agent that holds this holds after a reply.
+pub fn after(nodes: u16, held: ProtocolMemory, reply: &Reply) -> Result<ProtocolMemory, MemoryFault>
+    ensures { IfOk result (λ more. more ≡ specs.after_in nodes held (Heard reply.now)) }
+{
+    match held {
+        ProtocolMemory::Halves(memory) => {
+            if memory.mine >= MOST || halves_steps(memory.phase) >= MOST {
+                return Err(MemoryFault::Size);
+            }
+            Ok(ProtocolMemory::Halves(halves::after(nodes, memory, reply)))
+        }
+        ProtocolMemory::Shuttle(memory) => {
+            if memory.mine >= MOST || shuttle_steps(memory.phase) >= MOST {
+                return Err(MemoryFault::Size);
+            }
+            Ok(ProtocolMemory::Shuttle(shuttle::after(memory, reply)))
+        }
+    }
+}
+
+fn halves_steps(phase: halves::Phase) -> u16
+    ensures { result ≡ halves_specs.steps_of phase }
+{
+    use halves::Phase;
+    match phase {
+        Phase::GoesOut { steps, port: _ }
+        | Phase::GoesHome { steps, port: _ }
+        | Phase::Follows { steps, port: _ }
+        | Phase::Tells { steps, port: _ }
+        | Phase::ComesHome { steps, port: _ } => steps,
+        Phase::Leaves { steps } | Phase::NearsHome { steps } => steps,
+        Phase::Passes { steps } | Phase::NearsBack { steps } => steps,
+        Phase::Begins | Phase::Tries | Phase::Returns | Phase::Ends => 0,
+        Phase::Turns { port: _ } | Phase::Writes { port: _ } => 0,
+    }
+}
+
+fn shuttle_steps(phase: shuttle::Phase) -> u16
+    ensures { result ≡ shuttle_specs.steps_of phase }
+{
+    use shuttle::Phase;
+    match phase {
+        Phase::GoesOut { steps, port: _ } | Phase::ComesBack { steps, port: _ } => steps,
+        Phase::Leaves { steps } | Phase::Returns { steps } => steps,
+        Phase::Begins | Phase::Writes | Phase::Ends => 0,
+    }
+}
