@@ -2,9 +2,10 @@
 
     python3 -m bench.figures [--only NAME ..] [--program PATH] [--other PATH] [--benchmark PATH] [--out FILE]
 
-Each benchmark has a section of the page: what was measured, beside what, and the commit, day, build and machine. A run
+Each benchmark has a section of the page: the commit, day, build and machine, the command, and the figures. A run
 replaces the sections of the benchmarks that it ran and leaves the others as they are. The table at the head of the page
-is made of the sections. Standard error tells which benchmark is running; the exit status is 1 if one failed.
+is made of the sections; a section of another name is left out. Standard error tells which benchmark is running; the
+exit status is 1 if one failed.
 
 names:
     gate        processor seconds of the gate by crate and stage, which proves everything anew
@@ -18,10 +19,17 @@ names:
     lab         steps and states of the lab
     explore     every schedule of several matches
     spin        every schedule of rings, beside the model checker SPIN
+    merges      what the checks of `./arena-lab explore` cost
+    waits       what an agent learns by waiting
+    timeouts    what teams gain by timeouts
+    traps       the same with matches that have no black hole
+    flood       a contest while strangers connect
+    looks       memory for looks at a long whiteboard
+    hall        a hall with 60 teams, while one more floods it
 
-Without --only all of them run, which takes about an hour, most of it for the gate. `steps`, `submit` and `stages` need
-the proved program bhs_bench. The others, except `gate`, run on the proved arena if it is built, else on a build without
-a proof, and the page says on which. Nothing else should run on the machine meanwhile.
+Without --only all of them run, which takes about two hours, half of it for the gate. `steps`, `submit` and `stages`
+need the proved program bhs_bench. The others, except `gate`, run on the proved arena if it is built, else on a build
+without a proof, and the page says on which. Nothing else should run on the machine meanwhile.
 """
 import argparse
 import datetime
@@ -32,6 +40,7 @@ import shlex
 import subprocess
 import sys
 import tempfile
+import textwrap
 import time
 from typing import Callable, Dict, Iterable, List, NamedTuple, Optional, Sequence, Tuple
 
@@ -45,16 +54,14 @@ BENCHMARK = TOP / "crates" / "bhs_bench" / "out" / "bhs_bench"
 DEBIANS_PYTHON = "/usr/bin/python3"
 HEAD = """# Figures
 
-What was measured, on which machine and commit, and beside what. `python3 -m bench.figures` runs the benchmarks and
-writes this page; `--only NAME` measures one section anew. The other sections were measured by the commands that they
-name, and written by hand in the same form. Times depend on the machine and on what else it does: compare figures of one
-section only.
+`python3 -m bench.figures` runs the benchmarks and writes this page; `--only NAME` measures one section again. Times
+depend on the machine and its load, so compare figures within one section only.
 
 """
 SECTION = re.compile(r"<!-- figures ([\w-]+) -->\n(.*?)<!-- end of \1 -->\n", re.DOTALL)
 TITLE = re.compile(r"## (.+)\n\n")
-# the day is missing if it was not written down
-MEASURED = re.compile(r"^Measured at (`\w+`[\w ]*)(?:, (\d{4}-\d\d-\d\d))?; (.+?); (.+?)\.$", re.MULTILINE)
+MEASURED = re.compile(r"^Measured at (`\w+`[\w ]*), (\d{4}-\d\d-\d\d); (.+?); (.+?)\.\n\n", re.MULTILINE | re.DOTALL)
+WIDTH = 120
 
 Cells = Sequence[str]
 
@@ -178,29 +185,79 @@ def lab_text(printed: str) -> str:
     return table(("engine", "agents", "steps a second"), rows) + f"\n`explore` visited {states} states a second.\n"
 
 
+def flood_text(printed: str) -> str:
+    rows = found_in(r"(\d+) strangers a second: (\d+ of \d+) teams solved their networks; the slowest enter took "
+                    r"(\d+) ms, the slowest of (\d+) commands (\d+) ms, 99 of 100 at most ([\d.]+) ms", printed)
+    return table(("strangers a second", "teams that solved", "slowest enter, ms", "commands", "slowest command, ms",
+                  "99 of 100 commands, ms"), rows)
+
+
+def looks_text(printed: str) -> str:
+    return table(("after", "peak memory, MB", "seconds"), found_in(r"(.+): ([\d.]+) MB, ([\d.]+) s", printed))
+
+
+def lines_text(printed: str) -> str:
+    """What a benchmark printed, a line an item."""
+    return "".join(f"- {line}\n" for line in printed.splitlines())
+
+
 EXPLORE_NOTE = """\
-Two agents, and each black hole in turn. First the lab plays the agents and answers the program's questions: the column
-"whole" has the seconds of that. Then the program reads the same answers from a file, and the other columns are its own:
-seconds of a processor, states a second, and the most memory of one match. So most of the whole is the host's, in
-Python. Each state's turns are played twice: in the search, and in the check of what it found.
+Two agents, and each black hole in turn. "Whole" is the time of the lab, which plays the agents in Python and answers
+the program's questions, together with the program. The other columns are the program alone, which reads the same
+answers from a file: processor seconds, states a second, and the most memory of one match. The program plays the turns
+of each state twice: in the search, and in the check of its result.
 """
 SPIN_NOTE = """\
 All schedules of two agents of `examples/agents/ring.py`, each black hole in turn, in seconds of one processor. SPIN
-searches two models that were written by hand, in `experiments/models`. Its start, with room for a table of states,
-takes some 0.1 s. A merged model has fewer states, since steps that nobody can know of are one with the step before.
-`./arena-lab explore` plays the program as it is, and `arena explore` alone reads its answers from a file. All find the
-same
-moves.
+searches two models of `experiments/models`, written by hand; its start takes some 0.1 s. The merged model has fewer
+states: it joins a step that no agent can observe with the step before. `./arena-lab explore` plays the program as it
+is, and
+`arena explore` alone reads the answers from a file. All find the same moves.
+"""
+MERGES_NOTE = """\
+Two agents. Processor seconds of the host for its answers to all questions of the program, without and with checks of
+merged histories, and for twenty sampled schedules. The Python model's search of small matches is not in the table.
+"""
+WAITS_NOTE = """\
+Two agents on a ring of eight nodes. The first stands, is destroyed, or is on a held link; the second makes its moves,
+and each is timed. Under the adaptive schedule the rows differ; under the oblivious one they are equal within their
+errors.
+"""
+TIMEOUTS_NOTE = """\
+Matches on a ring of 64 nodes under the oblivious schedule. The honest team decides nothing by time. A timed team takes
+an agent for lost that stays away for this many turns, and loses, because a slow link looks like the black hole.
+"""
+TRAPS_NOTE = """\
+A trap has no black hole: nobody arrives at two neighbouring nodes, one of them opposite the home base. A hasty team
+accuses when its time is up. A timed team first visits all other nodes, so it meets the second of the two and waits
+there. Traps deceive teams that accuse early, and no team that visits all other nodes first: if such a team visits all
+nodes but one, so does an honest team, and both accuse the node that is left.
+"""
+FLOOD_NOTE = """\
+A hundred agents of 50 teams search a ring of 16 nodes while strangers connect, of which a third sends nothing, a third
+half a line, and a third a wrong key. Without strangers the first enters are slower, since all agents begin at once with
+the server.
+"""
+LOOKS_NOTE = """\
+The most memory that a server has held while one agent looks at a whiteboard of 65,490 bytes as often as a quota allows.
+"""
+HALL_NOTE = """\
+60 teams ask for 120 attempts in six minutes and play each with two sample agents on a ring of 8 nodes; a course has 600
+attempts an hour. One more team asks for the standings as fast as it can, by eight connections.
 """
 
 
-def noted_text(note: str) -> Callable[[str], str]:
-    """What a benchmark printed that prints a table itself, below what the table means."""
-    return lambda printed: f"{note}\n{printed}"
+def noted_text(note: str, text: Callable[[str], str] = str) -> Callable[[str], str]:
+    """The figures below a note that says what they mean; without `text` the benchmark prints a table itself."""
+    return lambda printed: f"{note}\n{text(printed)}"
 
 
 def of_python(module: str, *words: str) -> List[str]:
     return [sys.executable, "-m", module, *words]
+
+
+def of_debians(module: str, *words: str) -> List[str]:
+    return [DEBIANS_PYTHON, "-m", module, *words]
 
 
 def without_benchmark(setting: Setting) -> str:
@@ -213,6 +270,8 @@ def without_other(setting: Setting) -> str:
 
 EXPLORED = ["ring:8=ring", "ring:16=ring", "ring:24=ring", "hypercube:4=known_map", "torus:4x4=known_map",
             "ring:27=ring"]
+MERGED = ["ring:12=ring", "torus:3x3=known_map", "torus:4x4=known_map"]
+TRAPS = ["--contests", "5", "--nodes", "32", "--pause", "2", "--timeouts", "512", "1500", "--traps", "--turns", "30000"]
 BENCHMARKS: Dict[str, Benchmark] = {
     "gate": Benchmark("The gate", lambda at: [sys.executable, "tools/prove/gate_times"], gate_text, build="the proofs"),
     "steps": Benchmark("Steps", lambda at: [str(at.benchmark), "step", "2000000", "time"], steps_text,
@@ -227,12 +286,20 @@ BENCHMARKS: Dict[str, Benchmark] = {
                          without_other),
     "replays": Benchmark("Replays", lambda at: of_python("bench.replays", str(at.program)), replays_text),
     "serve": Benchmark("The server's speed", lambda at: of_python("bench.serve"), serve_text),
-    "lab": Benchmark("The lab", lambda at: [DEBIANS_PYTHON, "-m", "arena_lab", "speed", "--program", str(at.program)],
-                     lab_text),
-    "explore": Benchmark("Every schedule", lambda at: [DEBIANS_PYTHON, "-m", "bench.explore", *EXPLORED],
-                         noted_text(EXPLORE_NOTE)),
-    "spin": Benchmark("Every schedule beside SPIN", lambda at: [DEBIANS_PYTHON, "-m", "bench.spin"],
-                      noted_text(SPIN_NOTE), lambda at: "" if spin.HAS_SPIN else "spin is not installed"),
+    "lab": Benchmark("The lab", lambda at: of_debians("lab", "speed", "--program", str(at.program)), lab_text),
+    "explore": Benchmark("Every schedule", lambda at: of_debians("bench.explore", *EXPLORED), noted_text(EXPLORE_NOTE)),
+    "spin": Benchmark("Every schedule beside SPIN", lambda at: of_debians("bench.spin"), noted_text(SPIN_NOTE),
+                      lambda at: "" if spin.HAS_SPIN else "spin is not installed"),
+    "merges": Benchmark("Checks of merged histories", lambda at: of_debians("bench.merges", "--hole", "5", *MERGED),
+                        noted_text(MERGES_NOTE)),
+    "waits": Benchmark("Waiting", lambda at: of_python("bench.waits"), noted_text(WAITS_NOTE)),
+    "timeouts": Benchmark("Timeouts", lambda at: of_python("bench.timeouts", "--pause", "5"),
+                          noted_text(TIMEOUTS_NOTE)),
+    "traps": Benchmark("Timeouts and traps", lambda at: of_python("bench.timeouts", *TRAPS), noted_text(TRAPS_NOTE)),
+    "flood": Benchmark("A flood of strangers", lambda at: of_python("bench.flood"), noted_text(FLOOD_NOTE, flood_text)),
+    "looks": Benchmark("Memory of looks", lambda at: of_python("bench.looks"), noted_text(LOOKS_NOTE, looks_text)),
+    "hall": Benchmark("A hall", lambda at: of_debians("bench.hall", "--attempts", "120", "--minutes", "6", "--program",
+                                                      str(at.program)), noted_text(HALL_NOTE, lines_text)),
 }
 
 
@@ -244,18 +311,18 @@ def shown(words: Sequence[str]) -> str:
 def section(name: str, printed: str, setting: Setting) -> str:
     """The section of a benchmark, made of what the benchmark printed."""
     benchmark = BENCHMARKS[name]
-    return (f"<!-- figures {name} -->\n## {benchmark.title}\n\n"
-            f"Measured at {setting.place}; {benchmark.build or setting.build}; {setting.machine}.\n\n"
+    where = textwrap.fill(f"Measured at {setting.place}; {benchmark.build or setting.build}; {setting.machine}.", WIDTH)
+    return (f"<!-- figures {name} -->\n## {benchmark.title}\n\n{where}\n\n"
             f"    {shown(benchmark.words(setting))}\n\n{benchmark.text(printed)}<!-- end of {name} -->\n")
 
 
 def page(sections: Dict[str, str]) -> str:
-    """The whole page: a table of the sections, and then these, in the order of BENCHMARKS and others behind them."""
-    names = [*(name for name in BENCHMARKS if name in sections), *(name for name in sections if name not in BENCHMARKS)]
+    """The whole page: a table of the sections, and then these, in the order of BENCHMARKS."""
+    names = [name for name in BENCHMARKS if name in sections]
     rows = []
     for name in names:
         title, measured = TITLE.search(sections[name]), MEASURED.findall(sections[name])
-        rows += [[title[1] if title else name, *cells] for cells in measured]
+        rows += [[title[1] if title else name, *(cell.replace("\n", " ") for cell in cells)] for cells in measured]
     return HEAD + table(("figures", "commit", "day", "build", "machine"), rows) + "\n" + "\n".join(
         sections[name] for name in names)
 
@@ -310,7 +377,8 @@ def machine() -> str:
     model = re.search(r"^model name\s*: (.+)$", pathlib.Path("/proc/cpuinfo").read_text(), re.MULTILINE)
     count = len(os.sched_getaffinity(0))
     processors = "1 processor" if count == 1 else f"{count} processors"
-    return f"{processors}, {model[1].rstrip('.')}" if model else processors
+    model_name = f", {model[1].rstrip('.')}" if model else ""
+    return f"{processors}{model_name}, load {os.getloadavg()[0]:.1f} at the start"
 
 
 def asked(words: Sequence[str]) -> argparse.Namespace:

@@ -8,6 +8,7 @@ import tomllib
 import unittest
 
 from bench import compare
+from bench import figures
 from bench import inputs
 from bench import rehearse
 from examples import contest
@@ -54,6 +55,39 @@ class Inputs(unittest.TestCase):
             words = ["-c", "held = b'x' * (32 * 1024 * 1024)"]
             held = inputs.median_run(3, sys.executable, words, folder / "in", folder)
             self.assertGreater(held.peak, 32 * 1024)
+
+
+class Figures(unittest.TestCase):
+    def setUp(self) -> None:
+        self.text = figures.PAGE.read_text(encoding="utf-8")
+
+    def test_the_page_has_sections_of_benchmarks_and_nothing_else(self) -> None:
+        self.assertEqual(figures.page(figures.sections_of(self.text)), self.text)
+
+    def test_each_section_says_where_it_was_measured(self) -> None:
+        found = figures.sections_of(self.text)
+        self.assertGreater(len(found), 10)
+        for name, section in found.items():
+            with self.subTest(name):
+                self.assertEqual(len(figures.MEASURED.findall(section)), 1)
+                self.assertIn(f"\n## {figures.BENCHMARKS[name].title}\n", section)
+
+    def test_a_section_of_a_long_machine_is_wrapped_and_read_again(self) -> None:
+        name, place = "waits", "`abc1234` with changes, 2026-01-02"
+        machine = f"4 processors, {'fast ' * 20}ones"
+        setting = figures.Setting(figures.TOP, None, figures.TOP, place, machine)
+        page = figures.page({name: figures.section(name, "| a |\n", setting)})
+        self.assertEqual(figures.page(figures.sections_of(page)), page)
+        self.assertIn(f"| Waiting | `abc1234` with changes | 2026-01-02 | {setting.build} | {machine} |\n", page)
+        self.assertLess(max(len(line) for line in page.splitlines() if not line.startswith("|")), 121)
+
+    def test_lines_of_benchmarks_become_rows(self) -> None:
+        flood = ("500 strangers a second: 50 of 50 teams solved their networks; the slowest enter took 176 ms, "
+                 "the slowest of 4430 commands 52 ms, 99 of 100 at most 16.9 ms\n")
+        self.assertIn("| 500 | 50 of 50 | 176 | 4430 | 52 | 16.9 |\n", figures.flood_text(flood))
+        self.assertIn("| 16,383 looks | 9.4 | 1.5 |\n", figures.looks_text("16,383 looks: 9.4 MB, 1.5 s\n"))
+        with self.assertRaisesRegex(ValueError, "no line reads"):
+            figures.looks_text("nothing\n")
 
 
 class Words(unittest.TestCase):
