@@ -1,7 +1,9 @@
 """Tries every schedule of a match: the states of the Python model, each visited once.
 
-Two matches go on alike once each agent has met the same and each whiteboard says the same. A step that neither reads
-nor writes a whiteboard meets nobody, and is taken at once.
+Two matches go on alike once each agent has met the same, each whiteboard says the same, and each sleeper has woken
+equally often: an agent's answers are a function of its past, which is the arena's own theorem. A step that neither
+reads nor writes a whiteboard, such as a departure, changes nothing for anybody else, now or later, so it is taken at
+once and no other order is tried.
 """
 import math
 import time

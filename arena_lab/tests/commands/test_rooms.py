@@ -6,7 +6,7 @@ import importlib.util
 import pathlib
 import re
 import unittest
-from typing import Dict, Iterator, Set, Tuple
+from typing import Dict, Iterator, List, Set, Tuple
 
 from arena_lab.support.built import LAB, TOP
 
@@ -67,14 +67,10 @@ def defined(module: str) -> Set[str]:
     return found
 
 
-def listed() -> Iterator[str]:
-    """The modules in the table of rooms of the lab's page, by their names behind `lab.`."""
-    table = (LAB / "README.md").read_text(encoding="utf-8").partition("| room | module |")[2].partition("\n\n")[0]
-    room = ""
-    for row in table.splitlines()[2:]:
-        first, named = (re.findall(r"`(\w+)`", cell) for cell in row.split("|")[1:3])
-        room = first[0] if first else room
-        yield from (f"{room}.{name}" for name in named)
+def listed() -> List[str]:
+    """The rooms in the table of the lab's page."""
+    table = (LAB / "README.md").read_text(encoding="utf-8").partition("| room | what it has |")[2].partition("\n\n")[0]
+    return re.findall(r"^\| `(\w+)` \|", table, re.MULTILINE)
 
 
 class Rooms(unittest.TestCase):
@@ -99,11 +95,13 @@ class Rooms(unittest.TestCase):
         order = list(graphlib.TopologicalSorter(self.graph).static_order())
         self.assertEqual(set(order), set(self.graph))
 
-    def test_the_page_of_the_lab_lists_each_module(self) -> None:
-        """A folder in a room is one of them; the commands are listed at the top of the page."""
-        there = {".".join(name.split(".")[:2]) for name in modules() if "." in name}
-        wanted = {name for name in there if not name.startswith("commands.")} - {f"{room}.__init__" for room in ROOMS}
-        self.assertEqual(sorted(listed()), sorted({*wanted, "commands.words"}))
+    def test_the_page_of_the_lab_lists_the_rooms_in_order(self) -> None:
+        self.assertEqual(listed(), list(ROOMS[:ROOMS.index("commands") + 1]))
+
+    def test_the_head_of_each_module_says_what_it_has(self) -> None:
+        silent = [name for name, path in modules().items() if "migrations" not in path.parts
+                  and not ast.get_docstring(ast.parse(path.read_text(encoding="utf-8")))]
+        self.assertEqual(silent, [])
 
     def test_what_others_take_out_of_the_lab_is_there(self) -> None:
         count = 0
