@@ -1,5 +1,5 @@
-"""What the command line declares is in its help, in the documents, and in the tools that take memory, files and streams
-away: each command, and each option with its default."""
+"""What the command line declares is in its help, and in the tools that take memory, files and streams away: each
+command, and each option with its default. docs/FORMATS.md has no options; it sends to the help of the commands."""
 import re
 import unittest
 from typing import Iterator, List, NamedTuple, Optional
@@ -45,11 +45,9 @@ def help_of(command: str) -> str:
     return rows().partition(f"\n$ {command} -h\n")[2].partition("\n\n")[0]
 
 
-def pages_of(command: str) -> str:
-    """What docs/FORMATS.md says of a command: the paragraphs from one that begins with it to one of another."""
-    page = (TOP / "docs" / "FORMATS.md").read_text(encoding="utf-8").partition("\n## The program\n")[2]
-    parts = re.split(r"^`arena (\w+)", page, flags=re.MULTILINE)
-    return "".join(text for name, text in zip(parts[1::2], parts[2::2]) if name == command)
+def formats() -> str:
+    """What docs/FORMATS.md says of the program."""
+    return (TOP / "docs" / "FORMATS.md").read_text(encoding="utf-8").partition("\n## The program\n")[2]
 
 
 def tried(option: Option) -> bool:
@@ -70,6 +68,10 @@ class Orders(unittest.TestCase):
         listed = rows().partition("\n< Commands:\n")[2].partition("\n<\n")[0]
         self.assertEqual(re.findall(r"^<   (\w+) ", listed, re.MULTILINE), [*commands(), "help"])
 
+    def test_the_page_of_formats_has_each_order_and_sends_to_its_help(self) -> None:
+        self.assertEqual(sorted(re.findall(r"^\*\*`arena (\w+)`", formats(), re.MULTILINE)), sorted(commands()))
+        self.assertIn("`arena COMMAND --help`", formats())
+
 
 class Options(unittest.TestCase):
     def setUp(self) -> None:
@@ -83,13 +85,6 @@ class Options(unittest.TestCase):
                 self.assertIsNotNone(line)
                 if option.default is not None and line:
                     self.assertIn(f"[default: {option.default}]", line.group())
-
-    def test_the_page_of_formats_has_each_option_with_its_default(self) -> None:
-        for option in self.declared:
-            with self.subTest(option):
-                text = pages_of(option.command).replace(",", "")
-                near = "" if option.default is None else rf".{{1,300}}?(?<![\d.]){re.escape(option.default)}(?![\d.])"
-                self.assertRegex(text, re.compile(rf"--{option.name}\b{near}", re.DOTALL))
 
     def test_a_hostile_tool_tries_each_option(self) -> None:
         self.assertEqual([option for option in self.declared if not tried(option)], [])
