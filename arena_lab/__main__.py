@@ -4,7 +4,7 @@ import importlib
 import os
 import signal
 import sys
-from typing import List, NamedTuple, Optional, Tuple
+from typing import Collection, List, NamedTuple, Optional, Tuple
 
 import arena_lab
 from arena_lab import IN_CLONE
@@ -84,11 +84,16 @@ STATUS = """exit status: 0 if all went well, 1 if a team fails or engines differ
 if it was stopped too early to say"""
 
 
-def parser(name_of_lab: str = IN_CLONE) -> argparse.ArgumentParser:
+def parser(name_of_lab: str = IN_CLONE, called: Collection[str] = tuple(COMMANDS)) -> argparse.ArgumentParser:
+    """Reads the command line of the lab under this name. Only the commands that are called have their words: each
+    imports its own part of the lab."""
     made = argparse.ArgumentParser(name_of_lab, description=ABOUT.replace(IN_CLONE, name_of_lab), epilog=STATUS,
                                    formatter_class=argparse.RawDescriptionHelpFormatter)
     commands = made.add_subparsers(required=True, metavar="COMMAND", dest="command")
     for name, command in COMMANDS.items():
+        if name not in called:
+            commands.add_parser(name, help=command.about)
+            continue
         module = importlib.import_module(command.module)
         about = (module.__doc__ or "").replace(IN_CLONE, name_of_lab)
         words = commands.add_parser(name, help=command.about, description=about, epilog=STATUS,
@@ -118,7 +123,8 @@ def end(*_: object) -> None:
 
 def main(given: Optional[List[str]] = None, name: str = IN_CLONE) -> int:
     arena_lab.called = name
-    words, strange = parser(name).parse_known_args(ways.spelled(sys.argv[1:] if given is None else given))
+    line = ways.spelled(sys.argv[1:] if given is None else given)
+    words, strange = parser(name, line[:1]).parse_known_args(line)
     if strange:
         # with the usage of the command, where argparse has that of the lab
         words.refuse(f"unrecognized arguments: {' '.join(strange)}")
