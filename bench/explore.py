@@ -1,6 +1,6 @@
 """Measures how fast the program tries every schedule of a match, apart from the host that plays the agents.
 
-    ./arena --help            # builds the program, if it is not built yet
+    tools/build               # proves and builds the program, if that is not done yet
     /usr/bin/python3 -m bench.explore [--max-states N] NETWORK=AGENT ..
 
 Each network is named as for the lab, such as ring:16, and AGENT names an agent of examples/agents, such as ring. Two

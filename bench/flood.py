@@ -1,6 +1,6 @@
 """Floods a contest with clients that have no key, and measures how long honest agents wait for their answers.
 
-    ./arena --help            # builds the program, if it is not built yet
+    tools/build               # proves and builds the program, if that is not done yet
     python3 -m bench.flood [--teams N] [--nodes N] [--rate R] [--turns K] [--pause MS]
 
 Teams of two agents each (`examples/agents/ring.py`) search a ring, 50 teams by default. Meanwhile R clients a second

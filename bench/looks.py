@@ -1,6 +1,6 @@
 """Measures the memory that a server takes for the looks of one agent at a long whiteboard.
 
-    ./arena --help            # builds the program, if it is not built yet
+    tools/build               # proves and builds the program, if that is not done yet
     python3 -m bench.looks [--looks N] [--size N]
 
 One agent writes a text of 65,490 bytes (--size) on the whiteboard of its home base. Then it looks at it as often as its

@@ -1,6 +1,6 @@
 """Measures what it costs `./arena-lab explore` to check that agents are the machines for which it takes them.
 
-    ./arena --help            # builds the program, if it is not built yet
+    tools/build               # proves and builds the program, if that is not done yet
     /usr/bin/python3 -m bench.merges [--times N] [--hole V] NETWORK=AGENT ..
 
 Each network is named as for the lab, such as ring:16, and AGENT names an agent of examples/agents, such as ring. Two

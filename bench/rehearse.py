@@ -1,6 +1,6 @@
 """Times the built program on long rehearsals.
 
-    ./arena --help            # builds the program, if it is not built yet
+    tools/build               # proves and builds the program, if that is not done yet
     python3 -m bench.rehearse [PROGRAM]
 
 Makes a tournament of 64 matches of 16 agents each on a torus of 25 nodes, and two scripts of commands and draws by a
@@ -69,7 +69,7 @@ def main() -> None:
         sys.exit(__doc__.strip())
     built = pathlib.Path(words[0]).resolve() if words else PROGRAM
     if not built.exists():
-        raise SystemExit("the program is not built: run ./arena --help once")
+        raise SystemExit("the program is not built: tools/build builds it")
     program = str(built)
     with tempfile.TemporaryDirectory() as name:
         folder = pathlib.Path(name)

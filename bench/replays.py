@@ -1,6 +1,6 @@
 """Times the built program on the largest replays, alone or beside another build.
 
-    ./arena --help            # builds the program, if it is not built yet
+    tools/build               # proves and builds the program, if that is not done yet
     python3 -m bench.replays [PROGRAM [OTHER]] [--rounds N]
 
 Writes replays of matches that have ended:
@@ -245,7 +245,7 @@ def main() -> int:
     programs = [path.resolve() for path in (given.program, given.other) if path]
     for path in programs:
         if not path.exists():
-            raise SystemExit(f"there is no program {path}: ./arena --help builds it")
+            raise SystemExit(f"there is no program {path}: tools/build builds it")
     with tempfile.TemporaryDirectory() as name:
         folder = pathlib.Path(name)
         (folder / "empty").write_text("")

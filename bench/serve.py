@@ -1,6 +1,6 @@
 """Times `arena serve` beside echo servers in C.
 
-    ./arena --help            # builds the program, if it is not built yet
+    tools/build               # proves and builds the program, if that is not done yet
     python3 -m bench.serve [--rounds N] [--active A,B,..] [--part N] [--open N]
 
 Compiles bench/serve/load.c, which plays the clients, and bench/serve/echo.c, which answers their lines by lines like

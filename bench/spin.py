@@ -1,6 +1,6 @@
 """Compares how fast `./arena-lab explore` and the model checker SPIN try all schedules of the sample search of rings.
 
-    ./arena --help            # builds the program, if it is not built yet
+    tools/build               # proves and builds the program, if that is not done yet
     apt install spin
     /usr/bin/python3 -m bench.spin [N ..]
 

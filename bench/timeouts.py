@@ -1,6 +1,6 @@
 """Measures what teams gain that take an agent for lost after a timeout, beside teams that decide nothing by time.
 
-    ./arena --help            # builds the program, if it is not built yet
+    tools/build               # proves and builds the program, if that is not done yet
     python3 -m bench.timeouts [--contests N] [--nodes N] [--turns K] [--pause MS] [--schedule NAME]
         [--timeouts TURNS ..] [--traps]
 

@@ -1,7 +1,7 @@
 """Measures what an agent learns by waiting: how many turns its moves take while the other agent of its match stands at
 home, was destroyed, or is on a held link.
 
-    ./arena --help            # builds the program, if it is not built yet
+    tools/build               # proves and builds the program, if that is not done yet
     python3 -m bench.waits [--moves N] [--pause MS]
 
 Two agents are served on a ring of eight nodes. The first stands, or departs for the black hole or over a held link;

@@ -1,15 +1,14 @@
 #!/usr/bin/env python3
 """Plays a contest on this machine: the server, four teams of the sample agents, and the table.
 
-    python3 examples/contest.py [--proved] [--keep FOLDER] [--pages FOLDER] [--watch] [--kill]
+    python3 examples/contest.py [--keep FOLDER] [--pages FOLDER] [--watch] [--kill]
 
 Starts the server on examples/contest.toml, and then the agents of each team as programs of their own, as teams would
 do. Waits for the server to end, and prints its table and which teams solved their networks. All of them must: else the
 exit status is 1.
 
-The server is the proved program if it is built. Else it is one without a proof, which is compiled first, in a minute or
-two, and says at each start that it is not proved. With --proved the program is proved and built first, in many minutes;
-a contest whose results count asks for that.
+The server is `./arena serve`. Where tools/build has not built the proved program, ./arena compiles one without a proof
+first, in a minute or two, and says at each start that it is not proved.
 
 With --kill the agents of the team green are killed in the middle of their search, and the other teams must solve
 theirs. Files go to a temporary folder; --keep has the replays of the matches written to a folder, --pages also a page
@@ -76,18 +75,11 @@ TEAMS: Dict[str, List[str]] = {
 
 
 def arena() -> List[str]:
-    """The command that ARENA names, or ./arena, which proves and builds the program first."""
-    return shlex.split(os.environ.get("ARENA", str(TOP / "arena")))
-
-
-def server_words(asks_for_proof: bool) -> List[str]:
-    """The command that the words of the server follow."""
-    if "ARENA" in os.environ and not asks_for_proof:
-        return arena()
-    try:
-        return [str(built.proved_program() if asks_for_proof else built.any_program())]
-    except built.NoProgram as fault:
-        raise SystemExit(f"contest: {fault}") from None
+    """The command that ARENA names, or ./arena, which a wheel does not have."""
+    if "ARENA" in os.environ:
+        return shlex.split(os.environ["ARENA"])
+    launcher = TOP / "arena"
+    return [str(launcher if launcher.exists() else built.PACKAGED)]
 
 
 def build(folder: pathlib.Path) -> None:
@@ -147,9 +139,9 @@ def outcomes(table: str) -> Dict[str, str]:
     return {row[1]: " ".join(row[2:-2]) for row in rows}
 
 
-def write_pages(command: List[str], replays: str, folder: pathlib.Path) -> None:
+def write_pages(replays: str, folder: pathlib.Path) -> None:
     """Writes a page of each match and one that lists them, by the program that served them, if that is one."""
-    program = ["--program", command[0]] if len(command) == 1 else []
+    program = ["--program", *arena()] if "ARENA" in os.environ and len(arena()) == 1 else []
     tool = [DEBIANS_PYTHON, "-m", "arena_lab", "pages", TOURNAMENT, replays, "--out", str(folder.resolve()), *program]
     subprocess.run(tool, cwd=TOP, check=True)
 
@@ -176,21 +168,19 @@ def watched(replays: str, pause: int) -> Iterator[None]:
 
 def main() -> int:
     parser = argparse.ArgumentParser(description=__doc__, formatter_class=argparse.RawDescriptionHelpFormatter)
-    parser.add_argument("--proved", action="store_true", help="prove and build the program first, if needed")
     parser.add_argument("--keep", metavar="FOLDER", type=pathlib.Path, help="write the replays there")
     parser.add_argument("--pages", metavar="FOLDER", type=pathlib.Path,
                         help="write a page of each match there, and a list of them")
     parser.add_argument("--watch", action="store_true", help="show the contest in a browser while it goes on")
     parser.add_argument("--kill", action="store_true", help=f"kill the agents of {VICTIM} after a second")
     words = parser.parse_args()
-    command = server_words(words.proved)
     with tempfile.TemporaryDirectory() as name:
         kept = words.keep or words.pages or pathlib.Path(name)
         kept.mkdir(parents=True, exist_ok=True)
         replays = str(kept.resolve() / "match")
         pause = WATCHED_PAUSE if words.watch else SLOW_PAUSE if words.kill else PAUSE
         with watched(replays, pause) if words.watch else contextlib.nullcontext():
-            table = play(command, pathlib.Path(name), replays, pause, words.kill)
+            table = play(arena(), pathlib.Path(name), replays, pause, words.kill)
             print(table, end="", flush=True)
         found = outcomes(table)
         judged = [team for team in TEAMS if not (words.kill and team == VICTIM)]
@@ -198,7 +188,7 @@ def main() -> int:
         for team in judged:
             print(f"{team} solved its network" if team not in failed else f"{team} did not solve its network")
         if words.pages:
-            write_pages(command, replays, words.pages)
+            write_pages(replays, words.pages)
     return 1 if failed else 0
 
 

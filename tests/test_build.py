@@ -1,14 +1,17 @@
 """What tools/build shows of a build, and what is left of it by earlier times. The prover here is a script."""
 import contextlib
 import io
+import os
 import pathlib
 import sys
 import tempfile
+import time
 import unittest
 import unittest.mock
 
 from tests import TOP
 from tests.test_gate import module
+from tools import version
 from tools.prove import bar
 from tools.prove import prover
 from tools.prove.forecast import LAST_PART, SECONDS, TRUST, Forecast, seconds_of, text_of
@@ -87,10 +90,14 @@ class Build(unittest.TestCase):
         self.write(kit / "KIT-ID", "kit 1\n")
         for name, text in (("rattle", RATTLE), ("rattle-link", LINK)):
             self.write(kit / "bin" / name, text).chmod(0o755)
+        for name in ("crates.txt", "HANDLES", "tools/prove/is_current"):
+            self.write(self.top / name, (TOP / name).read_text()).chmod(0o755)
         self.build = module(TOP / "tools" / "build")
+        self.record = prover.record_of(self.crates, "bhs_main")
         for owner, found in ((prover, {"BUILT": self.crates}), (self.build, {"libraries_of": lambda: LIBRARIES})):
-            for name, value in {**found, "CRATES": self.crates, "KIT": kit}.items():
+            for name, value in {**found, "CRATES": self.crates, "KIT": kit, "TOP": self.top}.items():
                 self.enterContext(unittest.mock.patch.object(owner, name, value))
+        self.enterContext(unittest.mock.patch.object(version, "KIT", kit))
 
     @staticmethod
     def write(path: pathlib.Path, text: str) -> pathlib.Path:
@@ -107,14 +114,14 @@ class Build(unittest.TestCase):
 
     def test_it_shows_what_is_done_and_what_is_left(self) -> None:
         said = self.said(0)
-        self.assertIn("meanwhile `python3 examples/contest.py` plays without a proof", said)
+        self.assertIn("meanwhile `./arena` plays without a proof", said)
         self.assertRegex(said, r"arena: \[\.{20}\]   \d% 0 of 4 crates are proved, \d.* s, (about \d+ min|less than a "
                          r"minute) left; now low\n")
         self.assertRegex(said, r"\[#+\.+\] +\d+% 3 of 4 crates are proved, \d.* s, .* left; now bhs_main\n")
         self.assertRegex(said, r"all 4 crates are proved and the program is built, \d.* s\n$")
-        made = self.crates / "bhs_main" / "out"
-        self.assertEqual((made / "bhs_main").read_text(), "the program")
-        self.assertEqual((made / "toolchain").read_text(), "kit 1\n")
+        self.assertEqual(self.record.with_name("bhs_main").read_text(), "the program")
+        self.assertIn("\n# toolchain kit 1\n", self.record.read_text())
+        self.assertTrue(prover.is_current(self.record))
 
     def test_words_prove_nothing(self) -> None:
         for words, status in ((["--help"], 0), (["-h"], 0), (["bhs_net"], 2)):
@@ -126,7 +133,9 @@ class Build(unittest.TestCase):
 
     def test_what_is_built_is_not_proved_again(self) -> None:
         self.said(0)
-        self.assertNotIn(" left; now ", self.said(0))
+        late = time.time() + 10
+        os.utime(self.crates / "left" / "src" / "lib.rt", (late, late))
+        self.assertEqual(self.said(0), "arena: the program is proved and built of the sources as they are\n")
         source = self.write(self.crates / "left" / "src" / "lib.rt", "changed\n")
         self.assertEqual(self.build.unbuilt(LIBRARIES, ["low", "left", "right", "bhs_main"]), {"left", "bhs_main"})
         said = self.said(0)
@@ -136,6 +145,26 @@ class Build(unittest.TestCase):
         said = self.said(1)
         self.assertIn("left was not proved: see crates/left/out/build.log\n", said)
         self.assertNotIn("all 4 crates are proved", said)
+
+    def test_a_source_that_is_put_in_its_place_is_proved_whatever_its_time(self) -> None:
+        self.said(0)
+        source = self.write(self.crates / "low" / "src" / "lib.rt", "an older one\n")
+        os.utime(source, (1, 1))
+        self.assertIn("0 of 4 crates are proved", self.said(0))
+
+    def test_what_changes_meanwhile_is_not_recorded_as_proved(self) -> None:
+        change = f"import pathlib\npathlib.Path({str(self.crates / 'low' / 'src' / 'lib.rt')!r}).write_text('new')\n"
+        self.write(self.top / "kit" / "bin" / "rattle-link", LINK + change)
+        self.assertIn("arena: the sources have changed meanwhile: run it again\n", self.said(1))
+        self.assertFalse(prover.is_current(self.record))
+        self.said(0)
+        self.assertTrue(prover.is_current(self.record))
+
+    def test_a_program_that_another_has_replaced_is_built_again(self) -> None:
+        self.said(0)
+        program = self.write(self.record.with_name("bhs_main"), "echo")
+        self.assertIn("3 of 4 crates are proved", self.said(0))
+        self.assertEqual(program.read_text(), "the program")
 
 
 class GateTimes(unittest.TestCase):

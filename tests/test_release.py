@@ -18,6 +18,7 @@ from tools import version
 from tools.prove import prover
 
 release = module(TOP / "tools" / "release")
+PROVED_PROGRAM = release.proved_program
 NAME = "arena-1.2.3-x86_64-linux"
 FILES = {
     "VERSION": "1.2.3\n", "README.md": "read\n", "CHANGELOG.md": "changes\n", "CONTRIBUTING.md": "how\n",
@@ -43,16 +44,18 @@ class Repositories(unittest.TestCase):
         write(self.top / "kit" / "KIT-ID", "kit 1\n")
         write(self.top / "kit" / "WHAT", "compiler 2\n")
         write(self.top / ".git" / "info" / "exclude", "kit/\n")
+        program = self.top / "crates" / "bhs_main" / "out" / "bhs_main"
+        write(program.with_name(built.RECORD), "# arena 1.2.3, proved\n# commit 12\n# toolchain kit 1\n")
         self.proved = write(self.top / "out" / "proved", "", 0o755)
         self.proved.write_bytes(pathlib.Path("/bin/true").read_bytes())
         self.unproved = write(self.top / "out" / "unproved", "", 0o755)
         self.unproved.write_bytes(self.proved.read_bytes() + built.SAID.encode())
         crates, kit = self.top / "crates", self.top / "kit"
-        for owner, found in ((release, {"TOP": self.top, "CRATES": crates, "KIT": kit}),
+        for owner, found in ((release, {"TOP": self.top, "CRATES": crates, "KIT": kit,
+                                        "proved_program": lambda: self.proved}),
                              (prover, {"TOP": self.top, "CRATES": crates, "KIT": kit}),
                              (version, {"TOP": self.top, "KIT": kit}),
-                             (built, {"PROVED": self.top / "crates/bhs_main/out/bhs_main",
-                                      "proved_program": lambda: self.proved}),
+                             (built, {"PROVED": program}),
                              (release.unproved, {"compiled": lambda: self.unproved})):
             for name, value in found.items():
                 self.enterContext(unittest.mock.patch.object(owner, name, value))
@@ -139,8 +142,17 @@ class Releases(Repositories):
         write(self.top / "new", "")
         self.assertIn("release: the tree has changed since its commit", self.made(status=1)[1])
 
+    def test_the_program_is_proved_first(self) -> None:
+        for status, said in ((0, "says that it is not proved"), (1, "the program was not proved")):
+            write(self.top / "tools" / "build", f"#!/bin/sh\nexit {status}\n", 0o755)
+            self.git("add", ".")
+            self.git("commit", "-q", "-m", "two")
+            write(built.PROVED, f"one that says {built.SAID}")
+            with unittest.mock.patch.object(release, "proved_program", PROVED_PROGRAM):
+                self.assertIn(said, self.made(status=1)[1])
+
     def test_the_other_program_is_refused(self) -> None:
-        with unittest.mock.patch.object(built, "proved_program", lambda: self.unproved):
+        with unittest.mock.patch.object(release, "proved_program", lambda: self.unproved):
             self.assertIn("this program says that it is not proved", self.made(status=1)[1])
         with unittest.mock.patch.object(release.unproved, "compiled", lambda: self.proved):
             self.assertIn("this program does not say that it is not proved", self.made("--unproved", status=1)[1])
@@ -164,13 +176,10 @@ class Versions(Repositories):
         self.assertEqual(version.commit(), "commit not known: this is no git repository")
 
     def test_the_toolchain_is_the_one_that_built_the_program(self) -> None:
-        noted = write(built.PROVED.parent / "toolchain", "kit 0\n")
-        self.assertEqual(version.toolchain(), "toolchain kit 1")
-        write(built.PROVED, "")
-        os.utime(built.PROVED, (1, 1))
-        self.assertEqual(version.toolchain(), "toolchain kit 0")
-        os.utime(noted, (0, 0))
-        self.assertEqual(version.toolchain(), "toolchain kit 1")
+        write(self.top / "kit" / "KIT-ID", "kit 2\n")
+        self.assertEqual((version.recorded(), version.installed()), ("toolchain kit 1", "toolchain kit 2"))
+        built.PROVED.with_name(built.RECORD).unlink()
+        self.assertEqual(version.recorded(), "toolchain not known")
 
     def test_a_release_says_what_it_was_made_of(self) -> None:
         write(self.top / "BUILD", "arena 1.2.3, proved\n")

@@ -4,10 +4,11 @@ that ./arena runs is proved.
 
     ./arena --version
 
-In a clone, `proved` means that the program is built of the sources as they stand in the tree. A release says what it
-was made of (its file BUILD).
+In a clone, `proved` means that tools/build or the gate has recorded the SHA-256 of the program and of the sources as
+they stand in the tree. A release says what it was made of (its file BUILD).
 """
 import pathlib
+import re
 import subprocess
 import sys
 from typing import Optional
@@ -21,7 +22,7 @@ KIT = pathlib.Path("/opt/rattle")
 # what a release says of itself
 BUILD = "BUILD"
 UNKNOWN = "not known"
-HOW_TO_PROVE = "no proved program of these sources is built: ./arena --help proves and builds it"
+HOW_TO_PROVE = "no proved program of these sources is built: tools/build proves and builds it"
 
 
 def version() -> str:
@@ -46,25 +47,31 @@ def commit() -> str:
     return f"commit {head}, {'tree changed' if changes else 'tree clean'}"
 
 
-def toolchain() -> str:
-    """The toolchain that built the proved program, as tools/build notes it, or else the one that is installed."""
-    noted, kit = built.PROVED.parent / "toolchain", KIT / "KIT-ID"
-    if noted.exists() and built.PROVED.exists() and noted.stat().st_mtime >= built.PROVED.stat().st_mtime:
-        kit = noted
+def installed() -> str:
+    """The toolchain that is installed."""
+    kit = KIT / "KIT-ID"
     return f"toolchain {kit.read_text().strip() if kit.exists() else UNKNOWN}"
 
 
-def lines(is_proved: bool) -> str:
-    """What is said of a program that is built of this tree."""
-    return f"arena {version()}, {'proved' if is_proved else 'unproved'}\n{commit()}\n{toolchain()}\n"
+def recorded() -> str:
+    """The toolchain that built the proved program, as its record says."""
+    record = built.PROVED.with_name(built.RECORD)
+    found = re.search(r"^# (toolchain .*)$", record.read_text() if record.exists() else "", re.M)
+    return found[1] if found else f"toolchain {UNKNOWN}"
+
+
+def lines(is_proved: bool, toolchain: str) -> str:
+    """What is said of a program that this toolchain has built of this tree."""
+    return f"arena {version()}, {'proved' if is_proved else 'unproved'}\n{commit()}\n{toolchain}\n"
 
 
 def text() -> str:
     """What is said of the program that ./arena runs."""
     if (TOP / BUILD).exists():
         return (TOP / BUILD).read_text()
-    is_proved = built.is_proved()
-    return lines(is_proved) + ("" if is_proved else f"{HOW_TO_PROVE}\n")
+    if built.is_proved():
+        return lines(True, recorded())
+    return lines(False, installed()) + f"{HOW_TO_PROVE}\n"
 
 
 def main() -> int:

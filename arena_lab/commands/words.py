@@ -8,7 +8,7 @@ from arena_lab.play.agent_files import NoAgent
 from arena_lab.play.bounds import LIMIT
 from arena_lab.play.teams import BOARD, NAPS, NETWORK, QUOTA, AgentWords, Game, filled
 from arena_lab.rules import networks
-from arena_lab.rules.engines import ASK_FOR_PROOF, MODEL, PROGRAM, program_at
+from arena_lab.rules.engines import MODEL, PROGRAM, program_at
 from arena_lab.rules.fixtures import Fixture, read_tournament
 from arena_lab.rules.model import Place
 from arena_lab.rules.networks import Network
@@ -125,12 +125,9 @@ def read_fixture(words: argparse.Namespace) -> Fixture:
 
 
 def add_program(parser: argparse.ArgumentParser) -> None:
-    """The options that name the program."""
-    named = parser.add_mutually_exclusive_group()
-    named.add_argument("--program", metavar="PATH", help="the program; by default the proved one if it is built, "
-                       "else one without a proof, which is compiled in a minute or two and says so")
-    named.add_argument("--proved", dest="program", action="store_const", const=ASK_FOR_PROOF,
-                       help="the proved program, which is proved and built first if needed, in many minutes")
+    """The option that names the program."""
+    parser.add_argument("--program", metavar="PATH", help="the program; by default the proved one if tools/build has "
+                        "built it, else one without a proof, which is compiled in a minute or two and says so")
 
 
 def add_engine(parser: argparse.ArgumentParser) -> None:

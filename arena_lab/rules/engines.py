@@ -14,9 +14,7 @@ from arena_lab.support.built import NoProgram
 from arena_lab.support.faults import Fault
 
 TOP = built.TOP
-HOW_TO_BUILD = "build it by `./arena --help` at the top of the repository, or name another by --program"
-# what stands for the program's path if the proved one is asked for
-ASK_FOR_PROOF = "--proved"
+HOW_TO_BUILD = "name another by --program; by default the lab takes the one that `./arena` runs"
 PROGRAM, MODEL = "program", "model"
 
 
@@ -58,7 +56,7 @@ class EngineRefused(Fault):
 def program_at(path: Optional[str]) -> str:
     """The program that is named, or else the proved one if it is built, or else one without a proof, which is compiled
     first. One that is not proved is told on standard error."""
-    found = built.proved_program() if path == ASK_FOR_PROOF else pathlib.Path(path or built.any_program())
+    found = pathlib.Path(path or built.any_program())
     if not found.is_file() or not os.access(found, os.X_OK):
         raise NoProgram(f"{found}: there is no such program: {HOW_TO_BUILD}")
     built.warn_of(found.resolve())

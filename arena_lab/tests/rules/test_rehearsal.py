@@ -1,5 +1,4 @@
 """The Python model as an engine: what connections are sent, and what stands in files."""
-import argparse
 import contextlib
 import importlib
 import io
@@ -11,9 +10,8 @@ from typing import List
 from unittest import mock
 
 from arena_lab.__main__ import COMMANDS, main
-from arena_lab.commands.words import add_program
 from arena_lab.rules import networks
-from arena_lab.rules.engines import TOP, NoProgram, EngineRefused, asked, name_of, program_at
+from arena_lab.rules.engines import TOP, EngineRefused, asked, name_of, program_at
 from arena_lab.rules.fixtures import Fixture, fixture_of, read_tournament, write_tournament
 from arena_lab.rules.model import Setup
 from arena_lab.rules.rehearsal import Rehearsal
@@ -119,8 +117,8 @@ class CommandLine(unittest.TestCase):
     def test_a_program_that_is_missing_is_told_with_what_to_do(self) -> None:
         said = self.told("compare", "--program", "/nowhere")
         self.assertEqual(said,
-                         "arena-lab: /nowhere: there is no such program: build it by `./arena --help` at the top of "
-                         "the repository, or name another by --program\n")
+                         "arena-lab: /nowhere: there is no such program: name another by --program; by default the "
+                         "lab takes the one that `./arena` runs\n")
 
     def test_words_that_name_nothing(self) -> None:
         agent = ["--engine", "model", "--agent", "examples/agents/ring.py {nodes}"]
@@ -165,14 +163,6 @@ class CommandLine(unittest.TestCase):
         with self.assertRaises(EngineRefused) as refused:
             asked(str(folder / "one"), "judge")
         self.assertEqual(str(refused.exception), "replay: line 1")
-
-    def test_the_proved_program_can_be_asked_for(self) -> None:
-        parser = argparse.ArgumentParser()
-        add_program(parser)
-        with mock.patch.object(built, "proved_program", side_effect=built.NoProgram("it was not proved")):
-            with self.assertRaisesRegex(NoProgram, "it was not proved"):
-                program_at(parser.parse_args(["--proved"]).program)
-        self.assertIsNone(parser.parse_args([]).program)
 
 
 if __name__ == "__main__":

@@ -1,0 +1,64 @@
+"""Records of what was built, by the SHA-256 of each file, in the form that sha256sum checks.
+
+The record of the program names the program and the sources of all its crates, behind three lines that say which arena
+it is. A proved program has it beside it as proved.sha256. So has each crate that was proved: there it names the
+library, the sources, and the records of the crates that it stands on. `tools/prove/is_current RECORD` says whether all
+of that is as it was.
+"""
+import hashlib
+import os
+import pathlib
+from typing import Iterable, List
+
+from tools import version
+from tools.prove.prover import PARTS, Libraries, below, record_of
+
+PROGRAM = "bhs_main"
+# what the program depends on beside its crates
+LISTS = ("crates.txt", "HANDLES")
+# begins the lines of a crate's sources: behind it stand the folders, of which a record names each file
+ALL_OF = "# all of "
+
+
+def digests(top: pathlib.Path, paths: Iterable[pathlib.Path]) -> str:
+    """A line for each file, with its path from the top."""
+    return "".join(f"{hashlib.sha256(path.read_bytes()).hexdigest()}  {os.path.relpath(path, top)}\n" for path in paths)
+
+
+def sources(top: pathlib.Path, name: str, parts: Iterable[str] = PARTS) -> str:
+    """The lines of a crate's sources, contracts and proofs."""
+    folders = [top / "crates" / name / part for part in parts]
+    files = digests(top, sorted(it for folder in folders for it in folder.rglob("*") if it.is_file()))
+    return f"{ALL_OF}{' '.join(os.path.relpath(it, top) for it in folders)}\n{files}"
+
+
+def head(is_proved: bool) -> str:
+    """The lines that say which arena a record is of."""
+    return "".join(f"# {line}\n" for line in version.lines(is_proved, version.installed()).splitlines())
+
+
+def write(record: pathlib.Path, text: str) -> None:
+    """Writes a record, which is whole whenever it stands there."""
+    new = record.with_name(f"{record.name}.new")
+    new.write_text(text)
+    new.replace(record)
+
+
+def record_crate(top: pathlib.Path, libraries: Libraries, name: str, proved: str) -> None:
+    """Records that a crate was proved, of sources with these lines, and built, once those below it are recorded."""
+    made = record_of(top / "crates", name)
+    records = [record_of(top / "crates", it) for it in below(libraries, name)]
+    if name == PROGRAM:
+        below_it = "".join(ALL_OF + it.read_text().partition(ALL_OF)[2] for it in records)
+        built = digests(top, [made.with_name(PROGRAM), *(top / it for it in LISTS)])
+        write(made, head(True) + built + below_it + proved)
+    else:
+        library = made.parent / "rlib" / f"{name}.rlib"
+        # of a library that is a folder, this file has the checksum of all the others
+        write(made, digests(top, [library / "format" if library.is_dir() else library, *records]) + proved)
+
+
+def record_all(top: pathlib.Path, libraries: Libraries) -> None:
+    """Records that the program and all its crates, which stand there as they were proved, are proved and built."""
+    for name in [*below(libraries, PROGRAM), PROGRAM]:
+        record_crate(top, libraries, name, sources(top, name))
