@@ -7,7 +7,8 @@ from arena_lab.support import built
 
 
 def arena() -> int:
-    """Becomes the program that was installed with the lab; `--version` says what it was built of."""
+    """Becomes the program that was installed with the lab; `--version` says what it was built of, and so does the first
+    line of a contest's log."""
     program = built.released()
     if program is None:
         print("arena: no program was installed with this lab: take a release whose name has your machine",
@@ -17,6 +18,9 @@ def arena() -> int:
     if sys.argv[1:] == ["--version"] and build.is_file():
         print(build.read_text(encoding="utf-8"), end="")
         return 0
+    if sys.argv[1:2] == ["serve"] and "--help" not in sys.argv and build.is_file():
+        told = "; ".join(build.read_text(encoding="utf-8").splitlines()[:3])
+        print(told.replace("arena ", "arena: ", 1), file=sys.stderr, flush=True)
     os.execv(program, ["arena", *sys.argv[1:]])
 
 

@@ -44,8 +44,7 @@ def plays(folder: pathlib.Path) -> None:
 
 
 def answers(clone: pathlib.Path) -> None:
-    """Two starts at once and a third: each reads the script and prints its answers, and the program is compiled
-    once."""
+    """Two starts at once, and a third: each plays the script, and the program is compiled once."""
     printed, words, begun = (clone / PRINTED).read_text(), ["./arena", "rehearse"], time.monotonic()
     pipes = {"stdout": subprocess.PIPE, "stderr": subprocess.PIPE, "text": True, "cwd": clone}
     with open(clone / SCRIPT) as one, open(clone / SCRIPT) as other:

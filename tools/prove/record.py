@@ -8,7 +8,7 @@ of that is as it was.
 import hashlib
 import os
 import pathlib
-from typing import Iterable, List
+from typing import Iterable
 
 from tools import version
 from tools.prove.prover import PARTS, Libraries, below, record_of
