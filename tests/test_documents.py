@@ -1,6 +1,8 @@
 """The documents name what is there: the functions and files of the traces, links, and files."""
 import pathlib
 import re
+import shutil
+import subprocess
 import unittest
 from typing import Iterator, Tuple
 
@@ -18,6 +20,7 @@ PATH = re.compile(r"(?<![\w./])((?:bench|docs|examples|experiments|arena_lab|tes
 MADE = ("tests/out/", "CHANGELOG.md")
 THEOREMS = "bhs_theorems"
 NAMED = re.compile(rf"`{THEOREMS}::(\w+)::(\w+)`")
+KIT = re.compile(r"rattle-kit-\w+(?: logic \w+)?")
 
 
 def documents() -> Iterator[pathlib.Path]:
@@ -90,6 +93,16 @@ class Replays(unittest.TestCase):
         lines = re.findall(r"^    (.*\n)", section.partition("\nIn the head")[0], re.MULTILINE)
         self.assertEqual(len(lines), 5)
         self.assertEqual(played("".join(lines)).replay(), "".join(lines))
+
+
+class Toolchain(unittest.TestCase):
+    @unittest.skipUnless(shutil.which("rt"), "no rt")
+    def test_a_kit_that_is_named_is_the_one_that_is_installed(self) -> None:
+        said = subprocess.run(["rt", "version"], stdout=subprocess.PIPE, text=True, check=True).stdout
+        for path in documents():
+            for named in KIT.findall(path.read_text(encoding="utf-8")):
+                with self.subTest(path.name):
+                    self.assertIn(named, said)
 
 
 if __name__ == "__main__":
