@@ -12,6 +12,7 @@ import unittest.mock
 from typing import List, Tuple
 
 from tests import TOP
+from tools.prove import prover
 
 
 def module(path: pathlib.Path):
@@ -62,6 +63,27 @@ class Gate(unittest.TestCase):
             (crates / "low" / "out" / "rlib" / "new").write_text("")
             gate.take_from(crates)
         self.assertEqual(files_of(tree / "crates" / "low" / "out"), ["kept", "rlib/new"])
+
+    def test_what_is_recorded_is_the_copy_that_was_proved(self) -> None:
+        tree, room = (pathlib.Path(self.enterContext(tempfile.TemporaryDirectory())) for _ in range(2))
+        check = "tools/prove/is_current"
+        for path in ("crates.txt", "HANDLES", "crates/low/src/lib.rt", "crates/bhs_main/src/main.rt", check):
+            (tree / path).parent.mkdir(parents=True, exist_ok=True)
+            (tree / path).write_text((TOP / path).read_text() if path == check else "")
+        (tree / check).chmod(0o755)
+        with contextlib.ExitStack() as patches:
+            for owner, what, by in ((gate, "TOP", tree), (gate, "CRATES", tree / "crates"), (prover, "TOP", tree)):
+                patches.enter_context(unittest.mock.patch.object(owner, what, by))
+            crates = gate.copy_to(room)
+            for path in ("low/out/rlib/low.rlib/format", "bhs_main/out/bhs_main"):
+                (crates / path).parent.mkdir(parents=True)
+                (crates / path).write_text("")
+            gate.record_all(room, {"low": [], "bhs_main": ["low"]})
+            gate.take_from(crates)
+            records = [prover.record_of(tree / "crates", name) for name in ("low", "bhs_main")]
+            self.assertEqual([prover.is_current(it) for it in records], [True, True])
+            (tree / "crates" / "low" / "src" / "lib.rt").write_text("changed while the copy was proved\n")
+            self.assertEqual([prover.is_current(it) for it in records], [False, False])
 
     def edits_after(self, *lines: str):
         """What is tried, and counted, of the edits of two crates after these lines of `rt ci`."""

@@ -5,6 +5,7 @@ it is. A proved program has it beside it as proved.sha256. So has each crate tha
 library, the sources, and the records of the crates that it stands on. `tools/prove/is_current RECORD` says whether all
 of that is as it was.
 """
+import contextlib
 import hashlib
 import os
 import pathlib
@@ -46,19 +47,27 @@ def write(record: pathlib.Path, text: str) -> None:
 
 def record_crate(top: pathlib.Path, libraries: Libraries, name: str, proved: str) -> None:
     """Records that a crate was proved, of sources with these lines, and built, once those below it are recorded."""
-    made = record_of(top / "crates", name)
-    records = [record_of(top / "crates", it) for it in below(libraries, name)]
+    made, records = record_of(top / "crates", name), [record_of(top / "crates", it) for it in below(libraries, name)]
     if name == PROGRAM:
-        below_it = "".join(ALL_OF + it.read_text().partition(ALL_OF)[2] for it in records)
-        built = digests(top, [made.with_name(PROGRAM), *(top / it for it in LISTS)])
-        write(made, head(True) + built + below_it + proved)
-    else:
-        library = made.parent / "rlib" / f"{name}.rlib"
-        # of a library that is a folder, this file has the checksum of all the others
-        write(made, digests(top, [library / "format" if library.is_dir() else library, *records]) + proved)
+        record_program(top, "".join(ALL_OF + it.read_text().partition(ALL_OF)[2] for it in records) + proved)
+        return
+    library = made.parent / "rlib" / f"{name}.rlib"
+    # of a library that is a folder, this file has the checksum of all the others
+    write(made, digests(top, [library / "format" if library.is_dir() else library, *records]) + proved)
+
+
+def record_program(top: pathlib.Path, proved: str) -> None:
+    """Records that the program was built of crates that were proved, of sources with these lines."""
+    made = record_of(top / "crates", PROGRAM)
+    built = digests(top, [made.with_name(PROGRAM), *(top / it for it in LISTS)])
+    write(made, head(True) + built + proved)
 
 
 def record_all(top: pathlib.Path, libraries: Libraries) -> None:
-    """Records that the program and all its crates, which stand there as they were proved, are proved and built."""
-    for name in [*below(libraries, PROGRAM), PROGRAM]:
-        record_crate(top, libraries, name, sources(top, name))
+    """Records that the program and its crates, which stand there as they were proved, are proved and built."""
+    crates = below(libraries, PROGRAM)
+    record_program(top, "".join(sources(top, it) for it in [*crates, PROGRAM]))
+    for name in crates:
+        # without its library a crate has no record, and tools/build proves it again
+        with contextlib.suppress(FileNotFoundError):
+            record_crate(top, libraries, name, sources(top, name))
