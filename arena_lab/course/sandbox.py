@@ -17,7 +17,6 @@ import functools
 import os
 import pathlib
 import re
-import select
 import shutil
 import signal
 import socket
@@ -37,6 +36,7 @@ from arena_lab.play.programs import NoStart, Started
 from arena_lab.rules import networks
 from arena_lab.rules.model import Setup
 from arena_lab.support.missing import DEBIANS_PYTHON
+from arena_lab.support.waiting import is_ready
 
 STARTER = pathlib.Path(__file__).resolve().parent / "sandbox_start.py"
 # how long a machine with much other work may take to begin a cell
@@ -166,7 +166,7 @@ class Cell:
             # the first process behind walls takes all others with it, and has ended when they have
             with contextlib.suppress(ProcessLookupError):
                 signal.pidfd_send_signal(self._first, signal.SIGKILL)
-            select.select([self._first], [], [], SECONDS_TO_BEGIN)
+            is_ready(self._first, SECONDS_TO_BEGIN)
             os.close(self._first)
             self._first = None
         elif self.place is not None and self.user is not None:

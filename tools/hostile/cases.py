@@ -1,15 +1,26 @@
 """The cases of a command that tests the program: each is a function with a title, and plays in a folder of its own."""
 import concurrent.futures
 import pathlib
-import subprocess
+import resource
 import tempfile
 from typing import Callable, Dict, Sequence, Tuple
 
 Case = Callable[[str, pathlib.Path], None]
+# how many descriptors a command may have, if the system lets it: some cases have hundreds of sockets, and run beside
+# each other
+DESCRIPTORS = 65_536
 
 
 class Wrong(Exception):
     """Something is not as it should be."""
+
+
+def raise_descriptors() -> None:
+    """Raises the bound on descriptors of this process, as far as it may."""
+    soft, hard = resource.getrlimit(resource.RLIMIT_NOFILE)
+    most = DESCRIPTORS if hard == resource.RLIM_INFINITY else min(hard, DESCRIPTORS)
+    if soft != resource.RLIM_INFINITY and soft < most:
+        resource.setrlimit(resource.RLIMIT_NOFILE, (most, hard))
 
 
 class Cases:
@@ -31,7 +42,8 @@ class Cases:
         with tempfile.TemporaryDirectory() as folder:
             try:
                 self._all[title](program, pathlib.Path(folder))
-            except (Wrong, OSError, StopIteration, subprocess.SubprocessError) as wrong:
+            # a case that dies is one that failed, and the others go on
+            except Exception as wrong:
                 return title, f"{type(wrong).__name__}: {str(wrong)[-600:]}"
         return title, ""
 
@@ -41,6 +53,7 @@ class Cases:
             print(usage.strip())
             return 2
         program = str(pathlib.Path(given[0]).resolve())
+        raise_descriptors()
         chosen = [title for title in self._all if len(given) == 1 or given[1] in title]
         failed = 0
         with concurrent.futures.ThreadPoolExecutor(self._beside) as pool:

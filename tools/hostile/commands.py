@@ -126,6 +126,13 @@ class Lab:
         else:
             self.faults.append(f"{what}, {command.name}: status {found.status}, `{found.told.strip()[:100]}`")
 
+    def part(self, trial: Callable[..., None], *given: Any) -> None:
+        """Carries out a part. One that dies is a fault with its name, and the others are carried out."""
+        try:
+            trial(*given)
+        except Exception as fault:
+            self.faults.append(f"{trial.__name__.replace('_', ' ')}: {type(fault).__name__}: {fault}")
+
     def conclude(self) -> int:
         """Prints what ended otherwise, and how many runs did; gives the exit status."""
         for fault in self.faults:

@@ -176,7 +176,7 @@ def main() -> int:
     with tempfile.TemporaryDirectory() as name:
         lab = Lab(sys.argv[1], pathlib.Path(name))
         for trial in (no_stack, few_files, full_disk, closed_streams, strange_files, servers, no_memory):
-            trial(lab)
+            lab.part(trial, lab)
     return lab.conclude()
 
 

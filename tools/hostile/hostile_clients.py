@@ -246,9 +246,9 @@ class Results:
         self.count += 1
         try:
             told = run()
-        except (Wrong, OSError) as fault:
+        except Exception as fault:
             self.failed += 1
-            told = f"WRONG: {fault}"
+            told = f"WRONG: {type(fault).__name__}: {fault}"
         print(f"{name}: {told}", flush=True)
 
 

@@ -176,8 +176,8 @@ def fault_of(program: str, kill: Kill) -> Optional[str]:
     with tempfile.TemporaryDirectory() as folder:
         try:
             try_kill(program, kill, pathlib.Path(folder))
-        except (Wrong, OSError, ValueError, subprocess.TimeoutExpired) as error:
-            return str(error)
+        except Exception as error:
+            return f"{type(error).__name__}: {error}"
     return None
 
 

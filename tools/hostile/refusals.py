@@ -153,7 +153,7 @@ class Trials(NamedTuple):
         def tried(place: int) -> Tuple[str, List[str]]:
             try:
                 return work(place), []
-            except Otherwise as why:
+            except Exception as why:
                 return "otherwise", [f"{name} {place}: {why}"]
         with concurrent.futures.ThreadPoolExecutor(self.workers) as pool:
             found = list(pool.map(tried, some))
@@ -546,6 +546,14 @@ def refuse_calls(trials: Trials, program: str, name: str, numbers: Dict[str, int
                      f"{name}, memory of {len(tested if kind == 'in its calls' else beside)} {kind}", f"{name}, memory")
 
 
+def try_command(trials: Trials, command: Command) -> None:
+    """Runs a command with nothing refused, and then with each request refused."""
+    plain = plain_run(trials.lab, command.words, trials.lab.folder, command.script)
+    fault = wanted_fault(trials.lab, command, plain, attempt(trials, command))
+    trials.lab.faults += [f"{command.name} with nothing refused: {fault}"] if fault else []
+    refuse_command(trials, command)
+
+
 def main() -> int:
     parser = argparse.ArgumentParser(description=__doc__, formatter_class=argparse.RawDescriptionHelpFormatter)
     parser.add_argument("program", metavar="PROGRAM")
@@ -560,14 +568,11 @@ def main() -> int:
         lab = Lab(given.program, pathlib.Path(name))
         trials = Trials(lab, Shim.built(lab.folder), most, most_served, given.workers)
         for command in (*COMMANDS, *OTHERS):
-            plain = plain_run(lab, command.words, lab.folder, command.script)
-            fault = wanted_fault(lab, command, plain, attempt(trials, command))
-            lab.faults += [f"{command.name} with nothing refused: {fault}"] if fault else []
-            refuse_command(trials, command)
-        refuse_recovery(trials)
-        refuse_server(trials)
+            lab.part(try_command, trials, command)
+        lab.part(refuse_recovery, trials)
+        lab.part(refuse_server, trials)
         if given.tests:
-            refuse_tests(trials, given.tests)
+            lab.part(refuse_tests, trials, given.tests)
     return lab.conclude()
 
 

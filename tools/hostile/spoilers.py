@@ -12,7 +12,6 @@ import os
 import pathlib
 import pty
 import resource
-import select
 import signal
 import socket
 import subprocess
@@ -23,6 +22,7 @@ import time
 from typing import Callable, Iterator, List, Optional, Sequence, Tuple
 
 from arena_lab.support.ports import free_port
+from arena_lab.support.waiting import is_ready
 from tools.hostile.cases import Cases, Wrong
 from tools.hostile.session_lines import HERE, LOOK, NO_FULL, NO_LATE, NO_MEMORY, NO_SPENT, NO_TWICE, OVER
 
@@ -80,7 +80,7 @@ class Server:
         """What it tells until a line has this text."""
         told, until = "", time.monotonic() + PATIENCE
         while wanted not in told and time.monotonic() < until:
-            if select.select([self.child.stderr], [], [], 0.1)[0]:
+            if is_ready(self.child.stderr, 0.1):
                 told += os.read(self.child.stderr.fileno(), 65_536).decode()
         if wanted not in told:
             raise Wrong(f"{wanted!r} is not told, but {told!r}")

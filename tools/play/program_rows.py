@@ -272,6 +272,6 @@ def fault_of(program: str, trial: Callable[[Stage], None]) -> str:
     with tempfile.TemporaryDirectory() as folder:
         try:
             trial(Stage(program, pathlib.Path(folder)))
-        except (Wrong, OSError) as error:
-            return str(error)
+        except Exception as error:
+            return str(error) if isinstance(error, (Wrong, OSError)) else f"{type(error).__name__}: {error}"
     return ""

@@ -3,7 +3,6 @@ import contextlib
 import os
 import pathlib
 import random
-import select
 import socket
 import subprocess
 import sys
@@ -11,6 +10,7 @@ from typing import IO, List, NamedTuple, Optional, Sequence, Tuple, cast
 
 from arena_lab.hall.attempts.draws import TOURNAMENT
 from arena_lab.support.faults import Fault
+from arena_lab.support.waiting import is_ready
 
 # ends a program with the process that started it, also where that is killed; one that is late to hear it ends itself
 BOUND = ["--", "sh", "-c", 'test "$PPID" = "$0" || exit 1; exec "$@"']
@@ -115,8 +115,7 @@ def started(program: str, folder: pathlib.Path, times: Times, place: Tuple[str, 
                                  env={"PATH": os.environ.get("PATH", "/usr/bin:/bin")})
     server = Server(child, folder, port)
     out = cast(IO[bytes], child.stdout)
-    ready = select.select([out], [], [], SECONDS_TO_BEGIN)[0]
-    said = out.readline() if ready else b""
+    said = out.readline() if is_ready(out, SECONDS_TO_BEGIN) else b""
     if said == f"listening {port}\n".encode():
         return server
     child.kill()
