@@ -48,6 +48,15 @@ class Gate(unittest.TestCase):
         self.assertEqual(gate.counted(1, (5, 0)), (5, 1))
         self.assertEqual(gate.counted(1, (5, 2)), (5, 2))
 
+    def test_what_was_skipped_is_kept_for_the_end(self) -> None:
+        with unittest.mock.patch.object(gate, "skipped", []):
+            said = "print('skipped: one: no spin'); print('2 passed, 0 failed')"
+            self.assertEqual(self.told(said), ((0, (2, 0)), ""))
+            with unittest.mock.patch.object(gate.shutil, "which", return_value=None):
+                self.assertTrue(gate.lacks_compiler(["examples/contest.py"]))
+                self.assertFalse(gate.lacks_compiler(["-m", "tools.hostile.spoilers"]))
+            self.assertEqual(gate.skipped, ["one: no spin", "examples/contest.py: Debian's gcc is not installed"])
+
     def test_a_copy_is_proved_and_what_was_built_comes_back(self) -> None:
         tree, room = (pathlib.Path(self.enterContext(tempfile.TemporaryDirectory())) for _ in range(2))
         for path in ("crates.txt", "HANDLES", "crates/low/src/lib.rt", "crates/low/must-fail/one.edit",

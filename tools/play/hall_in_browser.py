@@ -4,7 +4,7 @@
 
 Logs in by a token, practises, watches the match afterwards, plays a rated series, hands in a program, and looks at the
 standings before and after they freeze, in three languages, on a projector and on a phone. Finds no error in the
-console. Screenshots go to the folder. tools/play/test_pages.sh installs what it needs, besides what a hall needs.
+console. Screenshots go to the folder. `tools/nightly` installs what it needs.
 """
 import datetime
 import os

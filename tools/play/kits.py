@@ -3,8 +3,9 @@ tests and on the program.
 
     /usr/bin/python3 -m tools.play.kits PROGRAM [LANGUAGE ..]
 
-It installs what the kits need of Debian's packages: compilers, and libraries for JSON. Cargo takes Debian's crates. The
-last line reads `N passed, M failed`; for each kit it is told how long it took until its last match was solved.
+They need Debian's packages: compilers, and libraries for JSON; Cargo takes Debian's crates. A kit that lacks one is
+skipped, and a line says what to install. The last line reads `N passed, M failed`; for each kit it is told how long it
+took until its last match was solved.
 """
 import pathlib
 import sys
@@ -13,7 +14,8 @@ from typing import List
 
 from arena_lab.play.kits import KITS
 from arena_lab.tests.play.kits_played import Played
-from tools.play.packages import install
+from tools import packages
+from tools.play.python_tests import SKIPPED
 
 # Debian's crates that the kit in Rust needs on a machine which reaches no other
 CRATES = ("librust-serde-json-dev",)
@@ -24,19 +26,23 @@ def main(given: List[str]) -> int:
         print((__doc__ or "").strip())
         return 0 if given and given[0] in ("-h", "--help") else 2
     program, chosen = str(pathlib.Path(given[0]).resolve()), given[1:] or list(KITS)
-    passed = 0
+    passed = failed = 0
     for language in chosen:
-        install([*(it for it in KITS[language].packages if it != "cargo"), *(CRATES if language == "rust" else ())])
+        absent = packages.missing([*KITS[language].packages, *(CRATES if language == "rust" else ())])
+        if absent:
+            print(f"{SKIPPED}the kit of {language}: {packages.advice(absent)}", flush=True)
+            continue
         with tempfile.TemporaryDirectory() as folder:
             try:
                 seconds = Played(language, pathlib.Path(folder), program).all()
             except Exception as fault:
-                print(f"{language}: {fault}", flush=True)
+                print(f"FAILED {language}: {fault}", flush=True)
+                failed += 1
                 continue
         print(f"{language}: built, tested and played in {seconds:.0f} s", flush=True)
         passed += 1
-    print(f"{passed} passed, {len(chosen) - passed} failed")
-    return 0 if passed == len(chosen) else 1
+    print(f"{passed} passed, {failed} failed")
+    return 1 if failed else 0
 
 
 if __name__ == "__main__":

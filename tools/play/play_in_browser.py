@@ -4,7 +4,7 @@
 
 Two agents search a ring of four nodes. Until the match is over no answer of the page's server may tell more than the
 agents have seen; then the page of the whole match opens. Screenshots go to the folder, at several widths, light and
-dark. tools/play/test_pages.sh installs what it needs.
+dark. `tools/nightly` installs what it needs.
 """
 import json
 import pathlib

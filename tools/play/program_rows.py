@@ -36,6 +36,7 @@ import re
 import shlex
 import subprocess
 import tempfile
+import unittest
 from typing import Any, Callable, Dict, Iterator, List, NamedTuple, Sequence, Tuple, Union
 
 PATIENCE = 60
@@ -272,6 +273,8 @@ def fault_of(program: str, trial: Callable[[Stage], None]) -> str:
     with tempfile.TemporaryDirectory() as folder:
         try:
             trial(Stage(program, pathlib.Path(folder)))
+        except unittest.SkipTest:
+            raise
         except Exception as error:
             return str(error) if isinstance(error, (Wrong, OSError)) else f"{type(error).__name__}: {error}"
     return ""

@@ -13,12 +13,14 @@ import concurrent.futures
 import functools
 import pathlib
 import sys
-from typing import Iterator, NamedTuple, Sequence
+import unittest
+from typing import Iterator, NamedTuple, Sequence, Union
 
 from tools.play import (contest_cases, exploring_cases, interactive_cases, program_contests, program_rehearsals,
                         replay_cases, serving_cases, traced_files)
 from tools.play.program_cases import CASES, Trial
 from tools.play.program_rows import fault_of, play, rows_of
+from tools.play.python_tests import SKIPPED
 
 # each adds its cases to CASES
 FILES = (contest_cases, exploring_cases, interactive_cases, program_contests, program_rehearsals, replay_cases,
@@ -50,15 +52,24 @@ def cases() -> Iterator[Test]:
         yield Test("program_cases.py", title, trial)
 
 
+def found_by(program: str, trial: Trial) -> Union[str, unittest.SkipTest]:
+    """What a trial finds wrong, if anything, or why it is skipped."""
+    try:
+        return fault_of(program, trial)
+    except unittest.SkipTest as why:
+        return why
+
+
 def try_all(program: str, tests: Sequence[Test]) -> int:
     """Tries the program, prints what failed and how many did, and gives that number."""
     with concurrent.futures.ThreadPoolExecutor(WORKERS) as pool:
-        faults = list(pool.map(lambda test: fault_of(program, test.trial), tests))
-    for test, fault in zip(tests, faults):
-        if fault:
-            print(f"FAILED {test.place}: {test.title}: {fault}")
-    failed = len([fault for fault in faults if fault])
-    print(f"{len(faults) - failed} passed, {failed} failed", flush=True)
+        found = list(pool.map(lambda test: found_by(program, test.trial), tests))
+    skipped = [isinstance(it, unittest.SkipTest) for it in found]
+    for test, it, is_skipped in zip(tests, found, skipped):
+        if is_skipped or it:
+            print(f"{SKIPPED if is_skipped else 'FAILED '}{test.place}: {test.title}: {it}")
+    failed = sum(map(bool, found)) - sum(skipped)
+    print(f"{len(found) - failed - sum(skipped)} passed, {failed} failed", flush=True)
     return failed
 
 

@@ -1,7 +1,9 @@
-"""Opens pages of matches in headless Chromium and compares them with the replays. tools/play/test_pages.sh runs it.
+"""Opens pages of matches in headless Chromium and compares them with the replays.
+
+    /usr/bin/python3 -m tools.play.test_pages [FOLDER]
 
 Steps each page to its end, compares each step's line with the replay and the last with `arena judge`, looks through the
-eyes of agents, and finds no error in the console. Screenshots go to the folder that is given.
+eyes of agents, and finds no error in the console. Screenshots go to the folder. `tools/nightly` installs what it needs.
 """
 import pathlib
 import random
@@ -260,7 +262,7 @@ def refused(browser: Browser) -> None:
 
 
 def main() -> int:
-    pictures = pathlib.Path(sys.argv[1])
+    pictures = pathlib.Path(sys.argv[1] if len(sys.argv) == 2 else tempfile.mkdtemp())
     pictures.mkdir(parents=True, exist_ok=True)
     with tempfile.TemporaryDirectory() as name:
         browser = Browser(pathlib.Path(name), pictures)

@@ -2,14 +2,15 @@
 import contextlib
 import itertools
 import re
+import shutil
 import socket
 import subprocess
+import unittest
 from typing import Dict, Iterator, List, NamedTuple, Tuple
 
 from examples.contest import free_port
 from tools.hostile.session_lines import LEAVE, LOOK
 from tools.play.contest_cases import enter
-from tools.play.packages import install
 from tools.play.program_cases import MATCH, SEED, TRIANGLE, case, writes
 from tools.play.program_rows import DONE, PATIENCE, Stage, Wrong
 
@@ -66,7 +67,8 @@ def steps_of(calls: List[Call]) -> List[Step]:
 
 def traced(stage: Stage, cup: str, turns: int, *says: bytes, prefix: str = "match") -> List[Call]:
     """The calls of a server of this tournament, to which clients say this at the same time."""
-    install(["strace"])
+    if not shutil.which("strace"):
+        raise unittest.SkipTest("Debian's strace is not installed")
     writes(stage, cup=cup, tri=TRIANGLE)
     port = free_port()
     given = ["serve", "cup.toml", "--port", port, "--sessions", max(1, len(says)), "--turns", turns, "--pause", 20,

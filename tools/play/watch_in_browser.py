@@ -5,7 +5,7 @@
 Starts the server PROGRAM and `./arena-lab watch` on examples/contest.toml, plays the sample agents, and compares the
 standings
 with the server's table. Opens a page of a match once all are over, plays it to its end, and finds no error in the
-console. Screenshots go to the folder. tools/play/test_pages.sh installs what it needs.
+console. Screenshots go to the folder. `tools/nightly` installs what it needs.
 """
 import os
 import pathlib

@@ -76,6 +76,9 @@ class TestTable(unittest.TestCase):
                           ("socket", "calls has socket, which no course may allow: it is allowed by its arguments")):
             with self.assertRaisesRegex(NoSweep, why):
                 calls_in({"calls": [name]})
+
+    @WITH_SECCOMP
+    def test_a_course_may_allow_no_call_that_is_none(self) -> None:
         with self.assertRaisesRegex(isolation.NoCell, "nosuch is no call of Linux"):
             isolation.system_filter("python", ("nosuch",))
 

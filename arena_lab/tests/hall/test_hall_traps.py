@@ -13,6 +13,7 @@ from arena_lab.rules.fixtures import Fixture
 from arena_lab.rules.model import Match, Setup, spelled
 from arena_lab.rules.networks import complete, places_into, ring
 from arena_lab.sweep.grid import NoSweep
+from arena_lab.tests.needing import needs
 
 NET = Net("ring", ring(6), 2, 1, 100, 40, DRAWN, False)
 RATED = Rated(2, 3, BEST, MEAN, 100, 20, 2, 20)
@@ -54,6 +55,7 @@ class Draws(unittest.TestCase):
         self.assertEqual([len(traps_among([0, 1, 2], count)) for count in (0, 2, 5)], [0, 2, 3])
 
 
+@needs("networkx")
 class Courses(unittest.TestCase):
     """The file of a course says how many traps there are."""
 

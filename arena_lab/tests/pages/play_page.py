@@ -1,4 +1,4 @@
-"""What a page of a match holds. How the page looks and steps is for tools/play/test_pages.sh."""
+"""What a page of a match holds. How the page looks and steps is for tools/play/test_pages.py."""
 import contextlib
 import io
 import json

@@ -3,12 +3,17 @@ import pathlib
 import tempfile
 import unittest
 
+from arena_lab.play.kits import KITS
 from arena_lab.tests.play.kits_played import Played
 from arena_lab.tests.playing import program
+from tools import packages
 
 
 class TestKits(unittest.TestCase):
     def play(self, language: str) -> None:
+        absent = packages.missing(KITS[language].packages)
+        if absent:
+            self.skipTest(f"Debian's {', '.join(absent)} is not installed")
         with tempfile.TemporaryDirectory() as folder:
             Played(language, pathlib.Path(folder), program()).all()
 

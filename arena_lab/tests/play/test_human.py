@@ -12,6 +12,7 @@ from arena_lab.play.human import ON_A_LINK, HumanMatch
 from arena_lab.rules.fixtures import fixture_of
 from arena_lab.rules.model import Setup
 from arena_lab.rules.networks import ring
+from arena_lab.tests.needing import needs
 
 RING = ring(4)
 # agent 0 departs over port 0, agent 1 over port 1 and back
@@ -55,6 +56,7 @@ class Twins(unittest.TestCase):
         self.assertEqual("one", match.seen[1].board)
 
 
+@needs("networkx")
 class Terminal(unittest.TestCase):
     def played(self, lines: str, *words: str) -> str:
         told = io.StringIO()

@@ -16,6 +16,7 @@ from arena_lab.rules.fixtures import Fixture, fixture_of, read_tournament, write
 from arena_lab.rules.model import Setup
 from arena_lab.rules.rehearsal import Rehearsal
 from arena_lab.support import built
+from arena_lab.support import missing as lab_missing
 from arena_lab.support.missing import Missing, needed
 
 ENTER = [b'{"do":"enter","key":"k0"}', b'{"do":"enter","key":"k1"}']
@@ -110,7 +111,8 @@ class CommandLine(unittest.TestCase):
     def test_a_package_that_is_missing_is_named(self) -> None:
         for name, package in (("greenlet", "python3-greenlet"), ("hypothesis.strategies", "python3-hypothesis")):
             missing = ModuleNotFoundError(f"No module named {name}")
-            with mock.patch.object(importlib, "import_module", side_effect=missing):
+            with mock.patch.object(importlib, "import_module", side_effect=missing), \
+                    mock.patch.object(lab_missing, "in_environment", return_value=False):
                 with self.assertRaisesRegex(Missing, f"apt-get install {package}`"):
                     needed(name)
 

@@ -1,0 +1,75 @@
+"""Debian's packages that the tests need stand in one list, are installed from there alone, and fail nothing."""
+import re
+import unittest
+import unittest.mock
+from typing import List
+
+from arena_lab.course import sandbox
+from arena_lab.play.kits import KITS
+from arena_lab.support.missing import PACKAGES
+from tests import TOP
+from tools import packages
+from tools.pack.debian import CONTROL
+
+# what installs, or names the command for a machine of its own: a root of Debian
+INSTALL = ["tools/packages.py", "tools/play/installed.py"]
+# no test starts a notebook in Jupyter, and every Debian has the C library
+UNTESTED = {"jupyter-notebook", "libc6"}
+
+
+class Listed(unittest.TestCase):
+    def test_each_package_that_is_named_is_listed(self) -> None:
+        depends = re.findall(r"^(?:Depends|Recommends|Suggests):((?:.|\n )*)", CONTROL, re.M)
+        named = {word.split()[0] for words in depends for word in re.sub(r"\(.*?\)", "", words).split(",")}
+        named |= {*PACKAGES.values(), *sandbox.PACKAGES.split()[2:]}
+        named |= {package for kit in KITS.values() for package in kit.packages}
+        readme = (TOP / "arena_lab" / "README.md").read_text().replace("\\\n", "")
+        named |= {word for line in re.findall(r"apt-get install (.*)", readme) for word in line.split()}
+        self.assertEqual(named - {*packages.listed("gate", "nightly")} - UNTESTED, set())
+
+    def test_nothing_is_listed_twice(self) -> None:
+        listed = packages.listed("gate", "nightly")
+        self.assertEqual(len(listed), len({*listed}))
+
+    def test_nothing_else_of_the_tests_installs(self) -> None:
+        found = [str(path.relative_to(TOP)) for top in ("tools", "tests", "bench", "arena_lab/tests", ".ci")
+                 for path in (TOP / top).rglob("*") if path.is_file() and path.suffix not in (".pyc", ".md")
+                 and re.search(r"""["']apt-get["']|^ *apt-get """, path.read_text(errors="replace"), re.M)]
+        self.assertEqual(sorted(found), INSTALL)
+
+
+class Installing(unittest.TestCase):
+    def installed(self, user: int, works: bool) -> str:
+        """What is said of a machine that lacks spin; the commands of apt-get go to `self.ran`."""
+        self.ran: List[str] = []
+        there: List[str] = ["strace"]
+
+        def apt(*words: str) -> bool:
+            self.ran.append(" ".join(words))
+            there.extend(words if works else [])
+            return works
+
+        def missing(names: List[str]) -> List[str]:
+            return [name for name in names if name not in there]
+        with unittest.mock.patch.multiple(packages, apt=apt, missing=missing), \
+                unittest.mock.patch.object(packages.os, "geteuid", return_value=user):
+            return packages.install(["strace", "spin"])
+
+    def test_what_is_missing_is_installed(self) -> None:
+        self.assertEqual(self.installed(0, True), "")
+        self.assertEqual(self.ran, ["install --no-install-recommends spin"])
+
+    def test_who_is_not_root_or_has_no_network_is_told_what_to_install(self) -> None:
+        told = "not installed, and tests that need it are skipped; as root: apt-get install spin"
+        self.assertEqual((self.installed(1000, True), self.ran), (told, []))
+        self.assertEqual(self.installed(0, False), told)
+        self.assertEqual(self.ran, ["install --no-install-recommends spin", "update"])
+
+    def test_what_dpkg_does_not_know_is_missing(self) -> None:
+        self.assertEqual(packages.missing(["no-such-package"]), ["no-such-package"])
+        with unittest.mock.patch.object(packages.subprocess, "run", side_effect=FileNotFoundError):
+            self.assertEqual(packages.missing(["bash"]), ["bash"])
+
+
+if __name__ == "__main__":
+    unittest.main()

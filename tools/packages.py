@@ -1,0 +1,58 @@
+"""Debian's packages that the tests need: which there are, which are missing, and how they are installed."""
+import os
+import pathlib
+import subprocess
+import tomllib
+from typing import Dict, List, Sequence
+
+LIST = pathlib.Path(__file__).resolve().with_name("packages.toml")
+# does not wait for long where there is no network, but for another that installs
+APT = ["apt-get", "-q", "-y", "-o", "Acquire::Retries=0", "-o", "Acquire::http::Timeout=20", "-o",
+       "DPkg::Lock::Timeout=300"]
+
+
+def groups(table: str) -> Dict[str, List[str]]:
+    """The groups of a table of the list."""
+    found: Dict[str, List[str]] = tomllib.loads(LIST.read_text(encoding="utf-8"))[table]
+    return found
+
+
+def listed(*tables: str) -> List[str]:
+    """The packages of these tables."""
+    return [package for table in tables for group in groups(table).values() for package in group]
+
+
+def missing(packages: Sequence[str]) -> List[str]:
+    """Which of these packages are not installed."""
+    try:
+        ran = subprocess.run(["dpkg-query", "-W", "-f", "${Package} ${db:Status-Status}\n", *packages],
+                             capture_output=True, text=True)
+    except FileNotFoundError:
+        return list(packages)
+    there = {line.split()[0] for line in ran.stdout.splitlines() if line.endswith(" installed")}
+    return [package for package in packages if package not in there]
+
+
+def advice(packages: Sequence[str]) -> str:
+    """What installs these packages."""
+    return f"apt-get install {' '.join(packages)}"
+
+
+def apt(*words: str) -> bool:
+    """Runs a command of apt-get, which tells on standard error what it does: whether it succeeded."""
+    try:
+        return subprocess.run([*APT, *words], stdin=subprocess.DEVNULL, stdout=2,
+                              env={**os.environ, "DEBIAN_FRONTEND": "noninteractive"}).returncode == 0
+    except FileNotFoundError:
+        return False
+
+
+def install(packages: Sequence[str]) -> str:
+    """Installs those of these packages that are missing. Gives nothing if all are there then, else a line that says
+    what to install."""
+    absent = missing(packages)
+    if absent and os.geteuid() == 0:
+        words = ["install", "--no-install-recommends", *absent]
+        apt(*words) or apt("update") and apt(*words)
+        absent = missing(packages)
+    return f"not installed, and tests that need it are skipped; as root: {advice(absent)}" if absent else ""
