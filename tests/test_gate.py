@@ -12,6 +12,7 @@ import unittest.mock
 from typing import List, Tuple
 
 from tests import TOP
+from tools import parts
 from tools.prove import prover
 
 
@@ -49,13 +50,13 @@ class Gate(unittest.TestCase):
         self.assertEqual(gate.counted(1, (5, 2)), (5, 2))
 
     def test_what_was_skipped_is_kept_for_the_end(self) -> None:
-        with unittest.mock.patch.object(gate, "skipped", []):
+        with unittest.mock.patch.object(parts, "skipped", []):
             said = "print('skipped: one: no spin'); print('2 passed, 0 failed')"
             self.assertEqual(self.told(said), ((0, (2, 0)), ""))
             with unittest.mock.patch.object(gate.shutil, "which", return_value=None):
                 self.assertTrue(gate.lacks_compiler(["examples/contest.py"]))
                 self.assertFalse(gate.lacks_compiler(["-m", "tools.hostile.spoilers"]))
-            self.assertEqual(gate.skipped, ["one: no spin", "examples/contest.py: Debian's gcc is not installed"])
+            self.assertEqual(parts.skipped, ["one: no spin", "examples/contest.py: Debian's gcc is not installed"])
 
     def test_a_copy_is_proved_and_what_was_built_comes_back(self) -> None:
         tree, room = (pathlib.Path(self.enterContext(tempfile.TemporaryDirectory())) for _ in range(2))
@@ -137,7 +138,7 @@ class Gate(unittest.TestCase):
     def test_other_words_run_nothing(self) -> None:
         with contextlib.redirect_stdout(io.StringIO()) as said:
             self.assertEqual(gate.main(["anew"]), 2)
-        self.assertIn("tools/gate [--anew]", said.getvalue())
+        self.assertIn("tools/gate [--anew | --played]", said.getvalue())
 
 
 if __name__ == "__main__":

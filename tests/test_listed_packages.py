@@ -12,7 +12,7 @@ from tools import packages
 from tools.pack.debian import CONTROL
 
 # what installs, or names the command for a machine of its own: a root of Debian
-INSTALL = ["tools/packages.py", "tools/play/installed.py"]
+INSTALL = ["tools/packages.py", "tools/play/bare.py", "tools/play/installed.py"]
 # no test starts a notebook in Jupyter, and every Debian has the C library
 UNTESTED = {"jupyter-notebook", "libc6"}
 

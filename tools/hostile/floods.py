@@ -6,7 +6,7 @@ RATE connections a second, 3,000 if it is not given, come from 200 addresses of 
 the server cuts it off or 2,000 newer ones are held. Meanwhile 100 agents, two a team, whose first lines come 0.3
 seconds after they connect, search rings of eight nodes by examples/agents/ring.py. It prints how many connections
 came, how many teams solved, how often agents tried to enter, and the slowest answer; the status is 1 if a team did
-not solve. It takes some seconds.
+not solve, or if the flood ended before. It takes some seconds.
 """
 import collections
 import contextlib
@@ -23,6 +23,7 @@ import time
 from typing import Any, Deque, Dict, List
 
 from arena_lab.support.ports import free_port
+from tools.hostile.cases import raise_descriptors
 
 # agents import their client as it stands beside them
 sys.path.insert(0, str(pathlib.Path(__file__).resolve().parents[2] / "examples" / "agents"))
@@ -33,6 +34,8 @@ from client import Agent, MatchOver  # noqa: E402
 TEAMS, NODES, HELD, ADDRESSES = 50, 8, 2000, 200
 # seconds between an agent's connection and its first line
 SLOW = 0.3
+# seconds within which all agents have played
+PATIENCE = 60
 # a socket that is closed so is forgotten by both ends at once
 AT_ONCE = struct.pack("ii", 1, 0)
 
@@ -91,6 +94,9 @@ def play(port: int, key: str) -> None:
 
 
 def main(words: List[str]) -> int:
+    if len(words) not in (1, 2):
+        sys.exit((__doc__ or "").strip())
+    raise_descriptors()
     program, rate = os.path.abspath(words[0]), float(words[1]) if len(words) > 1 else 3000.0
     with tempfile.TemporaryDirectory() as name:
         folder, port = pathlib.Path(name), free_port()
@@ -108,8 +114,9 @@ def main(words: List[str]) -> int:
                   for agent in (0, 1)]
         for agent in agents:
             agent.start()
+        until = time.monotonic() + PATIENCE
         for agent in agents:
-            agent.join(60)
+            agent.join(max(0.0, until - time.monotonic()))
         over.set()
         stranger.join()
         took = time.monotonic() - begun
@@ -118,7 +125,7 @@ def main(words: List[str]) -> int:
     solved = sum(row.split()[2] in ("solved", "guess") for row in rows)
     print(f"{count.value} connections in {took:.1f} s; {solved} of {TEAMS} teams solved; {Timed.tries} tries of "
           f"{2 * TEAMS} agents to enter; the slowest answer took {Timed.slowest:.2f} s")
-    return 0 if solved == TEAMS else 1
+    return 0 if solved == TEAMS and stranger.exitcode == 0 else 1
 
 
 if __name__ == "__main__":

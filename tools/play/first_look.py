@@ -6,6 +6,7 @@ The clone is of the last commit. The first command compiles the program without 
 line says how long it took, and how long the next start did. A line tells each case that fails; the last line reads
 `N passed, M failed`, and the exit status is 1 if one failed.
 """
+import os
 import pathlib
 import subprocess
 import sys
@@ -24,9 +25,10 @@ Ran = subprocess.CompletedProcess
 
 
 def ran(words: Sequence[object], folder: pathlib.Path) -> "Ran[str]":
-    """Runs a command without an input."""
-    return subprocess.run([str(word) for word in words], cwd=folder, stdin=subprocess.DEVNULL, capture_output=True,
-                          text=True)
+    """Runs a command without an input, as who has named no program."""
+    variables = {name: value for name, value in os.environ.items() if name not in ("ARENA", "ARENA_PROGRAM")}
+    return subprocess.run([str(word) for word in words], cwd=folder, env=variables, stdin=subprocess.DEVNULL,
+                          capture_output=True, text=True)
 
 
 def wants(is_right: bool, found: "Ran[str]") -> None:

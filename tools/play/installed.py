@@ -10,13 +10,14 @@ page, and looks for man pages and completions. It needs root, debootstrap and a 
 last line reads `N passed, M failed`, and the exit status is 1 if one failed.
 """
 import argparse
-import contextlib
 import os
 import pathlib
 import subprocess
 import sys
 import tempfile
-from typing import Callable, Dict, Iterator, List, Sequence
+from typing import Callable, Dict, List, Sequence
+
+from tools.play import roots
 
 TOP = pathlib.Path(__file__).resolve().parents[2]
 DEBIANS_PYTHON = "/usr/bin/python3"
@@ -31,7 +32,6 @@ TUTORIAL = (
     (["explore", "--agent", RING, "--draws", "100"], 0, "drawn schedules, "),
     (["sweep", "first.toml", "--out", "first"], 0, "40 runs on "),
 )
-MOUNTS = ("proc", "dev", "sys")
 
 
 class Failed(Exception):
@@ -99,28 +99,13 @@ def wheel_plays(wheel: pathlib.Path, is_proved: bool, is_system: bool) -> None:
                 raise Failed(f"the wheel installs no share/{path}")
 
 
-@contextlib.contextmanager
-def mounted(root: pathlib.Path) -> Iterator[None]:
-    """The kernel's file systems in a root."""
-    for name in MOUNTS:
-        subprocess.run(["mount", "--rbind", f"/{name}", str(root / name)], check=True)
-        subprocess.run(["mount", "--make-rslave", str(root / name)], check=True)
-    try:
-        yield
-    finally:
-        for name in MOUNTS:
-            subprocess.run(["umount", "-l", str(root / name)], check=True)
-
-
 def package_plays(package: pathlib.Path, root: pathlib.Path, is_proved: bool) -> None:
     """The package is installed in a bare Debian."""
-    if not (root / "etc" / "debian_version").exists():
-        ran(["debootstrap", "--variant=minbase", "bookworm", root], TOP)
+    roots.make(root)
     home = root / "home"
     (home / package.name).write_bytes(package.read_bytes())
-    inside = ["chroot", root, "env", "-C", "/home", "DEBIAN_FRONTEND=noninteractive", "LC_ALL=C.UTF-8",
-              "PATH=/usr/sbin:/usr/bin:/sbin:/bin"]
-    with mounted(root):
+    inside = roots.inside(root, "/home")
+    with roots.mounted(root):
         ran([*inside, "apt-get", "update"], TOP)
         ran([*inside, "apt-get", "install", "-y", "--reinstall", "--allow-downgrades", f"/home/{package.name}"], TOP)
         contest = ran([*inside, "python3", "/usr/share/doc/arena/examples/contest.py"], TOP)

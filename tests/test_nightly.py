@@ -1,0 +1,47 @@
+"""tools/nightly runs each tool that the gate leaves out, and skips and names what the machine lacks."""
+import contextlib
+import io
+import pathlib
+import unittest
+import unittest.mock
+from typing import Tuple
+
+from tests import TOP
+from tests.test_gate import module
+from tools import parts
+
+nightly = module(TOP / "tools" / "nightly")
+# compare two builds of the program; the tests of the lab that night runs play the third
+BY_HAND = {"bent_replays", "bench_counts", "hall_in_browser"}
+
+
+class Nightly(unittest.TestCase):
+    def told(self, part: "nightly.Part") -> Tuple[object, str]:
+        printed = io.StringIO()
+        with contextlib.redirect_stdout(printed), unittest.mock.patch.object(parts, "skipped", []):
+            counts = nightly.counts_of(part, pathlib.Path("/bin/true"))
+            nightly.conclude([counts], "")
+        return counts, printed.getvalue()
+
+    def test_each_tool_is_run_by_the_gate_or_by_night(self) -> None:
+        text = (TOP / "tools" / "gate").read_text()
+        run = {word.rpartition(".")[2] for part in nightly.PARTS for word in part.words}
+        tools = [path for folder in ("hostile", "play") for path in (TOP / "tools" / folder).glob("*.py")]
+        commands = [path for path in tools if '__name__ == "__main__"' in path.read_text()]
+        left = {it.stem for it in commands if it.stem not in run and f"tools.{it.parent.name}.{it.stem}" not in text}
+        self.assertEqual(left, BY_HAND)
+
+    def test_what_a_part_counts(self) -> None:
+        counts, said = self.told(nightly.Part("one", ("-c", "print('so'); print('2 passed, 1 failed'); exit(1)")))
+        self.assertEqual(counts, (2, 1))
+        self.assertRegex(said, r"--- one\nso\n--- one, \d+ s: 2 passed, 1 failed\n2 passed, 1 failed\n")
+
+    def test_a_part_that_lacks_something_is_skipped_and_named(self) -> None:
+        with unittest.mock.patch.object(nightly.packages, "missing", lambda names: [*names][:1]):
+            counts, said = self.told(nightly.Part("one", ("-c", "exit(1)"), ("kits",)))
+        self.assertEqual((counts, said), ((0, 0), "1 skipped:\none: Debian's openjdk-17-jdk-headless is not installed\n"
+                                          "0 passed, 0 failed\n"))
+
+
+if __name__ == "__main__":
+    unittest.main()

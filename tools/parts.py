@@ -1,0 +1,65 @@
+"""Runs commands that count, one after the other, for tools/gate and tools/nightly: the last line of each reads `N
+passed, M failed`, and lines that begin with `skipped: ` say what was left out."""
+import os
+import pathlib
+import re
+import subprocess
+import sys
+from typing import Callable, Iterable, List, Optional, Sequence, Tuple
+
+from arena_lab.support.missing import DEBIANS_PYTHON
+from tools.play.python_tests import SKIPPED
+
+TOP = pathlib.Path(__file__).resolve().parents[1]
+COUNTS = re.compile(r"(\d+) passed, (\d+) failed")
+# Debian's Python sees Debian's packages
+PYTHON = DEBIANS_PYTHON if pathlib.Path(DEBIANS_PYTHON).exists() else sys.executable
+
+Counts = Tuple[int, int]
+PASSED, FAILED, NONE = (1, 0), (0, 1), (0, 0)
+# what was skipped, and why
+skipped: List[str] = []
+
+
+def is_skipped(line: str) -> bool:
+    """Whether a line says that something was skipped; it is kept for the end then."""
+    if line.startswith(SKIPPED):
+        skipped.append(line[len(SKIPPED):])
+    return line.startswith(SKIPPED)
+
+
+def run(words: Sequence[str], hear: Callable[[str], None] = lambda line: None, folder: pathlib.Path = TOP,
+        **variables: str) -> Tuple[int, Optional[Counts]]:
+    """Runs a command and passes its lines on, but for a last one with counts and those that are kept for the end: gives
+    its status and these counts."""
+    held = ""
+    with subprocess.Popen(words, cwd=folder, stdout=subprocess.PIPE, stderr=subprocess.STDOUT, text=True,
+                          errors="replace", env={**os.environ, **variables}) as child:
+        assert child.stdout is not None
+        for line in child.stdout:
+            print(held, end="", flush=True)
+            held = line if COUNTS.fullmatch(line.strip()) else ""
+            if not held and not is_skipped(line.strip()):
+                print(line, end="", flush=True)
+            hear(line.strip())
+    counts = COUNTS.fullmatch(held.strip())
+    return child.returncode, (int(counts[1]), int(counts[2])) if counts else None
+
+
+def counted(status: int, counts: Optional[Counts]) -> Counts:
+    """What counts for a command: its own numbers, with one failed if it failed and does not say so."""
+    passed, failed = counts or (FAILED if status else PASSED)
+    return passed, max(failed, int(status != 0))
+
+
+def say(name: str, counts: Counts) -> None:
+    print(f"{name}: {counts[0]} passed, {counts[1]} failed", flush=True)
+
+
+def conclude(found: Iterable[Counts], lacking: str) -> int:
+    """Prints what was skipped, which packages are lacking, and the sum: gives how many failed."""
+    for line in [*([f"{len(skipped)} skipped:", *skipped] if skipped else []), *([lacking] if lacking else [])]:
+        print(line)
+    passed, failed = map(sum, zip(*found))
+    print(f"{passed} passed, {failed} failed", flush=True)
+    return failed

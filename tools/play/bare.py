@@ -1,0 +1,89 @@
+"""Runs the gate's Python in a bare Debian: what the gate says on a machine that has nothing but Python.
+
+    sudo python3 -m tools.play.bare [--root FOLDER] [--program PATH]
+
+Makes a root by `debootstrap`, or copies that in FOLDER, with python3 and no other package; clones the commit of this
+repository into it, with the programs that are built here, and binds the toolchain in. A program at PATH takes the place
+of the proved one. In the root it runs
+
+- `python3 -m unittest`, without a package;
+- `tools/gate --played` where apt-get reaches no archive: all tests that need a package must be skipped;
+- `tools/gate --played` again, which installs the packages, and skips few.
+
+In each no test may fail. It prints the last lines of each. It needs root and a network. The last line reads `N passed,
+M failed`, and the exit status is 1 if one failed.
+"""
+import argparse
+import pathlib
+import shutil
+import subprocess
+import sys
+import tempfile
+from typing import List
+
+from tools.play import roots
+from tools.prove.prover import KIT, TOP
+
+# where the repository is in the root, and what is taken of this one besides the commit
+HOME = "home/arena"
+BUILT = ("crates/bhs_main/out", "crates/bhs_bench/out", "tests/out")
+PROGRAM = "crates/bhs_main/out/bhs_main"
+# where apt-get finds archives, and how many last lines are shown
+SOURCES, LINES = "etc/apt/sources.list", 60
+
+
+def clone(place: pathlib.Path, program: str) -> None:
+    """Puts the commit of this repository there, with what is built here."""
+    shutil.rmtree(place, ignore_errors=True)
+    subprocess.run(["git", "clone", "-q", "--no-hardlinks", str(TOP), str(place)], check=True)
+    for name in BUILT:
+        if (TOP / name).is_dir():
+            shutil.copytree(TOP / name, place / name, symlinks=True, dirs_exist_ok=True)
+    if program:
+        (place / PROGRAM).parent.mkdir(parents=True, exist_ok=True)
+        shutil.copy(program, place / PROGRAM)
+
+
+def passes(title: str, words: List[str]) -> bool:
+    """Runs a command, and prints its last lines."""
+    ran = subprocess.run(words, stdin=subprocess.DEVNULL, stdout=subprocess.PIPE, stderr=subprocess.STDOUT, text=True,
+                         errors="replace")
+    print(*ran.stdout.splitlines()[-LINES:], f"{'FAILED' if ran.returncode else 'ok'}: {title}", sep="\n", flush=True)
+    return ran.returncode == 0
+
+
+def results(root: pathlib.Path, program: str) -> List[bool]:
+    """Whether each command passes."""
+    roots.make(root, ["python3"])
+    clone(root / HOME, program)
+    within, sources = roots.inside(root, f"/{HOME}"), root / SOURCES
+    with roots.mounted(root, {KIT: str(KIT).lstrip("/")}):
+        archives = sources.read_text()
+        found = [passes("the tests without a package", [*within, "python3", "-m", "unittest"])]
+        try:
+            sources.write_text("")
+            subprocess.run([*within, "apt-get", "update", "-q"], stdout=subprocess.DEVNULL)
+            found.append(passes("the gate without an archive", [*within, "python3", "tools/gate", "--played"]))
+        finally:
+            sources.write_text(archives)
+        return [*found, passes("the gate with an archive", [*within, "python3", "tools/gate", "--played"])]
+
+
+def main() -> int:
+    parser = argparse.ArgumentParser("python3 -m tools.play.bare", description=__doc__,
+                                     formatter_class=argparse.RawDescriptionHelpFormatter)
+    parser.add_argument("--root", metavar="FOLDER", type=pathlib.Path, help="a root to copy, which is not "
+                        "changed")
+    parser.add_argument("--program", metavar="PATH", default="", help="what plays in place of the proved program")
+    words = parser.parse_args()
+    with tempfile.TemporaryDirectory() as name:
+        root = pathlib.Path(name) / "root"
+        if words.root:
+            subprocess.run(["cp", "-a", words.root, root], check=True)
+        found = results(root, words.program)
+    print(f"{found.count(True)} passed, {found.count(False)} failed", flush=True)
+    return 0 if all(found) else 1
+
+
+if __name__ == "__main__":
+    sys.exit(main())
