@@ -6,9 +6,11 @@ import sys
 import tempfile
 import unittest
 
+from tests import needs
 from tools.prove import again
 
 
+@needs("readelf", "binutils")
 class Compared(unittest.TestCase):
     def setUp(self) -> None:
         folder = pathlib.Path(self.enterContext(tempfile.TemporaryDirectory()))

@@ -1,12 +1,12 @@
 """The inputs of the benchmarks, the words of deliveries, and the table that the contest reads."""
 import pathlib
-import shutil
 import subprocess
 import sys
 import tempfile
 import tomllib
 import unittest
 
+from tests import needs
 from bench import compare
 from bench import figures
 from bench import inputs
@@ -39,7 +39,7 @@ class Inputs(unittest.TestCase):
     def test_times_are_compared(self) -> None:
         self.assertEqual(compare.compared(min, [[0.002, 0.004], [0.003, 0.008]]), "2.00 ms, 4.00 ms, ratio 0.50")
 
-    @unittest.skipUnless(shutil.which("cc"), "no C compiler")
+    @needs("cc", "gcc")
     def test_a_run_is_measured(self) -> None:
         with tempfile.TemporaryDirectory() as name:
             folder = pathlib.Path(name)

@@ -7,6 +7,7 @@ import tempfile
 import unittest
 from typing import Iterator
 
+from tests import needs
 from bench import inputs
 from bench import replays
 from arena_lab.rules.model import judge, played
@@ -40,6 +41,7 @@ class LargeReplays(unittest.TestCase):
         self.assertEqual(len(replays.spelled(sent)), replays.MAX_LINE)
 
 
+@needs("cc", "gcc")
 class TwoPrograms(unittest.TestCase):
     """How two programs are compared."""
 

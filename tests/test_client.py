@@ -1,6 +1,5 @@
 """The client and the search in C over sockets, served by the stand-in with turns that wait."""
 import pathlib
-import shutil
 import socket
 import subprocess
 import sys
@@ -12,7 +11,7 @@ from typing import List
 
 from examples.agents import client
 from examples.agents.client import Agent, Here, Swap
-from tests import TOP
+from tests import TOP, needs
 
 TOURNAMENT = """version = 2
 seed = "0707070707070707070707070707070707070707070707070707070707070707"
@@ -128,7 +127,7 @@ class Clients(Served):
         self.assertRaises(client.MatchOver, agent.depart, 0)
 
 
-@unittest.skipUnless(shutil.which("cc"), "no C compiler")
+@needs("cc", "gcc")
 class SearchInC(Served):
     def test_agents_in_c_solve_a_ring_by_themselves_and_with_python(self) -> None:
         program = str(self.folder / "ring")

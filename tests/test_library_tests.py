@@ -2,13 +2,12 @@
 import contextlib
 import io
 import pathlib
-import shutil
 import subprocess
 import sys
 import tempfile
 import unittest
 
-from tests import TOP
+from tests import TOP, needs
 from tools.play import library_tests
 
 LINES = "print('test a ... ok'); print('test result: ok. {passed} passed; {failed} failed; 0 ignored'); exit({status})"
@@ -51,7 +50,7 @@ class LibraryTests(unittest.TestCase):
         linked = [word for before, word in zip(words, words[1:]) if before == "--link"]
         self.assertEqual([pathlib.Path(it).name for it in linked], ["a.o", "libos_c.a", "liblibc_c.a"])
 
-    @unittest.skipUnless(shutil.which("gcc"), "gcc builds what refuses")
+    @needs("gcc", "gcc")
     def test_the_program_that_refuses_wraps_requests_alone(self) -> None:
         made = library_tests.refusing(self.folder, self.folder / "kept")
         names = subprocess.run(["nm", made], stdout=subprocess.PIPE, text=True, check=True).stdout

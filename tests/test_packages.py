@@ -9,7 +9,6 @@ import hashlib
 import io
 import pathlib
 import re
-import shutil
 import subprocess
 import tempfile
 import unittest
@@ -19,7 +18,7 @@ from typing import Dict, List
 from arena_lab import INSTALLED
 from arena_lab.__main__ import COMMANDS, parser
 from arena_lab.commands.spellings import SPELLINGS
-from tests import TOP
+from tests import TOP, needs
 from tests.test_gate import module
 
 release = module(TOP / "tools" / "release")
@@ -103,7 +102,7 @@ class Manuals(unittest.TestCase):
             self.assertIn(line, page)
         self.assertIn(".BR arena-serve (1)", found["arena.1"])
 
-    @unittest.skipUnless(shutil.which("groff"), "no groff")
+    @needs("groff", "groff-base")
     def test_a_page_is_laid_out_without_a_warning(self) -> None:
         for text in manual.pages([*helps(), *manual.of_lab()], "1.2.3", "2026-11-26").values():
             ran = subprocess.run(["groff", "-man", "-Tutf8", "-ww", "-rLL=120n"], input=text.encode(),
@@ -175,7 +174,7 @@ class Wheels(unittest.TestCase):
         self.assertEqual(self.packed(), self.packed())
 
 
-@unittest.skipUnless(shutil.which("dpkg-deb"), "no dpkg-deb")
+@needs("dpkg-deb", "dpkg")
 class DebianPackages(unittest.TestCase):
     def packed(self, is_proved: bool = True) -> bytes:
         found = debian.files_of(files(), {"arena.1": "page\n"}, "completes\n")

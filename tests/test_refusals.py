@@ -2,12 +2,12 @@
 import contextlib
 import io
 import pathlib
-import shutil
 import subprocess
 import tempfile
 import unittest
 import unittest.mock
 
+from tests import needs
 from tools.hostile import commands
 from tools.hostile import refusals
 from tools.hostile.commands import COMMANDS, Lab, Run
@@ -150,7 +150,7 @@ class InFolder(unittest.TestCase):
         self.folder = pathlib.Path(room.name)
 
 
-@unittest.skipUnless(shutil.which("gcc"), "gcc builds the library")
+@needs("gcc", "gcc")
 class ShimTest(InFolder):
     def setUp(self):
         super().setUp()
@@ -189,7 +189,7 @@ class ShimTest(InFolder):
             self.assertEqual(self.run_with(mode, place)[:2], (125, b""))
 
 
-@unittest.skipUnless(shutil.which("gcc"), "gcc builds the library")
+@needs("gcc", "gcc")
 class CommandTest(InFolder):
     def faults_of(self, *options):
         """What a command of the program that is built with these options does otherwise."""
@@ -226,7 +226,7 @@ class CommandTest(InFolder):
         self.assertEqual(faults, ["check: no call was counted; is the program linked dynamically?"])
 
 
-@unittest.skipUnless(shutil.which("gcc"), "gcc builds the library")
+@needs("gcc", "gcc")
 class TestsTest(InFolder):
     LINKED = ("-Wl,--wrap=malloc,--wrap=realloc", str(refusals.SHIM))
     PLAY = "memory::playing::playing_takes_no_memory"

@@ -11,7 +11,7 @@ import unittest.mock
 from typing import Dict, Tuple
 
 from arena_lab.support import built
-from tests import TOP
+from tests import TOP, needs
 from tests.test_built import write
 from tests.test_gate import module
 from tools import version
@@ -65,6 +65,7 @@ class Repositories(unittest.TestCase):
         subprocess.run(["git", *who, *words], cwd=self.top, check=True)
 
 
+@needs("git", "git")
 class Releases(Repositories):
     def made(self, *words: str, status: int = 0) -> Tuple[str, str]:
         """What making a release says on standard output and on standard error."""
@@ -163,6 +164,7 @@ class Releases(Repositories):
         self.assertIn("run it in a git repository", self.made("--unproved", status=1)[1])
 
 
+@needs("git", "git")
 class Versions(Repositories):
     def test_a_clone_says_whether_its_program_is_proved(self) -> None:
         head = subprocess.run(["git", "rev-parse", "HEAD"], cwd=self.top, check=True, capture_output=True, text=True)

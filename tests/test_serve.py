@@ -1,7 +1,6 @@
 """The load generator and the echo server in C, and how they are driven."""
 import os
 import pathlib
-import shutil
 import socket
 import sys
 import tempfile
@@ -10,6 +9,7 @@ import tomllib
 import unittest
 from unittest import mock
 
+from tests import needs
 from bench import serve
 from bench.serve import Bench, Figures, Load, load_of
 from bench.servers import Failed, started
@@ -68,7 +68,7 @@ class Rows(unittest.TestCase):
         self.assertEqual(serve.median(figures), Figures(2, 5, 8))
 
 
-@unittest.skipUnless(shutil.which("cc"), "no C compiler")
+@needs("cc", "gcc")
 class Programs(unittest.TestCase):
     @classmethod
     def setUpClass(cls) -> None:

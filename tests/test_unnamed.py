@@ -7,7 +7,7 @@ import unittest
 import unittest.mock
 from typing import Iterator, List, Tuple
 
-from tests import TOP
+from tests import TOP, needs
 from tools.prove import unnamed
 
 LEMMAS = """use Rattle.a.specs.B.{C}
@@ -40,6 +40,7 @@ def programs() -> Iterator[Tuple[str, str]]:
             yield str(path.relative_to(TOP)), path.read_text(encoding="utf-8")
 
 
+@needs("git", "git")
 class Unnamed(unittest.TestCase):
     def test_what_is_unnamed_is_known(self) -> None:
         found, known = unnamed.unnamed(), unnamed.known()
@@ -86,6 +87,7 @@ def imports(text: str) -> Iterator[str]:
             yield from ((alias.asname or alias.name).partition(".")[0] for alias in node.names)
 
 
+@needs("git", "git")
 class Python(unittest.TestCase):
     def test_no_function_or_class_takes_the_place_of_another(self) -> None:
         """The tests of a class whose name stands twice in its file would never run."""
