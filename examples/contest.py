@@ -44,7 +44,7 @@ TURNS = 10_000
 PAUSE = 2
 # milliseconds: what the matches wait for their agents
 GATHER = 10_000
-PATIENCE = 20
+PATIENCE = 60
 # whose agents are killed, if any are, after how many seconds, and in turns of how many milliseconds: by then they have
 # entered, and they need longer to search
 VICTIM = "green"
