@@ -7,29 +7,10 @@ replaces the sections of the benchmarks that it ran and leaves the others as the
 is made of the sections; a section of another name is left out. Standard error tells which benchmark is running; the
 exit status is 1 if one failed.
 
-names:
-    gate        processor seconds of the gate by crate and stage, which proves everything anew
-    steps       events of a match
-    submit      commands under locks
-    stages      the stages of a client's line
-    rehearse    long scripts
-    compare     scripts and checks beside another build, which --other names
-    replays     the largest replays
-    serve       a contest over TCP beside echo servers in C
-    lab         steps and states of the lab
-    explore     every schedule of several matches
-    spin        every schedule of rings, beside the model checker SPIN
-    merges      what the checks of `./arena-lab explore` cost
-    waits       what an agent learns by waiting
-    timeouts    what teams gain by timeouts
-    traps       the same with matches that have no black hole
-    flood       a contest while strangers connect
-    looks       memory for looks at a long whiteboard
-    hall        a hall with 60 teams, while one more floods it
-
 Without --only all of them run, which takes about two hours, half of it for the gate. `steps`, `submit` and `stages`
-need the proved program bhs_bench. The others, except `gate`, run on the proved arena if it is built, else on a build
-without a proof, and the page says on which. Nothing else should run on the machine meanwhile.
+need the proved program bhs_bench, and `compare` a build that --other names. The others, except `gate`, run on the
+proved arena if it is built, else on a build without a proof, and the page says on which. Nothing else should run on the
+machine meanwhile.
 """
 import argparse
 import datetime
@@ -382,7 +363,9 @@ def machine() -> str:
 
 
 def asked(words: Sequence[str]) -> argparse.Namespace:
-    parser = argparse.ArgumentParser(description=__doc__, formatter_class=argparse.RawDescriptionHelpFormatter)
+    names = "".join(f"    {name:<11} {benchmark.title}\n" for name, benchmark in BENCHMARKS.items())
+    parser = argparse.ArgumentParser(description=__doc__, epilog=f"names:\n{names}",
+                                     formatter_class=argparse.RawDescriptionHelpFormatter)
     parser.add_argument("--only", metavar="NAME", choices=list(BENCHMARKS), action="append", help="run this benchmark")
     parser.add_argument("--program", metavar="PATH", type=pathlib.Path, help="the arena that is measured")
     parser.add_argument("--other", metavar="PATH", type=pathlib.Path, help="the build beside which `compare` measures")
