@@ -1,20 +1,50 @@
-"""The functions that have no clause are those that docs/PROOFS.md lists."""
+"""The functions without a clause are those that tools/prove/tested.toml lists, and the page of contracts has them."""
 import pathlib
-import re
+import tempfile
+import tomllib
 import unittest
 from typing import Set
 
-from tools.prove.clauses import contract_of, crates_given, functions_in, without_clause
+from tools.prove import contracts
+from tools.prove.clauses import CRATES, contract_of, crates_given, functions_in, without_clause
 
 TOP = pathlib.Path(__file__).resolve().parents[1]
-HEADING = "## Functions without a clause"
+CODE = """\
+/// What is held.
+pub struct Held {
+    rows: u8,
+}
+
+impl Held {
+    /// How many there are,
+    /// with a second line.
+    #[inline]
+    pub fn count<R: Wait>(&self, rt: &R, room: &mut Vec<u8>) -> Result<u8, NetFault>
+        ensures kept { result ≡ self.now }
+        ensures { IfErr result (λ fault. room.new ≡ room.old) }
+    {
+        Ok(self.rows)
+    }
+
+    fn own(&self) -> u8 {
+        self.rows
+    }
+}
+
+pub fn law()
+    ensures { Law }
+{}
+
+pub fn other()
+    ensures named { Other }
+{}
+"""
 
 
 def listed() -> Set[str]:
-    """The functions in the table, each behind its crate."""
-    section = (TOP / "docs" / "PROOFS.md").read_text().partition(HEADING)[2].partition("\n## ")[0]
-    rows = re.findall(r"^\| `(bhs_\w+)` \| ([^|]*) \|", section, re.M)
-    return {f"{crate} {name}" for crate, functions in rows for name in re.findall(r"`([^`]+)`", functions)}
+    """The functions of the file, each behind its crate."""
+    rows = tomllib.loads(contracts.TESTED.read_text(encoding="utf-8"))["without_clause"]
+    return {f"{row['crate']} {name}" for row in rows for name in row["functions"]}
 
 
 class ClausesTest(unittest.TestCase):
@@ -27,10 +57,47 @@ class ClausesTest(unittest.TestCase):
         lines = ["fn one(", "    a: u8,", ") -> u8", "    ensures { result ≡ a }", "{", "    a", "}"]
         self.assertIn("ensures", contract_of(lines, 0))
         self.assertNotIn("ensures", contract_of(["fn one() {", "}", "fn two()", "    ensures { x }", "{"], 0))
+        self.assertNotIn("two", contract_of(["fn one()", "    ensures { x }", "{}", "fn two()", "{}"], 0))
 
     def test_methods_are_named_by_their_types(self) -> None:
         names = {one.name for one in functions_in("bhs_server", TOP / "crates/bhs_server/src/connections.rt")}
         self.assertLessEqual({"Connection::new", "Guest::let_in", "Incoming::read"}, names)
+
+
+class ContractsTest(unittest.TestCase):
+    def test_functions_have_their_clauses_and_what_they_say(self) -> None:
+        with tempfile.TemporaryDirectory() as folder:
+            path = pathlib.Path(folder, "held.rt")
+            path.write_text(CODE, encoding="utf-8")
+            held, law, other = contracts.contracts_in(path)
+        self.assertEqual((held.name, held.words), ("Held::count", "How many there are, with a second line."))
+        self.assertEqual([list(one.clauses) for one in (held, law, other)], [["kept", "-"], ["-"], ["named"]])
+        self.assertEqual(contracts.answer_of(held.signature), "Result<u8, NetFault>")
+        self.assertRegex(held.signature, contracts.WAITS)
+        self.assertEqual(contracts.CHANGED.findall(held.signature), [("room", "")])
+
+    def test_types_that_hold_a_fault_of_memory_can_say_it(self) -> None:
+        types = contracts.memory_types()
+        self.assertLessEqual({"NetFault", "RehearsalFault", "Ended", "Lack"}, types)
+        self.assertNotIn("Command", types)
+
+    def test_the_page_has_each_function_that_a_crate_passes_on(self) -> None:
+        page = "\n".join(contracts.page(crates_given([])))
+        for head in ("`contests::equal_pasts_are_sent_equal_bytes` (-)", "`Net::try_new` (made, count, refused)",
+                     "| `bhs_lock` | `Hall::told` | yes | no | `self`, `pass` | failed |",
+                     "| `bhs_rehearsal` | `Rehearsal::feed` | yes |"):
+            self.assertIn(head, page)
+        self.assertNotIn("`check_loops`", page.partition("## What want of memory leaves")[0])
+        self.assertIn("`walks_through_the_removed_node`", page)
+
+    def test_crates_of_wrong_bodies_are_there(self) -> None:
+        rows = tomllib.loads(contracts.TESTED.read_text(encoding="utf-8"))["let_through"]
+        self.assertEqual([name for row in rows for name in row["crates"] if not (CRATES / name).is_dir()], [])
+
+    def test_edits_that_a_form_refuses_are_there(self) -> None:
+        named = tomllib.loads(contracts.TESTED.read_text(encoding="utf-8"))["refused_by_form"]
+        self.assertEqual([(crate, name) for crate, names in named.items() for name in names
+                          if not list((CRATES / crate).glob(f"*/{name}.edit"))], [])
 
 
 if __name__ == "__main__":

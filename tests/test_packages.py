@@ -26,7 +26,7 @@ debian, manual, wheel = release.debian, release.manual, release.wheel
 PROJECT = (TOP / "pyproject.toml").read_bytes()
 READABLE, RUNNABLE = wheel.READABLE, wheel.RUNNABLE
 RELEASED = {
-    "README.md": "read\n", "CHANGELOG.md": "changes\n", "docs/PROOFS.md": "claims\n",
+    "README.md": "read\n", "CHANGELOG.md": "changes\n", "docs/THEOREMS.md": "claims\n",
     "arena_lab/support/built.py": "built = 1\n", "arena_lab/README.md": "# The lab\n",
     "examples/agents/ring.py": "agent\n",
     "examples/contest.py": "contest\n",
@@ -155,8 +155,7 @@ class Wheels(unittest.TestCase):
             self.assertEqual(archive.namelist(), [
                 "arena_lab-1.2.3.data/data/share/man/man1/arena.1", "arena_lab-1.2.3.dist-info/METADATA",
                 "arena_lab-1.2.3.dist-info/WHEEL", "arena_lab-1.2.3.dist-info/entry_points.txt", "arena_lab/README.md",
-                "arena_lab/docs/PROOFS.md", "arena_lab/examples/agents/ring.py",
-                "arena_lab/examples/contest.py", "arena_lab/program/BUILD",
+                "arena_lab/docs/THEOREMS.md", "arena_lab/examples/agents/ring.py", "arena_lab/examples/contest.py", "arena_lab/program/BUILD",
                 "arena_lab/program/PROVED.txt", "arena_lab/program/arena", "arena_lab/support/built.py",
                 "arena_lab-1.2.3.dist-info/RECORD"])
             self.assertEqual(archive.getinfo("arena_lab/program/arena").external_attr >> 16, 0o100755)
@@ -195,7 +194,7 @@ class DebianPackages(unittest.TestCase):
         self.assertEqual((top / "usr/bin/arena-lab").stat().st_mode & 0o777, 0o755)
         self.assertEqual((top / "usr/share/doc/arena/PROVED.txt").read_text(), "proved\n")
         self.assertEqual((top / "usr/lib/arena/PROVED.txt").read_text(), "proved\n")
-        self.assertEqual((top / "usr/share/doc/arena/docs/PROOFS.md").read_text(), "claims\n")
+        self.assertEqual((top / "usr/share/doc/arena/docs/THEOREMS.md").read_text(), "claims\n")
         self.assertEqual((top / "usr/share/doc/arena/examples/contest.py").read_text(), "contest\n")
         self.assertEqual(gzip.decompress((top / "usr/share/man/man1/arena.1.gz").read_bytes()), b"page\n")
         told = (top / "DEBIAN/control").read_text()

@@ -22,7 +22,7 @@ PROVED_PROGRAM = release.proved_program
 NAME = "arena-1.2.3-x86_64-linux"
 FILES = {
     "VERSION": "1.2.3\n", "README.md": "read\n", "CHANGELOG.md": "changes\n", "CONTRIBUTING.md": "how\n",
-    "arena": "#!/bin/sh\n", "docs/PROOFS.md": "claims\n", "examples/contest.py": "print('played')\n",
+    "arena": "#!/bin/sh\n", "docs/THEOREMS.md": "claims\n", "examples/contest.py": "print('played')\n",
     "examples/agents/ring.c": "int main(void) { return 0; }\n", "arena_lab/support/built.py": "",
     "arena_lab/tests/test.py": "",
     "pyproject.toml": (TOP / "pyproject.toml").read_text(),
@@ -91,7 +91,7 @@ class Releases(Repositories):
         found = self.unpacked(NAME)
         self.assertEqual(sorted(found), sorted([
             "BUILD", "CHANGELOG.md", "PROVED.txt", "README.md", "SHA256SUMS", "VERSION", "arena", "bin/arena",
-            "bin/ring", "docs/PROOFS.md", "examples/agents/ring.c", "examples/contest.py", "arena_lab/support/built.py",
+            "bin/ring", "docs/THEOREMS.md", "examples/agents/ring.c", "examples/contest.py", "arena_lab/support/built.py",
             "tools/version.py"]))
         runnable = {path for path, (_, mode) in found.items() if mode == 0o755}
         self.assertEqual(runnable, {"arena", "bin/arena", "bin/ring"})

@@ -4,8 +4,8 @@
 
 A clause is an `ensures` of the function itself, or of the method of a trait of this repository that it implements.
 `From`, `Clone` and `PartialEq` have theirs in ghost members beside the method. Not listed are the benchmark and `main`.
-docs/PROOFS.md says of each function in this list which test fails for a wrong body of it; tests/test_clauses.py
-compares the two.
+tools/prove/tested.toml says of each function in this list which test fails for a wrong body of it;
+tests/test_clauses.py compares the two, and tools/prove/contracts.py prints both.
 """
 import pathlib
 import re
@@ -52,7 +52,7 @@ def contract_of(lines: List[str], at: int) -> str:
         found.append(line)
         text = line.rstrip()
         opens = text.endswith("{") and not text.lstrip().startswith(("ensures", "requires"))
-        if opens and len(line) - len(line.lstrip()) == indent or text.endswith(";"):
+        if (opens or text.endswith("{}")) and len(line) - len(line.lstrip()) == indent or text.endswith(";"):
             break
     return "\n".join(found)
 

@@ -1,0 +1,184 @@
+"""The sentences of docs/THEOREMS.md name each premise of the definitions that their clauses state, and the sizes up to
+which a file can meet the premises."""
+import re
+import unittest
+from typing import Callable, Dict, Iterator, List, NamedTuple
+
+from tests import TOP
+
+THEOREMS = TOP / "docs" / "THEOREMS.md"
+SPECS = "crates/{}/specs/{}.antt"
+MAX_QUOTA = 65_535
+
+
+class Theorem(NamedTuple):
+    """A function whose contract is the theorem, and the definition that says it: its crate, its file, its name."""
+    function: str
+    crate: str
+    file: str
+    name: str
+
+
+DISPLAYED = [
+    Theorem("equal_pasts", "bhs_model", "Laws", "EqualPasts"),
+    Theorem("rehearsals::equal_pasts_are_answered_alike", "bhs_theorems", "Calls", "EqualPastsAreAnsweredAlike"),
+    Theorem("contests::equal_pasts_are_sent_equal_bytes", "bhs_theorems", "ContestMet", "EqualPastsAreSentEqualBytes"),
+    Theorem("every_arrival_in_contests", "bhs_theorems", "ContestTime", "EveryArrivalInContests"),
+    Theorem("twins_look_alike", "bhs_model", "Laws", "TwinsLookAlike"),
+    Theorem("hole_looks_slow", "bhs_model", "Laws", "HoleLooksSlow"),
+    Theorem("cuts_suffice", "bhs_model", "Laws", "CutsSuffice"),
+    Theorem("replies_are_of_pasts", "bhs_model", "Laws", "AmongMatches"),
+    Theorem("the_halves_solve_all_rings", "bhs_protocols", "HalvesLaws", "HalvesSolveAllRings"),
+    Theorem("the_halves_bound_is_attained", "bhs_protocols", "Attained", "HalvesAttainOnAllRings"),
+    Theorem("the_shuttle_solves_all_rings", "bhs_protocols", "AllRings", "ShuttleSolvesAllRings"),
+    Theorem("two_agents_with_a_map_solve", "bhs_mapped", "MapLaws", "TwoAgentsWithAMapSolve"),
+    Theorem("two_agents_with_a_map_solve", "bhs_mapped", "MapLaws", "IsSearchedFrom"),
+    Theorem("tours_suffice", "bhs_mapped", "Tours", "HalvesSolveWithATour"),
+    Theorem("one_loss_is_needed_and_suffices", "bhs_mapped", "MapLaws", "OneLossIsNeededAndSuffices"),
+    Theorem("the_triangle_is_solved", "bhs_triangle", "Triangle", "TriangleIsSolved"),
+    Theorem("one_alone_fails", "bhs_protocols", "Alone", "OneAloneFailsOnNetworks"),
+    Theorem("accusations_come_last", "bhs_protocols", "LastWord", "AccusationsComeLast"),
+    Theorem("a_loss_is_needed", "bhs_protocols", "Losses", "EachBlackHoleDestroys"),
+    Theorem("no_team_solves_two_sizes", "bhs_protocols", "Sizes", "NoTeamSolvesTwoSizes"),
+    Theorem("many_agents_are_needed", "bhs_unmapped", "Unmapped", "ManyAgentsAreNeeded"),
+    Theorem("no_team_passes_a_cut", "bhs_mapped", "Cuts", "NoTeamPassesACut"),
+]
+# what a premise looks like, and a word that its sentence, or the head of its section, must have
+PREMISES: Dict[str, str] = {
+    r".*\.quota ≡ .*\.quota": "equal quota",
+    r".*\.board ≡ .*\.board": "equal quota and whiteboard size",
+    r"IsPlaying .*": "open matches",
+    r"\(?past .* ≡ past .*|its_past .*|\(state_of .*\)\.past .*": "pasts",
+    r"TookPart .*": "has ended and settled",
+    r"IsToldAll .*": "told all that its agent met",
+    r"fed one ≡ fed two|commands_fed .*": "equal commands",
+    r"StillPlays .*": "neither their matches nor their inputs have ended",
+    r"HasEnded .*": "given back settled",
+    r"schedule_of .*": "one oblivious schedule",
+    r"HasArrival .*": "arrived anywhere in its past in both",
+    r"departed_at .*": "departed after equally many turns",
+    r"Twins .*": "equal except for what destroys",
+    r"SlowInstead .*": "those links are held for good",
+    r"IsSetOn .*": "each ring",
+    r"IsSetAt .*": "whichever other node is the black hole",
+    r"4 ≤ (setup|world)\.board": "whiteboards of at least 4 bytes",
+    r"most_turns .* ≤ (setup|world)\.quota": "quota of at least T",
+    r"\(nodes_of net - 2\) .* ≤ setup\.quota": "quota of at least C",
+    r"3 ≤ setup\.quota": "quota of at least 3",
+    r"nodes_of net ≡ 3": "three nodes",
+    r"setup\.agents ≡ 2": "By a guide",
+    r"IsNetwork net": "network of a file",
+    r"(setup\.)?home < nodes_of net": "home base",
+    r"IsTour .*": "tour that passes each node once",
+    r"HasOneHole .*": "other than the home base is the black hole",
+    r"hole < .*|hole ≢ .*": "black hole",
+    r"IsAtRest .*": "comes to rest",
+    r"SolvesEverywhere .*": "solves with every black hole",
+    r"agent < world\.agents|\(findings .*accused agent ≡ Some link": "before it accuses",
+    r"node < .*|node ≢ .*": "all other nodes",
+    r"3 ≤ world\.net\.nodes": "three nodes or more",
+    r"3 ≤ n": "n at least 3",
+    r"SolvesSize n .*": "rings of n",
+    r"SolvesSize \(n \+ 1\) .*": "of n + 1 nodes",
+    r"3 ≤ degree": "d be from 3",
+    r"2 \* degree \+ 2 ≤ MAX_NODES": "to 2,047",
+    r"terms\.agents ≤ degree": "d agents or fewer",
+    r"SolvesNetworks .*": "all networks of a file with 2 d + 2 nodes and greatest degree d",
+    r"IsPortLabelled net": "simple graph with port labels",
+    r"setup\.home < nodes_of net|setup\.home ≢ cut": "any other home base",
+    r"IsCutIn net cut": "without which some two others are not joined",
+}
+
+
+def definition(one: Theorem) -> str:
+    """The text of a definition, on one line and without comments."""
+    text = (TOP / SPECS.format(one.crate, one.file)).read_text(encoding="utf-8")
+    block = re.search(rf"^(?:abbrev )?pub (?:record )?{one.name}\b.*?(?=\n\n|\Z)|^abbrev pub {one.name} .*?(?=\n\n|\Z)",
+                      text, re.DOTALL | re.MULTILINE)
+    if block is None:
+        raise ValueError(f"{one.name} is not in {one.file}")
+    return re.sub(r"\s+", " ", re.sub(r"--.*", "", block[0]))
+
+
+def parts_of(text: str) -> Iterator[str]:
+    """The parts between arrows that stand in no bracket."""
+    depth, part = 0, ""
+    for letter in text:
+        depth += (letter in "({") - (letter in ")}")
+        if letter == "→" and depth == 0:
+            yield part.strip()
+            part = ""
+        else:
+            part += letter
+    yield part.strip()
+
+
+def is_binder(part: str) -> bool:
+    """Whether a part names what the statement is about, as `(net : Network) (hole : ℕ)` does."""
+    return bool(re.fullmatch(r"(\([^()]* : [^()]*(\([^()]*\))?[^()]*\) ?)+", part))
+
+
+def premises(one: Theorem) -> List[str]:
+    """The premises of a definition: what stands before its last arrow, of each field if it is a record."""
+    text = definition(one)
+    if " where " in text:
+        bodies = [field.partition(" : ")[2] for field in text.partition(" where ")[2].split(" pub ")]
+    else:
+        bodies = [text.partition(" = ")[2]]
+    return [part for body in bodies for part in list(parts_of(body))[:-1] if not is_binder(part)]
+
+
+def sentence(function: str) -> str:
+    """The row of the page that names a function as its clause, and the head of its section."""
+    sections = THEOREMS.read_text(encoding="utf-8").split("\n## ")
+    for section in sections:
+        for row in section.split("\n"):
+            if row.startswith("| ") and re.search(rf"\b{function}`", row):
+                head = " ".join(line for line in section.split("\n") if not line.startswith("|"))
+                return re.sub(r"\s+", " ", f"{row} {head}")
+    raise ValueError(f"no row names {function}")
+
+
+def rounds(left: int) -> int:
+    """How often `left` nodes are halved until one is left."""
+    return (left - 1).bit_length()
+
+
+def most_turns(nodes: int) -> int:
+    """The quota that the search by halves asks for (`most_turns` of `bhs_protocols`)."""
+    ways = sum(2 * (nodes - 2 - (1 << division)) for division in range(rounds(nodes // 2)))
+    return 2 * (3 * (nodes - 2) + 1 + ways) + 2 * (nodes - 2) + 2 * rounds(nodes // 2) + 4
+
+
+def shuttle_quota(nodes: int) -> int:
+    """The quota that the shuttle, and the search with a map, ask for."""
+    return (nodes - 2) * (nodes - 1) + 2 * nodes
+
+
+def largest(quota_of: Callable[[int], int]) -> int:
+    """The largest size up to which a file's quota is enough."""
+    return next(nodes for nodes in range(3, 4097) if quota_of(nodes + 1) > MAX_QUOTA)
+
+
+class Theorems(unittest.TestCase):
+    def test_each_premise_has_its_words(self) -> None:
+        for theorem in DISPLAYED:
+            row = sentence(theorem.function)
+            for premise in premises(theorem):
+                with self.subTest(theorem.function, premise=premise):
+                    words = [word for pattern, word in PREMISES.items() if re.fullmatch(pattern, premise)]
+                    self.assertTrue(words, f"a premise that the table of this test lacks: {premise}")
+                    self.assertTrue(any(word.lower() in row.lower() for word in words),
+                                    f"the sentence of {theorem.function} does not say: {' or '.join(words)}")
+
+    def test_the_sizes_are_those_up_to_which_a_file_has_the_quota(self) -> None:
+        self.assertEqual([most_turns(nodes) for nodes in (3, 8)], [14, 94])
+        halves, shuttle = f"{largest(most_turns):,} nodes", f"{largest(shuttle_quota):,} nodes"
+        for page in ("README.md", "docs/THEOREMS.md", "docs/PROTOCOLS.md"):
+            text = re.sub(r"\s+", " ", (TOP / page).read_text(encoding="utf-8"))
+            with self.subTest(page):
+                self.assertTrue(halves in text and shuttle in text, f"it does not say: {halves}, {shuttle}")
+
+
+if __name__ == "__main__":
+    unittest.main()
