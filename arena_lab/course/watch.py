@@ -1,6 +1,8 @@
 """Watches how much memory the programs of a match take, each with all that it has started. The system bounds the memory
 of one process; a program has many. What is counted is seen a few times a second, so a quick program may take somewhat
-more before it is ended."""
+more before it is ended. Pages of its processes, their tables, and shared memory by its size are counted. Memory that
+belongs to no process, such as what waits in pipes and sockets, is bounded by the number of files and processes alone.
+"""
 import contextlib
 import os
 import pathlib

@@ -1,6 +1,7 @@
 """What is drawn for a match: its black hole, its home base, the labels of its ports, its keys, and which matches of a
 series are traps. Each attempt has its own, by the operating system's source of secrets, so no attempt tells anything of
-another. Of a match that goes on only its files say whether it is a trap."""
+another. Labels are shuffled by Python's generator, from a seed of 128 bits that is used for nothing else. Of a match
+that goes on only its files say whether it is a trap."""
 import pathlib
 import secrets
 import tomllib

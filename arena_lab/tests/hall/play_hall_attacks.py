@@ -1,4 +1,22 @@
-"""Attacks on a hall that were tried, each with what it wins: nothing."""
+"""Attacks on a hall that were tried, each with what it wins: nothing. What each won before it was mended:
+
+- a name of 400 bytes in a zip: 500 for every later hand-in of all teams
+- a page is sent a token that is a guess, which is then tried by REST: a guess cost no try
+- a token or session that was replaced: its flood spent the team's requests
+- zips with 180,000 entries, or what is refused, without end: seconds of the web server for each
+- a long replay's page again and again: it was read anew for each request
+- the points of others: they showed that a hidden team's moves were the fewest
+- a fault of the disk: it named paths of the hall's folder
+
+In other tests: traps told from matches by when their servers end (play_hall_traps.py); tokens tried from all addresses
+of a network of IPv6, another team's match or replay, the black hole before the close by page, REST, size, header and
+error (play_hall_pages.py, play_hall_rest.py); X_Forwarded_For through Caddy, and many requests at once through nginx
+(play_hall_nginx.py); paths, SQL, HTML, formulas, requests of other sites, links and bombs in zips (test_hall.py,
+play_hall.py).
+
+Two still win what they say: wrong tokens from a team's own address have others of that team wait minutes there, but
+nobody who has logged in; and the numbers of attempts count the attempts of all teams.
+"""
 import unittest
 import zipfile
 from typing import Any
