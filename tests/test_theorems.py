@@ -9,6 +9,10 @@ from tests import TOP
 THEOREMS = TOP / "docs" / "THEOREMS.md"
 SPECS = "crates/{}/specs/{}.antt"
 MAX_QUOTA = 65_535
+# where functions, clauses and definitions are, and how they begin there
+NAMED_IN = ("crates/*/src/**/*.rt", "crates/*/specs/**/*.antt")
+NAMES = (r"\bfn (\w+)", r"\bensures (\w+) \{", r"^ *(?:abbrev )?pub (?:record |data )?(\w+)", r"^abbrev pub (\w+)",
+         r"\b(?:struct|enum|mod) (\w+)", r"^    (\w+) ?[({,]")
 
 
 class Theorem(NamedTuple):
@@ -139,6 +143,17 @@ def sentence(function: str) -> str:
     raise ValueError(f"no row names {function}")
 
 
+def clauses() -> Iterator[str]:
+    """What the rows name as their clauses: functions, clauses, definitions and crates. The column has this head."""
+    column = 0
+    for line in THEOREMS.read_text(encoding="utf-8").split("\n"):
+        cells = [cell.strip() for cell in line.split("|")]
+        if "clause" in cells:
+            column = cells.index("clause")
+        elif len(cells) > column > 0:
+            yield from re.findall(r"`([\w:]+)`", cells[column])
+
+
 def rounds(left: int) -> int:
     """How often `left` nodes are halved until one is left."""
     return (left - 1).bit_length()
@@ -170,6 +185,13 @@ class Theorems(unittest.TestCase):
                     self.assertTrue(words, f"a premise that the table of this test lacks: {premise}")
                     self.assertTrue(any(word.lower() in row.lower() for word in words),
                                     f"the sentence of {theorem.function} does not say: {' or '.join(words)}")
+
+    def test_clauses_that_are_named_are_there(self) -> None:
+        text = "\n".join(path.read_text(encoding="utf-8") for pattern in NAMED_IN for path in sorted(TOP.glob(pattern)))
+        there = {name for pattern in NAMES for name in re.findall(pattern, text, re.MULTILINE)}
+        named = {name for name in clauses() if not re.fullmatch(r"bhs_\w+", name)}
+        self.assertGreater(len(named), 80)
+        self.assertEqual(sorted(name for name in named if name.rpartition("::")[2] not in there), [])
 
     def test_the_sizes_are_those_up_to_which_a_file_has_the_quota(self) -> None:
         self.assertEqual([most_turns(nodes) for nodes in (3, 8)], [14, 94])
