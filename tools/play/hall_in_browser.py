@@ -19,9 +19,8 @@ from selenium.webdriver.support.ui import WebDriverWait
 from arena_lab.rules.engines import TOP
 from arena_lab.tests.hall import halls
 from arena_lab.tests.hall.test_hall import zipped
-from tools.play.watch_in_browser import browser
+from tools.play.watch_in_browser import SECONDS, browser
 
-SECONDS = 60
 WIDE, PHONE = (1200, 900), (400, 850)
 
 

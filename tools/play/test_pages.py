@@ -13,7 +13,6 @@ import tempfile
 import time
 from typing import List
 
-from selenium import webdriver
 from selenium.webdriver.common.keys import Keys
 
 from bench import replays
@@ -21,6 +20,7 @@ from arena_lab.rules.engines import asked, program_at
 from arena_lab.rules.model import Match, Setup
 from arena_lab.rules.networks import hypercube
 from arena_lab.tests.playing import MAP, RING, fixture, played, ring_fixture
+from tools.play.watch_in_browser import browser
 
 TOP = pathlib.Path(__file__).resolve().parents[2]
 WIDE, PHONE = (1200, 1000), (390, 844)
@@ -85,11 +85,7 @@ class Browser:
     """Chromium, the pages that it opens and what went wrong."""
 
     def __init__(self, folder: pathlib.Path, pictures: pathlib.Path) -> None:
-        options = webdriver.ChromeOptions()
-        for word in ("--headless=new", "--no-sandbox", "--disable-gpu", "--force-device-scale-factor=1"):
-            options.add_argument(word)
-        options.set_capability("goog:loggingPrefs", {"browser": "ALL"})
-        self.driver = webdriver.Chrome(options=options)
+        self.driver = browser("--force-device-scale-factor=1")
         self.folder, self.pictures = folder, pictures
         self.faults: List[str] = []
 

@@ -7,6 +7,7 @@ standings
 with the server's table. Opens a page of a match once all are over, plays it to its end, and finds no error in the
 console. Screenshots go to the folder. `tools/nightly` installs what it needs.
 """
+import contextlib
 import os
 import pathlib
 import subprocess
@@ -16,20 +17,26 @@ import time
 from typing import List
 
 from selenium import webdriver
+from selenium.common.exceptions import WebDriverException
 from selenium.webdriver.support.ui import WebDriverWait
 
 from examples import contest
 
 TOP = pathlib.Path(__file__).resolve().parents[2]
 SIZES = {"wide": (1600, 1000), "tablet": (800, 1000), "phone": (400, 850)}
-SECONDS = 60
+# how long a page may take, and how often the browser is started
+SECONDS, STARTS = 180, 3
 
 
-def browser() -> webdriver.Chrome:
+def browser(*more: str) -> webdriver.Chrome:
     options = webdriver.ChromeOptions()
-    for word in ("--headless=new", "--no-sandbox", "--disable-gpu"):
+    for word in ("--headless=new", "--no-sandbox", "--disable-gpu", *more):
         options.add_argument(word)
     options.set_capability("goog:loggingPrefs", {"browser": "ALL"})
+    for _ in range(STARTS - 1):
+        # on a busy machine Chromium may not answer within the driver's minute
+        with contextlib.suppress(WebDriverException):
+            return webdriver.Chrome(options=options)
     return webdriver.Chrome(options=options)
 
 
