@@ -18,7 +18,6 @@ import pathlib
 import shutil
 import subprocess
 import sys
-import tempfile
 from typing import List
 
 from tools.play import roots
@@ -76,8 +75,8 @@ def main() -> int:
                         "changed")
     parser.add_argument("--program", metavar="PATH", default="", help="what plays in place of the proved program")
     words = parser.parse_args()
-    with tempfile.TemporaryDirectory() as name:
-        root = pathlib.Path(name) / "root"
+    with roots.temporary() as folder:
+        root = folder / "root"
         if words.root:
             subprocess.run(["cp", "-a", words.root, root], check=True)
         found = results(root, words.program)

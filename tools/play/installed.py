@@ -153,8 +153,8 @@ def main() -> int:
     # what is installed must not find this repository
     os.environ.pop("PYTHONPATH", None)
     failed = 0
-    with tempfile.TemporaryDirectory() as name:
-        cases = cases_of(words, pathlib.Path(name))
+    with roots.temporary() as place:
+        cases = cases_of(words, place)
         for title, case in cases.items():
             try:
                 case()

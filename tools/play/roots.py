@@ -1,10 +1,27 @@
 """Bare roots of Debian, in which tests run as on a machine that has nothing."""
 import contextlib
 import pathlib
+import shutil
 import subprocess
+import tempfile
 from typing import Dict, Iterator, List, Sequence
 
 MOUNTS = ("proc", "dev", "sys")
+
+
+@contextlib.contextmanager
+def temporary() -> Iterator[pathlib.Path]:
+    """A folder for roots. It is left where something is still mounted in it, which would be emptied with it."""
+    folder = pathlib.Path(tempfile.mkdtemp(prefix="roots-"))
+    try:
+        yield folder
+    finally:
+        mounts = [line.split()[1] for line in pathlib.Path("/proc/mounts").read_text().splitlines()]
+        left = [it for it in mounts if it.startswith(f"{folder}/")]
+        if left:
+            print(f"{folder} is left: {', '.join(left)} is still mounted", flush=True)
+        else:
+            shutil.rmtree(folder)
 
 
 def make(root: pathlib.Path, packages: Sequence[str] = ()) -> None:
@@ -17,7 +34,8 @@ def make(root: pathlib.Path, packages: Sequence[str] = ()) -> None:
 
 @contextlib.contextmanager
 def mounted(root: pathlib.Path, bound: Dict[pathlib.Path, str] = {}) -> Iterator[None]:
-    """The kernel's file systems in a root, and other folders by where they are to be seen there."""
+    """The kernel's file systems in a root, and other folders, which nothing there may change, by where they are
+    seen."""
     places: List[pathlib.Path] = []
     try:
         for source, name in {**{pathlib.Path("/") / name: name for name in MOUNTS}, **bound}.items():
@@ -26,10 +44,12 @@ def mounted(root: pathlib.Path, bound: Dict[pathlib.Path, str] = {}) -> Iterator
             subprocess.run(["mount", "--rbind", str(source), str(place)], check=True)
             places.append(place)
             subprocess.run(["mount", "--make-rslave", str(place)], check=True)
+            if name in bound.values():
+                subprocess.run(["mount", "-o", "remount,ro,bind", str(place)], check=True)
         yield
     finally:
         for place in reversed(places):
-            subprocess.run(["umount", "-l", str(place)], check=True)
+            subprocess.run(["umount", "-l", str(place)])
 
 
 def inside(root: pathlib.Path, folder: str) -> List[str]:
