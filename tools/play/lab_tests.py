@@ -38,7 +38,8 @@ def counts_of(name: str, variables: Dict[str, str]) -> Counts:
     or whose tests end the process, counts as one that failed."""
     begun, absent = time.monotonic(), lacking(name)
     if absent:
-        print(f"{SKIPPED}arena_lab.tests.{name}: Debian's {', '.join(absent)} is not installed", flush=True)
+        more = f" and {len(absent) - 1} more" if len(absent) > 1 else ""
+        print(f"{SKIPPED}arena_lab.tests.{name}: not installed are Debian's {absent[0]}{more}", flush=True)
         return 0, 0
     words = [DEBIANS_PYTHON, "-c", RUN, f"arena_lab.tests.{name}"]
     ran = subprocess.run(words, cwd=TOP, env=variables, text=True, errors="replace", stdout=subprocess.PIPE,

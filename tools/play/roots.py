@@ -34,8 +34,8 @@ def make(root: pathlib.Path, packages: Sequence[str] = ()) -> None:
 
 @contextlib.contextmanager
 def mounted(root: pathlib.Path, bound: Dict[pathlib.Path, str] = {}) -> Iterator[None]:
-    """The kernel's file systems in a root, and other folders, which nothing there may change, by where they are
-    seen."""
+    """The kernel's file systems in a root, and other folders, by where they are seen; nothing there may change
+    these."""
     places: List[pathlib.Path] = []
     try:
         for source, name in {**{pathlib.Path("/") / name: name for name in MOUNTS}, **bound}.items():
