@@ -155,8 +155,9 @@ class Wheels(unittest.TestCase):
             self.assertEqual(archive.namelist(), [
                 "arena_lab-1.2.3.data/data/share/man/man1/arena.1", "arena_lab-1.2.3.dist-info/METADATA",
                 "arena_lab-1.2.3.dist-info/WHEEL", "arena_lab-1.2.3.dist-info/entry_points.txt", "arena_lab/README.md",
-                "arena_lab/docs/THEOREMS.md", "arena_lab/examples/agents/ring.py", "arena_lab/examples/contest.py", "arena_lab/program/BUILD",
-                "arena_lab/program/PROVED.txt", "arena_lab/program/arena", "arena_lab/support/built.py",
+                "arena_lab/docs/THEOREMS.md", "arena_lab/examples/agents/ring.py", "arena_lab/examples/contest.py",
+                "arena_lab/program/BUILD", "arena_lab/program/PROVED.txt", "arena_lab/program/arena",
+                "arena_lab/support/built.py",
                 "arena_lab-1.2.3.dist-info/RECORD"])
             self.assertEqual(archive.getinfo("arena_lab/program/arena").external_attr >> 16, 0o100755)
             told = archive.read("arena_lab-1.2.3.dist-info/METADATA").decode()

@@ -91,8 +91,8 @@ class Releases(Repositories):
         found = self.unpacked(NAME)
         self.assertEqual(sorted(found), sorted([
             "BUILD", "CHANGELOG.md", "PROVED.txt", "README.md", "SHA256SUMS", "VERSION", "arena", "bin/arena",
-            "bin/ring", "docs/THEOREMS.md", "examples/agents/ring.c", "examples/contest.py", "arena_lab/support/built.py",
-            "tools/version.py"]))
+            "bin/ring", "docs/THEOREMS.md", "examples/agents/ring.c", "examples/contest.py",
+            "arena_lab/support/built.py", "tools/version.py"]))
         runnable = {path for path, (_, mode) in found.items() if mode == 0o755}
         self.assertEqual(runnable, {"arena", "bin/arena", "bin/ring"})
         build, facts = found["BUILD"][0], found["PROVED.txt"][0]
