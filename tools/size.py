@@ -1,0 +1,147 @@
+"""How large the tree is, by figures that may fall, and rise only by an edit of tests/size.toml that says why.
+
+    python3 -m tools.size            prints each figure beside the one that is kept
+    python3 -m tools.size --lower    keeps the figures that have fallen
+
+The figures are: in how many files of crates/ each command of an agent is named; how many names of types two crates or
+more have, and names of classes two modules of the lab; the words of each document, and the score of its sentences
+(tools/prose.py); how many modules `arena-lab --help` imports; and the lines of each language.
+"""
+import ast
+import collections
+import pathlib
+import re
+import subprocess
+import sys
+import tomllib
+from typing import Dict, Iterable, Iterator, List, Set, Tuple
+
+from tools import prose
+
+TOP = pathlib.Path(__file__).resolve().parents[1]
+KEPT = TOP / "tests" / "size.toml"
+COMMANDS = ("Enter", "Look", "Write", "Depart", "Accuse", "Leave")
+TYPE = re.compile(r"^\s*(?:pub(?:\(\w+\))? )?(?:struct|enum|trait|record|data) (?:pub )?(\w+)", re.M)
+HELP = ("import sys; import arena_lab.__main__ as lab; lab.parser(called=()).format_help(); "
+        "print(sum(it.split('.')[0] == 'arena_lab' for it in sys.modules))")
+
+Figures = Dict[str, Dict[str, float]]
+
+
+def tracked(*patterns: str) -> List[pathlib.Path]:
+    """The files of the repository that match one of these patterns of git; all that are there if this is no clone."""
+    ran = subprocess.run(["git", "-C", str(TOP), "ls-files", "--cached", "--others", "--exclude-standard", "--",
+                          *patterns], stdout=subprocess.PIPE, stderr=subprocess.DEVNULL, text=True)
+    return [TOP / it for it in sorted(set(ran.stdout.split("\n"))) if it and (TOP / it).is_file()]
+
+
+def documents() -> List[pathlib.Path]:
+    return tracked("*.md")
+
+
+def texts(paths: Iterable[pathlib.Path]) -> Iterator[Tuple[pathlib.Path, str]]:
+    return ((path, path.read_text(encoding="utf-8")) for path in paths)
+
+
+def files_that_name(words: Iterable[str]) -> Dict[str, float]:
+    """In how many files of crates/ each word stands."""
+    found = {word: 0.0 for word in words}
+    for _, text in texts(tracked("crates/*.rt", "crates/*.antt", "crates/*.edit")):
+        names = set(re.findall(r"\w+", text))
+        for word in found:
+            found[word] += word in names
+    return found
+
+
+def shared(owners: Dict[str, Set[str]]) -> float:
+    """How many names have two owners or more."""
+    return sum(len(it) > 1 for it in owners.values())
+
+
+def shared_types() -> float:
+    """How many names of types stand in two crates or more."""
+    owners: Dict[str, Set[str]] = collections.defaultdict(set)
+    for path, text in texts(tracked("crates/*/src/*.rt", "crates/*/specs/*.antt")):
+        for name in TYPE.findall(text):
+            owners[name].add(path.relative_to(TOP).parts[1])
+    return shared(owners)
+
+
+def shared_classes() -> float:
+    """How many names of classes stand in two modules of the lab or more; the tables of the hall's pages aside."""
+    owners: Dict[str, Set[str]] = collections.defaultdict(set)
+    for path, text in texts(tracked("arena_lab/*.py")):
+        name = str(path.relative_to(TOP))
+        if not re.search("/tests/|/mutants/|/migrations/", name):
+            for node in ast.walk(ast.parse(text)):
+                if isinstance(node, ast.ClassDef) and node.name != "Meta":
+                    owners[node.name].add(name)
+    return shared(owners)
+
+
+def modules_of_help() -> float:
+    """How many modules of the lab the help of all commands imports."""
+    return float(subprocess.check_output([sys.executable, "-c", HELP], cwd=TOP, text=True))
+
+
+def lines(*patterns: str) -> float:
+    return sum(text.count("\n") for _, text in texts(tracked(*patterns)))
+
+
+def figures() -> Figures:
+    """Each figure, by its table and name."""
+    read = {str(path.relative_to(TOP)): text for path, text in texts(documents())}
+    return {
+        "files that name a command": files_that_name(COMMANDS),
+        "names": {"types of two crates": shared_types(), "classes of two modules": shared_classes()},
+        "imports": {"modules of arena-lab --help": modules_of_help()},
+        "lines": {"py": lines("*.py", "tools/gate", "tools/build", "tools/release"), "rt": lines("*.rt"),
+                  "antt": lines("*.antt")},
+        "words": {name: float(len(text.split())) for name, text in read.items()},
+        "sentences": {name: prose.total(text) for name, text in read.items()},
+    }
+
+
+def kept() -> Figures:
+    return tomllib.loads(KEPT.read_text(encoding="utf-8"))
+
+
+def risen(now: Figures, then: Figures) -> List[str]:
+    """A line for each figure that is greater than the one that is kept, or that is kept nowhere."""
+    return [f"{table}, {name}: {value:g}, and {then[table][name]:g} is kept" if name in then.get(table, {})
+            else f"{table}, {name}: {value:g}, and none is kept"
+            for table, names in now.items() for name, value in names.items()
+            if value > then.get(table, {}).get(name, -1)]
+
+
+def lowered(text: str, now: Figures) -> str:
+    """The text of the kept figures, with those that have fallen and without those of files that are gone. Comments
+    stay."""
+    table, found = "", []
+    for line in text.split("\n"):
+        head = re.fullmatch(r"\[\"?([^\"]*)\"?\]", line)
+        row = re.fullmatch(r"\"([^\"]+)\" = ([\d.]+)(.*)", line)
+        table = head[1] if head else table
+        if row and row[1] not in now[table]:
+            continue
+        if row and now[table][row[1]] < float(row[2]):
+            line = f'"{row[1]}" = {now[table][row[1]]:g}{row[3]}'
+        found.append(line)
+    return "\n".join(found)
+
+
+def main() -> int:
+    if sys.argv[1:] not in ([], ["--lower"]):
+        print((__doc__ or "").strip())
+        return 0 if sys.argv[1:] in (["-h"], ["--help"]) else 2
+    now, then = figures(), kept()
+    if sys.argv[1:]:
+        KEPT.write_text(lowered(KEPT.read_text(encoding="utf-8"), now), encoding="utf-8")
+    for table, names in now.items():
+        for name, value in names.items():
+            print(f"{table}, {name}: {value:g} ({then.get(table, {}).get(name, 'not kept')})")
+    return 0
+
+
+if __name__ == "__main__":
+    sys.exit(main())
