@@ -177,6 +177,12 @@ def looks_text(printed: str) -> str:
     return table(("after", "peak memory, MB", "seconds"), found_in(r"(.+): ([\d.]+) MB, ([\d.]+) s", printed))
 
 
+def results_text(printed: str) -> str:
+    """The lines of a tool that count or say what passed, an item each."""
+    return lines_text("\n".join(line for line in printed.splitlines()
+                                if re.match(r"(ok|FAILED|\d+ passed|\d+ skipped|Ran \d+ tests)", line)))
+
+
 def lines_text(printed: str) -> str:
     """What a benchmark printed, a line an item."""
     return "".join(f"- {line}\n" for line in printed.splitlines())
@@ -221,6 +227,10 @@ the server.
 """
 LOOKS_NOTE = """\
 The most memory that a server has held while one agent looks at a whiteboard of 65,490 bytes as often as a quota allows.
+"""
+BARE_NOTE = """\
+In a root of `debootstrap` with python3 and no other package: the unit tests, then what the gate plays where apt-get
+reaches no archive, and again where it does.
 """
 HALL_NOTE = """\
 60 teams ask for 120 attempts in six minutes and play each with two sample agents on a ring of 8 nodes; a course has 600
@@ -267,7 +277,7 @@ BENCHMARKS: Dict[str, Benchmark] = {
                          without_other),
     "replays": Benchmark("Replays", lambda at: of_python("bench.replays", str(at.program)), replays_text),
     "serve": Benchmark("The server's speed", lambda at: of_python("bench.serve"), serve_text),
-    "lab": Benchmark("The lab", lambda at: of_debians("lab", "speed", "--program", str(at.program)), lab_text),
+    "lab": Benchmark("The lab", lambda at: of_debians("arena_lab", "speed", "--program", str(at.program)), lab_text),
     "explore": Benchmark("Every schedule", lambda at: of_debians("bench.explore", *EXPLORED), noted_text(EXPLORE_NOTE)),
     "spin": Benchmark("Every schedule beside SPIN", lambda at: of_debians("bench.spin"), noted_text(SPIN_NOTE),
                       lambda at: "" if spin.HAS_SPIN else "spin is not installed"),
@@ -279,6 +289,8 @@ BENCHMARKS: Dict[str, Benchmark] = {
     "traps": Benchmark("Timeouts and traps", lambda at: of_python("bench.timeouts", *TRAPS), noted_text(TRAPS_NOTE)),
     "flood": Benchmark("A flood of strangers", lambda at: of_python("bench.flood"), noted_text(FLOOD_NOTE, flood_text)),
     "looks": Benchmark("Memory of looks", lambda at: of_python("bench.looks"), noted_text(LOOKS_NOTE, looks_text)),
+    "bare": Benchmark("A bare Debian", lambda at: of_debians("tools.play.bare", "--program", str(at.program)),
+                      noted_text(BARE_NOTE, results_text)),
     "hall": Benchmark("A hall", lambda at: of_debians("bench.hall", "--attempts", "120", "--minutes", "6", "--program",
                                                       str(at.program)), noted_text(HALL_NOTE, lines_text)),
 }

@@ -69,7 +69,8 @@ class Waiting(unittest.TestCase):
                     os.close(descriptor)
 
     def test_nothing_waits_by_select(self) -> None:
-        found = [f"{path.relative_to(TOP)}: {node.lineno}" for top in ("lab", "tools", "bench", "examples", "tests")
+        tops = ("arena_lab", "tools", "bench", "examples", "tests")
+        found = [f"{path.relative_to(TOP)}: {node.lineno}" for top in tops
                  for path in sorted((TOP / top).rglob("*.py")) for node in ast.walk(ast.parse(path.read_text()))
                  if isinstance(node, ast.Attribute) and node.attr == "select" and isinstance(node.value, ast.Name)
                  and node.value.id == "select"]
