@@ -3,7 +3,7 @@ import unittest
 
 from tools import prose, size
 
-KEPT = '[words]\n# why\n"a.md" = 10\n"gone.md" = 5\n["files that name a command"]\n"Look" = 3  # and why\n'
+KEPT = '[words]\n# why\n"a.md" = 200\n"gone.md" = 5\n["files that name a command"]\n"Look" = 3  # and why\n'
 
 
 class Size(unittest.TestCase):
@@ -19,9 +19,9 @@ class Tool(unittest.TestCase):
                          ["words, a.md: 11, and 10 is kept", "words, b.md: 1, and none is kept"])
 
     def test_what_has_fallen_is_kept_and_comments_stay(self) -> None:
-        now = {"words": {"a.md": 7.0}, "files that name a command": {"Look": 4.0}}
+        now = {"words": {"a.md": 101.0}, "files that name a command": {"Look": 4.0}}
         self.assertEqual(size.lowered(KEPT, now),
-                         '[words]\n# why\n"a.md" = 7\n["files that name a command"]\n"Look" = 3  # and why\n')
+                         '[words]\n# why\n"a.md" = 150\n["files that name a command"]\n"Look" = 3  # and why\n')
 
     def test_a_riddle_scores_and_a_plain_sentence_does_not(self) -> None:
         riddle = "Whatever the words order, the status is 0, that of refused words, or that of a fault."

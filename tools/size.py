@@ -25,6 +25,9 @@ TYPE = re.compile(r"^\s*(?:pub(?:\(\w+\))? )?(?:struct|enum|trait|record|data) (
 HELP = ("import sys; import arena_lab.__main__ as lab; lab.parser(called=()).format_help(); "
         "print(sum(it.split('.')[0] == 'arena_lab' for it in sys.modules))")
 
+# words and lines are kept as the next multiple, so that mending a sentence takes no edit
+STEPS = {"words": 50, "lines": 100}
+
 Figures = Dict[str, Dict[str, float]]
 
 
@@ -114,6 +117,12 @@ def risen(now: Figures, then: Figures) -> List[str]:
             if value > then.get(table, {}).get(name, -1)]
 
 
+def rounded(table: str, value: float) -> float:
+    """The figure that is kept for a value."""
+    step = STEPS.get(table)
+    return -(-value // step) * step if step else value
+
+
 def lowered(text: str, now: Figures) -> str:
     """The text of the kept figures, with those that have fallen and without those of files that are gone. Comments
     stay."""
@@ -124,8 +133,8 @@ def lowered(text: str, now: Figures) -> str:
         table = head[1] if head else table
         if row and row[1] not in now[table]:
             continue
-        if row and now[table][row[1]] < float(row[2]):
-            line = f'"{row[1]}" = {now[table][row[1]]:g}{row[3]}'
+        if row and rounded(table, now[table][row[1]]) < float(row[2]):
+            line = f'"{row[1]}" = {rounded(table, now[table][row[1]]):g}{row[3]}'
         found.append(line)
     return "\n".join(found)
 
