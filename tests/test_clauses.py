@@ -1,9 +1,11 @@
 """The functions without a clause are those that tools/prove/tested.toml lists, and the page of contracts has them."""
+import collections
 import pathlib
+import re
 import tempfile
 import tomllib
 import unittest
-from typing import Set
+from typing import Dict, Iterator, Set, Tuple
 
 from tools.prove import contracts
 from tools.prove.clauses import CRATES, contract_of, crates_given, functions_in, without_clause
@@ -47,6 +49,28 @@ def listed() -> Set[str]:
     return {f"{row['crate']} {name}" for row in rows for name in row["functions"]}
 
 
+def named_by_others() -> Dict[str, Set[str]]:
+    """Of each crate what other crates and the library tests name behind its name."""
+    found: Dict[str, Set[str]] = collections.defaultdict(set)
+    for path in (*CRATES.glob("*/src/**/*.rt"), *(TOP / "tests" / "library").rglob("*.rs")):
+        for crate, names in re.findall(r"\b(bhs_\w+)::(\{[^}]*\}|[\w:]+)", path.read_text(encoding="utf-8")):
+            if CRATES / crate not in path.parents:
+                found[crate].update(re.findall(r"\w+", names))
+    return found
+
+
+def calls_that_want_memory() -> Iterator[Tuple[str, str]]:
+    """The crates and names of open functions that take an allocator or can say that memory ran out, if another crate
+    names them, or their types."""
+    types, named = contracts.memory_types(), named_by_others()
+    for crate in crates_given([]):
+        for path in sorted((CRATES / crate / "src").rglob("*.rt")):
+            for one in contracts.contracts_in(path):
+                wants = types & set(re.findall(r"\w+", contracts.answer_of(one.signature)))
+                if (wants or "Global" in one.signature) and one.name.partition("::")[0] in named[crate]:
+                    yield crate, one.name
+
+
 class ClausesTest(unittest.TestCase):
     def test_the_table_has_each_function_without_a_clause(self) -> None:
         table, found = listed(), {f"{one.crate} {one.name}" for one in without_clause(crates_given([]))}
@@ -79,13 +103,26 @@ class ContractsTest(unittest.TestCase):
     def test_types_that_hold_a_fault_of_memory_can_say_it(self) -> None:
         types = contracts.memory_types()
         self.assertLessEqual({"NetFault", "RehearsalFault", "Ended", "Lack"}, types)
+        self.assertLessEqual({"EndedSession", "Served"}, types)
         self.assertNotIn("Command", types)
+
+    def test_each_call_that_can_want_memory_has_a_row(self) -> None:
+        rows = [re.findall("`(.*?)`", row)[:2] for row in contracts.memory_rows(crates_given([]))]
+        calls = list(calls_that_want_memory())
+        self.assertGreater(len(calls), 100)
+        lacking = [call for call in calls if not any(
+            crate == call[0] and f"::{name}".endswith(f"::{call[1]}") for crate, name in rows)]
+        self.assertEqual(lacking, [], "calls that can want memory have no row in the page of contracts")
 
     def test_the_page_has_each_function_that_a_crate_passes_on(self) -> None:
         page = "\n".join(contracts.page(crates_given([])))
         for head in ("`contests::equal_pasts_are_sent_equal_bytes` (-)", "`Net::try_new` (made, count, refused)",
                      "| `bhs_lock` | `Hall::told` | yes | no | `self`, `pass` | failed |",
-                     "| `bhs_rehearsal` | `Rehearsal::feed` | yes |"):
+                     "| `bhs_rehearsal` | `Rehearsal::feed_copied` | yes |", "| `bhs_view` | `cut_and_looks` | yes |",
+                     "| `bhs_replay` | `read_part` | yes |", "| `bhs_replay` | `head_of` | yes |",
+                     "| `bhs_model` | `text_shared` | yes |", "| `bhs_text` | `Text::new` | yes |",
+                     "| `bhs_orders` | `print_verdict` | by its status | may |",
+                     "| `bhs_lineup` | `Keys::new` | no | no |"):
             self.assertIn(head, page)
         self.assertNotIn("`check_loops`", page.partition("## What want of memory leaves")[0])
         self.assertIn("`walks_through_the_removed_node`", page)

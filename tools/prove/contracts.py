@@ -4,9 +4,10 @@
 
 - The contracts: each public function with the names of its clauses, and what its `///` lines say. `-` is a clause
   without a name.
-- What want of memory leaves: each of these calls that can answer that memory ran out, or may wait, read off its
-  signature. The status that a command answers says so too. What a call is lent by `&` stays as it was, and what is
-  moved in is dropped. What it is lent by `&mut` may have changed; the clauses that are named speak of errors.
+- What want of memory leaves: each of these calls that can answer that memory ran out, takes an allocator, or may wait,
+  read off its signature. A command says by its exit status that memory ran out. What a call is lent by `&` stays as it
+  was, and what is moved in is dropped. What it is lent by `&mut` may have changed; the clauses that are named speak of
+  errors. tests/test_clauses.py finds each such call that another crate names in these rows.
 - Functions without a clause, of which any body is proved, and what fails for a wrong one; and wrong bodies that
   contracts let through. These are kept by hand in tools/prove/tested.toml; tests/test_clauses.py compares the functions
   with those that tools/prove/clauses.py finds.
@@ -27,10 +28,13 @@ CLAUSE = re.compile(r"^\s*ensures(?: (\w+))? \{", re.MULTILINE)
 # a clause that speaks of an answer that is an error
 OF_ERRORS = re.compile(r"\b(?:IfErr|OnErr|OnFailure|IfFault)\b")
 ENUM = re.compile(r"enum (\w+)[^{]*\{(.*?)\n\}", re.DOTALL)
+STRUCT = re.compile(r"^pub struct (\w+)[^;{(]*\{(.*?)\n\}", re.DOTALL | re.MULTILINE)
+OPEN_FIELD = re.compile(r"^    pub \w+: (.*),$", re.MULTILINE)
 VARIANT = re.compile(r"^    (\w+)(?:\((.*?)\)| \{(.*?)\n    \}| = \d+)?,?$", re.DOTALL | re.MULTILINE)
 # a runtime that waits, a stream, or who answers
 WAITS = re.compile(r"\w: (?:[\w:]+ \+ )*(?:io::)?"
                    r"(?:Wait|Threads|Read|BufRead|Write|Input|Output|Files|Team|Port|Connection|Machine)\b")
+ALLOCATOR = re.compile(r"\balloc: Global\b")
 PASSED_ON = re.compile(r"^pub use ([^;]+);", re.MULTILINE)
 OPEN_MODULE = re.compile(r"^pub mod (\w+);", re.MULTILINE)
 CHANGED = re.compile(r"(\w+): &mut|&mut (self)")
@@ -90,24 +94,29 @@ def contracts_in(path: pathlib.Path) -> Iterator[Contract]:
 
 
 def contracts_of(crate: str) -> List[Contract]:
-    """The functions that a crate passes on, of its own and of its types, file by file."""
+    """The functions that a crate passes on, of its own and of its types, file by file: those of its head, of its open
+    modules, and those that the head names."""
     root = CRATES / crate / "src"
     head = "".join(path.read_text(encoding="utf-8") for path in (root / "lib.rt", root / "main.rt") if path.exists())
     names = {name for found in PASSED_ON.findall(head) for name in re.findall(r"\w+", found)}
     open_modules = set(OPEN_MODULE.findall(head))
     found = [(path.stem, one) for path in sorted(root.rglob("*.rt")) for one in contracts_in(path)]
     return [one._replace(name=f"{module}::{one.name}") if module in open_modules and "::" not in one.name else one
-            for module, one in found if module in open_modules or one.name.partition("::")[0] in names]
+            for module, one in found if module in {"lib", *open_modules} or one.name.partition("::")[0] in names]
 
 
 def memory_types() -> Set[str]:
-    """The types that can say that memory ran out: enums with such a variant, or with one that holds such a type."""
-    enums = [found for path in CRATES.glob("*/src/**/*.rt") for found in ENUM.findall(path.read_text(encoding="utf-8"))]
+    """The types that can say that memory ran out: enums with such a variant, or with one that holds such a type, and
+    structs with an open field that does."""
+    texts = [path.read_text(encoding="utf-8") for path in CRATES.glob("*/src/**/*.rt")]
+    enums = [found for text in texts for found in ENUM.findall(text)]
+    structs = [(name, OPEN_FIELD.findall(body)) for text in texts for name, body in STRUCT.findall(text)]
     found, grown = set(MEMORY), True
     while grown:
         more = {name for name, body in enums if name not in found and any(
             variant[1] in MEMORY or found & set(re.findall(r"\w+", f"{variant[2]} {variant[3]}"))
             for variant in VARIANT.finditer(body))}
+        more |= {name for name, kinds in structs if name not in found and found & set(re.findall(r"\w+", str(kinds)))}
         grown = bool(more)
         found |= more
     return found
@@ -118,6 +127,15 @@ def answer_of(signature: str) -> str:
     return signature.rpartition(") -> ")[2] if ") -> " in signature else ""
 
 
+def wants_memory(types: Set[str], signature: str) -> str:
+    """Whether a call can say that memory ran out: by its answer, by its exit status, or not."""
+    words = set(re.findall(r"\w+", answer_of(signature)))
+    is_command = "u8" in words and re.search(r"\berrors: &mut", signature)
+    if types & words:
+        return "yes"
+    return "by its status" if is_command and (ALLOCATOR.search(signature) or "Memory>" in signature) else "no"
+
+
 def contract_lines(crate: str) -> Iterator[str]:
     for one in contracts_of(crate):
         clauses = ", ".join(one.clauses) or "no clause"
@@ -125,17 +143,16 @@ def contract_lines(crate: str) -> Iterator[str]:
 
 
 def memory_rows(crates: List[str]) -> Iterator[str]:
-    """A row of each call that can want memory, or waits."""
+    """A row of each call that can want memory, takes an allocator, or waits."""
     types = memory_types()
     for crate in crates:
         for one in contracts_of(crate):
-            wants = bool(types & set(re.findall(r"\w+", answer_of(one.signature))))
-            waits = bool(WAITS.search(one.signature))
-            if not wants and not waits:
+            wants, waits = wants_memory(types, one.signature), bool(WAITS.search(one.signature))
+            if wants == "no" and not waits and not ALLOCATOR.search(one.signature):
                 continue
             changed = ", ".join(f"`{name or this}`" for name, this in CHANGED.findall(one.signature))
             speak = ", ".join(name for name, text in one.clauses.items() if OF_ERRORS.search(text))
-            yield (f"| `{crate}` | `{one.name}` | {'yes' if wants else 'no'} | {'may' if waits else 'no'} | {changed} "
+            yield (f"| `{crate}` | `{one.name}` | {wants} | {'may' if waits else 'no'} | {changed} "
                    f"| {speak} |")
 
 
