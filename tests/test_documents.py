@@ -47,6 +47,18 @@ class Traces(unittest.TestCase):
                 self.assertRegex((TOP / "crates" / file).read_text(encoding="utf-8"), rf"\bfn {name}\b")
 
 
+class Surface(unittest.TestCase):
+    def test_what_became_of_a_name_is_there(self) -> None:
+        rows = ARCHITECTURE.read_text(encoding="utf-8").partition("\n## Names since the first surface\n")[2]
+        found = [name for row in re.findall(r"^\| .*? \| (.*?) \|", rows, re.MULTILINE)
+                 for name in re.findall(r"`(bhs_\w+)::(?:\w+::)?(\w+)`", row)]
+        self.assertGreater(len(found), 12)
+        for crate, name in found:
+            with self.subTest(crate, name=name):
+                text = "".join(it.read_text(encoding="utf-8") for it in (TOP / "crates" / crate / "src").rglob("*.rt"))
+                self.assertRegex(text, rf"\b(fn|struct|enum|trait) {name}\b|pub use .*::{name};")
+
+
 class Theorems(unittest.TestCase):
     def test_theorems_that_are_named_are_laws(self) -> None:
         named = {found for path in documents() for found in NAMED.findall(path.read_text(encoding="utf-8"))}
