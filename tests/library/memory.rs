@@ -3,6 +3,7 @@
 //! refused, the test passes. Before and behind them it may want memory.
 
 mod again;
+mod commands;
 mod exploring;
 mod lent;
 mod playing;

@@ -19,4 +19,5 @@ mod FoundLemmas
 pub mod PastLogLemmas
 pub mod LoopLemmas
 mod OnePassLemmas
+mod RoomLemmas
 pub mod TurnLemmas

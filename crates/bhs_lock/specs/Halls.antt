@@ -74,6 +74,14 @@ spoken marks.Bye text = replies.Bye
 spoken marks.Over text = replies.Over
 spoken (marks.No why) text = replies.No why
 
+-- whether the reply to this command, if it were told now, says what a whiteboard shows, or that it was written
+abbrev pub IsOfBoard : Play → (agent : ℕ) → Command → Type 0
+IsOfBoard play agent command = is_of_board_if (reply (world_in play) (state_of play) (Tell agent command)) ≡ true
+
+-- whether this command, if it were told now, would be heard, and so would stand in the log
+abbrev pub IsHeard : Play → (agent : ℕ) → Command → Type 0
+IsHeard play agent command = keeps_next (world_in play) play.log (Tell agent command) ≡ true
+
 -- What is taken from memory before a command is told: where the reply will speak of a whiteboard, two copies of the
 -- text that the agent sees; and what will be kept of the command, if it is heard.
 pub record IsSpareFor (play : Play) (agent : ℕ) (command : Command) (spare : Spare) : Type 0 where

@@ -7,7 +7,8 @@ use Rattle.bhs_model.specs.declared.replies.Reply.TheVariants.{Over, No}
 use Rattle.bhs_model.specs.declared.replies.Why.{Why}
 use Rattle.bhs_model.specs.declared.replies.Why.TheVariants.{Agent, Outside, Twice, Ended, Spent}
 use Rattle.bhs_lock.specs.declared.model.Tally.{Tally}
-use Rattle.bhs_lock.specs.Halls.{is_below}
+use Rattle.bhs_lock.specs.Halls.{Housed, agrees, is_below, IsOfBoard}
+use Rattle.bhs_lock.specs.Tallies.{IsLegalHistory}
 use Rattle.bhs_lock.specs.Passes.{Passed, AreBelow, tally_in, gained}
 
 -- whether a command that is answered so was not heard
@@ -54,3 +55,13 @@ pub record IsUnrecorded (pass : Passed) (command : Command) (said : Reply) (pass
 abbrev pub IsSubmitted : Passed → Command → (place : Option ℕ) → Reply → Passed → Type 0
 IsSubmitted pass command (Some place) said pass' = IsRecorded pass command place said pass'
 IsSubmitted pass command None said pass' = IsUnrecorded pass command said pass'
+
+-- A command for which memory may be wanted: in some legal history with which the pass agrees, the reply to it says
+-- what a whiteboard shows, or that it was written. A Depart, an Accuse, a Leave and a Bad have no such reply, and
+-- neither has a command that the pass's own numbers refuse. That the match is not over, `Hall::told` says of the hall
+-- that it has.
+pub record MayWantMemory (pass : Passed) (command : Command) : Type 0 where
+  pub hall : Housed
+  pub legal : IsLegalHistory hall.play hall.tallies
+  pub agreed : agrees hall pass ≡ true
+  pub of_board : IsOfBoard hall.play pass.agent command

@@ -4,7 +4,7 @@ ghost use Rattle.std.specs.Prelude.{◌≡◌, ◌≤◌, ◌↔◌, [], IfOk, I
 ghost use Rattle.bhs_match.specs.Matches.{most_kept};
 ghost use Rattle.bhs_match.specs.Decided.{AreAllDone, HaveAllEntered};
 ghost use Rattle.bhs_deal.specs.Dealer.{moved_on};
-ghost use Rattle.bhs_lock.specs.Recording.{IsSubmitted};
+ghost use Rattle.bhs_lock.specs.Recording.{IsSubmitted, MayWantMemory};
 ghost use Rattle.bhs_lock.specs.Tallies.{nothing};
 ghost use Rattle.bhs_lock.specs.Timing.{at_first};
 ghost use Rattle.bhs_lock.specs.Unclaimed.{IsFresh};
@@ -146,6 +146,9 @@ impl Cell {
         command: Command,
     ) -> Result<Answer, Memory>
         ensures submitted { IfOk result (λ answer. IsSubmitted pass.old command answer.place answer.reply pass.new) }
+
+        // Memory is wanted only for a reply that says what a whiteboard shows, or that it was written.
+        ensures memory { OnErr result (MayWantMemory pass.old command) }
         ensures failed { OnErr result (pass.new ≡ pass.old) }
     {
         let agent = pass.agent();

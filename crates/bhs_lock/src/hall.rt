@@ -1,9 +1,9 @@
 //! What stands under the lock of a match.
 
 ghost use Rattle.std.specs.Prelude.{◌≡◌, ◌≤◌, [], true, IfOk, IfSome, OnErr, length, replicate, vec_capacity};
-ghost use Rattle.bhs_lock.specs.Halls.{agrees, same_tally, is_below, empty_hall, IsAnswered};
+ghost use Rattle.bhs_lock.specs.Halls.{agrees, same_tally, is_below, empty_hall, IsAnswered, IsOfBoard};
 ghost use Rattle.bhs_lock.specs.Tallies.{IsLegalHistory, nothing};
-ghost use Rattle.bhs_lock.specs.Recording.{IsSubmitted};
+ghost use Rattle.bhs_lock.specs.Recording.{IsSubmitted, MayWantMemory};
 ghost use Rattle.bhs_lock.specs.Passes.{passes_of};
 ghost use Rattle.bhs_lock.specs.Arrivals.{is_here, IsGiven};
 ghost use Rattle.bhs_match.specs.Matches.{state_of, most_kept};
@@ -154,6 +154,10 @@ impl Hall {
 
         // What the pass itself says of it.
         ensures submitted { IfOk result (λ answer. IsSubmitted pass.old command answer.place answer.reply pass.new) }
+
+        // Memory is wanted only for a reply that says what a whiteboard shows, or that it was written.
+        ensures memory { OnErr result (IsOfBoard self.old.play pass.old.agent command) }
+        ensures wanting { OnErr result (MayWantMemory pass.old command) }
 
         // If memory runs out, nothing changes.
         ensures failed { OnErr result ((self.new ≡ self.old) × (pass.new ≡ pass.old)) }

@@ -1,12 +1,13 @@
 //! What the session of an agent was answered.
 
-ghost use Rattle.std.specs.Prelude.{◌≡◌, [], true, IfOk, OnErr, length, option_map, option_and_then, slice_get, map};
+ghost use Rattle.std.specs.Prelude.{◌≡◌, ◌<◌, ◌+◌, [], true, IfOk, OnErr, length, slice_get, map};
+ghost use Rattle.std.specs.Prelude.{option_map, option_and_then};
 ghost use Rattle.std.specs.Prelude.{Some, IfSome, IsTrue, ◌↔◌};
 ghost use Rattle.bhs_match.specs.Matches.{world_in, state_of, shown_at};
 ghost use Rattle.bhs_lock.specs.Passes.{Passed, empty_pass, is_end, tally_in, Ascend};
 ghost use Rattle.std.specs.Prelude.{MatchOption};
 ghost use Rattle.bhs_lock.specs.Comparing.{entry_of, receipted, IsFirstDifference};
-ghost use Rattle.bhs_lock.specs.Halls.{is_below, spoken, IsSpareFor, IsTold};
+ghost use Rattle.bhs_lock.specs.Halls.{is_below, spoken, IsSpareFor, IsTold, IsOfBoard, IsHeard};
 ghost use Rattle.bhs_lock.specs.Settling.{arrived_by};
 ghost use Rattle.bhs_lock.specs.Arrivals.{arrival_at, receipt_at, is_here, IsGiven};
 ghost use Rattle.bhs_model.specs.Marks.{read};
@@ -33,8 +34,8 @@ pub struct Pass {
 }
 
 impl Model for Pass {
-    ghost use Rattle.std.specs.Prelude.{◌≡◌};
-    ghost use Rattle.std.specs.Prelude.{length};
+    ghost use Rattle.std.specs.Prelude.{◌≡◌, ◌≤◌, ◌+◌};
+    ghost use Rattle.std.specs.Prelude.{length, vec_capacity};
     ghost use Rattle.std.specs.List.{list_any};
     ghost use Rattle.bhs_lock.specs.Passes.{Passed, is_last, Ascend};
 
@@ -49,8 +50,10 @@ impl Model for Pass {
       arrivals = p.arrivals.items;
     } };
 
-    ghost invariant = { λ p. (p.ended ≡ list_any is_last p.receipts.items)
-        × (length p.receipts.items ≡ length p.commands.items) × Ascend 0 p.receipts.items };
+    // There is room for an Enter, the quota, and a Leave.
+    ghost invariant = { λ p. ((p.ended ≡ list_any is_last p.receipts.items)
+        × (length p.receipts.items ≡ length p.commands.items) × Ascend 0 p.receipts.items)
+        × ((p.quota + 2 ≤ vec_capacity p.receipts) × (p.quota + 2 ≤ vec_capacity p.commands)) };
 }
 
 impl Pass {
@@ -148,13 +151,13 @@ impl Pass {
     /// Tells a match a command of the pass's agent. Memory is taken before anything changes, and only if the reply
     /// will speak of a whiteboard.
     pub(crate) fn submit_to(&mut self, play: &mut Match, command: Command) -> Result<Effect, Memory>
-        requires { is_below self.old.receipts (length play.old.log) ≡ true }
+        requires order { is_below self.old.receipts (length play.old.log) ≡ true }
+        requires room { IsHeard play.old self.old.agent command → length self.old.receipts < self.old.quota + 2 }
         ensures done { IfOk result (λ step. IsTold play.old self.old command step.place step.mark step.reply
             play.new self.new) }
+        ensures memory { OnErr result (IsOfBoard play.old self.old.agent command) }
         ensures failed { OnErr result ((self.new ≡ self.old) × (play.new ≡ play.old)) }
     {
-        self.receipts.reserve(1)?;
-        self.commands.reserve(1)?;
         let agent = self.agent;
         let Spare { text, again, kept } = spare(*self.receipts.allocator(), play, agent, &command)?;
         let Answer { place, mark } = play.apply(Event::Tell { agent, command });
@@ -253,7 +256,8 @@ fn arrival_at(log: &[Kept], place: u32) -> Option<Mark>
 
 // What a command may need, by what its reply will speak of.
 fn spare(alloc: Global, play: &Match, agent: u16, command: &Command) -> Result<Spare, Memory>
-    ensures { IfOk result (IsSpareFor play.now agent command.now) }
+    ensures spare { IfOk result (IsSpareFor play.now agent command.now) }
+    ensures memory { OnErr result (IsOfBoard play.now agent command.now) }
 {
     if play.shows(agent, command) {
         Ok(Spare {

@@ -6,7 +6,14 @@ use Rattle.bhs_lock.proofs.DrawLemmas.{length_told}
 use Rattle.bhs_lock.proofs.TallyLemmas.{legal_unheard, legal_agreed, agents_told}
 use Rattle.bhs_lock.proofs.RecordLemmas.{submitted}
 use Rattle.bhs_lock.proofs.TurnLemmas.{has_room, told_setup, told_grows, have_turns}
+use Rattle.bhs_lock.proofs.RoomLemmas.{at_err, room_agreed, wants}
 use Rattle.bhs_lock.proofs.hall.Hall.told.Goals as goal
+
+pub submit_to-requires-clause-room : goal.submit_to-requires-clause-room
+submit_to-requires-clause-room c =
+    room_agreed c.args.self.now c.self.inside.play c.args.pass.now c.args.command
+    (ap (λ (hall : Housed). hall.play) c.self.view_is) (sym c.agrees.ensures ∙ c.if-not-agrees.false)
+    c.self.invariant.0.1
 
 pub stamp-requires : goal.stamp-requires
 stamp-requires c = rw c.log-legal.ensures.log
@@ -49,3 +56,8 @@ returns-clause-submitted c =
     let same = ap (λ (hall : Housed). hall.play) c.self.view_is in
     submitted c.args.self.now _ _ _ _ _ _ _ _ same (sym c.agrees.ensures ∙ c.if-not-agrees.false) c.self.invariant.0.1
     c.receipts-order.ensures.order c.in_ok-step.ensures.done
+
+pub returns-in_err-step-clause-wanting : goal.returns-in_err-step-clause-wanting
+returns-in_err-step-clause-wanting c =
+    at_err c.from_residual.result (wants _ c.args.self.now c.args.pass.now c.args.command c.self.view_is
+    (sym c.agrees.ensures ∙ c.if-not-agrees.false) c.self.invariant.0.0 c.in_err-step.ensures.memory)
