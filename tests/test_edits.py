@@ -39,14 +39,37 @@ PROVER = "import sys; print(open('src/only' if '--only' in sys.argv else 'src/wh
 
 
 class Functions(unittest.TestCase):
-    def at(self, text: str, path: str = "src/halls/doors.rt") -> str:
-        return edits.function_at(path, CODE, CODE.index(text)) or "none"
+    def at(self, text: str, path: str = "src/halls/doors.rt", *others: str) -> str:
+        """The function that a text of CODE stands in, if CODE is that file of a crate, beside files of other texts."""
+        folder = pathlib.Path(self.enterContext(tempfile.TemporaryDirectory()))
+        for file, code in (path, CODE), *((f"src/other_{place}.rt", other) for place, other in enumerate(others)):
+            (folder / file).parent.mkdir(parents=True, exist_ok=True)
+            (folder / file).write_text(code)
+        return edits.function_at(folder, path, CODE.index(text)) or "none"
 
     def test_the_function_of_a_line_is_found(self) -> None:
         self.assertEqual(self.at("2 * number\n}"), "halls::doors::double")
         self.assertEqual(self.at("2 * number\n}", "src/lib.rt"), "double")
         self.assertEqual(self.at("self.count"), "halls::doors::Hall::told")
         self.assertEqual(self.at("Fault::Broken"), "halls::doors::FaultFromBroken::from")
+
+    def test_a_method_stands_in_the_module_of_its_type(self) -> None:
+        others = "pub struct Halls;\n", "#[derive(Clone)]\npub(crate) struct Hall {\n", "pub enum Fault {\n"
+        self.assertEqual(self.at("self.count", "src/lib.rt", *others), "other_1::Hall::told")
+        self.assertEqual(self.at("Fault::Broken", "src/lib.rt", *others), "other_2::FaultFromBroken::from")
+        self.assertEqual(self.at("self.count", "src/lib.rt", *others, "struct Hall;"), "Hall::told")
+
+    def test_an_impl_is_named_by_the_words_of_its_trait(self) -> None:
+        for head, named in (
+            ("impl Hall {", "Hall"),
+            ("impl<'h, R: Read> Hall<'h, R> {", "Hall"),
+            ("impl fmt::Display for Fault {", "FaultDisplay"),
+            ("impl From<io::Error> for Fault {", "FaultFromIoError"),
+            ("impl From<Vec<u16>> for Fault {", "FaultFromVecU16"),
+            ("impl<R: Read> From<Broken<'a, R>> for Fault {", "FaultFromBroken"),
+        ):
+            with self.subTest(head=head):
+                self.assertEqual(edits.type_of(head), ("Hall" if named == "Hall" else "Fault", named))
 
     def test_a_constant_stands_in_no_function(self) -> None:
         self.assertEqual(self.at("MOST"), "none")
@@ -103,7 +126,7 @@ class Answers(unittest.TestCase):
         source.mkdir(parents=True)
         for name, text in (("only", only), ("whole", whole), ("lib.rt", CODE)):
             (source / name).write_text(text)
-        function = edits.function_at("src/lib.rt", CODE, CODE.index(old))
+        function = edits.function_at(folder / "low", "src/lib.rt", CODE.index(old))
         edit = edits.Edit("one", [("src/lib.rt", old, "")], function)
         self.enterContext(unittest.mock.patch.object(edits, "CRATES", folder))
         self.enterContext(unittest.mock.patch.object(edits, "read_edit", lambda *_: edit))
@@ -123,6 +146,10 @@ class Answers(unittest.TestCase):
 
     def test_a_crate_that_is_still_proved_is_not_refused(self) -> None:
         self.assertIn("NOT REFUSED", self.told("only=1 proved=1", "logic=proved functions=2"))
+
+    def test_a_function_that_the_crate_lacks_is_named_wrongly(self) -> None:
+        lacks = "rattle: error: `low` has no function `double`: help: write the name that a check prints after `fn`"
+        self.assertIn("BAD EDIT: a line `only: PATH` must name", self.told(lacks, "logic=not-proved functions=2"))
 
     def test_a_remark_is_no_reason(self) -> None:
         remark = "./proofs/Lemmas.antt:110:5: note: large solution"

@@ -29,7 +29,9 @@ SOME_PROVED = re.compile(r"only=(\d+) proved=(\d+)")
 # names that a text of the code or of a definition lacks: the edit was not tried
 UNREAD = re.compile(r"(\./)?(src|specs)/\S+ error: .*(is not in scope|has no field|is missing|expected the end)")
 FUNCTION = re.compile(r"( *)(pub(\([a-z]+\))? )?(const )?fn (\w+)")
-HEAD = re.compile(r"impl(?:<.*?>)? (?:([\w:]+)(?:<(.*?)>)? for )?(\w+)")
+HEAD = re.compile(r"impl(?:<(.*?)>)? (?:([\w:]+)(?:<(.*)>)? for )?(\w+)")
+# what the prover says of a function that a crate lacks
+NO_FUNCTION = re.compile(r"\S+: error: `\w+` has no function .*")
 
 
 class BadEdit(Exception):
@@ -60,26 +62,38 @@ def module_of(path: str) -> List[str]:
     return [] if parts in (["lib"], ["main"]) else parts
 
 
-def type_of(head: str) -> Optional[str]:
-    """How the prover names an `impl`: by its type, or by the type, the trait and the trait's type."""
+def type_of(head: str) -> Optional[Tuple[str, str]]:
+    """The type of an `impl`, and how the prover names the `impl`: by its type, or by the type, the trait and the words
+    of the trait's type."""
     found = HEAD.match(head)
     if not found:
         return None
-    trait, of, name = found.groups()
+    parameters, trait, of, name = found.groups()
     if trait is None:
-        return name
-    return name + trait.rpartition("::")[2] + re.sub(r"<.*|\W", "", of or "")
+        return name, name
+    words = [it for it in re.findall(r"(?<!')\b\w+", of or "") if it not in re.findall(r"\w+", parameters or "")]
+    return name, name + trait.rpartition("::")[2] + "".join(it[0].upper() + it[1:] for it in words)
 
 
-def function_at(path: str, text: str, place: int) -> Optional[str]:
-    """The function whose body has a place of a file, by the path that the prover knows."""
+def module_of_type(folder: pathlib.Path, name: str, path: str) -> List[str]:
+    """The module of a crate that declares a type, by which the prover names the type's methods wherever they stand. If
+    not just one does, it is that of a file."""
+    declared = re.compile(rf"^(?:pub(?:\(.*?\))? )?(?:struct|enum|union) {name}\b", re.M)
+    files = [it for it in (folder / "src").rglob("*.rt") if declared.search(it.read_text())]
+    return module_of(str(files[0].relative_to(folder)) if len(files) == 1 else path)
+
+
+def function_at(folder: pathlib.Path, path: str, place: int) -> Optional[str]:
+    """The function of a crate whose body has a place of a file, by the path that the prover knows."""
     name, depth = None, 0
-    for line in reversed(text[:place].split("\n")):
+    for line in reversed((folder / path).read_text()[:place].split("\n")):
         found = FUNCTION.match(line)
         if found and name is None:
             name, depth = found[5], len(found[1])
         elif name is not None and line.startswith("impl") and depth:
-            return "::".join([*module_of(path), *filter(None, [type_of(line)]), name])
+            named = type_of(line)
+            module = module_of_type(folder, named[0], path) if named else module_of(path)
+            return "::".join([*module, *(named or [])[1:], name])
         elif line.startswith("}") and name is None:
             return None
         if name is not None and depth == 0:
@@ -108,7 +122,7 @@ def read_edit(path: pathlib.Path, folder: pathlib.Path) -> Edit:
     edit.change(folder, {})
     file, old, _ = changes[0]
     text = (folder / file).read_text()
-    return edit._replace(function=only or function_at(file, text, text.index(old)))
+    return edit._replace(function=only or function_at(folder, file, text.index(old)))
 
 
 # Checks.
@@ -134,6 +148,8 @@ class Prover(NamedTuple):
             ran = subprocess.run([*self.words, "--incremental", self.kept, *only], cwd=room, stdin=subprocess.DEVNULL,
                                  stdout=subprocess.PIPE, stderr=subprocess.STDOUT, text=True, errors="replace")
         lines = ran.stdout.rstrip("\n").split("\n")
+        if NO_FUNCTION.match(lines[-1]):
+            raise BadEdit(f"a line `only: PATH` must name the function that it changes: {lines[-1]}")
         unread = next((line for line in lines if UNREAD.match(line)), None)
         if unread:
             raise BadEdit(f"the edited text can't be read: {unread}")
