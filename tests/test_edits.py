@@ -36,6 +36,15 @@ impl<'a, R: Read> From<Broken<R>> for Fault {
 '''
 # a prover that ends as its working folder's file says, once for --only and once without
 PROVER = "import sys; print(open('src/only' if '--only' in sys.argv else 'src/whole').read())"
+# a prover that can't read a text with MOST for a fault, and otherwise proves none of the functions that it is to check
+PROVER_OF_MANY = """
+import sys
+functions = [word for before, word in zip(sys.argv, sys.argv[1:]) if before == "--only"]
+if "\\n        MOST\\n" in open("src/lib.rt").read():
+    print("src/lib.rt:3:1: error: `MOST`: it is not in scope")
+print("\\n".join(f"fn low::{it}: not proved" for it in functions))
+print(f"only={len(functions)} proved=0")
+"""
 
 
 class Functions(unittest.TestCase):
@@ -191,6 +200,7 @@ class Together(unittest.TestCase):
     DOUBLE = edits.Edit("triples", [("src/lib.rt", "    2 * number\n", "    3 * number\n")], "double")
     OTHER = edits.Edit("halves", [("src/lib.rt", "    2 * number\n", "    number\n")], "double")
     TOLD = edits.Edit("counts_no_more", [("src/lib.rt", "self.count + 1", "self.count")], "Hall::told")
+    IMPORT = edits.Edit("imports_another", [("src/lib.rt", "use std::fmt;\n", "use std::io;\n")], "fmt")
     MOST = edits.Edit("has_less", [("src/lib.rt", "= 7;", "= 6;")], None)
 
     def setUp(self) -> None:
@@ -230,6 +240,16 @@ class Together(unittest.TestCase):
                       "./proofs/double/Answers.antt:7:5: error: `returns`: the two types differ",
                       "./proofs/Hall/told/more/Answers.antt:7:5: error: `returns`: the two types differ"):
             self.assertEqual(self.refused(other, caller, "only=2 proved=0"), {})
+
+    def test_one_edit_that_is_not_tried_leaves_the_others_together(self) -> None:
+        bad = edits.Edit("has_no_name", [("src/lib.rt", "Fault::Broken\n", "MOST\n")], "FaultFromBroken::from")
+        with tempfile.TemporaryDirectory() as kept:
+            prover_of_it = edits.Prover("low", [sys.executable, "-c", PROVER_OF_MANY], kept)
+            with unittest.mock.patch.object(edits.Prover, "lines", autospec=True,
+                                            side_effect=edits.Prover.lines) as lines:
+                told = edits.refused_together(prover_of_it, [self.DOUBLE, self.TOLD, self.IMPORT, bad])
+        self.assertEqual(told, {"triples": "double: not proved", "counts_no_more": "Hall::told: not proved"})
+        self.assertEqual([len(call.args[1]) for call in lines.call_args_list], [4, 2, 2])
 
     def test_a_check_that_does_not_end_refuses_nothing(self) -> None:
         self.assertEqual(self.refused("fn low::double: no proof: `search` did not prove `ensures`", "killed"), {})

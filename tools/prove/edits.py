@@ -186,15 +186,17 @@ def own_error(lines: Sequence[str], function: str) -> str:
 
 
 def refused_together(prover: Prover, edits: Sequence[Edit]) -> Dict[str, str]:
-    """What the prover says against those edits that their own functions refuse, if all are made at once."""
+    """What the prover says against those edits that their own functions refuse, if all are made at once, or half of
+    them at a time where a check of all comes to nothing."""
     if len(edits) < 2:
         return {}
     try:
         lines = prover.lines(edits, [it.function for it in edits if it.function])
     except BadEdit:
-        return {}
+        lines = [""]
     if not SOME_PROVED.match(lines[-1]):
-        return {}
+        half = len(edits) // 2
+        return {**refused_together(prover, edits[:half]), **refused_together(prover, edits[half:])}
     refused = {}
     for edit in edits:
         begin = f"fn {prover.name}::{edit.function}: "
