@@ -101,7 +101,7 @@ def parser(name_of_lab: str = IN_CLONE, called: Collection[str] = tuple(COMMANDS
         module.add_words(words)
         spellings.take_old_spellings(words)
         call_by(name_of_lab, words)
-        words.set_defaults(run=module.run, refuse=words.error)
+        words.set_defaults(run=module.run, refuse=words.error, needs=command.needs)
     return made
 
 

@@ -45,6 +45,7 @@ from arena_lab.search.checking import Counted
 from arena_lab.search.capacity import OF_MODEL, OF_PROGRAM, fitting
 from arena_lab.search.machines import Machines
 from arena_lab.search.proving import CHECKED, FOUND, Proving, MatchResult, choices_of, found_in
+from arena_lab.support.built import NoProgram
 from arena_lab.support.progress import bar
 
 __all__ = ["SCHEDULERS", "Exploration", "Game", "HuntResult", "Network", "Proof", "Record", "Row", "SampleRequest",
@@ -100,7 +101,13 @@ def game(network: NetworkLike, agents: Union[AgentLike, Sequence[AgentLike]], *,
 
 def path_of(engine: str) -> Optional[str]:
     """The program that an engine names, or None for the Python model."""
-    return None if engine == MODEL else program_at(None if engine == PROGRAM else engine)
+    if engine == MODEL:
+        return None
+    try:
+        return program_at(None if engine == PROGRAM else engine)
+    except NoProgram as fault:
+        raise NoProgram(f"{fault}; or give engine={MODEL!r}: the Python model needs none, and nothing of it is "
+                        "proved") from None
 
 
 def engine_name(engine: str) -> str:

@@ -8,14 +8,14 @@ do. Waits for the server to end, and prints its table and which teams solved the
 exit status is 1.
 
 The server is `./arena serve`. Where tools/build has not built the proved program, ./arena compiles one without a proof
-first, in a minute or two, and says at each start that it is not proved.
+first, in a minute or two, and says at each start that it is not proved. Without the toolchain it is the server in
+Python, `./arena-lab serve`, and a line says so.
 
 With --kill the agents of the team green are killed in the middle of their search, and the other teams must solve
 theirs. Files go to a temporary folder; --keep has the replays of the matches written to a folder, --pages also a page
-of each and a list of them (./arena-lab pages). With --watch a browser shows the contest while it goes on (
-./arena-lab watch); turns are slower then, and the page stays until you press Enter. ARENA in the environment names
-another
-server, as ARENA="./arena-lab" for one in Python, which needs neither a build nor the toolchain.
+of each and a list of them (./arena-lab pages). With --watch a browser shows the contest while it goes on (./arena-lab
+watch); turns are slower then, and the page stays until you press Enter. ARENA in the environment names another server,
+as ARENA="./arena-lab" for the one in Python.
 """
 import argparse
 import contextlib
@@ -40,6 +40,8 @@ from arena_lab.support.ports import free_port  # noqa: E402
 AGENTS = TOP / "examples" / "agents"
 RELEASED_RING = TOP / "bin" / "ring"
 TOURNAMENT = "examples/contest.toml"
+# the lab's command, whose `serve` plays where there is no program
+LAB = "arena-lab"
 TURNS = 10_000
 PAUSE = 2
 # milliseconds: what the matches wait for their agents
@@ -75,11 +77,14 @@ TEAMS: Dict[str, List[str]] = {
 
 
 def arena() -> List[str]:
-    """The command that ARENA names, or ./arena, which a wheel does not have."""
+    """The command that ARENA names, or ./arena, which a wheel does not have; or the server in Python, if there is no
+    program."""
     if "ARENA" in os.environ:
         return shlex.split(os.environ["ARENA"])
     launcher = TOP / "arena"
-    return [str(launcher if launcher.exists() else built.PACKAGED)]
+    if not launcher.exists():
+        return [str(built.PACKAGED)]
+    return [str(launcher if built.can_play() else TOP / LAB)]
 
 
 def build(folder: pathlib.Path) -> None:
@@ -140,8 +145,10 @@ def outcomes(table: str) -> Dict[str, str]:
 
 
 def write_pages(replays: str, folder: pathlib.Path) -> None:
-    """Writes a page of each match and one that lists them, by the program that served them, if that is one."""
-    program = ["--program", *arena()] if "ARENA" in os.environ and len(arena()) == 1 else []
+    """Writes a page of each match and one that lists them, by the program that served them, or by the model."""
+    server = arena()
+    is_model = pathlib.Path(server[0]).name == LAB or len(server) > 1
+    program = ["--engine", "model"] if is_model else ["--program", server[0]] if "ARENA" in os.environ else []
     tool = [DEBIANS_PYTHON, "-m", "arena_lab", "pages", TOURNAMENT, replays, "--out", str(folder.resolve()), *program]
     subprocess.run(tool, cwd=TOP, check=True)
 
@@ -179,8 +186,12 @@ def main() -> int:
         kept.mkdir(parents=True, exist_ok=True)
         replays = str(kept.resolve() / "match")
         pause = WATCHED_PAUSE if words.watch else SLOW_PAUSE if words.kill else PAUSE
+        server = arena()
+        if server == [str(TOP / LAB)]:
+            print("contest: there is no program, and no toolchain that compiles one: `./arena-lab serve` plays, a "
+                  "server in Python, of which nothing is proved", file=sys.stderr, flush=True)
         with watched(replays, pause) if words.watch else contextlib.nullcontext():
-            table = play(arena(), pathlib.Path(name), replays, pause, words.kill)
+            table = play(server, pathlib.Path(name), replays, pause, words.kill)
             print(table, end="", flush=True)
         found = outcomes(table)
         judged = [team for team in TEAMS if not (words.kill and team == VICTIM)]

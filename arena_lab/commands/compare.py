@@ -148,7 +148,7 @@ def add_words(parser: argparse.ArgumentParser) -> None:
 
 
 def run(words: argparse.Namespace) -> int:
-    played, faults = compare(program_at(words.program), range(words.seed, words.seed + words.matches))
+    played, faults = compare(program_at(words.program, words.needs), range(words.seed, words.seed + words.matches))
     for fault in faults:
         print(fault, file=sys.stderr)
     print(f"{played} matches, {len(faults)} differ")

@@ -124,7 +124,7 @@ def run(words: argparse.Namespace) -> int:
     draws = draws_of(words)
     check_way(words)
     if (words.search or words.engine) == PROGRAM:
-        program, way = engine or program_at(words.program), Parallelism(words.workers, words.cluster)
+        program, way = engine or program_at(words.program, words.needs), Parallelism(words.workers, words.cluster)
         states = words.states or states_of(words)
         wanted = [explore_program.ExploreRequest(game, program, engine, states, words.check, words.keep, way) for game
                   in games]

@@ -72,7 +72,7 @@ def run(words: argparse.Namespace) -> int:
     hall = read(course)
     folder = (words.folder or folder_of(course)).resolve()
     if action == "serve":
-        return serve(words, hall, HallFolder(folder, course.resolve(), program_at(words.program)))
+        return serve(words, hall, HallFolder(folder, course.resolve(), program_at(words.program, words.needs)))
     begin(place.at(folder))
     if action == "backup":
         return report(f"wrote {backup.write(place.at(folder), pathlib.Path(given[1]))}")

@@ -102,7 +102,7 @@ def add_words(parser: argparse.ArgumentParser) -> None:
 
 
 def run(words: argparse.Namespace) -> int:
-    program = program_at(words.program)
+    program = program_at(words.program, words.needs)
     names: List[str] = words.names or sorted(PLANS)
     unknown = set(names) - set(PLANS)
     if unknown:

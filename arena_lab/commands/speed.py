@@ -70,7 +70,7 @@ def add_words(parser: argparse.ArgumentParser) -> None:
 
 
 def run(words: argparse.Namespace) -> int:
-    named = program_at(words.program)
+    named = program_at(words.program, words.needs)
     engines: Dict[str, Optional[str]] = {"the Python model": None, name_of(named): named}
     for engine, program in engines.items():
         for team, agent in TEAMS.items():

@@ -12,6 +12,7 @@ from arena_lab.rules.engines import MODEL, PROGRAM, program_at
 from arena_lab.rules.fixtures import Fixture, read_tournament
 from arena_lab.rules.model import Place
 from arena_lab.rules.networks import Network
+from arena_lab.support.built import NoProgram
 
 
 def at_least_one(word: str) -> int:
@@ -139,7 +140,13 @@ def add_engine(parser: argparse.ArgumentParser) -> None:
 
 def program_of(words: argparse.Namespace) -> Optional[str]:
     """The program that is to play, or None for the Python model."""
-    return program_at(words.program) if words.engine == PROGRAM else None
+    if words.engine == MODEL:
+        return None
+    try:
+        return program_at(words.program, words.needs)
+    except NoProgram as fault:
+        raise NoProgram(f"{fault}; or add `--engine model`: the Python model needs none, and nothing of it is "
+                        "proved") from None
 
 
 def add_workers(parser: argparse.ArgumentParser) -> None:

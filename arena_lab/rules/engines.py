@@ -4,7 +4,7 @@ import os
 import pathlib
 import subprocess
 import tempfile
-from typing import IO, List, Optional, Protocol, cast
+from typing import IO, Iterable, List, Optional, Protocol, cast
 
 from arena_lab.rules.fixtures import Fixture, write_tournament
 from arena_lab.rules.model import Match, Verdict
@@ -53,10 +53,10 @@ class EngineRefused(Fault):
         self.status = status
 
 
-def program_at(path: Optional[str]) -> str:
+def program_at(path: Optional[str], modules: Iterable[str] = ()) -> str:
     """The program that is named, or else the proved one if it is built, or else one without a proof, which is compiled
-    first. One that is not proved is told on standard error."""
-    found = pathlib.Path(path or built.any_program())
+    first, unless modules that are needed are missing. One that is not proved is told on standard error."""
+    found = pathlib.Path(path or built.any_program(modules))
     if not found.is_file() or not os.access(found, os.X_OK):
         raise NoProgram(f"{found}: there is no such program: {HOW_TO_BUILD}")
     built.warn_of(found.resolve())
