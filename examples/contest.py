@@ -157,7 +157,7 @@ def write_pages(replays: str, folder: pathlib.Path) -> None:
 def watched(replays: str, pause: int) -> Iterator[None]:
     """Shows the contest in a browser while it goes on, and until Enter is pressed."""
     port = free_port()
-    words = [TOURNAMENT, replays, "--port", port, "--turns", TURNS, "--pause", pause]
+    words = [TOURNAMENT, replays, "--port", port, "--turns", TURNS, "--pause", pause, "--gather", GATHER]
     with subprocess.Popen([DEBIANS_PYTHON, "-m", "arena_lab", "watch", *map(str, words)], cwd=TOP,
                           stdout=subprocess.PIPE,
                           text=True) as child:

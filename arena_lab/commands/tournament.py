@@ -122,6 +122,13 @@ def trap_on(words: argparse.Namespace, number: int, name: str) -> Planned:
     return place._replace(setup=setup._replace(holes=[]), held=networks.places_into(setup.links, nodes))
 
 
+def file_of(names: Sequence[str], number: int) -> str:
+    """The file of a network, which is called by its name, as pages and tables call it."""
+    called = [re.sub(r"\W+", "-", pathlib.PurePath(name).name.removesuffix(".toml")).strip("-") for name in names]
+    are_names = len({*called, "", pathlib.PurePath(TOURNAMENT).stem}) == len(called) + 2
+    return f"{called[number]}.toml" if are_names else f"{called[number] or 'network'}-{number}.toml"
+
+
 def places_on(words: argparse.Namespace, number: int, name: str) -> List[Planned]:
     """The matches on a network, hole by hole."""
     network = network_for(name, words)
@@ -132,7 +139,7 @@ def places_on(words: argparse.Namespace, number: int, name: str) -> List[Planned
         raise NoNetwork(f"{name}: a match has 1 to {MOST_AGENTS} agents, and not {agents}; name another number by "
                         "--agents")
     return [Planned(Setup(network.nodes, network.links, words.home, [hole], agents, words.quota, words.board), [],
-                  f"network{number}.toml") for hole in holes_of(words, name, network)]
+                  file_of(words.network, number)) for hole in holes_of(words, name, network)]
 
 
 def key_of(team: str) -> str:

@@ -1,14 +1,15 @@
 """Shows a contest that goes on, for a projector: a web server whose pages update by themselves.
 
-    ./arena-lab watch TOURNAMENT PREFIX [--port 8080] [--address A] [--turns K --pause MS] [--open]
+    ./arena-lab watch TOURNAMENT PREFIX [--port 8080] [--address A] [--turns K --pause MS] [--gather MS] [--open]
 
 TOURNAMENT is the file that `arena serve` serves, and PREFIX what its --replay names. Start it before the contest or at
 any time in it; it reads the parts of the replays as they grow, and goes on when the server is started again.
 
-While a match runs the page shows its team, since when it runs, and how many of its agents have entered, and nothing
-that would tell an agent more than it has met. Once it is closed its verdict is shown; once all are closed each match
-has its page, on which it is played from its start to its end at the speed that you choose. With --turns and --pause, as
-`serve` has them, the page says about how many turns are left.
+While a match goes on the page shows its team and network, whether it waits for its agents, since when its turns go on,
+and how many of its agents have entered, and nothing that would tell an agent more than it has met. Once it is closed
+its verdict is shown; once all are closed each match has its page, on which it is played from its start to its end at
+the speed that you choose. With --turns and --pause, as `serve` has them, the page says about how many turns are left;
+with --gather, as `serve` has it, also of a match whose agents do not all come.
 
 With --open each match has its page at once, and the page follows it: everybody sees the black holes, so this is for
 practice and talks alone.
@@ -19,7 +20,9 @@ python3-networkx for the pages of matches.
 import argparse
 import pathlib
 
-from arena_lab.pages.projector import show
+from arena_lab.pages.contest_pages import matches_of
+from arena_lab.pages.feeds import feeds
+from arena_lab.pages.projector import ContestView, show
 
 
 def add_words(parser: argparse.ArgumentParser) -> None:
@@ -35,11 +38,16 @@ def add_words(parser: argparse.ArgumentParser) -> None:
                         "this machine's name is answered anyway")
     parser.add_argument("--turns", metavar="K", type=int, help="how many turns a match has, as `serve` was told")
     parser.add_argument("--pause", metavar="MS", type=int, help="the pause before each turn, as `serve` was told")
+    parser.add_argument("--gather", metavar="MS", type=int, help="for how long a match waits for its agents, as "
+                        "`serve` was told: by default until all have entered")
     parser.add_argument("--open", action="store_true", help="show each match as it goes, with its black holes: for "
                         "practice and talks")
 
 
 def run(words: argparse.Namespace) -> int:
     turns = {"turns": words.turns, "pause": words.pause} if words.turns and words.pause else {}
-    show(words.tournament, words.prefix, (words.address, words.port), turns, words.open, words.host)
+    matches = matches_of(words.tournament)
+    gather, pause = (None if it is None else it / 1000 for it in (words.gather, words.pause))
+    contest = ContestView(matches, feeds(words.prefix, len(matches), gather, pause), words.open)
+    show(contest, words.tournament.stem, (words.address, words.port), turns, words.host)
     return 0

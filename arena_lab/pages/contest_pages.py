@@ -60,8 +60,10 @@ def page_of(title: str, matches: List[Shown]) -> str:
     """The page that lists the matches."""
     solved = sum(one.verdict is not None and one.verdict.is_solved for one in matches)
     came = [Came(one.team, one.name, one.verdict, one.has_entered, one.is_trap) for one in matches]
-    return filled("contest.html", title=title, matches=sorted(matches, key=place_of), solved=solved,
-                  teams=ranked(came), networks=networks_of(came))
+    names = networks_of(came)
+    parts = [(name, sorted((it for it in matches if it.name == name), key=place_of)) for name in names]
+    return filled("contest.html", title=title, count=len(matches), parts=parts, solved=solved, teams=ranked(came),
+                  networks=names)
 
 
 def has_entered(replay: pathlib.Path) -> bool:
@@ -111,7 +113,8 @@ def write_pages(program: Optional[str], tournament: pathlib.Path, prefix: str, f
             replay = tries.chosen(program, shown.team, all_tries)
             shown = shown._replace(verdict=verdict_of(program, replay), tries=len(all_tries),
                                    has_entered=any(map(has_entered, all_tries)))
-            write_page(program, replay, folder / f"match{shown.number}.html")
+            write_page(program, replay, folder / f"match{shown.number}.html",
+                       title=f"match {shown.number}: {shown.team} on {shown.name}")
             kept = folder / f"match{shown.number}.jsonl"
             if kept.resolve() != replay.resolve():
                 shutil.copyfile(replay, kept)

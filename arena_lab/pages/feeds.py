@@ -2,30 +2,39 @@
 
 A part, PREFIXM.jsonl.part, grows by whole lines; at the end it becomes the replay, PREFIXM.jsonl. Only what is new is
 read, and it is played by the Python model as it comes. A line that is not whole yet waits.
+
+Turns begin once all agents of a match have entered, or once it has gathered for as long as the server waits. Of a match
+with the oblivious schedule the server also says the turn of each event; of these only turns of enters are looked at
+while agents are missing, since all who play see who has entered.
 """
+import contextlib
 import json
 import pathlib
 import time
 from typing import Any, Dict, List, Optional
 
-from arena_lab.rules.model import Match, begun
+from arena_lab.rules.model import OUTSIDE, Match, begun
 
 # bytes of a part that are read at once, so that one match keeps no other waiting
 AT_ONCE = 1 << 20
 
 
 class Feed:
-    """One match: what of it was read so far, and since when."""
+    """One match: what of it was read so far, and since when its turns go on. The seconds for which the server has it
+    gather, and between two turns, are as `serve` was told, or None."""
 
-    def __init__(self, prefix: str, number: int) -> None:
+    def __init__(self, prefix: str, number: int, gather: Optional[float] = None, pause: Optional[float] = None) -> None:
         self.match: Optional[Match] = None
         self.since: Optional[float] = None
+        self._gather, self._pause = gather, pause
         self._replay = pathlib.Path(f"{prefix}{number}.jsonl")
         self._part = pathlib.Path(f"{prefix}{number}.jsonl.part")
+        self._turns = [pathlib.Path(f"{prefix}{number}.turns{end}") for end in (".part", "")]
         self._begin()
 
     def _begin(self) -> None:
         self.match, self.since, self._file, self._read, self._rest = None, None, -1, 0, b""
+        self._opened: Optional[float] = None
 
     def look(self) -> bool:
         """Reads what is new; answers whether there was anything. A replay has what its part had, so reading goes on in
@@ -33,9 +42,33 @@ class Feed:
         path = self._replay if self._replay.exists() else self._part
         try:
             with path.open("rb") as file:
-                return self._take(file, path == self._replay)
+                has_more = self._take(file, path == self._replay)
         except FileNotFoundError:
             return False
+        return self._turns_begin() or has_more
+
+    def _turns_begin(self) -> bool:
+        """Whether turns are found to go on now, and did not before. What the server says of turns tells since when, if
+        this was started later than they."""
+        match = self.match
+        if match is None or self.since is not None or self._opened is None:
+            return False
+        now, said = time.time(), self._said()
+        count = sum(agent.standing != OUTSIDE for agent in match.agents)
+        late = [turn for event, turn in zip(match.log, said) if event.get("do") == "enter" and turn]
+        is_over = self._gather is not None and now >= self._opened + self._gather
+        if count == match.setup.agents or late:
+            self.since = now - (said or [0])[-1] * (self._pause or 0)
+        elif is_over:
+            self.since = self._opened + (self._gather or 0)
+        return self.since is not None
+
+    def _said(self) -> List[int]:
+        """The turns of the events, if the server says them."""
+        path = next((it for it in self._turns if it.exists()), None)
+        with contextlib.suppress(OSError, ValueError):
+            return [int(line) for line in path.read_text().split("\n")[:-1]] if path else []
+        return []
 
     def _take(self, file: Any, is_replay: bool) -> bool:
         found = pathlib.Path(file.name).stat()
@@ -45,8 +78,8 @@ class Feed:
         self._file = found.st_ino if not is_replay else self._file
         file.seek(self._read)
         new = file.read(AT_ONCE)
-        if new and self.since is None:
-            self.since = min(time.time(), found.st_mtime)
+        if new and self._opened is None:
+            self._opened = min(time.time(), found.st_mtime)
         self._read += len(new)
         *lines, self._rest = (self._rest + new).split(b"\n")
         for line in lines:
@@ -61,6 +94,6 @@ class Feed:
             self.match.play(line)
 
 
-def feeds(prefix: str, count: int) -> List[Feed]:
+def feeds(prefix: str, count: int, gather: Optional[float] = None, pause: Optional[float] = None) -> List[Feed]:
     """The matches of a contest."""
-    return [Feed(prefix, number) for number in range(count)]
+    return [Feed(prefix, number, gather, pause) for number in range(count)]

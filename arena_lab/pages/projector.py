@@ -9,8 +9,8 @@ import socket
 import time
 from typing import Any, Callable, Collection, Dict, List, Mapping, Optional, Tuple
 
-from arena_lab.pages.contest_pages import Shown, matches_of
-from arena_lab.pages.feeds import Feed, feeds
+from arena_lab.pages.contest_pages import Shown
+from arena_lab.pages.feeds import Feed
 from arena_lab.pages.judging import cut, footprints
 from arena_lab.pages.page import layout, page_of, read, runs
 from arena_lab.pages.parts import filled, part
@@ -33,11 +33,11 @@ SCRIPT, STYLE = "text/javascript", "text/css"
 class ContestView:
     """The matches of a contest, and what of them may be shown. Whoever watches waits for the next version."""
 
-    def __init__(self, matches: List[Shown], prefix: str, is_open: bool) -> None:
+    def __init__(self, matches: List[Shown], found: List[Feed], is_open: bool) -> None:
         self.is_open = is_open
         self.version = 0
         self._matches = matches
-        self._feeds = feeds(prefix, len(matches))
+        self._feeds = found
         self._changed = asyncio.Condition()
         self._grown = [0] * len(matches)
         self.rows = self._standings()
@@ -77,8 +77,8 @@ class ContestView:
             await self._changed.wait_for(lambda: self.version != version)
 
     def _standings(self) -> List[Dict[str, Any]]:
-        return standings([WatchedMatch(match.team, feed.match, None if feed.since is None else int(feed.since))
-                          for match, feed in zip(self._matches, self._feeds)])
+        return standings([WatchedMatch(match.team, feed.match, None if feed.since is None else int(feed.since),
+                                       match.name) for match, feed in zip(self._matches, self._feeds)])
 
 
 def data_of(name: str, match: Match) -> Dict[str, Any]:
@@ -222,13 +222,13 @@ def application(contest: ContestView, title: str, turns: Dict[str, int], names: 
     return app
 
 
-def show(tournament: pathlib.Path, prefix: str, place: Tuple[str, int], turns: Dict[str, int], is_open: bool,
+def show(contest: ContestView, title: str, place: Tuple[str, int], turns: Dict[str, int],
          names: Collection[str] = ()) -> None:
-    """Shows the contest of a tournament's file at an address and port until it is interrupted. Names of hosts are those
-    by which it may be asked for, besides addresses and this machine's name."""
-    web, matches, (address, port) = needed("aiohttp.web"), matches_of(tournament), place
+    """Shows a contest at an address and port until it is interrupted. Names of hosts are those by which it may be asked
+    for, besides addresses and this machine's name."""
+    web, (address, port) = needed("aiohttp.web"), place
 
     async def made() -> Any:
-        return application(ContestView(matches, prefix, is_open), tournament.stem, turns, names)
+        return application(contest, title, turns, names)
     web.run_app(made(), host=address, port=port, access_log=None, shutdown_timeout=1,
                 print=lambda *_: print(f"watch http://{address}:{port}/", flush=True))

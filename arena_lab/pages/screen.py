@@ -1,7 +1,8 @@
 """What a screen may show of a contest that goes on: no more than all who play know, since they look at it.
 
-Of a match that is not closed: whose it is, that it runs, and how many of its agents have entered. That is the same in
-two matches that no agent can tell apart: where the black holes are, who is lost, and who is on a link does not count.
+Of a match that is not closed: whose it is, whether turns go on, and how many of its agents have entered. That is the
+same in two matches that no agent can tell apart: where the black holes are, who is lost, and who is on a link does not
+count.
 Once a match is closed, its verdict is shown. The page of a match shows the black holes, which others may still look
 for, so pages come when all matches are closed.
 """
@@ -11,25 +12,28 @@ from arena_lab.pages.teams import Came, networks_of, ranked
 from arena_lab.rules.model import OUTSIDE, RANKS, Match, Verdict, judge, rank
 
 Row = Dict[str, Any]
-NOT_BEGUN, RUNS, OVER = "has not begun", "runs", "is over"
+NOT_BEGUN, WAITS, RUNS, OVER = "has not begun", "waits for its agents", "runs", "is over"
 
 
 class WatchedMatch(NamedTuple):
-    """A match and whose it is, and the second since which it is there; None before."""
+    """A match and whose it is, the second since which its turns go on (None before), and its network's name."""
 
     team: str
     match: Optional[Match]
     since: Optional[int]
+    network: str = ""
 
 
 def shown(watched: WatchedMatch, all_closed: bool) -> Row:
     """What may be shown of a match."""
-    team, match, since = watched
+    team, match, since, _ = watched
     if match is None:
         return {"team": team, "state": NOT_BEGUN}
     if not match.closed:
         entered = sum(agent.standing != OUTSIDE for agent in match.agents)
-        return {"team": team, "state": RUNS, "entered": entered, "agents": match.setup.agents, "since": since}
+        row = {"team": team, "state": WAITS if since is None else RUNS, "entered": entered,
+               "agents": match.setup.agents}
+        return row if since is None else {**row, "since": since}
     verdict, has_come = judge(match), any(agent.standing != OUTSIDE for agent in match.agents)
     outcome = verdict.outcome if all_closed else verdict.kind
     return {"team": team, "state": OVER, "outcome": outcome, "moves": verdict.moves, "lost": verdict.lost,
@@ -59,7 +63,10 @@ def verdict_in(row: Row) -> Optional[Verdict]:
 
 
 def standings(all_watched: Sequence[WatchedMatch]) -> List[Row]:
-    """What may be shown of all matches, best first; `page` says whether the match's page may be opened."""
+    """What may be shown of all matches, network by network and best first; `page` says whether the match's page may be
+    opened."""
     all_closed = all(one.match is not None and one.match.closed for one in all_watched)
-    rows = [{"match": number, "page": all_closed, **shown(one, all_closed)} for number, one in enumerate(all_watched)]
-    return sorted(rows, key=place_of)
+    rows = [{"match": number, "network": one.network, "page": all_closed, **shown(one, all_closed)}
+            for number, one in enumerate(all_watched)]
+    names = [one.network for one in all_watched]
+    return sorted(rows, key=lambda row: (names.index(row["network"]), place_of(row)))

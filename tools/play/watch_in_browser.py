@@ -41,8 +41,9 @@ def browser(*more: str) -> webdriver.Chrome:
 
 
 def rows(page: webdriver.Chrome) -> List[List[str]]:
+    """The cells of each match: number, team, network, outcome, agents, moves, lost. Headings have fewer."""
     return page.execute_script("return [...document.querySelectorAll('#rows tr')].map(line => "
-                               "[...line.children].map(cell => cell.textContent))")
+                               "[...line.children].map(cell => cell.textContent)).filter(row => row.length === 7)")
 
 
 def shoot(page: webdriver.Chrome, folder: pathlib.Path, name: str) -> None:
@@ -84,13 +85,13 @@ def main() -> int:
             shoot(page, shots, "begins")
             agents = [subprocess.Popen(contest.command_of(agent, f"{team}-{number}", port, folder))
                       for team, members in contest.TEAMS.items() for number, agent in enumerate(members)]
-            WebDriverWait(page, SECONDS).until(lambda it: any(row[2].startswith("2 of") for row in rows(it)))
+            WebDriverWait(page, SECONDS).until(lambda it: any(row[4].startswith("2 of") for row in rows(it)))
             shoot(page, shots, "runs")
             WebDriverWait(page, SECONDS).until(lambda it: "4 of 4" in it.find_element("id", "about").text)
             shoot(page, shots, "over")
             table = [line.split() for line in server.communicate(timeout=SECONDS)[0].splitlines()[1:]]
-            found = [[row[0], *row[1].split(), row[3], row[4]] for row in rows(page)]
-            if found != [row[1:] for row in table]:
+            found = sorted([row[1], *row[3].split(), row[5], row[6]] for row in rows(page))
+            if found != sorted(row[1:] for row in table):
                 sys.exit(f"the page shows {found}, and the table is {table}")
             time.sleep(1)
             page.find_element("css selector", "#rows a").click()

@@ -24,7 +24,8 @@ function left(row) {
 }
 function words(row) {
   if (row.state === "is over") return row.outcome;
-  return row.state === "runs" ? `runs for ${minutes(Math.max(0, now() - row.since))}${left(row)}` : row.state;
+  if (row.state === "runs") return `runs for ${minutes(Math.max(0, now() - row.since))}${left(row)}`;
+  return row.agents ? `${row.state}: ${row.entered} of ${row.agents} entered` : row.state;
 }
 // one row a team; where each team has one match, its row says the same
 function showTeams() {
@@ -48,18 +49,29 @@ function showTeams() {
     return line;
   }));
 }
+// the line above the matches on a network, where there are several
+function heading(name) {
+  const line = document.createElement("tr"), made = document.createElement("th");
+  made.colSpan = 7;
+  made.textContent = name;
+  line.append(made);
+  return line;
+}
 function show() {
   if (!told) return;
   showTeams();
-  byId("rows").replaceChildren(...told.rows.map((row) => {
+  byId("rows").replaceChildren(...told.rows.flatMap((row, place) => {
     const line = document.createElement("tr"), isOver = row.state === "is over";
+    const isNew = told.teams.networks.length > 1 && (!place || told.rows[place - 1].network !== row.network);
+    cell(line, row.match);
     const link = (row.page || told.open) && row.state !== "has not begun" ? `/match/${row.match}` : null;
     cell(line, row.team);
+    cell(line, row.network);
     cell(line, words(row), isOver ? (row.outcome === "solved" ? "solved" : "failed") : "runs", link);
     cell(line, row.agents ? `${row.entered} of ${row.agents}` : "");
     cell(line, isOver ? row.moves : "");
     cell(line, isOver ? row.lost : "");
-    return line;
+    return isNew ? [heading(row.network), line] : [line];
   }));
   const over = told.rows.filter((row) => row.state === "is over").length;
   byId("about").textContent = `${over} of ${told.rows.length} matches are over`;

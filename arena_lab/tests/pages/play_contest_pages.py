@@ -32,6 +32,14 @@ class Lists(unittest.TestCase):
         self.assertIn('<a href="match3.html">', page)
         self.assertNotIn("match4.html", page)
 
+    def test_the_matches_on_each_network_stand_apart(self) -> None:
+        solved, wrong = Verdict("solved", 9, 0), Verdict("wrong", 1, 0)
+        page = page_of("cup", [Shown(number, "red", network, one) for number, (network, one) in enumerate(
+            [("ring.toml", wrong), ("cube.toml", solved), ("ring.toml", solved)])])
+        places = [page.index(text) for text in (">ring</th></tr>", "match2.html", "match0.html",
+                                                ">cube</th></tr>", "match1.html")]
+        self.assertEqual(places, sorted(places))
+
     def test_texts_of_the_file_are_escaped(self) -> None:
         page = page_of("<i>", [Shown(0, "a", "<b>.toml", None)])
         self.assertIn("&lt;b&gt;.toml", page)
@@ -47,7 +55,7 @@ class Writes(unittest.TestCase):
     def test_a_match_has_a_page_if_it_has_a_replay(self) -> None:
         (self.folder / "m1.jsonl").write_text("{}\n")
         with mock.patch.object(contest_pages, "verdict_of", return_value=Verdict("guess 2", 7, 1)), \
-                mock.patch.object(contest_pages, "write_page", lambda program, replay, page: page.write_text("page")):
+                mock.patch.object(contest_pages, "write_page", lambda _, replay, page, title: page.write_text("page")):
             index = write_pages("arena", self.file, str(self.folder / "m"), self.folder / "out")
         self.assertEqual(sorted(path.name for path in index.parent.iterdir()),
                          ["index.html", "match1.html", "match1.jsonl"])
@@ -62,8 +70,8 @@ class Writes(unittest.TestCase):
             path.write_text(text)
         verdicts = {"first": Verdict("solved", 9, 1), "second": Verdict("silent", 7, 0)}
         for take, counts in ((BETTER, "first"), (LAST, "second")):
-            with mock.patch.object(contest_pages, "verdict_of", lambda program, it: verdicts[it.read_text()]), \
-                    mock.patch.object(contest_pages, "write_page", lambda program, replay, page: page.write_text("")):
+            with mock.patch.object(contest_pages, "verdict_of", lambda _, it: verdicts[it.read_text()]), \
+                    mock.patch.object(contest_pages, "write_page", lambda _, replay, page, title: page.write_text("")):
                 index = write_pages(None, self.file, str(self.folder / "m"), self.folder / take, Tries([again], take))
             self.assertEqual((index.parent / "match1.jsonl").read_text(), counts)
             self.assertIn(f"<td>{verdicts[counts].outcome} (2 tries)</td>", index.read_text())

@@ -99,7 +99,8 @@ class Watching(InFolder):
         self.write(0, cut=5)
         rows = self.told(lambda rows: any(row.get("entered") for row in rows))
         self.assertEqual([(row["team"], row["state"], row["entered"], row["agents"], row["page"]) for row in rows],
-                         [("red", "runs", 1, 2, False), ("blue", "runs", 0, 2, False)])
+                         [("red", "waits for its agents", 1, 2, False), ("blue", "waits for its agents", 0, 2, False)])
+        self.assertEqual([(row["match"], row["network"]) for row in rows], [(0, "ring"), (1, "ring")])
         paths = [f"/match/{number}{rest}" for number in (0, 1, 7) for rest in ("", "/data", "/news")]
         self.assertEqual([self.status(path) for path in paths], [404] * 9)
         red.deliver(0)

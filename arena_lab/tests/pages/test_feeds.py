@@ -2,7 +2,9 @@
 import os
 import pathlib
 import tempfile
+import time
 import unittest
+from typing import Optional
 
 from arena_lab.pages.feeds import Feed
 from arena_lab.rules.model import Match, Setup, spelled
@@ -26,19 +28,41 @@ class Feeds(unittest.TestCase):
         os.utime(self.part, (at, at))
         self.feed.look()
 
-    def test_since_when_a_match_runs_stays(self) -> None:
+    def read(self) -> Optional[float]:
+        """Since when turns go on, by what was written now."""
+        self.part.write_text(self.text())
+        self.feed.look()
+        return self.feed.since
+
+    def test_no_turn_passes_while_the_server_waits_for_agents(self) -> None:
         self.begun(1000)
         self.match.tell(0, {"do": "enter"})
-        self.part.write_text(self.text())
-        self.feed.look()
-        self.assertEqual(self.feed.since, 1000)
+        self.assertIsNone(self.read())
+        self.match.tell(1, {"do": "enter"})
+        since = self.read()
+        self.assertLess(abs((since or 0) - time.time()), 60)
+        self.match.tell(0, {"do": "look"})
+        self.assertEqual(self.read(), since)
+
+    def test_turns_go_on_when_a_match_has_gathered_for_long_enough(self) -> None:
+        self.feed = Feed(str(self.part.with_name("m")), 0, gather=30)
+        self.begun(1000)
+        self.assertEqual(self.feed.since, 1030)
+
+    def test_what_the_server_says_of_turns_tells_since_when(self) -> None:
+        """To a projector that is started late, and of a match that does not gather."""
+        self.feed = Feed(str(self.part.with_name("m")), 0, pause=0.5)
+        self.match.tell(0, {"do": "enter"})
+        self.part.with_name("m0.turns.part").write_text("0\n")
+        self.assertIsNone(self.read())
+        self.part.with_name("m0.turns.part").write_text("2000\n")
+        self.assertLess(abs((self.read() or 0) - time.time() + 1000), 60)
 
     def test_another_contest_runs_since_it_began(self) -> None:
+        self.feed = Feed(str(self.part.with_name("m")), 0, gather=0)
         self.begun(1000)
         self.part.rename(self.part.with_suffix(".old"))
-        self.part.write_text(self.text())
-        self.feed.look()
-        self.assertGreater(self.feed.since or 0, 2000)
+        self.assertGreater(self.read() or 0, 2000)
 
     def test_a_line_that_is_not_whole_waits(self) -> None:
         self.match.tell(0, {"do": "enter"})

@@ -3,7 +3,7 @@ import random
 import unittest
 from typing import Any, Dict, List
 
-from arena_lab.pages.screen import NOT_BEGUN, OVER, RUNS, WatchedMatch, shown, standings, teams
+from arena_lab.pages.screen import NOT_BEGUN, OVER, RUNS, WAITS, WatchedMatch, shown, standings, teams
 from arena_lab.rules.model import Match, Setup
 from arena_lab.rules.networks import flipped_ring, ring
 
@@ -70,6 +70,14 @@ class Rows(unittest.TestCase):
         self.match.deliver(0)
         self.assertEqual(shown(WatchedMatch("red", self.match, 7), False),
                          {"team": "red", "state": RUNS, "entered": 1, "agents": 2, "since": 7})
+        self.assertEqual(shown(WatchedMatch("red", self.match, None), False),
+                         {"team": "red", "state": WAITS, "entered": 1, "agents": 2})
+
+    def test_matches_stand_network_by_network(self) -> None:
+        self.match.close()
+        rows = standings([WatchedMatch("red", None, None, "ring"), WatchedMatch("red", self.match, 7, "cube"),
+                          WatchedMatch("blue", self.match, 7, "ring")])
+        self.assertEqual([(row["network"], row["match"]) for row in rows], [("ring", 2), ("ring", 0), ("cube", 1)])
 
     def test_a_node_is_named_once_all_are_closed(self) -> None:
         self.match.tell(0, {"do": "enter"})

@@ -7,7 +7,7 @@ import unittest
 
 from arena_lab.__main__ import main
 from arena_lab.commands.network import ports_seed
-from arena_lab.commands.tournament import number_or, team_name
+from arena_lab.commands.tournament import file_of, number_or, team_name
 from arena_lab.rules import networks
 
 NAMES = ("ring:5", "hypercube:3", "torus:3x4", "complete:5", "ccc:3", "ccc:5", "random:7")
@@ -88,6 +88,12 @@ class Words(unittest.TestCase):
                             (number_or("all"), "0"), (number_or("all"), "few")):
             with self.subTest(word), self.assertRaises(argparse.ArgumentTypeError):
                 taken(word)
+
+    def test_the_file_of_a_network_has_its_name(self) -> None:
+        for names, files in ((["ring:8", "torus:5x5", "nets/own.toml"], ["ring-8.toml", "torus-5x5.toml", "own.toml"]),
+                             (["ring:8", "ring:8", "ring-8-1"], ["ring-8-0.toml", "ring-8-1.toml", "ring-8-1-2.toml"]),
+                             (["tournament.toml"], ["tournament-0.toml"])):
+            self.assertEqual([file_of(names, number) for number in range(len(names))], files)
 
 
 if __name__ == "__main__":
