@@ -1,5 +1,5 @@
 -- Matches of a tournament that come under locks, one after the other.
-use Rattle.std.proofs.Common.{◌≡◌, ◌∙◌, ap, ℕ, ◌+◌, List, [], ◌∷◌, ◌++◌, length, map, append_assoc}
+use Rattle.std.proofs.Common.{◌≡◌, ◌∙◌, ap, sym, ℕ, ◌+◌, List, [], ◌∷◌, ◌++◌, length, map, append_assoc}
 use Rattle.std.proofs.Common.{length-append}
 use Rattle.rand_chacha.specs.ChaCha.{ChaCha}
 use Rattle.bhs_time.specs.declared.kinds.ScheduleKind.{ScheduleKind}
@@ -17,6 +17,7 @@ pub record Hosts (seed : List ℕ) (schedule : ScheduleKind) (all : List Ready) 
   pub named : teams ++ map (λ (ready : Ready). ready.team) left ≡ map (λ (ready : Ready). ready.team) all
   pub given : cells ++ givens_of schedule (length cells) left ≡ givens_of schedule 0 all
   pub dealt : dealers ++ dealers_of seed (length dealers) left ≡ dealers_of seed 0 all
+  pub paired : length dealers ≡ length cells
 
 -- a list that has gained the first of what was left
 moved : {X : Type 0} (done done' : List X) (x : X) (left whole : List X) → done' ≡ done ++ x ∷ []
@@ -42,4 +43,5 @@ module _ (seed : List ℕ) (schedule : ScheduleKind) (all : List Ready) (teams t
             ∙ moved cells cells' (given_of schedule (length cells) ready) _ _ cell so_far.given;
         dealt = ap (λ n. dealers' ++ dealers_of seed n left) one
             ∙ moved dealers dealers' (dealer_at seed (length dealers) 0) _ _ dealer so_far.dealt;
+        paired = one ∙ ap (λ n. n + 1) so_far.paired ∙ sym next;
       }

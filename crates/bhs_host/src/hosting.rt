@@ -32,6 +32,9 @@ pub fn contest_of(alloc: Global, lineup: Lineup) -> Result<Hosted, Memory>
     ensures dealers { IfOk result (λ hosted. hosted.contest.dealers.items
         ≡ dealers_of lineup.seed 0 lineup.ready.items) }
     ensures keys { IfOk result (λ hosted. hosted.contest.keys ≡ lineup.keys) }
+
+    // Each match has its dealer.
+    ensures paired { IfOk result (λ hosted. length hosted.contest.dealers.items ≡ length hosted.contest.cells.items) }
 {
     let Lineup {
         seed,

@@ -1,6 +1,6 @@
 //! A contest over sockets: its sessions, the replays of its matches, and their table.
 
-ghost use Rattle.std.specs.Prelude.{◌≡◌, IfOk, IfErr, map};
+ghost use Rattle.std.specs.Prelude.{◌≡◌, IfOk, IfErr, length, map};
 ghost use Rattle.bhs_stream.specs.Streams.{known_takes};
 ghost use Rattle.bhs_lineup.specs.Fresh.{AreFresh};
 ghost use Rattle.bhs_server.specs.Settling.{HaveFared};
@@ -104,6 +104,7 @@ fn settled<R: Machine>(
     manner: &Manner<'_>,
     teams: &[Text],
 ) -> Result<Vec<Settled>, Lack>
+    requires { length contest.dealers.items ≡ length contest.cells.items }
     ensures { IfOk result (λ settled. HaveFared contest.cells.items contest.dealers.items settled.items) }
 {
     let log = started_log(alloc, rt)?;

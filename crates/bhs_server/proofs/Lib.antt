@@ -1,4 +1,5 @@
 mod SealLemmas
+mod PartLemmas
 pub mod DrainedLemmas
 pub mod ExchangeLemmas
 pub mod KnownLemmas

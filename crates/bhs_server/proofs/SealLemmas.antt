@@ -1,6 +1,6 @@
 -- A list of matches that are settled grows at its end, and dealers settle as they do at their starts.
-use Rattle.std.proofs.Common.{ℕ, suc, ◌≡◌, ◌∙◌, sym, subst, append_assoc, List, Option, Some, None, [], ◌∷◌, ◌++◌}
-use Rattle.std.proofs.Common.{ap, refl, Result, Ok, Err, drop, length, map}
+use Rattle.std.proofs.Common.{ℕ, suc, ◌≡◌, subst, List, Option, Some, None, [], ◌∷◌, ◌++◌}
+use Rattle.std.proofs.Common.{refl, Result, Ok, Err, drop, length, map}
 use Rattle.std.specs.Prelude.{slice_get, option_map}
 use Rattle.rand_chacha.specs.ChaCha.{ChaCha}
 use Rattle.bhs_time.specs.declared.kinds.ScheduleKind.{ScheduleKind}
@@ -32,8 +32,8 @@ astray_later Adaptive dealer held play turns place why is = is
 astray_later (Oblivious law) None held play turns place why is = is
 astray_later (Oblivious law) (Some dealer) held play turns place why is = is
 
-fared_later : (given : Given) (dealer : Option ChaCha) (one : Fared) → HasFared given (option_map at_start dealer) one →
-    HasFared given dealer one
+pub fared_later : (given : Given) (dealer : Option ChaCha) (one : Fared) →
+    HasFared given (option_map at_start dealer) one → HasFared given dealer one
 fared_later given dealer (Ok settlement) is =
     (is.0, timely_later given.schedule dealer given.held settlement.sealed settlement.turns.items is.1)
 fared_later given dealer (Err (Untimely settlement place why)) is =
@@ -68,7 +68,7 @@ get_later [] n = refl
 get_later (dealer ∷ dealers) n = refl
 
 -- one more match that is settled, by the dealer of its number
-HaveFared-snoc : (cells : List Given) (dealers : List ChaCha) (settled : List Fared) (given : Given) (one : Fared) →
+pub HaveFared-snoc : (cells : List Given) (dealers : List ChaCha) (settled : List Fared) (given : Given) (one : Fared) →
     HaveFared cells dealers settled → HasFared given (slice_get dealers (length settled)) one →
     HaveFared (cells ++ given ∷ []) dealers (settled ++ one ∷ [])
 HaveFared-snoc [] dealers [] given one all is = (is, tt)
@@ -79,15 +79,3 @@ HaveFared-snoc (first ∷ cells) dealers (before ∷ settled) given one all is =
 )
 HaveFared-snoc [] dealers (before ∷ settled) given one all is = absurd all
 HaveFared-snoc (first ∷ cells) dealers [] given one all is = absurd all
-
--- of the cells that are left the next one is settled too
-pub next_settled : (cells done rest others : List Given) (dealers : List ChaCha) (given : Given) (settled : List Fared)
-    (one : Fared) → cells ≡ done ++ rest → rest ≡ given ∷ others → HaveFared done dealers settled →
-    HasFared given (option_map at_start (slice_get dealers (length settled))) one →
-    (more : List Given) × (cells ≡ more ++ others) × HaveFared more dealers (settled ++ one ∷ [])
-next_settled cells done rest others dealers given settled one split next all is =
-    let moved = ap (λ xs. done ++ xs) next ∙ sym (append_assoc done (given ∷ []) others) in (
-      done ++ given ∷ [],
-      split ∙ moved,
-      HaveFared-snoc done dealers settled given one all (fared_later given (slice_get dealers (length settled)) one is),
-    )

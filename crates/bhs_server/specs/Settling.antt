@@ -1,5 +1,6 @@
 -- What comes of the matches of a server.
-use Rattle.std.specs.Prelude.{ℕ, ◌≡◌, Vec, Option, Some, List, [], ◌∷◌, Result, Ok, Err, drop, length, slice_get}
+use Rattle.std.specs.Prelude.{ℕ, suc, ◌≡◌, Vec, Option, Some, List, [], ◌∷◌, Result, Ok, Err, drop, length, slice_get}
+use Rattle.std.specs.Prelude.{◌==◌, if◌then◌else◌, map}
 use Rattle.std.specs.declared.alloc.Global.{Global}
 use Rattle.rand_chacha.specs.ChaCha.{ChaCha}
 use Rattle.bhs_time.specs.declared.kinds.ScheduleKind.{ScheduleKind}
@@ -14,6 +15,8 @@ use Rattle.bhs_lock.specs.Passes.{Passed}
 use Rattle.bhs_lock.specs.Cells.{Given}
 use Rattle.bhs_lock.specs.Disputes.{AreInAccord, HasRefused}
 use Rattle.bhs_lock.specs.declared.settling.Settlement.{Settlement}
+use Rattle.bhs_session.specs.declared.endings.Ended.{Ended}
+use Rattle.bhs_server.specs.declared.sessions.Session.{Session}
 use Rattle.bhs_server.specs.declared.settling.Refused.{Refused}
 use Rattle.bhs_server.specs.declared.settling.Refused.TheVariants.{Unsettled, Untimely}
 
@@ -61,3 +64,35 @@ HaveFared [] dealers [] = Unit {0}
 HaveFared (given ∷ others) dealers (one ∷ more) =
     HasFared given (slice_get dealers 0) one × HaveFared others (drop 1 dealers) more
 HaveFared cells dealers settled = ⊥
+
+-- the passes of the sessions on the match of this number, in the order of the sessions
+abbrev pub passes_in : (game : ℕ) → List Session → List Passed
+passes_in game [] = []
+passes_in game (session ∷ sessions) = if session.played.game == game then session.played.pass ∷ passes_in game sessions
+    else passes_in game sessions
+
+-- the sessions on other matches
+abbrev pub others_than : (game : ℕ) → List Session → List Session
+others_than game [] = []
+others_than game (session ∷ sessions) = if session.played.game == game then others_than game sessions
+    else session ∷ others_than game sessions
+
+-- these are the passes that the match was settled with, or refused with
+abbrev pub IsSettledBy : Given → List Passed → Result Settlement Refused → Type 0
+IsSettledBy given passes (Ok settlement) = AreInAccord given settlement.sealed passes
+IsSettledBy given passes (Err (Untimely settlement place why)) = AreInAccord given settlement.sealed passes
+IsSettledBy given passes (Err (Unsettled unsettled)) = unsettled.passes.items ≡ passes
+
+-- each match, of which the first has this number, was settled or refused with the passes of its sessions
+abbrev pub AreSettledBy : (game : ℕ) → List Given → List Session → List (Result Settlement Refused) → Type 0
+AreSettledBy game [] sessions [] = Unit {0}
+AreSettledBy game (given ∷ others) sessions (one ∷ more) =
+    IsSettledBy given (passes_in game sessions) one × AreSettledBy (suc game) others sessions more
+AreSettledBy game cells sessions settled = ⊥
+
+-- How sessions ended by whose passes the matches were settled: there is one entry for each, in their order.
+pub record HaveEnded (cells : List Given) (settled : List (Result Settlement Refused))
+    (ended : List Ended) : Type 0 where
+  pub sessions : List Session
+  pub each : ended ≡ map (λ session. session.ended) sessions
+  pub settled_by : AreSettledBy 0 cells sessions settled

@@ -1,12 +1,12 @@
 //! Serving a contest to its end.
 
-ghost use Rattle.std.specs.Prelude.{IfOk};
-ghost use Rattle.bhs_server.specs.Settling.{HaveFared};
+ghost use Rattle.std.specs.Prelude.{◌≡◌, IfOk, length};
+ghost use Rattle.bhs_server.specs.Settling.{HaveEnded, HaveFared};
 
 use crate::lacks::Lack;
 use crate::pacing::Pace;
 use crate::running::{Running, all_sessions};
-use crate::settling::{Settled, again, by_match, settle_all};
+use crate::settling::{Settled, again, endings, settle_all};
 use crate::watching::Watch;
 use bhs_deal::Dealer;
 use bhs_lineup::Keys;
@@ -77,7 +77,12 @@ pub fn run_server<
     gate: &G,
     watch: &W,
 ) -> Result<Served, Lack>
+    // Each match has its dealer: no turn is taken in one that has none, and it is never closed.
+    requires { length contest.dealers.items ≡ length contest.cells.items }
     ensures settled { IfOk result (λ served. HaveFared contest.cells.items contest.dealers.items served.settled.items) }
+
+    // There is an entry for each session by whose pass a match was settled.
+    ensures ended { IfOk result (λ served. HaveEnded contest.cells.items served.settled.items served.ended.items) }
 {
     let Contest {
         cells,
@@ -99,9 +104,9 @@ pub fn run_server<
         },
         dealers,
     )?;
-    let returned = by_match(alloc, cells.len(), sessions)?;
+    let ended = endings(alloc, &sessions)?;
     Ok(Served {
-        settled: settle_all(alloc, cells, &copies, returned.passes)?,
-        ended: returned.ended,
+        settled: settle_all(alloc, cells, &copies, sessions)?,
+        ended,
     })
 }

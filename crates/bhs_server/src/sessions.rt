@@ -8,9 +8,9 @@ use std::sync::{Mutex, Wait};
 
 /// A session that has ended. Its agent was let in.
 #[derive(Debug, Drop)]
-pub(crate) struct Session {
-    pub(crate) ended: Ended,
-    pub(crate) played: SessionAgent,
+pub struct Session {
+    pub ended: Ended,
+    pub played: SessionAgent,
 }
 
 /// The sessions that have ended, in the order of their ends.

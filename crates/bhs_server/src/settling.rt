@@ -1,9 +1,9 @@
 //! Settling the matches of a contest once its sessions have ended.
 
-ghost use Rattle.std.specs.Prelude.{◌≡◌, IfOk, MatchOption, length, map, option_map, slice_get, vec_len};
+ghost use Rattle.std.specs.Prelude.{◌≡◌, IfOk, MatchOption, length, map, option_map, slice_get};
 ghost use Rattle.bhs_server.specs.Settling.{HasFared, HaveFared, IsAstray, IsTimely, at_start};
+ghost use Rattle.bhs_server.specs.Settling.{AreSettledBy, IsSettledBy, others_than, passes_in};
 
-use crate::ports::SessionAgent;
 use crate::sessions::Session;
 use bhs_deal::{Dealer, Schedule, Untimely, first_untimely};
 use bhs_lock::{Cell, Pass, Settlement, settle};
@@ -28,40 +28,37 @@ pub enum Refused {
 /// What came of a match: the match, as its sessions were answered and with its turns, or why it has no result.
 pub type Settled = Result<Settlement, Refused>;
 
-/// The passes that sessions played by, by the numbers of their matches, and how the sessions ended, in order.
-#[derive(Drop)]
-pub(crate) struct Returned {
-    pub(crate) passes: Vec<Vec<Pass>>,
-    pub(crate) ended: Vec<Ended>,
-}
-
-/// What the sessions on this number of matches gave back.
-pub(crate) fn by_match(
-    alloc: Global,
-    games: usize,
-    sessions: Vec<Session>,
-) -> Result<Returned, Memory>
-    ensures { IfOk result (λ returned. vec_len returned.ended ≡ vec_len sessions) }
+/// How sessions ended, in order.
+pub(crate) fn endings(alloc: Global, sessions: &[Session]) -> Result<Vec<Ended>, Memory>
+    ensures { IfOk result (λ ended. ended.items ≡ map (λ session. session.ended) sessions.now) }
 {
-    let mut passes = Vec::with_capacity(alloc, games)?;
-    for _ in 0..games {
-        passes.push(Vec::new(alloc))?;
-    }
     let mut ended = Vec::with_capacity(alloc, sessions.len())?;
     for session in sessions {
         ended.push(session.ended)?;
-        hand_in(&mut passes, session.played)?;
     }
-    Ok(Returned { passes, ended })
+    Ok(ended)
 }
 
-// Lays a pass to those of its match.
-fn hand_in(passes: &mut Vec<Vec<Pass>>, played: SessionAgent) -> Result<(), Memory> {
-    let SessionAgent { game, pass } = played;
-    if let Some(own) = passes.get_mut(game as usize) {
-        own.push(pass)?;
+// The passes of the sessions on the match of this number, and the sessions on others.
+fn parted(
+    alloc: Global,
+    number: usize,
+    sessions: Vec<Session>,
+) -> Result<(Vec<Pass>, Vec<Session>), Memory>
+    ensures own { IfOk result (λ parts. parts.0.items ≡ passes_in number sessions.items) }
+    ensures others { IfOk result (λ parts. parts.1.items ≡ others_than number sessions.items) }
+{
+    let mut own = Vec::new(alloc);
+    let mut others = Vec::with_capacity(alloc, sessions.len())?;
+    for session in sessions {
+        let is_own = session.played.game as usize == number;
+        if is_own {
+            own.push(session.played.pass)?;
+        } else {
+            others.push(session)?;
+        }
     }
-    Ok(())
+    Ok((own, others))
 }
 
 /// What came of the match of each cell, in order, with the passes of its sessions and by the dealer of its number.
@@ -69,15 +66,18 @@ pub(crate) fn settle_all(
     alloc: Global,
     cells: Vec<Cell>,
     dealers: &[Dealer],
-    passes: Vec<Vec<Pass>>,
+    sessions: Vec<Session>,
 ) -> Result<Vec<Settled>, Memory>
-    ensures { IfOk result (λ settled. HaveFared cells.items dealers.now settled.items) }
+    ensures fared { IfOk result (λ settled. HaveFared cells.items dealers.now settled.items) }
+    ensures passes { IfOk result (λ settled. AreSettledBy 0 cells.items sessions.items settled.items) }
 {
     let mut settled = Vec::with_capacity(alloc, cells.len())?;
-    let mut passes = passes.into_iter();
+    let mut left = sessions;
     for cell in cells {
-        let own = passes.next().unwrap_or_else(|| Vec::new(alloc));
-        let dealer = copy_at(dealers, settled.len());
+        let number = settled.len();
+        let (own, others) = parted(alloc, number, left)?;
+        left = others;
+        let dealer = copy_at(dealers, number);
         settled.push(settled_by(alloc, cell, dealer, own)?)?;
     }
     Ok(settled)
@@ -101,7 +101,8 @@ fn settled_by(
     dealer: Option<Dealer>,
     passes: Vec<Pass>,
 ) -> Result<Settled, Memory>
-    ensures { IfOk result (HasFared cell dealer) }
+    ensures fared { IfOk result (HasFared cell dealer) }
+    ensures passes { IfOk result (IsSettledBy cell passes.items) }
 {
     let schedule = cell.schedule();
     let settlement = match settle(cell, passes) {

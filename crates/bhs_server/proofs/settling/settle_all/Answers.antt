@@ -2,22 +2,23 @@ use Rattle.std.proofs.Common.{arith, ℕ, ◌≡◌, ◌∙◌, ap, subst, lengt
 use Rattle.std.specs.Prelude.{slice_get, option_map}
 use Rattle.rand_chacha.specs.ChaCha.{ChaCha}
 use Rattle.bhs_server.specs.Settling.{HasFared, at_start}
-use Rattle.bhs_server.proofs.SealLemmas.{next_settled}
+use Rattle.bhs_server.proofs.PartLemmas.{next_settled}
 use Rattle.bhs_server.proofs.settling.settle_all.Goals as goal
 
 pub loop-cell-preserved : goal.loop-cell-preserved
 loop-cell-preserved c =
-    let done = c.loop-cell.invariant.2 in
-    let place : c.len-in-loop-cell.result ≡ length c.loop-cell.settled.items =
-    omega (arith, c.len-in-loop-cell.ensures, c.loop-cell.settled.ok) in
+    let place : c.len-number.result ≡ length c.loop-cell.settled.items =
+    omega (arith, c.len-number.ensures, c.loop-cell.settled.ok) in
     let dealer = c.copy_at-dealer.ensures
     ∙ ap (λ (number : ℕ). option_map at_start (slice_get c.args.dealers.now number)) place in
     let one = subst (λ (some : Option ChaCha). HasFared c.in-Some.cell some c.in_ok-settled_by.field-0) dealer
-    c.in_ok-settled_by.ensures in (
+    c.in_ok-settled_by.ensures.fared in (
       tt,
       tt,
       rw c.in_ok-push.ensures.items
-          (next_settled c.args.cells.items done.0 c.loop-cell.cell-iterator.rest.items c.next.new.self.rest.items
-          c.args.dealers.now c.in-Some.cell c.loop-cell.settled.items c.in_ok-settled_by.field-0 done.1
-          c.in-Some.ensures.steps.0 done.2 one),
+          (next_settled c.args.cells.items c.loop-cell.cell-iterator.rest.items c.next.new.self.rest.items
+          c.args.dealers.now c.in-Some.cell c.loop-cell.settled.items c.in_ok-settled_by.field-0
+          c.args.sessions.items c.loop-cell.left.items _ _ c.len-number.result
+          c.in-Some.ensures.steps.0 c.loop-cell.invariant.2 one place c.in_ok-own.ensures.own
+          c.in_ok-own.ensures.others c.in_ok-settled_by.ensures.passes),
     )
