@@ -8,7 +8,7 @@ import unittest
 from typing import Dict, Iterator, Set, Tuple
 
 from tools.prove import contracts
-from tools.prove.clauses import CRATES, contract_of, crates_given, functions_in, without_clause
+from tools.prove.clauses import CRATES, always_true, contract_of, crates_given, functions_in, without_clause
 
 TOP = pathlib.Path(__file__).resolve().parents[1]
 CODE = """\
@@ -83,6 +83,11 @@ class ClausesTest(unittest.TestCase):
         self.assertNotIn("ensures", contract_of(["fn one() {", "}", "fn two()", "    ensures { x }", "{"], 0))
         self.assertNotIn("two", contract_of(["fn one()", "    ensures { x }", "{}", "fn two()", "{}"], 0))
 
+    def test_what_is_always_true_is_no_clause(self) -> None:
+        lines = ["impl Team for Host {", "    ghost answers = { λ old exchange new. Unit {0} };", "    ghost all = { ⊤ };",
+                 "    ghost says = { λ old new. new ≡ old };", "}", "impl From<A> for B {", "    ghost last = { ⊤ };"]
+        self.assertEqual(always_true(lines, 0), {"answers", "all"})
+
     def test_methods_are_named_by_their_types(self) -> None:
         names = {one.name for one in functions_in("bhs_server", TOP / "crates/bhs_server/src/connections.rt")}
         self.assertLessEqual({"Connection::new", "Guest::let_in", "Incoming::read"}, names)
@@ -117,7 +122,7 @@ class ContractsTest(unittest.TestCase):
     def test_the_page_has_each_function_that_a_crate_passes_on(self) -> None:
         page = "\n".join(contracts.page(crates_given([])))
         for head in ("`contests::equal_pasts_are_sent_equal_bytes` (-)", "`Net::try_new` (made, count, refused)",
-                     "| `bhs_lock` | `Hall::told` | yes | no | `self`, `pass` | failed |",
+                     "| `bhs_lock` | `Hall::told` | yes | no | `self`, `pass` | memory, wanting, failed |",
                      "| `bhs_rehearsal` | `Rehearsal::feed_copied` | yes |", "| `bhs_view` | `cut_and_looks` | yes |",
                      "| `bhs_replay` | `read_part` | yes |", "| `bhs_replay` | `head_of` | yes |",
                      "| `bhs_model` | `text_shared` | yes |", "| `bhs_text` | `Text::new` | yes |",

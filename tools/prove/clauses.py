@@ -3,14 +3,15 @@
     python3 -m tools.prove.clauses [CRATE ..]
 
 A clause is an `ensures` of the function itself, or of the method of a trait of this repository that it implements.
-`From`, `Clone` and `PartialEq` have theirs in ghost members beside the method. Not listed are the benchmark and `main`.
-tools/prove/tested.toml says of each function in this list which test fails for a wrong body of it;
-tests/test_clauses.py compares the two, and tools/prove/contracts.py prints both.
+`From`, `Clone` and `PartialEq` have theirs in ghost members beside the method. A clause counts for nothing if all that
+it says is a ghost member that is always true there. Not listed are the benchmark and `main`. tools/prove/tested.toml
+says of each function in this list which test fails for a wrong body of it; tests/test_clauses.py compares the two, and
+tools/prove/contracts.py prints both.
 """
 import pathlib
 import re
 import sys
-from typing import Iterator, List, NamedTuple, Optional, Set
+from typing import Dict, FrozenSet, Iterator, List, NamedTuple, Optional
 
 TOP = pathlib.Path(__file__).resolve().parents[2]
 CRATES = TOP / "crates"
@@ -20,16 +21,20 @@ LEFT_OUT = {"bhs_bench", "bhs_main"}
 WITH_GHOSTS = {"From", "Clone", "PartialEq"}
 HEAD = re.compile(r"^( *)(?:pub(?:\([a-z]+\))? )?(?:const )?(?:unsafe )?fn (\w+)")
 BLOCK = re.compile(r"^(impl|pub trait|trait|pub\(crate\) trait)\b(.*)")
+# a ghost member that is always true
+ALWAYS_TRUE = re.compile(r"^    ghost (\w+) = \{ (?:λ [^.]*\. )?(?:⊤|Unit \{0\}) \};")
 NAMES = re.compile(r"(?:(?P<trait>[\w:]+)(?:<.*>)? for )?&?(?P<type>\w+)")
 
 
 class Function(NamedTuple):
-    """A function: its crate, its file, its name with that of its type, and whether it has a clause."""
+    """A function: its crate, its file, its name with that of its type, its clauses, and the ghost members beside it that
+    are always true."""
     crate: str
     file: str
     name: str
     trait: Optional[str]
-    has_clause: bool
+    clauses: List[str]
+    empty: FrozenSet[str]
 
 
 def without_parameters(head: str) -> str:
@@ -57,9 +62,16 @@ def contract_of(lines: List[str], at: int) -> str:
     return "\n".join(found)
 
 
+def always_true(lines: List[str], at: int) -> FrozenSet[str]:
+    """The ghost members that are always true, of the block that begins in this line."""
+    block = "\n".join(lines[at:]).partition("\n}")[0].split("\n")
+    return frozenset(found[1] for found in map(ALWAYS_TRUE.match, block) if found)
+
+
 def functions_in(crate: str, path: pathlib.Path) -> Iterator[Function]:
     """The functions of a file, in order."""
     lines, trait, kind = path.read_text().split("\n"), None, ""
+    empty: FrozenSet[str] = frozenset()
     for at, line in enumerate(lines):
         block = BLOCK.match(line)
         if block:
@@ -69,13 +81,14 @@ def functions_in(crate: str, path: pathlib.Path) -> Iterator[Function]:
             trait = head.split("{")[0].split(":")[0].split("<")[0].strip() if is_trait else named and named["trait"]
             kind = "" if is_trait else (named["type"] if named else "")
             kind = trait if is_trait else kind
+            empty = always_true(lines, at)
         elif line.startswith("}"):
-            trait, kind = None, ""
+            trait, kind, empty = None, "", frozenset()
         head = HEAD.match(line)
         if head:
             owner = kind if head[1] else ""
             yield Function(crate, path.stem, f"{owner}::{head[2]}" if owner else head[2], trait if head[1] else None,
-                           "ensures" in contract_of(lines, at))
+                           contract_of(lines, at).split("ensures")[1:], empty)
 
 
 def all_functions(crates: List[str]) -> List[Function]:
@@ -84,13 +97,21 @@ def all_functions(crates: List[str]) -> List[Function]:
             for one in functions_in(crate, path)]
 
 
+def says_something(one: Function, promised: Dict[str, List[str]]) -> bool:
+    """Whether a function has a clause, of its own or of a trait, that is not always true."""
+    if one.clauses:
+        return True
+    if one.trait in WITH_GHOSTS:
+        return not one.empty
+    method = f"{(one.trait or '').rpartition('::')[2]}::{one.name.rpartition('::')[2]}"
+    return any(one.empty.isdisjoint(re.findall(r"\w+", clause)) for clause in promised.get(method, []))
+
+
 def without_clause(crates: List[str]) -> List[Function]:
     """Those of the functions that have no clause, neither of their own nor of a trait of this repository."""
     everywhere = all_functions(sorted(path.name for path in CRATES.iterdir() if (path / "src").is_dir()))
-    promised: Set[str] = {one.name for one in everywhere
-                          if one.trait and one.name.startswith(f"{one.trait}::") and one.has_clause}
-    return [one for one in everywhere if one.crate in crates and not one.has_clause and one.trait not in WITH_GHOSTS
-            and not (one.trait and f"{one.trait.rpartition('::')[2]}::{one.name.rpartition('::')[2]}" in promised)]
+    promised = {one.name: one.clauses for one in everywhere if one.trait and one.name.startswith(f"{one.trait}::")}
+    return [one for one in everywhere if one.crate in crates and not says_something(one, promised)]
 
 
 def crates_given(given: List[str]) -> List[str]:

@@ -4,7 +4,12 @@
 mod wire;
 mod words;
 
+ghost use Rattle.std.specs.Prelude.{IfOk};
+ghost use Rattle.bhs_player.specs.Wires.{Plays};
+ghost use Rattle.bhs_searcher.specs.Protocols.{strategies_of};
+
 use bhs_searcher::{PlayEnd, PlayFault, Player, play};
+use bhs_stream::Output;
 use std::alloc::Global;
 use std::io::BufReader;
 use std::net::TcpStream;
@@ -53,12 +58,17 @@ fn connected(rt: &HostRuntime, alloc: Global, entrant: &Entrant<'_>) -> io::Resu
     Ok(stream)
 }
 
-fn played<R: io::BufRead + Drop, W: io::Write + Drop>(
+// Plays the agent that the words name: what it writes is what its strategy says of what it reads.
+fn played<R: io::BufRead + Drop, W: Output + Drop>(
     alloc: Global,
     reader: R,
     writer: W,
     entrant: &Entrant<'_>,
-) -> Result<PlayEnd, PlayFault> {
+) -> Result<PlayEnd, PlayFault>
+    ensures { IfOk result (λ end. Plays W.takes W.flushes R.remaining
+        (strategies_of entrant.now.protocol entrant.now.nodes entrant.now.side) entrant.now.key.now
+        reader writer end) }
+{
     let player = Player {
         protocol: entrant.protocol,
         nodes: entrant.nodes,

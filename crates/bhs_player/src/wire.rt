@@ -1,10 +1,12 @@
 //! Lines to a server and from it.
 
-ghost use Rattle.std.specs.Prelude.{⊤};
+ghost use Rattle.bhs_player.specs.Wires.{IsCut, IsHeard, IsSaid, IsUnheard};
 
 use bhs_searcher::{Lost, ServerConnection};
+use bhs_stream::{Output, finish, send};
+use bhs_wire::split_line;
 use std::alloc::Global;
-use std::io::{BufRead, Write};
+use std::io::BufRead;
 
 /// Where lines come from and go to.
 #[derive(Drop)]
@@ -14,32 +16,37 @@ pub struct Wire<R, W> {
     pub writer: W,
 }
 
-impl<R: BufRead + Drop, W: Write + Drop> ServerConnection for Wire<R, W> {
-    // No contract says what a socket takes or gives.
-    ghost says = { λ _ _ _. ⊤ };
+impl<R: BufRead + Drop, W: Output + Drop> ServerConnection for Wire<R, W> {
+    ghost says = { IsSaid W.takes W.flushes };
 
-    ghost hears = { λ _ _ _. ⊤ };
+    ghost hears = { IsHeard R.remaining };
 
-    ghost cuts = { λ _ _ _. ⊤ };
+    ghost cuts = { IsCut W.takes W.flushes };
 
-    ghost loses = { λ _ _. ⊤ };
+    ghost loses = { IsUnheard R.remaining };
 
     fn say(&mut self, line: &str) -> Result<(), Lost> {
         let Ok(text) = format!(in self.alloc; "{line}\n") else {
             return Err(Lost);
         };
-        self.writer.write_all(text.as_bytes()).map_err(|_| Lost)?;
-        self.writer.flush().map_err(|_| Lost)
+        send(&mut self.writer, text.as_bytes()).map_err(|_| Lost)?;
+        finish(&mut self.writer).map_err(|_| Lost)
     }
 
     fn hear(&mut self) -> Result<String, Lost> {
-        let mut line = String::new(self.alloc);
-        if self.reader.read_line(&mut line).is_err() {
+        let mut line = Vec::new(self.alloc);
+        if self.reader.read_until(b'\n', &mut line).is_err() {
             return Err(Lost);
         }
-        let Some(text) = line.as_str().strip_suffix('\n') else {
+        let Some((text, rest)) = split_line(&line) else {
             return Err(Lost);
         };
+        let Ok(text) = str::from_utf8(text) else {
+            return Err(Lost);
+        };
+        if !rest.is_empty() {
+            return Err(Lost);
+        }
         String::from_str(self.alloc, text).map_err(|_| Lost)
     }
 }

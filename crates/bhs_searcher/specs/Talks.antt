@@ -12,6 +12,10 @@ use Rattle.bhs_explore.specs.Strategies.{History, Heard, Strategy}
 use Rattle.bhs_searcher.specs.declared.playing.PlayEnd.{PlayEnd}
 use Rattle.bhs_searcher.specs.declared.playing.PlayEnd.TheVariants.{Accused}
 use Rattle.bhs_searcher.specs.declared.playing.PlayEnd.TheVariants as ended
+use Rattle.bhs_searcher.specs.declared.playing.PlayFault.{PlayFault}
+use Rattle.bhs_searcher.specs.declared.playing.PlayFault.TheVariants as fault
+use Rattle.bhs_searcher.specs.declared.protocol_memory.MemoryFault.{MemoryFault}
+use Rattle.bhs_searcher.specs.declared.protocol_memory.MemoryFault.TheVariants as memory_fault
 use Rattle.bhs_searcher.specs.CommandLines.{meant}
 use Rattle.bhs_searcher.specs.ReplyLines.{reply_on}
 
@@ -42,6 +46,11 @@ pub data Talks {W : Type 0} (says hears : W → List ℕ → W → Type 0) (stra
       → Says says key (strategy history) here told
       → Hears hears reply told next
       → Talks says hears strategy key start (Heard reply ∷ history) next
+
+-- why a player breaks off whose protocol cannot go on for this reason
+abbrev pub fault_by : MemoryFault → PlayFault
+fault_by memory_fault.Size = fault.Size
+fault_by memory_fault.Memory = fault.Memory
 
 -- how an agent ends that is told this, if it ends
 abbrev pub ended_by : Reply → Option PlayEnd

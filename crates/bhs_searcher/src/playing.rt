@@ -1,9 +1,9 @@
 //! Playing a protocol against a server.
 
-ghost use Rattle.std.specs.Prelude.{◌≡◌, ℕ, List, ⊤, string_bytes, IfOk, OnOk, OnErr};
+ghost use Rattle.std.specs.Prelude.{◌≡◌, ℕ, List, string_bytes, IfOk, OnOk, OnErr};
 ghost use Rattle.bhs_searcher.specs.declared.playing.PlayFault.{PlayFault};
 ghost use Rattle.bhs_searcher.specs.Protocols.{strategies_of};
-ghost use Rattle.bhs_searcher.specs.Talks.{Breaks, BreaksOff, Ends, Hears, HearsNone, Says, ended_by};
+ghost use Rattle.bhs_searcher.specs.Talks.{Breaks, BreaksOff, Ends, Hears, HearsNone, Says, ended_by, fault_by};
 
 use crate::commands::line_of;
 use crate::protocol_memory::{MemoryFault, Protocol, after, begun, step_of};
@@ -92,7 +92,7 @@ impl From<AllocError> for PlayFault {
 }
 
 impl From<MemoryFault> for PlayFault {
-    ghost from_gives = { λ _ _. ⊤ };
+    ghost from_gives = { λ fault played. played ≡ fault_by fault };
 
     fn from(fault: MemoryFault) -> PlayFault {
         match fault {

@@ -1,0 +1,43 @@
+-- What a line makes of a wire that is written to it or read from it.
+use Rattle.std.specs.Prelude.{◌≡◌, ℕ, Bool, true, false, ◌⊎◌, Option, List, [], ◌∷◌, ◌++◌}
+use Rattle.std.specs.Io.KnownBytes.{Consumes}
+use Rattle.bhs_stream.specs.Sending.{PutsAll, PutsPart}
+use Rattle.bhs_stream.specs.Streams.{WriteAnswer}
+use Rattle.bhs_explore.specs.Strategies.{Strategy}
+use Rattle.bhs_searcher.specs.Talks.{Ends}
+use Rattle.bhs_searcher.specs.declared.playing.PlayEnd.{PlayEnd}
+use Rattle.bhs_player.specs.declared.wire.Wire.{Wire}
+
+-- a line and its line feed
+abbrev pub ended : (line : List ℕ) → List ℕ
+ended line = line ++ 10 ∷ []
+
+module _ {R W : Type 0} (takes : W → List ℕ → WriteAnswer → W → Type 0) (flushes : W → Bool → W → Type 0) where
+  -- the output took the line and a line feed and nothing else, and passed them on; nothing was read
+  abbrev pub IsSaid : (old : Wire R W) → (line : List ℕ) → (new : Wire R W) → Type 0
+  IsSaid old line new = (new.reader ≡ old.reader)
+      × ((put : W) × PutsAll takes old.writer (ended line) put × flushes put true new.writer)
+
+  -- The line was not written whole: not begun, or its output took a front of it and of its line feed, or did not pass
+  -- them on. Nothing was read.
+  abbrev pub IsCut : (old : Wire R W) → (line : List ℕ) → (new : Wire R W) → Type 0
+  IsCut old line new = (new.reader ≡ old.reader)
+      × ((new.writer ≡ old.writer) ⊎ (PutsPart takes old.writer (ended line) new.writer
+      ⊎ ((put : W) × PutsAll takes old.writer (ended line) put × flushes put false new.writer)))
+
+module _ {R W : Type 0} (remaining : R → Option (List ℕ)) where
+  -- the input gave the line and a line feed, and nothing else; nothing was written
+  abbrev pub IsHeard : (old : Wire R W) → (line : List ℕ) → (new : Wire R W) → Type 0
+  IsHeard old line new =
+      (new.writer ≡ old.writer) × Consumes (remaining old.reader) (remaining new.reader) (ended line)
+
+  -- no line was read, and nothing was written
+  abbrev pub IsUnheard : (old new : Wire R W) → Type 0
+  IsUnheard old new = new.writer ≡ old.writer
+
+-- An agent with this strategy and this key has played to this end over a wire that began with this input and output:
+-- all that it has written is what its strategy says of what it has read.
+abbrev pub Plays : {R W : Type 0} → (W → List ℕ → WriteAnswer → W → Type 0) → (W → Bool → W → Type 0)
+    → (R → Option (List ℕ)) → Strategy → (key : List ℕ) → (reader : R) (writer : W) → PlayEnd → Type 0
+Plays {R} {W} takes flushes remaining strategy key reader writer end = (old new : Wire R W) × (old.reader ≡ reader)
+    × (old.writer ≡ writer) × Ends (IsSaid takes flushes) (IsHeard remaining) strategy key old end new
