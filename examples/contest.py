@@ -77,14 +77,14 @@ TEAMS: Dict[str, List[str]] = {
 
 
 def arena() -> List[str]:
-    """The command that ARENA names, or ./arena, which a wheel does not have; or the server in Python, if there is no
-    program."""
+    """The command that ARENA names, or ./arena of this folder or beside the lab, which a wheel does not have; or the
+    server in Python, if there is no program."""
     if "ARENA" in os.environ:
         return shlex.split(os.environ["ARENA"])
-    launcher = TOP / "arena"
-    if not launcher.exists():
+    launcher = next((it / "arena" for it in (TOP, built.TOP) if (it / "arena").exists()), None)
+    if launcher is None:
         return [str(built.PACKAGED)]
-    return [str(launcher if built.can_play() else TOP / LAB)]
+    return [str(launcher if built.can_play() else launcher.with_name(LAB))]
 
 
 def build(folder: pathlib.Path) -> None:
@@ -187,7 +187,7 @@ def main() -> int:
         replays = str(kept.resolve() / "match")
         pause = WATCHED_PAUSE if words.watch else SLOW_PAUSE if words.kill else PAUSE
         server = arena()
-        if server == [str(TOP / LAB)]:
+        if "ARENA" not in os.environ and pathlib.Path(server[0]).name == LAB:
             print("contest: there is no program, and no toolchain that compiles one: `./arena-lab serve` plays, a "
                   "server in Python, of which nothing is proved", file=sys.stderr, flush=True)
         with watched(replays, pause) if words.watch else contextlib.nullcontext():

@@ -4,7 +4,8 @@
     ./arena-lab examples FOLDER
 
 They are the sample agents and the kits, a tournament for practice, the lessons, a course that is graded, the
-experiments, and the documents. FOLDER gets a copy of all that is yours to change.
+experiments, and the documents. FOLDER gets a copy of all that is yours to change, and a link to the lab, by which the
+copies run.
 """
 import argparse
 import pathlib
@@ -36,6 +37,7 @@ def run(words: argparse.Namespace) -> int:
         source = place_of(name)
         if source is not None:
             shutil.copytree(source, words.folder / name, ignore=shutil.ignore_patterns("__pycache__", "out"))
+    (words.folder / LAB.name).symlink_to(LAB)
     print(words.folder)
     return 0
 

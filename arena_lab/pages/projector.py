@@ -3,7 +3,6 @@ import asyncio
 import contextlib
 import ipaddress
 import json
-import pathlib
 import re
 import socket
 import time

@@ -13,8 +13,6 @@ from arena_lab.rules.engines import TOP
 
 LESSONS = TOP / "examples" / "lessons"
 COMMAND = re.compile(r" {7}(./arena-lab .*)")
-# what the second sheet adds to the agent
-PLAYED = re.compile(r"( {7}def played\(.*\n(?: {7}.*\n)+)")
 # commands that ask nobody, each with what it says
 WANTED = {"new": "an agent in Python", "run": "50 schedules: solved 50; failed 0", "hunt": "solved",
           "explore": "solve", "play": "The match is over"}
@@ -34,8 +32,8 @@ class TestLessons(unittest.TestCase):
             (self.folder / name).symlink_to(TOP / name)
 
     def said(self, words: List[str]) -> str:
-        ran = subprocess.run([sys.executable, "-m", "arena_lab", *words[1:]], cwd=self.folder, input="enter\nwait\n", text=True,
-                             stdout=subprocess.PIPE, stderr=subprocess.STDOUT, timeout=300,
+        ran = subprocess.run([sys.executable, "-m", "arena_lab", *words[1:]], cwd=self.folder, input="enter\nwait\n",
+                             text=True, stdout=subprocess.PIPE, stderr=subprocess.STDOUT, timeout=300,
                              env={**os.environ, "PYTHONPATH": str(TOP)})
         self.assertIn(ran.returncode, (0, 1), ran.stdout)
         return ran.stdout
@@ -51,11 +49,6 @@ class TestLessons(unittest.TestCase):
         for words in commands("2-a-ring.md"):
             with self.subTest(words):
                 self.assertIn(WANTED[words[1]], self.said(words))
-                if words[1] == "new":
-                    text = (LESSONS / "2-a-ring.md").read_text(encoding="utf-8")
-                    added = "\n\n".join(PLAYED.findall(text)).replace(" " * 7, "")
-                    with open(self.folder / words[-1] / "careful.py", "a", encoding="utf-8") as agent:
-                        agent.write(f"\n\n{added}")
 
     def test_fewer_moves(self) -> None:
         two, halves, wrong = commands("3-fewer-moves.md")

@@ -58,9 +58,9 @@ def note(agent: Agent, side: int, mine: int, board: str) -> str:
             return board
 
 
-def search(agent: Agent, here: Here, nodes: int) -> None:
-    """Searches until the agent has accused."""
-    side, board = choose_side(agent, here)
+def search(agent: Agent, key: str, nodes: int) -> None:
+    """Enters and searches, until the agent has accused. The lab calls it so, by --agent "careful.py {nodes}"."""
+    side, board = choose_side(agent, agent.enter(key))
     mine = 0
     while True:
         theirs = safe_on(board)[1 - side]
@@ -87,8 +87,7 @@ def main(given: List[str]) -> int:
         return 2
     host, port, key, nodes = words
     try:
-        agent, here = Agent.join(host, int(port), key)
-        search(agent, here, int(nodes))
+        search(Agent.connect(host, int(port)), key, int(nodes))
     except MatchOver:
         print("the match is over", file=sys.stderr)
     except Refused as why:

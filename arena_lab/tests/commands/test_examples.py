@@ -1,0 +1,46 @@
+"""Examples that were copied run where they stand, by the lab that copied them."""
+import contextlib
+import io
+import json
+import os
+import pathlib
+import subprocess
+import sys
+import tempfile
+import unittest
+
+from arena_lab.__main__ import main
+from arena_lab.rules.engines import TOP
+from arena_lab.tests.needing import needs
+
+
+@needs("greenlet", "jinja2", "networkx", "numpy", "scipy", "tqdm")
+class Copies(unittest.TestCase):
+    def setUp(self) -> None:
+        self.folder = pathlib.Path(self.enterContext(tempfile.TemporaryDirectory())) / "mine"
+        with contextlib.redirect_stdout(io.StringIO()):
+            self.assertEqual(main(["examples", str(self.folder)]), 0)
+
+    def said(self, *words: str) -> str:
+        """What a Python prints that knows no lab but the one of the copies."""
+        variables = {name: value for name, value in os.environ.items() if name != "PYTHONPATH"}
+        ran = subprocess.run([sys.executable, *words], cwd=self.folder / "examples", env=variables, text=True,
+                             stdout=subprocess.PIPE, stderr=subprocess.STDOUT, timeout=120)
+        self.assertEqual(ran.returncode, 0, ran.stdout)
+        return ran.stdout
+
+    def test_the_first_command_and_the_first_cell_of_the_notebook(self) -> None:
+        self.assertIn("--watch", self.said("contest.py", "--help"))
+        cells = json.loads((TOP / "examples" / "notebook.ipynb").read_text(encoding="utf-8"))["cells"]
+        code = next("".join(cell["source"]) for cell in cells if cell["cell_type"] == "code")
+        self.assertIn(" solved ", self.said("-c", code))
+
+    def test_the_search_of_the_kit_is_what_the_lab_calls(self) -> None:
+        agent = str(self.folder / "examples" / "agents" / "python" / "careful.py")
+        with contextlib.redirect_stdout(io.StringIO()) as said:
+            main(["run", "--network", "ring:6", "--agent", f"{agent} {{nodes}}", "--engine", "model", "--runs", "5"])
+        self.assertIn("5 schedules: solved 5; failed 0", said.getvalue())
+
+
+if __name__ == "__main__":
+    unittest.main()
