@@ -205,6 +205,10 @@ MERGES_NOTE = """\
 Two agents. Processor seconds of the host for its answers to all questions of the program, without and with checks of
 merged histories, and for twenty sampled schedules. The Python model's search of small matches is not in the table.
 """
+HUNTS_NOTE = """\
+Schedules until a wrong agent of `arena_lab/mutants` fails, of ten seeds. `run` plays fair schedules. A hunt plays the
+same first, 300 at most, and then lets Hypothesis search.
+"""
 WAITS_NOTE = """\
 Two agents on a ring of eight nodes. The first stands, is destroyed, or is on a held link; the second makes its moves,
 and each is timed. Under the adaptive schedule the rows differ; under the oblivious one they are equal within their
@@ -283,6 +287,8 @@ BENCHMARKS: Dict[str, Benchmark] = {
                       lambda at: "" if spin.HAS_SPIN else "spin is not installed"),
     "merges": Benchmark("Checks of merged histories", lambda at: of_debians("bench.merges", "--hole", "5", *MERGED),
                         noted_text(MERGES_NOTE)),
+    "hunts": Benchmark("Hunts", lambda at: of_debians("bench.hunts"), noted_text(HUNTS_NOTE),
+                       build="the Python model"),
     "waits": Benchmark("Waiting", lambda at: of_python("bench.waits"), noted_text(WAITS_NOTE)),
     "timeouts": Benchmark("Timeouts", lambda at: of_python("bench.timeouts", "--pause", "5"),
                           noted_text(TIMEOUTS_NOTE)),

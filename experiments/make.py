@@ -243,7 +243,7 @@ def too_few_row(hunt: Search, asked: Asked) -> Cells:
     """How a team with an agent too few fails."""
     folder = asked.out / "too_few" / f"{hunt.network.replace(':', '')}_{hunt.agents}"
     said = said_by([*hunt.words(), "--keep", str(folder), "--database", str(asked.out / "hunted")], asked)
-    tried = re.search(r"^(\d+) schedules were tried: the team fails$", said, re.M)
+    tried = re.search(r"^(\d+) schedules were tried: the team fails, first under number \d+$", said, re.M)
     verdict = re.search(r"^it comes to: home 0 (holes .*)$", said, re.M)
     choices = re.search(r": (\d+) choices; again by", said)
     if not tried or not verdict or not choices:

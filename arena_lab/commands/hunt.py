@@ -2,8 +2,9 @@
 
     ./arena-lab hunt --network ring:32 --agent "examples/agents/ring.py {nodes}" --objective moves
 
-Hypothesis (Debian's python3-hypothesis) draws schedules for the Python model, changes the most promising ones, and
-makes its find small. It draws a schedule as runs: which of the possible choices, and how often in a row. If you name
+A hunt for a failure first plays schedules that are drawn as those of `run`, on the Python model: half of --runs, and at
+most 300. Then Hypothesis (Debian's python3-hypothesis) draws schedules and changes the most promising ones. It draws a
+schedule as runs: which of the possible choices, and how often in a row. What is found is made small. If you name
 neither a black hole nor a dark link, it draws the black hole too, and with --any-home the home base. A team fails by
 any verdict but `solved`; it also fails if an agent raises an exception, is refused without end, or is stuck. A failure
 ends every hunt. The program plays and judges the find, and the command writes it to a folder: its schedule, the script
@@ -64,7 +65,8 @@ def run(words: argparse.Namespace) -> int:
 def report_hunt(hunter: Hunter, best: Trial, keep: pathlib.Path, program: Optional[str]) -> int:
     """Says what was found, and keeps it."""
     looked_for, setup = hunter.asked.looked_for, best.fixture.setup
-    said = "the team fails" if best.has_failed else "the team solved its network under each"
+    said = (f"the team fails, first under number {hunter.failed_at}" if best.has_failed else
+            "the team solved its network under each")
     print(f"{hunter.tried} schedules were tried: {said}")
     if best.has_failed or looked_for != FAILURE:
         print(f"{'it comes to' if best.has_failed else 'the most ' + looked_for}: home {setup.home} holes "

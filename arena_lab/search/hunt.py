@@ -1,21 +1,30 @@
-"""Looks for schedules by Hypothesis, which changes the most promising ones and makes its find small.
+"""Looks for schedules: fair draws first, then Hypothesis, which changes the most promising ones and makes its find
+small.
+
+Whether a team fails has no degrees that a search could climb, and some mistakes show in one of ten fair draws and in
+one of four hundred of Hypothesis's; of others it is the other way round. So a hunt for a failure begins with the
+schedules that `run` plays.
 """
 import pathlib
-from typing import Any, Callable, Dict, NamedTuple, Optional, Sequence, Tuple
+import unittest
+from typing import Any, Callable, Dict, List, NamedTuple, Optional, Sequence, Tuple
 
 from arena_lab.play import teams
 from arena_lab.play.matches import PlayedMatch, play
 from arena_lab.play.repeating import all_repeated
-from arena_lab.play.schedulers import in_runs
+from arena_lab.play.schedulers import Scheduler, fair, in_runs
 from arena_lab.play.schedules import Schedule, schedule_of
 from arena_lab.play.teams import Game
 from arena_lab.rules.fixtures import Fixture
 from arena_lab.rules.rehearsal import Rehearsal
+from arena_lab.search.minimising import Cut, Runs, noted, runs_of
 from arena_lab.support.missing import needed
 
 FAILURE, MOVES, LOST = "failure", "moves", "lost"
 RUNS = 3000
 MOST_BLOCKS, LONGEST_BLOCK = 60, 40
+# how many schedules a hunt draws before it changes some, and how many it tries to make a drawn one small
+DRAWS, SMALLER = 300, 500
 
 Blocks = Sequence[Tuple[int, int]]
 
@@ -62,6 +71,8 @@ class Hunter:
     def __init__(self, asked: Hunt, shown: Any) -> None:
         self.asked = asked
         self.tried = 0
+        # how many schedules were tried when the team failed first
+        self.failed_at: Optional[int] = None
         self.best: Optional[Trial] = None
         self.wanted: Optional[int] = None
         self.was_stopped = False
@@ -73,28 +84,52 @@ class Hunter:
         self._holes = 1 if game.is_fixed() else nodes - 1
         self._homes = range(nodes) if asked.any_home and not game.match else [game.home]
 
-    def play(self, home: int, hole: int, blocks: Blocks) -> Trial:
+    def play(self, home: int, hole: int, scheduler: Scheduler) -> Trial:
         """Plays a schedule, and keeps it if it is the best."""
         fixture = self._fixtures.get((home, hole))
         if fixture is None:
             fixture = self._fixtures[home, hole] = self.asked.game.fixture(hole, home)
         team = teams.Together(self.asked.game.agents, fixture, self.asked.game.limit)
-        played = self._repeated(play(Rehearsal(fixture), team, in_runs(blocks), fixture), fixture)
+        played = self._repeated(play(Rehearsal(fixture), team, scheduler, fixture), fixture)
         verdict = played.verdict()
         worth = {FAILURE: 0, MOVES: verdict.moves, LOST: verdict.lost}[self.asked.looked_for]
         trial = Trial(worth, played.has_failed(), fixture, played)
         self.tried += 1
+        if trial.has_failed and self.failed_at is None:
+            self.failed_at = self.tried
         if self.best is None or (trial.has_failed, worth) > (self.best.has_failed, self.best.worth):
             self.best = trial
             self._shown.set_postfix_str(str(verdict))
         self._shown.update()
         return trial
 
+    def draw(self) -> None:
+        """Plays the schedules that `run` draws, at most half of those that are left, until the team fails under one."""
+        first, left = self.asked.seed * DRAWS, self.asked.runs - self.tried
+        for number in range(first, first + min(DRAWS, (left + 1) // 2)):
+            home, hole = self._homes[number // self._holes % len(self._homes)], number % self._holes
+            numbers: List[int] = []
+            if self.play(home, hole, noted(fair(number), numbers)).has_failed:
+                self._make_small(home, hole, runs_of(numbers))
+                return
+
+    def _make_small(self, home: int, hole: int, runs: Runs) -> None:
+        """Makes a schedule small after which the team fails."""
+        def fails(runs: Runs) -> bool:
+            tried = self.play(home, hole, in_runs(runs))
+            if tried.has_failed:
+                self.best = tried
+            return tried.has_failed
+        Cut(runs, fails, SMALLER)
+
     def search(self, phases: Sequence[str]) -> None:
         """One search by Hypothesis; it ends early once it has what it looks for, made small."""
         test = self._test(phases)
         try:
             test()
+        except unittest.SkipTest:
+            # Hypothesis has no earlier find, and was told to try nothing else
+            pass
         except (Stop, needed("hypothesis").errors.Flaky):
             # flaky is what does not fail again under the same schedule, as a program that does not repeat
             if self.best is None or not self.best.has_failed and self.wanted is None:
@@ -125,7 +160,7 @@ class Hunter:
         hypothesis, asked = needed("hypothesis"), self.asked
         given = needed("hypothesis.strategies")
         settings = hypothesis.settings(
-            max_examples=asked.runs, deadline=None, report_multiple_bugs=False, print_blob=False,
+            max_examples=max(1, asked.runs - self.tried), deadline=None, report_multiple_bugs=False, print_blob=False,
             database=self._database(), verbosity=hypothesis.Verbosity.quiet,
             suppress_health_check=list(hypothesis.HealthCheck),
             phases=[hypothesis.Phase[phase] for phase in phases])
@@ -133,7 +168,7 @@ class Hunter:
         blocks = given.tuples(given.integers(0, max(1, agents - 1)), given.integers(1, LONGEST_BLOCK))
 
         def trial(home: int, hole: int, blocks: Blocks) -> None:
-            tried = self.play(home, hole, blocks)
+            tried = self.play(home, hole, in_runs(blocks))
             hypothesis.target(float(tried.worth))
             if tried.has_failed or self.wanted is not None and tried.worth >= self.wanted:
                 self.best = tried
@@ -149,6 +184,9 @@ class Hunter:
 def hunted(hunter: Hunter) -> None:
     """Searches, and makes what was found small. An interrupt ends the search, and leaves what was found."""
     try:
+        if hunter.asked.looked_for == FAILURE:
+            look_for_failure(hunter)
+            return
         hunter.search(["reuse", "generate", "target", "shrink"])
         best = hunter.best
         if best is not None and not best.has_failed and best.worth > 0:
@@ -157,3 +195,12 @@ def hunted(hunter: Hunter) -> None:
             hunter.best = max(hunter.best or best, best, key=lambda trial: (trial.has_failed, trial.worth))
     except KeyboardInterrupt:
         hunter.was_stopped = True
+
+
+def look_for_failure(hunter: Hunter) -> None:
+    """Tries earlier finds, then draws, then lets Hypothesis search, until the team fails."""
+    hunter.search(["reuse", "shrink"])
+    if hunter.failed_at is None:
+        hunter.draw()
+    if hunter.failed_at is None and hunter.tried < hunter.asked.runs:
+        hunter.search(["generate", "target", "shrink"])

@@ -13,6 +13,19 @@ from arena_lab.rules.engines import TOP
 
 LESSONS = TOP / "examples" / "lessons"
 COMMAND = re.compile(r" {7}(./arena-lab .*)")
+# the loop of the agent of the second sheet, and what the sheet lets one break it to
+LOOP = """    while True:
+        safe = safe_on(board)
+        safe[side] = mine
+        swap = agent.write(board, board_of(safe))
+        board = swap.board
+        if swap.written:
+            return board
+"""
+ONCE = """    safe = safe_on(board)
+    safe[side] = mine
+    return agent.write(board, board_of(safe)).board
+"""
 # commands that ask nobody, each with what it says
 WANTED = {"new": "an agent in Python", "run": "50 schedules: solved 50; failed 0", "hunt": "solved",
           "explore": "solve", "play": "The match is over"}
@@ -49,6 +62,13 @@ class TestLessons(unittest.TestCase):
         for words in commands("2-a-ring.md"):
             with self.subTest(words):
                 self.assertIn(WANTED[words[1]], self.said(words))
+        path = self.folder / "out" / "lessons" / "agent" / "careful.py"
+        text = path.read_text(encoding="utf-8")
+        self.assertIn(LOOP, text)
+        path.write_text(text.replace(LOOP, ONCE), encoding="utf-8")
+        _, run, hunt, _ = commands("2-a-ring.md")
+        self.assertIn("50 schedules: solved 47, silent 3; failed 3", self.said(run))
+        self.assertRegex(self.said(hunt), r"the team fails, first under number \d\n")
 
     def test_fewer_moves(self) -> None:
         two, halves, wrong = commands("3-fewer-moves.md")

@@ -2,7 +2,9 @@
 import argparse
 import contextlib
 import io
+import itertools
 import pathlib
+import re
 import tempfile
 import unittest
 from typing import Iterator, List, Sequence
@@ -11,9 +13,11 @@ from unittest import mock
 from arena_lab.__main__ import main, parser
 from arena_lab.commands import mutants
 from arena_lab.commands.words import games_of
+from arena_lab.play.games import play_seed
 from arena_lab.play.matches import play
 from arena_lab.play.schedulers import Choice
-from arena_lab.play.teams import INSIDE, AgentWords, Together
+from arena_lab.play.teams import INSIDE, AgentWords, Game, Together
+from arena_lab.rules import networks
 from arena_lab.rules.fixtures import Fixture
 from arena_lab.rules.model import Verdict
 from arena_lab.rules.networks import ring
@@ -140,6 +144,29 @@ class Hunting(Searches):
         self.assertEqual(status, 0, self.said)
         self.assertIn("the program's verdict: solved moves 37 lost 1", self.said)
         self.assertEqual(self.command("replay", self.folder / "find"), 0)
+
+    def test_draws_come_first(self) -> None:
+        for name in ("reads_once", "forgets_to_mark", "counts_naps"):
+            place = mutants.PLANS[name].hunted
+            network, count, words = place.network, place.agents, mutants.agent_of(name)
+            with self.subTest(name):
+                game = Game(network, networks.named(network), [AgentWords(INSIDE, words)] * count)
+                first = next(it for it in itertools.count(1) if play_seed(game, "fair", it - 1, None).has_failed)
+                self.assertEqual(1, self.command("hunt", "--network", network, "--agent", words, "--agents", str(count),
+                                                 "--database", str(self.folder / "db"), *self.kept()))
+                found = re.search(r"^(\d+) schedules were tried: the team fails, first under number (\d+)$", self.said,
+                                  re.M)
+                assert found is not None, self.said
+                self.assertEqual(int(found[2]), first)
+                # the find is made small
+                self.assertGreater(int(found[1]), first)
+
+    def test_changed_schedules_come_next_and_earlier_finds_before(self) -> None:
+        words = ["hunt", "--network", "ring:8", "--agent", f"{mutants.FOLDER / 'divides_unevenly.py'} {{nodes}}",
+                 "--runs", "120", "--database", str(self.folder / "db"), *self.kept()]
+        for wanted in (r"first under number (6[1-9]|[789]\d|1[012]\d)$", r"first under number 1$"):
+            self.assertEqual(self.command(*words), 1, self.said)
+            self.assertRegex(self.said, re.compile(wanted, re.M))
 
     def test_agents_with_faults(self) -> None:
         for name, fault in (("raises", "agent 0: raises KeyError: 'west'"),
