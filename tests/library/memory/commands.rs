@@ -94,7 +94,12 @@ fn a_hall_is_told_each_kind(rt: HostRuntime) -> Result<(), Fail> {
     let alloc = rt.alloc();
     let (mut hall, mut passes) = Hall::new(alloc, 0, play(alloc, 10)?.0)?;
     let pass = &mut passes[0];
-    are_told(&rt, alloc, each_kind(alloc)?, |command| hall.told(pass, command))
+    are_told(
+        &rt,
+        alloc,
+        each_kind(alloc)?,
+        |command| hall.told(pass, command),
+    )
 }
 
 #[test]
@@ -107,10 +112,11 @@ fn a_cell_is_told_each_kind(rt: HostRuntime) -> Result<(), Fail> {
     })
 }
 
-/// The quota is used up, and then the pass is full.
+/// A quota of 2 is used up, and then the pass is full.
 fn until_full(alloc: Global) -> Result<Vec<(Command, Reply)>, Fail> {
     Ok(vec![in alloc;
         (Command::Enter, here(alloc, "")?),
+        (write(alloc)?, Reply::Written),
         (Command::Depart { port: 0 }, Reply::Gone),
         (Command::Look, Reply::No(Why::Spent)),
         (write(alloc)?, Reply::No(Why::Spent)),
@@ -127,15 +133,20 @@ fn until_full(alloc: Global) -> Result<Vec<(Command, Reply)>, Fail> {
 #[test]
 fn a_hall_answers_a_full_pass(rt: HostRuntime) -> Result<(), Fail> {
     let alloc = rt.alloc();
-    let (mut hall, mut passes) = Hall::new(alloc, 0, play(alloc, 1)?.0)?;
+    let (mut hall, mut passes) = Hall::new(alloc, 0, play(alloc, 2)?.0)?;
     let pass = &mut passes[0];
-    are_told(&rt, alloc, until_full(alloc)?, |command| hall.told(pass, command))
+    are_told(
+        &rt,
+        alloc,
+        until_full(alloc)?,
+        |command| hall.told(pass, command),
+    )
 }
 
 #[test]
 fn a_cell_answers_a_full_pass(rt: HostRuntime) -> Result<(), Fail> {
     let alloc = rt.alloc();
-    let cell = cell(alloc, 0, 1)?;
+    let cell = cell(alloc, 0, 2)?;
     let mut pass = cell.claim(&rt, 0).expect(&rt, "a pass is claimed once");
     are_told(&rt, alloc, until_full(alloc)?, |command| {
         cell.submit(&rt, &Open, &mut pass, command)
@@ -151,6 +162,7 @@ fn a_cell_answers_who_accuses_who_is_strange_and_who_comes_late(
     let mut pass = shared.claim(&rt, 0).expect(&rt, "a pass is claimed once");
     let accuses = vec![in alloc;
         (Command::Enter, here(alloc, "")?),
+        (write(alloc)?, Reply::Written),
         (Command::Accuse { port: 1 }, Reply::Noted),
         (Command::Leave, Reply::No(Why::Ended)),
     ]?;
