@@ -8,8 +8,8 @@ Python that is written against `client.py`, which plays inside the lab and is ch
 matches on small networks (rings of 3 to 8 and 12 nodes, unless you name others by --network), each under a fair
 schedule and under one with slow agents. Each agent is repeated alone, as in a course; lines that were refused are told;
 then a hunt looks for a schedule under which the team fails, for a minute at most, and every schedule of a ring of 5 is
-tried, if that takes three minutes at most. The last line is one sentence: what the agent is right on, or the first
-thing to mend, with the command that shows it. The exit status is 1 if there is something to mend.
+tried, if that takes three minutes at most. In the end the agent is right, and one sentence says on what; or the first
+thing to mend is told, one fact a line, and how to see it again. The exit status is 1 if there is something to mend.
 
 Under --network the hunt and the search of all schedules take the smallest of the networks that you name.
 """
@@ -45,9 +45,9 @@ AGAIN = 5.0
 
 
 class ToMend(NamedTuple):
-    """The first thing to mend: what is wrong, and the match that shows it."""
+    """The first thing to mend: what is wrong, fact by fact, and the match that shows it."""
 
-    said: str
+    said: List[str]
     record: Record
 
 
@@ -102,7 +102,8 @@ def run(words: argparse.Namespace) -> int:
         return 0
     print(wrong.record.keep(words.keep)[-1])
     again = f"{arena_lab.called} replay {words.keep}{'' if asked.program else f' --engine {MODEL}'}"
-    print(f"To mend first: {wrong.said}; see it again by `{again}`, and try a mended agent by `{again} --follow`")
+    print("\n  ".join([f"To mend first: {wrong.said[0]}", *wrong.said[1:]]))
+    print(f"See it again by `{again}`, and try a mended agent by `{again} --follow`")
     return 1
 
 
@@ -133,14 +134,12 @@ def matches(asked: Checked) -> Tuple[int, Optional[ToMend]]:
     print(f"{len(rows)} matches on {', '.join(asked.networks)}: all solved")
     if refused is None:
         return len(rows), None
-    said = f"lines are refused, which cost commands: {'; '.join(refused['refused'])}"
-    return len(rows), ToMend(said, refused.match())
+    return len(rows), ToMend(["lines are refused, which cost commands", *refused["refused"]], refused.match())
 
 
-def failure(record: Record, where: str) -> str:
-    """What is wrong with a match."""
-    faults = [*record.played.faults, *record.played.refused]
-    return "; ".join([f"{where} the match came to {record.verdict}", *faults])
+def failure(record: Record, where: str) -> List[str]:
+    """What is wrong with a match, fact by fact."""
+    return [f"{where} the match came to {record.verdict}", *record.told(), *record.faults(), *record.played.refused]
 
 
 def hunt(asked: Checked) -> Tuple[int, Optional[ToMend]]:

@@ -122,7 +122,7 @@ def report(tally: Tally, best: Row, keep: Optional[pathlib.Path], out: TextIO) -
     beside = f", of which {tally.beside} solved, but an agent failed" if tally.beside else ""
     lines: List[str] = [f"{played} schedule{'' if played == 1 else 's'}: {counts}; failed {tally.failed}{beside}",
                         f"{told}: seed {best['seed']}, home {best['home']}, holes {best['holes']}, "
-                        f"{record.verdict}", *record.faults(), *record.played.refused]
+                        f"{record.verdict}", *record.told(), *record.faults(), *record.played.refused]
     print("\n".join(lines), file=out)
     if keep:
         print("\n".join(record.keep(keep)), file=out)

@@ -11,7 +11,7 @@ import tempfile
 from typing import Any, Dict, Iterator, List, NamedTuple, Optional, Sequence, Union
 
 from arena_lab.pages.page import data_of, page_of
-from arena_lab.play import kept_matches, schedulers
+from arena_lab.play import kept_matches, referee, schedulers
 from arena_lab.play.agent_files import NoAgent, member
 from arena_lab.play.matches import PlayedMatch, play
 from arena_lab.play.repeating import all_repeated
@@ -96,6 +96,10 @@ class Record(NamedTuple):
         """What is said of agents that have a fault, or have used all of their commands."""
         quota = self.schedule.fixture.setup.quota
         return [*self.played.faults, *(f"agent {it}: has used all of its {quota} commands" for it in self.spent())]
+
+    def told(self) -> List[str]:
+        """What came of a match that was not solved, from the referee's view."""
+        return referee.told(self.played.match, self.played.faults)
 
     def repeated(self, seconds: float) -> "Record":
         """The match with what its agents say otherwise when each is repeated alone, unless one of them has a fault."""

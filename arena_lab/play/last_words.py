@@ -3,6 +3,7 @@
 Each language ends what it prints otherwise: Node.js with its version, Java with the last frame, Rust with a note. Its
 marks tell the language, and where the error stands in what it prints.
 """
+import pathlib
 import re
 from typing import Callable, List, Optional, Sequence, Tuple
 
@@ -15,16 +16,38 @@ LOOKS = re.compile(r"\b(?:\w*error|\w*exception|panic\w*|fatal|abort\w*|assert\w
                    re.IGNORECASE)
 
 
+# a frame of Python's traceback; and how a program is called, as it prints it: after "usage:", or as an indented line
+# that ends in words in capitals
+FRAME = re.compile(r'  File "(.*)", line (\d+)')
+USAGE = re.compile(r"\s*usage:\s*(\S.*)", re.IGNORECASE)
+CALL = re.compile(r"\s+(\S.*?(?: \[?[A-Z]{2,}\]?){2,})\s*$")
+
+
+def usage_in(text: str) -> str:
+    """How a program is called, if it says so and names no error: it was called otherwise."""
+    lines = [line[:WIDEST] for line in text.split("\n")]
+    if any(of(lines) for of in LANGUAGES) or any(LOOKS.search(line) for line in lines):
+        return ""
+    found = next((it for pattern in (USAGE, CALL) for line in lines if (it := pattern.match(line))), None)
+    return found[1].strip() if found else ""
+
+
 def first(lines: Sequence[str], pattern: str) -> Optional[int]:
     """The place of the first line that begins so."""
     return next((place for place, line in enumerate(lines) if re.match(pattern, line)), None)
 
 
 def of_python(lines: Sequence[str]) -> Optional[str]:
-    """The line behind the frames of the last traceback, or of a file that cannot be read."""
+    """The line behind the frames of the last traceback, with the last frame of the agent's own file; or of a file that
+    cannot be read."""
     places = [place for place, line in enumerate(lines) if line.startswith("Traceback (most recent call last)")]
     if places:
-        return next((line for line in lines[places[-1] + 1:] if line.strip() and not line.startswith(" ")), None)
+        frames = [(pathlib.PurePath(it[1]), it[2]) for line in lines[places[-1]:] if (it := FRAME.match(line))]
+        own = [(path.name, line) for path, line in frames
+               if path.name != "client.py" and "/lib/python3" not in str(path)]
+        where = " ({}, line {})".format(*own[-1]) if own else ""
+        said = next((line for line in lines[places[-1] + 1:] if line.strip() and not line.startswith(" ")), None)
+        return said and f"{said}{where}"
     start = first(lines, r'  File ".*", line \d+')
     return None if start is None else next((line for line in lines[start:] if re.match(NAMED, line)), None)
 

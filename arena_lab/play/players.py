@@ -4,10 +4,13 @@ A player runs until it waits for the answer to its line, for its arrival, or to 
 is the line that it sent, or None if its input has ended.
 """
 import operator
+import pathlib
 import signal
 import sys
 import threading
+import traceback
 from collections import deque
+from types import TracebackType
 from typing import Any, Callable, Deque, Dict, List, Mapping, Optional, Sequence
 
 from arena_lab.play.agent_files import Script
@@ -29,6 +32,9 @@ NEVER_AHEAD = LAST_LINES | {WAKES}
 # the parts of a player by which the lab plays its program: the program may not set them
 STAYS = ("number", "modules", "_team", "_heard", "_thread")
 CHANGED = "has changed {} of its lines, by which the lab plays it"
+
+# the folders of the lab's own lines and of Python's modules
+NOT_OWN = (pathlib.Path(__file__).parent, pathlib.Path(operator.__file__).parent)
 
 # how many times longer an agent may sleep than compute: a machine with other work lets it wait too
 LONGER = 20
@@ -153,9 +159,20 @@ class Player:
         except TooSlow as fault:
             self.fault = str(fault)
         except (Exception, SystemExit) as fault:
-            self.fault = f"raises {type(fault).__name__}: {fault}"
+            self.fault = f"raises {type(fault).__name__}: {fault}{place_in(fault.__traceback__)}"
         # its connection is closed, as that of a program that ends
         self.line, self.state = None, DONE if self._is_over else WAITS
+
+
+def place_in(trace: Optional[TracebackType]) -> str:
+    """The last line of the agent's own file through which an exception came, in parentheses: not one of the lab, of the
+    client, or of Python."""
+    found = ""
+    for frame, line in traceback.walk_tb(trace):
+        path = pathlib.PurePath(frame.f_code.co_filename)
+        if path.name != "client.py" and path.suffix == ".py" and not any(it in path.parents for it in NOT_OWN):
+            found = f" ({path.name}, line {line})"
+    return found
 
 
 class Clock:

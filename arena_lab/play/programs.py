@@ -23,7 +23,7 @@ from typing import Any, Callable, Deque, Dict, List, Mapping, NamedTuple, Option
 
 from arena_lab.play.agent_files import NoAgent
 from arena_lab.play.bounds import READ_NOTHING, SENT_NOTHING, TimeBound, Room
-from arena_lab.play.last_words import error_in
+from arena_lab.play.last_words import error_in, usage_in
 from arena_lab.play.mistakes import plain
 from arena_lab.play.players import DENIALS, DONE, LAST_LINES, TRAVELS, WAITS
 from arena_lab.rules.fixtures import Fixture
@@ -40,6 +40,9 @@ GRACE = 0.5
 SLICE = 0.02
 # characters of a program's last words that are told
 WORDS = 200
+# what a program that was not let in has done, by the line that it was sent
+NOT_LET_IN = {'{"no":"key"}': "; its key is of no agent here: take the one that it is given in the place of {key}",
+              '{"no":"taken"}': "; another program has entered by its key"}
 
 
 class NoStart(Exception):
@@ -257,7 +260,7 @@ class Player:
         self.line = None
         self.state = TRAVELS if line == GONE else DONE if line in LAST_LINES else WAITS
         if line in DENIALS:
-            self.fault = self.fault or f"was not let in: {line}"
+            self.fault = self.fault or f"was not let in: {line}{NOT_LET_IN.get(line, '')}"
         self._count(line)
         if self._connection is not None and not self._has_ended:
             with self._team.clock as until:
@@ -390,7 +393,9 @@ class Player:
         size = self._errors.seek(0, os.SEEK_END)
         self._errors.seek(max(0, size - PIECE))
         text = self._errors.read().decode(errors="replace")
-        words = self._ground.told(error_in(text))
+        words, usage = self._ground.told(error_in(text)), self._ground.told(usage_in(text))
+        if usage:
+            return f": an argument is missing, or there is one too many: it is called as `{plain(usage)[:WORDS]}`"
         if not words:
             return ""
         return f": {plain(words)[:WORDS]}{self._ground.hint(words) or self._ground.hint(text.strip()[-PIECE // 64:])}"

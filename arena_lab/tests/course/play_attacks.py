@@ -371,7 +371,7 @@ class Talking(Course):
     def test_a_refused_call_says_what_the_teacher_may_change(self) -> None:
         code = "import os\nos.nice(1)"
         self.assertRegex(self.said(Isolation.ALL, code)[0],
-                         "Function not implemented .calls of the system are refused to "
+                         r"Function not implemented \(evil.py, line 2\) .calls of the system are refused to "
                          "it that python does not need: examples/README.md says .*`calls` in course.toml allows more")
         (self.team / "evil.py").write_text(code + "\nraise SystemExit('was allowed')")
         rows = self.graded(HEAD + 'calls = ["setpriority"]\n' + team("evil", ["evil"], EVIL))
@@ -471,8 +471,8 @@ sys.exit(f"{{kind}} {{open('{tools}/bin/it').read()}} {{os.path.isfile('{tools}/
     def test_a_program_has_two_connections_to_a_port(self) -> None:
         code = PORTS + "kept = [socket.create_connection(('127.0.0.1', 5555)) for _ in range(3)]"
         self.assertEqual(self.said(Isolation.ALL, code),
-                         ["OSError: [Errno 99] Cannot assign requested address (a program "
-                                                      "may have two connections to a port at a time)"])
+                         ["OSError: [Errno 99] Cannot assign requested address (evil.py, line 9) (a program may have "
+                          "two connections to a port at a time)"])
 
     def test_pipes_and_sockets_among_tools(self) -> None:
         """A pipe can be written to where files cannot."""
@@ -656,9 +656,10 @@ class Saying(Course):
         threads = ("import threading, time\nfor _ in range(300):\n"
                    "    threading.Thread(target=time.sleep, args=(60,)).start()\n")
         files = "found = [open('/dev/null') for _ in range(300)]\n"
-        for code, said in ((threads, "has sent no line for 3 s: RuntimeError: can't start new thread (a program may "
-                            "have 256 processes and threads)"),
-                           (files, "Too many open files: '/dev/null' (a program may have 256 open files)")):
+        for code, said in ((threads, "has sent no line for 3 s: RuntimeError: can't start new thread (evil.py, line "
+                            "3) (a program may have 256 processes and threads)"),
+                           (files, "Too many open files: '/dev/null' (evil.py, line 1) (a program may have 256 open "
+                            "files)")):
             with self.subTest(said):
                 fault = self.played(ALL_WALLS[0], code, head=HEAD.replace("60", "3")).faults[0]
                 self.assertIn(said, fault)

@@ -7,7 +7,7 @@ import tempfile
 import unittest
 from typing import Dict, List, Tuple
 
-from arena_lab.play.last_words import error_in
+from arena_lab.play.last_words import error_in, usage_in
 
 # what programs print, and the line that names the error
 PRINTED: Dict[str, Tuple[str, str]] = {
@@ -18,7 +18,7 @@ PRINTED: Dict[str, Tuple[str, str]] = {
         '    x["links"]\n'
         "    ~^^^^^^^^^\n"
         "KeyError: 'links'\n",
-        "KeyError: 'links'"),
+        "KeyError: 'links' (c.py, line 3)"),
     "Python, raised from another": (
         "Traceback (most recent call last):\n"
         '  File "c.py", line 2, in f\n'
@@ -32,13 +32,13 @@ PRINTED: Dict[str, Tuple[str, str]] = {
         "    f()\n"
         "client.MatchOver\n"
         "Exception ignored in: <x>\n",
-        "client.MatchOver"),
+        "client.MatchOver (c.py, line 4)"),
     "Python, of two lines": (
         "Traceback (most recent call last):\n"
         '  File "c.py", line 1\n'
         "ValueError: first\n"
         "second line\n",
-        "ValueError: first"),
+        "ValueError: first (c.py, line 1)"),
     "Python that cannot be read": (
         '  File "/x/agent.py", line 3\n'
         "    def f(\n"
@@ -133,7 +133,7 @@ PRINTED: Dict[str, Tuple[str, str]] = {
 }
 # programs that crash, and by what they are run
 SOURCES: Dict[str, Tuple[str, List[str], str]] = {
-    "c.py": ("import sys\nx={}\nx['links']\n", [sys.executable, "c.py"], "KeyError: 'links'"),
+    "c.py": ("import sys\nx={}\nx['links']\n", [sys.executable, "c.py"], "KeyError: 'links' (c.py, line 3)"),
     "c.js": ("const a={};a.links.forEach(x=>x)\n", ["node", "c.js"], "TypeError: Cannot read properties of undefined"),
     "C.java": ("public class C{public static void main(String[] a){Object o=null;o.hashCode();}}", ["java", "C.java"],
                'Exception in thread "main" java.lang.NullPointerException'),
@@ -145,6 +145,14 @@ class Errors(unittest.TestCase):
         for name, (printed, wanted) in PRINTED.items():
             with self.subTest(name):
                 self.assertEqual(error_in(printed), wanted)
+
+    def test_a_program_that_was_called_otherwise_says_how(self) -> None:
+        called = "python3 careful.py HOST PORT KEY NODES"
+        for printed, wanted in ((f"Searches a ring.\n\n    {called}\n\nNothing is decided by time.\n", called),
+                                ("usage: ./careful HOST PORT KEY NODES\n", "./careful HOST PORT KEY NODES"),
+                                ("usage: a.py [-h] nodes\na.py: error: arguments are required: nodes\n", ""),
+                                ("starting\nat HOME SWEET\n", "")):
+            self.assertEqual(usage_in(printed), wanted)
 
     def test_what_programs_print_here(self) -> None:
         for name, (source, command, wanted) in SOURCES.items():

@@ -38,7 +38,7 @@ class Tallies(unittest.TestCase):
         for _ in range(60):
             tally.add(row(failed=True, seed=0, home=0, holes=[1]))  # type: ignore[arg-type]
         best: Any = mock.Mock()
-        best.match().faults.return_value = []
+        best.match().told.return_value, best.match().faults.return_value = [], []
         best.match().played.refused = []
         best.__getitem__ = mock.Mock(return_value=0)
         report(tally, best, None, said)

@@ -54,7 +54,9 @@ class Checks(InFolder):
             status, said = self.checked(f"{agent} {{nodes}}", "--engine", "model")
             self.assertEqual(status, 1)
             self.assertIn("To mend first: on ring:3 under fair 0 the match came to silent", said)
-            self.assertIn(told, said)
+            self.assertIn(f"\n  {told}", said)
+            self.assertIn("\n  nobody accused: agent", said)
+            self.assertLess(max(map(len, said.splitlines())), 250)
             self.check_shown(told)
 
     def test_what_a_search_alone_finds(self) -> None:
@@ -63,7 +65,7 @@ class Checks(InFolder):
         status, said = self.checked(f"{agent} {{nodes}}", "--network", "ring:4", "--seconds", "10", "--engine", "model")
         self.assertEqual(status, 1, said)
         self.assertIn("2 matches on ring:4: all solved", said)
-        self.assertIn("To mend first: under a schedule of ring:4", said.splitlines()[-1])
+        self.assertIn("\nTo mend first: under a schedule of ring:4", said)
         self.assertIn(f"replay {self.folder / 'kept'} --engine model --follow`", said.splitlines()[-1])
         self.check_shown("silent")
 
@@ -79,7 +81,7 @@ class Checks(InFolder):
         status, said = self.checked(f"{agent} {{nodes}}", "--engine", "model")
         self.assertEqual(status, 1, said)
         self.assertIn("14 matches on ring:3, ring:4,", said)
-        self.assertIn("To mend first: lines are refused, which cost commands: agent 0: 1 line named a port", said)
+        self.assertIn("To mend first: lines are refused, which cost commands\n  agent 0: 1 line named a port", said)
 
     def check_shown(self, told: str) -> None:
         """The command that is told shows it."""
