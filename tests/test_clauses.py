@@ -85,7 +85,8 @@ class ClausesTest(unittest.TestCase):
 
     def test_what_is_always_true_is_no_clause(self) -> None:
         lines = ["impl Team for Host {", "    ghost answers = { λ old exchange new. Unit {0} };",
-                 "    ghost all = { ⊤ };", "    ghost says = { λ old new. new ≡ old };", "}", "impl From<A> for B {", "    ghost last = { ⊤ };"]
+                 "    ghost all = { ⊤ };", "    ghost says = { λ old new. new ≡ old };", "}",
+                 "impl From<A> for B {", "    ghost last = { ⊤ };"]
         self.assertEqual(always_true(lines, 0), {"answers", "all"})
 
     def test_methods_are_named_by_their_types(self) -> None:

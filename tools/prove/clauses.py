@@ -27,8 +27,8 @@ NAMES = re.compile(r"(?:(?P<trait>[\w:]+)(?:<.*>)? for )?&?(?P<type>\w+)")
 
 
 class Function(NamedTuple):
-    """A function: its crate, its file, its name behind its type's, its clauses, and the ghost members beside it that are
-    always true."""
+    """A function: its crate, its file, its name behind its type's, its clauses, and the ghost members beside it that
+    are always true."""
     crate: str
     file: str
     name: str
