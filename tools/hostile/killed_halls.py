@@ -79,8 +79,9 @@ class Team:
                 replay = self._hall.ask("GET", f"/api/matches/{number}/replays/{it['number']}", self._token).body
                 match = played(replay.decode())
                 verdict = judge(match)._asdict()
+                told_of_it = {name: it["verdict"][name] for name in verdict}
                 is_absent = it["verdict"]["outcome"] == "absent"
-                if match.replay().encode() != replay or not is_absent and verdict != it["verdict"]:
+                if match.replay().encode() != replay or not is_absent and verdict != told_of_it:
                     found.append(f"attempt {number} has the verdict {it['verdict']}, and its replay {verdict}")
         return found
 
