@@ -29,5 +29,6 @@ pub mod ClosedGraphs
 pub mod Told
 pub mod Repeating
 pub mod Whole
+pub mod Counterexamples
 pub mod NotesLemmas
 pub mod QuestionsLemmas
