@@ -155,7 +155,9 @@ def drawn(number: int) -> Made:
 
 def said(program: str, folder: pathlib.Path) -> Tuple[int, str]:
     ran = subprocess.run([program, "check", "t.toml"], cwd=folder, stdout=subprocess.PIPE, stderr=subprocess.PIPE)
-    return ran.returncode, ran.stderr.decode()
+    # a line of what helps begins with two spaces
+    lines = ran.stderr.decode().splitlines(keepends=True)
+    return ran.returncode, "".join(line for line in lines if not line.startswith("  "))
 
 
 def tried(programs: Sequence[str], number: int) -> Tuple[str, List[str]]:

@@ -223,7 +223,7 @@ def longest_script(stage: Stage) -> None:
 
 @case("a file of the greatest length, and one byte more")
 def longest_file(stage: Stage) -> None:
-    for more, fault in ((0, "version"), (1, "text")):
+    for more, fault in ((0, "version\n  version: 1, 2 or 3; of a network 1 or 2"), (1, "text")):
         writes(stage, long="#" * (MAX_TEXT + more))
         expect(stage.run(["check", "long.toml"]), b"", f"long.toml: {fault}\n".encode(), REFUSED_TEXT)
 
@@ -425,7 +425,8 @@ def refused_contests(stage: Stage) -> None:
         told = b"serve: listen\n  another program listens on this port: end it, or give another --port\n"
         expect(stage.run(serve("cup.toml", port)), b"", told, FAILED_STREAM)
         expect(stage.run(serve("none.toml", port)), b"", b"none.toml: read\n", FAILED_STREAM)
-        expect(stage.run(serve("tri.toml", port)), b"", b"tri.toml: missing seed\n", REFUSED_TEXT)
+        expect(stage.run(serve("tri.toml", port)), b"",
+               b"tri.toml: missing seed\n  seed: a text of 64 hexadecimal digits\n", REFUSED_TEXT)
 
 
 # what an agent is answered that enters before the close, and after it

@@ -27,8 +27,8 @@ hold names of tables that stand before theirs.
 A row whose second line is `~ SOURCE TARGET` is a table of changes, for `check cup.toml`. In a line `OLD => NEW => LINE`
 the first OLD in the file SOURCE, as it is written before each row, becomes NEW, and the file TARGET is written so. LINE
 is what is printed, if it begins with `match`, or told, with the exit status 6 if it ends with `: read`, and else
-3. `right` stands for the line of the match of a file in which nothing is changed. Behind `shape`, `toml` and `read` a
-line of what helps is told, any that begins with two spaces.
+3. `right` stands for the line of the match of a file in which nothing is changed. Behind each fault but `text` a line
+of what helps is told, any that begins with two spaces.
 """
 import itertools
 import pathlib
@@ -248,7 +248,7 @@ def checks(files: Dict[str, bytes], lines: Sequence[str]) -> Iterator[Tuple[str,
 
 def help_behind(told: str) -> str:
     """The line of help that is told behind a fault of a file, if there is one."""
-    return SOME_HELP.decode() if " shape " in told or told.endswith((": toml\n", ": read\n")) else ""
+    return "" if told.endswith(": text\n") else SOME_HELP.decode()
 
 
 def rows_of(text: str) -> List[Row]:

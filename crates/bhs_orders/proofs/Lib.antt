@@ -13,3 +13,4 @@ pub mod TurnsLemmas
 pub mod HeldLemmas
 pub mod FoundLemmas
 pub mod LineLemmas
+pub mod HostLemmas

@@ -20,3 +20,4 @@ pub mod Appeals
 pub mod ContestTables
 pub mod Recovery
 pub mod LineStates
+pub mod HostAnswers

@@ -31,7 +31,7 @@ module _ {R W : Type 0} (remaining : R → Option (List ℕ)) where
   IsHeard old line new =
       (new.writer ≡ old.writer) × Consumes (remaining old.reader) (remaining new.reader) (ended line)
 
-  -- no line was read, and nothing was written
+  -- Nothing was written, where no line came. What was read is not said: a line may have been cut off.
   abbrev pub IsUnheard : (old new : Wire R W) → Type 0
   IsUnheard old new = new.writer ≡ old.writer
 

@@ -11,7 +11,7 @@ ghost use Rattle.bhs_orders.specs.Summary.{IsAssembled, IsRead, IsSummary};
 
 use crate::reporting::faults::{Fault, report};
 use crate::streams::showing::show_made;
-use crate::tournaments::helping::{report_file, report_unread};
+use crate::tournaments::helping::{report_fault, report_file, report_unread};
 use crate::tournaments::network_places::place_of;
 use crate::tournaments::summaries::summary;
 use bhs_assembly::assemble;
@@ -59,7 +59,7 @@ pub fn lineup_of<F: Files, E: Write>(
     let networks = networks_of(alloc, files, name, &tournament, errors)?;
     match assemble(alloc, tournament, &networks) {
         Ok(lineup) => Ok(lineup),
-        Err(fault) => Err(report(name, Fault::from(fault), errors)),
+        Err(fault) => Err(report_fault(name, fault, errors)),
     }
 }
 

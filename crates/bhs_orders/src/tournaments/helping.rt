@@ -6,6 +6,8 @@ use crate::reporting::faults::{Fault, report};
 use crate::reporting::names::Shown;
 use crate::tournaments::network_places::other_folder;
 use bhs_files::{FileFault, FileKey};
+use bhs_net::NetFault;
+use bhs_world::SetupFault;
 use std::alloc::Global;
 use std::io::Write;
 
@@ -19,13 +21,33 @@ pub(crate) fn report_file<E: Write>(
 ) -> u8
     ensures { IsOfFault result }
 {
+    let status = report_fault(name, fault, errors);
+    if let FileFault::Toml = fault {
+        tell_line(alloc, text, errors);
+    }
+    status
+}
+
+/// Reports what is wrong with what files say. The answer is the exit status.
+pub(crate) fn report_fault<E: Write>(name: &str, fault: FileFault, errors: &mut E) -> u8
+    ensures { IsOfFault result }
+{
     let status = report(name, Fault::from(fault), errors);
     match fault {
-        FileFault::Toml => tell_line(alloc, text, errors),
-        FileFault::Shape { key, .. } => {
-            let _ = writeln!(errors, "  {key}: {}", shape_of(key));
+        FileFault::Version => {
+            let _ = errors.write_all(b"  version: 1, 2 or 3; of a network 1 or 2\n");
         }
-        _ => {}
+        FileFault::Missing { key, .. } => tell_shape(key, errors),
+        FileFault::Shape { key, .. } => tell_shape(key, errors),
+        FileFault::Net(fault) => tell_network(fault, errors),
+        FileFault::Setup { fault, .. } => tell_setup(fault, errors),
+        FileFault::KeyTwice { .. } => {
+            let _ = errors.write_all(b"  keys: each stands once in a tournament\n");
+        }
+        FileFault::Held { .. } => {
+            let _ = errors.write_all(b"  held: [node, port] of ports that the network has\n");
+        }
+        FileFault::Toml | FileFault::Memory => {}
     }
     status
 }
@@ -69,6 +91,53 @@ fn tell_line<E: Write>(alloc: Global, text: &str, errors: &mut E) {
 fn line_at(text: &[u8], place: usize) -> usize {
     let before = text.iter().take(place);
     1 + before.filter(|byte| **byte == b'\n').count()
+}
+
+// Tells what a file may have at a key.
+fn tell_shape<E: Write>(key: FileKey, errors: &mut E) {
+    let _ = writeln!(errors, "  {key}: {}", shape_of(key));
+}
+
+// Tells what links make a network. Links are counted from 0.
+fn tell_network<E: Write>(fault: NetFault, errors: &mut E) {
+    let _ = match fault {
+        NetFault::Nodes => errors.write_all(b"  nodes: 3 to 256, and 4096 in version 2\n"),
+        NetFault::Node { .. } => errors.write_all(b"  links: the nodes are 0 to nodes - 1\n"),
+        NetFault::Loop { .. } => errors.write_all(b"  links: each joins two nodes\n"),
+        NetFault::Double { .. } => errors.write_all(b"  links: two nodes have one link at most\n"),
+        NetFault::PortTwice { .. } => errors.write_all(b"  links: a port has one link\n"),
+        NetFault::PortGap { .. } => {
+            errors.write_all(b"  links: a node's ports are 0, 1, 2 and so on\n")
+        }
+        NetFault::Apart => errors.write_all(b"  links: paths join all nodes\n"),
+        NetFault::CutNode { .. } => {
+            errors.write_all(b"  links: paths join all nodes, also without any one of them\n")
+        }
+        NetFault::Memory => return,
+    };
+}
+
+// Tells what a match may have where it is out of its limits.
+fn tell_setup<E: Write>(fault: SetupFault, errors: &mut E) {
+    match fault {
+        SetupFault::Home => {
+            let _ = errors.write_all(b"  home: a node of the network, the first is 0\n");
+        }
+        SetupFault::Hole => {
+            let _ = errors.write_all(b"  hole: nodes of the network other than home, each once\n");
+        }
+        SetupFault::Agents => {
+            let _ = errors.write_all(b"  agents: as many as keys, 1 to 64\n");
+        }
+        SetupFault::Quota => tell_shape(FileKey::Quota, errors),
+        SetupFault::Board => tell_shape(FileKey::Board, errors),
+        SetupFault::Dark => {
+            let _ = errors.write_all(
+                b"  dark: [node, port] of one end of a link, each link once\n",
+            );
+        }
+        SetupFault::Memory => {}
+    }
 }
 
 // What a file may have at a key.
