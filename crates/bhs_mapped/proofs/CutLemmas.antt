@@ -1,4 +1,4 @@
--- No agent passes a black hole that cuts a network in two.
+-- No agent passes a black hole that cuts a network in two, and so none finds it.
 use Rattle.std.proofs.Common.{ℕ, ◌<◌, ◌≡◌, ◌⊎◌, true, false, List, [], ◌∷◌, refl, sym, ap, ◌∙◌, subst, nat_lt, inl, inr}
 use Rattle.std.specs.Prelude.{◌≢◌}
 use Rattle.std.proofs.lemmas.Bool.{ltb-true, true≢false, eq-eqb, cond-true, cond-false}
@@ -23,11 +23,12 @@ use Rattle.bhs_explore.specs.Schedules.{Trial, under, Action, Makes, Wakes, Rest
 use Rattle.bhs_explore.proofs.Turns.{verdict_is}
 use Rattle.bhs_protocols.specs.Configurations.{Configuration, blank, deed_in, is_heard, told_at, refused_in, arrived_in}
 use Rattle.bhs_protocols.specs.Configurations.{said_in, delivered_in, done_in, turn_in, turns_in, outcome_in}
-use Rattle.bhs_protocols.specs.LastWord.{searched}
+use Rattle.bhs_protocols.specs.LastWord.{searched, FindsFor, Finds}
 use Rattle.bhs_protocols.proofs.ConfigurationLemmas.{configurations_follow}
 use Rattle.bhs_protocols.proofs.LastWordLemmas as last_word
+use Rattle.bhs_protocols.proofs.FindsLemmas.{never_accused}
 use Rattle.bhs_protocols.proofs.AloneLemmas.{unreached_unsolved}
-use Rattle.bhs_mapped.specs.Cuts.{NoTeamPassesACut}
+use Rattle.bhs_mapped.specs.Cuts.{NoTeamPassesACut, NoTeamLooksBehindACut}
 
 module _ (net : Network) (setup : Setup) (held : Held) (wakeups : ℕ) (strategies : Strategies) (cut : ℕ)
     (labelled : IsPortLabelled net) (apart : setup.home ≢ cut) where
@@ -145,27 +146,27 @@ module _ (net : Network) (setup : Setup) (held : Held) (wakeups : ℕ) (strategi
     reached = λ node was. absurd (true≢false (sym was));
   })
 
-  -- ---- so the match is not solved
+  -- ---- so some node is not reached
 
-  unsolved : (configuration : Configuration) (node : ℕ) → node < nodes_of net → node ≢ cut → node ≢ setup.home
-      → configuration.reached node ≡ false → outcome_in trial.world configuration ≢ Solved
-  unsolved configuration node below off not_home never =
-      unreached_unsolved (world_of net setup) cut node configuration below not_home (λ same. off (sym same)) never
+  -- a node that is neither the home base nor the black hole, and was not reached
+  record IsHidden (configuration : Configuration) : Type 0 where
+    node : ℕ
+    below : node < nodes_of net
+    off : node ≢ cut
+    not_home : node ≢ setup.home
+    never : configuration.reached node ≡ false
 
-  -- a node to which such a path leads, or the match is not solved
   near_or : (configuration : Configuration) → IsInside configuration → (node : ℕ) → node < nodes_of net → node ≢ cut
-      → IsPath Step setup.home node ⊎ (outcome_in trial.world configuration ≢ Solved)
+      → IsPath Step setup.home node ⊎ IsHidden configuration
   near_or configuration is node below off = elim (eqb_tells node setup.home) [
     | inl h ↦ inl (subst (λ (k : ℕ). IsPath Step setup.home k) (sym h.1) near_home.1)
-    | inr h ↦ by_cases (configuration.reached node) (IsPath Step setup.home node ⊎
-        (outcome_in trial.world configuration ≢ Solved))
+    | inr h ↦ by_cases (configuration.reached node) (IsPath Step setup.home node ⊎ IsHidden configuration)
         (λ yes. inl (is.reached node yes).1)
-        (λ none. inr (unsolved configuration node below off h.1 none))
+        (λ none. inr (record { node = node; below = below; off = off; not_home = h.1; never = none }))
   ]
 
-  never_solved : IsCutIn net cut → (configuration : Configuration) → IsInside configuration
-      → outcome_in trial.world configuration ≢ Solved
-  never_solved is configuration all =
+  hidden : IsCutIn net cut → (configuration : Configuration) → IsInside configuration → IsHidden configuration
+  hidden is configuration all =
       let two = is.1 in
       elim (near_or configuration all two.0 two.2 two.4) [
         | inr h ↦ h
@@ -175,6 +176,23 @@ module _ (net : Network) (setup : Setup) (held : Held) (wakeups : ℕ) (strategi
         ]
       ]
 
+  -- so the match is not solved
+  never_solved : IsCutIn net cut → (configuration : Configuration) → IsInside configuration
+      → outcome_in trial.world configuration ≢ Solved
+  never_solved is configuration all =
+      let it : IsHidden configuration = hidden is configuration all in
+      unreached_unsolved (world_of net setup) cut it.node configuration it.below it.not_home
+      (λ same. it.off (sym same)) it.never
+
+  -- and an accusation would be right with another black hole too
+  never_found : IsCutIn net cut → Finds (world_of net setup) held wakeups strategies → ⊥
+  never_found is finds =
+      let here : FindsFor trial cut = finds cut is.0 (λ same. apart (sym same)) in
+      let said = here.accuses [] in
+      let it : IsHidden (turns_in trial blank said.0) = hidden is (turns_in trial blank said.0) (inside said.0) in
+      never_accused (world_of net setup) held wakeups strategies cut it.node here
+      (finds it.node it.below it.not_home) it.off said.0 said.1 it.never
+
 pub no_team_passes_a_cut : NoTeamPassesACut
 no_team_passes_a_cut net setup held wakeups strategies cut labelled here apart is schedule solved =
     let it : Trial = searched (world_of net setup) held wakeups strategies cut in
@@ -182,3 +200,7 @@ no_team_passes_a_cut net setup held wakeups strategies cut labelled here apart i
     (inside net setup held wakeups strategies cut labelled apart schedule)
     (ap (outcome_in it.world) (sym (configurations_follow it schedule))
     ∙ sym (ap (λ (v : Verdict). v.outcome) (verdict_is it (under it schedule))) ∙ solved)
+
+pub no_team_looks_behind_a_cut : NoTeamLooksBehindACut
+no_team_looks_behind_a_cut net setup held wakeups strategies cut labelled here apart is finds =
+    never_found net setup held wakeups strategies cut labelled apart is finds

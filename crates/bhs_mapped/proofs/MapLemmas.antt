@@ -21,6 +21,7 @@ use Rattle.bhs_protocols.specs.LastWord.{searched, SolvesEverywhere}
 use Rattle.bhs_protocols.specs.Programs.{held_after, strategies_by}
 use Rattle.bhs_protocols.specs.AllRings.{ring_bounds}
 use Rattle.bhs_protocols.proofs.LossLemmas.{each_black_hole_destroys}
+use Rattle.bhs_protocols.proofs.StandardLemmas.{size_is}
 use Rattle.bhs_protocols.proofs.RingLemmas.{quota_enough, solved_wherever, two_within, within_more}
 use Rattle.bhs_protocols.proofs.ExplorerSteps.{Way, AreExplorers, does_by, out_by, back_by}
 use Rattle.bhs_protocols.proofs.ExplorerState.{Game}
@@ -32,7 +33,7 @@ use Rattle.bhs_mapped.specs.Exploring.{way_of, does_in, came_back, after_in, rou
 use Rattle.bhs_mapped.specs.Exploring.{explorers, guided_bounds}
 use Rattle.bhs_mapped.specs.MapLaws.{IsGuided, guided_trial, GuidedAgentsSolve, GuidedAgentsAttain, IsSetAt}
 use Rattle.bhs_mapped.specs.MapLaws.{IsSearchedFrom, TwoAgentsWithAMapSolve, OneLossIsNeededAndSuffices}
-use Rattle.bhs_mapped.specs.MapLaws.{GuidedMovesAreFew}
+use Rattle.bhs_mapped.specs.MapLaws.{GuidedMovesAreFew, StandardRingsAreSetAt}
 use Rattle.bhs_mapped.proofs.GuideLemmas.{networks_have_guides}
 
 -- ---- what an agent holds, with the ports of its way
@@ -267,6 +268,18 @@ pub two_agents_with_a_map_solve : TwoAgentsWithAMapSolve
 two_agents_with_a_map_solve net home is here =
     let has : HasGuide net home = networks_have_guides net home is here in
     record { guide = has.guide; guides = has.guides; solves = solves_with net home has }
+
+pub standard_rings_are_set_at : StandardRingsAreSetAt
+standard_rings_are_set_at n hole setup is =
+    let some : 0 < hole = is.not_home in
+    record {
+      from = is.home;
+      within = subst (λ (k : ℕ). hole < k) (sym (size_is n)) is.within;
+      not_home = λ same. omega (arith, same, some);
+      holes = is.holes;
+      dark = is.dark;
+      agents = is.agents;
+    }
 
 pub one_loss_is_needed_and_suffices : OneLossIsNeededAndSuffices
 one_loss_is_needed_and_suffices net setup wakeups is here two room enough =

@@ -9,6 +9,7 @@ use Rattle.bhs_explore.specs.Schedules.{Trial}
 use Rattle.bhs_protocols.specs.Invariants.{IsSolved}
 use Rattle.bhs_protocols.specs.Programs.{strategies_by}
 use Rattle.bhs_protocols.specs.Shuttle.{moves_on}
+use Rattle.bhs_protocols.specs.StandardRings.{standard_ring, IsSetUp}
 use Rattle.bhs_protocols.specs.AllRings.{ring_bounds}
 use Rattle.bhs_protocols.specs.Attained.{IsAttained}
 use Rattle.bhs_protocols.specs.LastWord.{searched, SolvesEverywhere}
@@ -73,6 +74,10 @@ pub record IsSearchedFrom (net : Network) (home : ℕ) : Type 0 where
 -- chosen by the network and the home base alone.
 abbrev pub TwoAgentsWithAMapSolve : Type 0
 TwoAgentsWithAMapSolve = (net : Network) (home : ℕ) → IsNetwork net → home < nodes_of net → IsSearchedFrom net home
+
+-- The standard ring of n nodes, with the black hole at one of its other nodes, is such a match.
+abbrev pub StandardRingsAreSetAt : Type 0
+StandardRingsAreSetAt = (n hole : ℕ) (setup : Setup) → IsSetUp n hole setup → IsSetAt (standard_ring n) 0 setup hole
 
 -- a guide by which two agents solve the match whichever other node is the black hole: they lose one of them at most,
 -- and under some schedule they do

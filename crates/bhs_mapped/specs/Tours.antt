@@ -7,7 +7,7 @@ use Rattle.bhs_protocols.specs.Invariants.{IsSolved}
 use Rattle.bhs_protocols.specs.Programs.{strategies_by}
 use Rattle.bhs_protocols.specs.Halves.{halves}
 use Rattle.bhs_protocols.specs.HalvesLaws.{halves_bounds}
-use Rattle.bhs_protocols.specs.Halving.{most_moves, most_turns}
+use Rattle.bhs_protocols.specs.Halving.{most_moves, most_commands}
 use Rattle.bhs_protocols.specs.Attained.{IsAttained, worst_distance}
 use Rattle.bhs_mapped.specs.Parts.{through_part}
 
@@ -63,12 +63,12 @@ pub record HasOneHole (world : World) (hole : ℕ) : Type 0 where
 -- costs what the search by halves costs on a ring.
 abbrev pub HalvesSolveWithATour : Type 0
 HalvesSolveWithATour = (world : World) (n hole wakeups : ℕ) (tour : Tour) → IsTour world.net world.home n tour
-    → HasOneHole world hole → 4 ≤ world.board → most_turns n ≤ world.quota
+    → HasOneHole world hole → 4 ≤ world.board → most_commands n ≤ world.quota
     → IsSolved (toured_trial world wakeups n tour) (halves_bounds n)
 
 -- and with the black hole at that distance from the home base which `HalvesAttain` names, some schedule makes all the
 -- moves that there may be
 abbrev pub HalvesAttainWithATour : Type 0
 HalvesAttainWithATour = (world : World) (n wakeups : ℕ) (tour : Tour) → IsTour world.net world.home n tour
-    → HasOneHole world (tour.node (worst_distance n)) → 4 ≤ world.board → most_turns n ≤ world.quota
+    → HasOneHole world (tour.node (worst_distance n)) → 4 ≤ world.board → most_commands n ≤ world.quota
     → IsAttained (toured_trial world wakeups n tour) (most_moves n)

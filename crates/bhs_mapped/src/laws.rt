@@ -1,10 +1,10 @@
 //! What holds under every schedule of agents that have a map. The functions do nothing: their contracts are laws.
 
-ghost use Rattle.bhs_mapped.specs.Cuts.{NoTeamPassesACut};
+ghost use Rattle.bhs_mapped.specs.Cuts.{NoTeamLooksBehindACut, NoTeamPassesACut};
 ghost use Rattle.bhs_mapped.specs.Diamond.{TheDiamondHasATour, TheDiamondIsSolved, TheDiamondIsToured};
 ghost use Rattle.bhs_mapped.specs.Guides.{NetworksHaveGuides, OnlyNetworksHaveGuides};
 ghost use Rattle.bhs_mapped.specs.MapLaws.{GuidedAgentsAttain, GuidedAgentsSolve, GuidedMovesAreFew};
-ghost use Rattle.bhs_mapped.specs.MapLaws.{OneLossIsNeededAndSuffices, TwoAgentsWithAMapSolve};
+ghost use Rattle.bhs_mapped.specs.MapLaws.{OneLossIsNeededAndSuffices, StandardRingsAreSetAt, TwoAgentsWithAMapSolve};
 ghost use Rattle.bhs_mapped.specs.Parts.{PartsAttain, PartsSuffice};
 ghost use Rattle.bhs_mapped.specs.Tours.{HalvesAttainWithATour, HalvesSolveWithATour};
 
@@ -22,9 +22,11 @@ pub fn guided_agents_solve()
     ensures few { GuidedMovesAreFew }
 {}
 
-/// Two agents that have a map solve each network of a file, from each home base and with each black hole.
+/// Two agents that have a map solve each network of a file, from each home base and with each black hole. Standard
+/// rings are matches of which that speaks.
 pub fn two_agents_with_a_map_solve()
-    ensures { TwoAgentsWithAMapSolve }
+    ensures solves { TwoAgentsWithAMapSolve }
+    ensures rings { StandardRingsAreSetAt }
 {}
 
 /// They solve with every black hole, and so one loss is needed and suffices on each network of a file.
@@ -32,9 +34,11 @@ pub fn one_loss_is_needed_and_suffices()
     ensures { OneLossIsNeededAndSuffices }
 {}
 
-/// No team solves a network with the black hole at a node without which it falls apart.
+/// No team solves a network with the black hole at a node without which it falls apart, and on such a network no team
+/// finds the black hole whichever node it is.
 pub fn no_team_passes_a_cut()
-    ensures { NoTeamPassesACut }
+    ensures solves { NoTeamPassesACut }
+    ensures finds { NoTeamLooksBehindACut }
 {}
 
 /// What strategies do on a part of a network, agents that have a map can do on the network: so two of them search a

@@ -19,7 +19,7 @@ use Rattle.bhs_protocols.specs.declared.halves.Phase.TheVariants.{ComesHome, Nea
 use Rattle.bhs_protocols.specs.Shuttle.{other_in, text_by}
 use Rattle.bhs_protocols.specs.Halving.{walks_at}
 use Rattle.bhs_protocols.specs.Halves.{own_in, target_by, theirs_by, learned, follows, came_near, goes_back, after_in}
-use Rattle.bhs_protocols.proofs.HalvesDues.{owing, paces, miss, mark_at, beside, come, last, part, told}
+use Rattle.bhs_protocols.proofs.HalvesDues.{owing, paces, tasks, miss, mark_at, beside, come, last, part, told}
 use Rattle.bhs_protocols.proofs.SearchLemmas.{agents_two, both, bytes_same, opposite, read_other, sides, text_other}
 use Rattle.bhs_protocols.proofs.MovingLemmas as moving
 use Rattle.bhs_protocols.proofs.TurnLemmas.{Becomes}
@@ -98,6 +98,7 @@ module _ {game : Game} (on : Turn game) where
       let label : ℕ = 1 - ways.ahead s (steps + 1) in
       let q : owing B W M.mine M.phase ≡ (B - 0) + (M.mine - (steps + 1)) + W = ap (owing B W M.mine) is in
       let p : paces M.phase ≡ 2 = ap paces is in
+      let t : tasks M.phase ≡ 1 = ap tasks is in
       let c : come M.mine M.phase ≡ M.mine = ap (come M.mine) is in
       let within : steps + 1 < n = small_side on s (steps + 1) pair.own (omega (arith, few, safe)) in
       let port : ways.ahead s (steps + 1) < 2 = search.ring.port s (steps + 1) pair.own within in
@@ -109,7 +110,7 @@ module _ {game : Game} (on : Turn game) where
       (omega (arith, few), omega (arith, port), placed.1, record { came = Some label; at = refl }, placed.3)
       (grows_by target)
       (λ k some far. grows_by target (ways.node s k) ((own_fit on).reached k some (omega (arith, far, c))))
-      (omega arith) (omega (arith, q)) (omega (arith, p))
+      (omega (arith, t)) (omega (arith, q)) (omega (arith, p))
 
   pub try_turn : M.phase ≡ Tries → can_move_in trial configuration s ≡ true
       → Onward game s o v w configuration (turn_in trial configuration s)
@@ -132,6 +133,7 @@ module _ {game : Game} (on : Turn game) where
             let before : M.mine + 1 < distance game s = omega (arith, safe, h.1) in
             let q : owing B W M.mine M.phase ≡ (B - 1) + 0 + W = ap (owing B W M.mine) is in
             let p : paces M.phase ≡ 2 = ap paces is in
+            let t : tasks M.phase ≡ 1 = ap tasks is in
             let c : come M.mine M.phase ≡ M.mine = ap (come M.mine) is in
             paced on M.target M.theirs M.own M.other (Turns label) (At target (Some label)) (come_to target label) 0 0
             (configuration.accused s) (changed configuration.reached target true)
@@ -144,7 +146,7 @@ module _ {game : Game} (on : Turn game) where
                   (changed_same configuration.reached target true)
               | inr it ↦ grows_by target (ways.node s k) ((own_fit on).reached k some (omega (arith, last, c, it.1)))
             ])
-            (omega arith) (omega (arith, q)) (omega (arith, p))
+            (omega (arith, t)) (omega (arith, q)) (omega (arith, p))
       ]
 
   -- ---- reading
@@ -195,11 +197,12 @@ module _ {game : Game} (on : Turn game) where
       → place ≡ At (ways.node s M.mine) came → M.mine < M.target → M.mine + 1 < distance game s
       → port ≡ ways.ahead s M.mine → configuration.accused s ≡ None
       → ((k : ℕ) → configuration.reached k ≡ true → seen k ≡ true)
-      → ((k : ℕ) → 0 < k → k ≤ M.mine + 1 → seen (ways.node s k) ≡ true) → costs ≤ 1
+      → ((k : ℕ) → 0 < k → k ≤ M.mine + 1 → seen (ways.node s k) ≡ true)
+      → costs + 1 ≤ tasks M.phase + stale game s M M.phase configuration.shown
       → (B - 2) + 0 + W ≡ owing B W M.mine M.phase
       → 2 ≤ paces M.phase + stale game s M M.phase configuration.shown
       → Onward game s o v w configuration (turn_in trial configuration s)
-  learns place news costs port came seen becomes is there more next ahead none grows reached once dues fewer =
+  learns place news costs port came seen becomes is there more next ahead none grows reached spends dues fewer =
       let board : List ℕ = configuration.shown (ways.node s M.mine) in
       let x : ℕ = own_in M.side board in
       let y : ℕ = other_in M.side board in
@@ -224,7 +227,7 @@ module _ {game : Game} (on : Turn game) where
         theirs_twice M.theirs x,
         none,
       )
-      grows reached once (omega (arith, dues)) (omega (arith, still, fewer))
+      grows reached (omega (arith, still, spends)) (omega (arith, dues)) (omega (arith, still, fewer))
 
   pub return_turn : M.phase ≡ Returns → Onward game s o v w configuration (turn_in trial configuration s)
   return_turn is =
@@ -234,6 +237,7 @@ module _ {game : Game} (on : Turn game) where
       let within : M.mine + 1 < n = small_side on s (M.mine + 1) pair.own next in
       let q : owing B W M.mine M.phase ≡ (B - 2) + 0 + W = ap (owing B W M.mine) is in
       let p : paces M.phase ≡ 2 = ap paces is in
+      let t : tasks M.phase ≡ 1 = ap tasks is in
       let c : come M.mine M.phase ≡ M.mine + 1 = ap (come M.mine) is in
       let target : ℕ = ways.node s M.mine in
       let label : ℕ = ways.ahead s M.mine in
@@ -242,7 +246,7 @@ module _ {game : Game} (on : Turn game) where
       (ap (λ (ph : Phase). after_in n M ph (come_to target label)) is) refl placed.0 next refl placed.3
       (grows_by target)
       (λ k some far. grows_by target (ways.node s k) ((own_fit on).reached k some (omega (arith, far, c))))
-      (omega arith) (omega (arith, q)) (omega (arith, p))
+      (omega (arith, t)) (omega (arith, q)) (omega (arith, p))
 
   -- it reads a whiteboard of the other side on its way to divide
   pub follows_at : (steps port : ℕ) (place : Position) (news : Observation) (costs moved : ℕ) (came : Option ℕ)
@@ -253,11 +257,12 @@ module _ {game : Game} (on : Turn game) where
       → place ≡ At (ways.node (opposite s) steps) came → IsDone game M v → steps ≤ O.mine
       → port ≡ ways.ahead (opposite s) steps → configuration.accused s ≡ None
       → ((k : ℕ) → configuration.reached k ≡ true → seen k ≡ true)
-      → ((k : ℕ) → 0 < k → k ≤ M.mine → seen (ways.node s k) ≡ true) → costs ≤ 1
+      → ((k : ℕ) → 0 < k → k ≤ M.mine → seen (ways.node s k) ≡ true)
+      → costs + 1 ≤ tasks M.phase + stale game s M M.phase configuration.shown + moved
       → moved + ((B - 0) + 0 + (W - (M.mine + steps))) ≡ owing B W M.mine M.phase
       → 2 ≤ paces M.phase + stale game s M M.phase configuration.shown + 2 * moved
       → Onward game s o v w configuration (turn_in trial configuration s)
-  follows_at steps port place news costs moved came seen becomes is there done few ahead none grows reached once
+  follows_at steps port place news costs moved came seen becomes is there done few ahead none grows reached spends
       dues fewer =
       let board : List ℕ = configuration.shown (ways.node (opposite s) steps) in
       let x : ℕ = own_in M.side board in
@@ -275,7 +280,7 @@ module _ {game : Game} (on : Turn game) where
       paced on M.target M.theirs x y (Follows steps port) place news costs moved (configuration.accused s) seen becomes
       (is ∙ cond-true _ _ _ yes) refl refl (own_fit on).reachable (own_fit on).known
       (done, omega (arith, few, not_last), ahead, record { came = came; at = there }, none)
-      grows reached once (omega (arith, dues)) (omega (arith, fewer)))
+      grows reached (omega (arith, spends)) (omega (arith, dues)) (omega (arith, fewer)))
       (λ other.
       let still : stale game s (held on M.target M.theirs x y (Tells steps port)) (Tells steps port) configuration.shown
       ≡ 0 =
@@ -289,7 +294,7 @@ module _ {game : Game} (on : Turn game) where
         (λ h. true≢false (sym (eq-eqb y 1 h) ∙ other)),
         none,
       )
-      grows reached once (omega (arith, dues)) (omega (arith, still, fewer)))
+      grows reached (omega (arith, still, spends)) (omega (arith, dues)) (omega (arith, still, fewer)))
 
   pub pass_turn : (steps : ℕ) → M.phase ≡ Passes steps
       → Onward game s o v w configuration (turn_in trial configuration s)
@@ -304,6 +309,7 @@ module _ {game : Game} (on : Turn game) where
       let label : ℕ = 1 - ways.ahead (opposite s) (steps + 1) in
       let q : owing B W M.mine M.phase ≡ (B - 0) + 0 + (W - (M.mine + (steps + 1))) = ap (owing B W M.mine) is in
       let p : paces M.phase ≡ 2 = ap paces is in
+      let t : tasks M.phase ≡ 1 = ap tasks is in
       let c : come M.mine M.phase ≡ M.mine = ap (come M.mine) is in
       let within : steps + 1 < n = small_side on o (steps + 1) pair.other before in
       let port : ways.ahead (opposite s) (steps + 1) < 2 =
@@ -313,7 +319,7 @@ module _ {game : Game} (on : Turn game) where
       (ap (λ (ph : Phase). after_in n M ph (come_to target label)) is) refl placed.0 (omega (arith, few))
       (omega (arith, port)) placed.3 (grows_by target)
       (λ k some far. grows_by target (ways.node s k) ((own_fit on).reached k some (omega (arith, far, c))))
-      (omega arith) (omega (arith, q)) (omega (arith, p))
+      (omega (arith, t)) (omega (arith, q)) (omega (arith, p))
 
   pub homes_are : ways.node s 0 ≡ ways.node (opposite s) 0
   homes_are = search.ring.home s ∙ sym (search.ring.home (opposite s))
@@ -344,6 +350,7 @@ module _ {game : Game} (on : Turn game) where
       let none_left : steps - 1 ≡ 0 = omega (arith, last) in
       let q : owing B W M.mine M.phase ≡ (B - 0) + 0 + (W - (M.mine - (steps - 1))) = ap (owing B W M.mine) is in
       let p : paces M.phase ≡ 2 = ap paces is in
+      let t : tasks M.phase ≡ 1 = ap tasks is in
       let c : come M.mine M.phase ≡ M.mine = ap (come M.mine) is in
       follows_at 0 (1 - label) (At target (Some label)) (come_to target label) 0 0 (Some label)
       (changed configuration.reached target true)
@@ -353,7 +360,7 @@ module _ {game : Game} (on : Turn game) where
       ∙ ap (λ (k : ℕ). follows M 0 (1 - label) (configuration.shown k)) homes_are)
       (ap (λ (k : ℕ). At k (Some label)) homes_are) placed.0 (omega arith) firsts_are placed.4 (grows_by target)
       (λ k some far. grows_by target (ways.node s k) ((own_fit on).reached k some (omega (arith, far, c))))
-      (omega arith) (omega (arith, q, last)) (omega (arith, p))
+      (omega (arith, t)) (omega (arith, q, last)) (omega (arith, p))
   near_turn steps (suc k) last is =
       let placed = placed_as on (NearsHome steps) is in
       let few : steps ≤ M.mine = placed.2 in
@@ -367,6 +374,7 @@ module _ {game : Game} (on : Turn game) where
       let less : steps - 1 ≡ suc k = omega (arith, last) in
       let q : owing B W M.mine M.phase ≡ (B - 0) + 0 + (W - (M.mine - (steps - 1))) = ap (owing B W M.mine) is in
       let p : paces M.phase ≡ 2 = ap paces is in
+      let t : tasks M.phase ≡ 1 = ap tasks is in
       let c : come M.mine M.phase ≡ M.mine = ap (come M.mine) is in
       paced on M.target M.theirs M.own M.other (GoesHome (suc k) (1 - label)) (At target (Some label))
       (come_to target label) 0 0 (configuration.accused s) (changed configuration.reached target true)
@@ -377,7 +385,7 @@ module _ {game : Game} (on : Turn game) where
       (placed.0, omega arith, omega (arith, few, last), refl, record { came = Some label; at = refl }, placed.4)
       (grows_by target)
       (λ j some far. grows_by target (ways.node s j) ((own_fit on).reached j some (omega (arith, far, c))))
-      (omega arith) (omega (arith, q, last)) (omega (arith, p))
+      (omega (arith, t)) (omega (arith, q, last)) (omega (arith, p))
 
   pub back_turn : (steps rest : ℕ) → steps ≡ suc rest → M.phase ≡ NearsBack steps
       → Onward game s o v w configuration (turn_in trial configuration s)
@@ -395,6 +403,7 @@ module _ {game : Game} (on : Turn game) where
       let before : 0 < distance game (opposite s) = positive game (opposite s) far_below in
       let q : owing B W M.mine M.phase ≡ (B - 0) + (M.mine + (steps - 1)) + W = ap (owing B W M.mine) is in
       let p : paces M.phase ≡ 2 = ap paces is in
+      let t : tasks M.phase ≡ 1 = ap tasks is in
       let c : come M.mine M.phase ≡ M.mine = ap (come M.mine) is in
       paced on M.target M.theirs M.own M.other (GoesOut 0 (1 - label)) (At target (Some label))
       (come_to target label) 0 0 (configuration.accused s) (changed configuration.reached target true)
@@ -410,7 +419,7 @@ module _ {game : Game} (on : Turn game) where
       )
       (grows_by target)
       (λ j some far. grows_by target (ways.node s j) ((own_fit on).reached j some (omega (arith, far, c))))
-      (omega arith) (omega (arith, q, last)) (omega (arith, p))
+      (omega (arith, t)) (omega (arith, q, last)) (omega (arith, p))
   back_turn steps (suc k) last is =
       let placed = placed_as on (NearsBack steps) is in
       let few : steps ≤ O.mine = placed.2 in
@@ -427,6 +436,7 @@ module _ {game : Game} (on : Turn game) where
       let before_far : suc k < distance game (opposite s) = subst (λ (j : ℕ). suc k < distance game j) pair.is before in
       let q : owing B W M.mine M.phase ≡ (B - 0) + (M.mine + (steps - 1)) + W = ap (owing B W M.mine) is in
       let p : paces M.phase ≡ 2 = ap paces is in
+      let t : tasks M.phase ≡ 1 = ap tasks is in
       let c : come M.mine M.phase ≡ M.mine = ap (come M.mine) is in
       paced on M.target M.theirs M.own M.other (ComesHome (suc k) (1 - label)) (At target (Some label))
       (come_to target label) 0 0 (configuration.accused s) (changed configuration.reached target true)
@@ -437,4 +447,4 @@ module _ {game : Game} (on : Turn game) where
       (placed.0, omega arith, omega (arith, few, last), refl, record { came = Some label; at = refl }, placed.4)
       (grows_by target)
       (λ j some far. grows_by target (ways.node s j) ((own_fit on).reached j some (omega (arith, far, c))))
-      (omega arith) (omega (arith, q, last)) (omega (arith, p))
+      (omega (arith, t)) (omega (arith, q, last)) (omega (arith, p))

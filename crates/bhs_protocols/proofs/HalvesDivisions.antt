@@ -19,14 +19,15 @@ use Rattle.bhs_protocols.specs.declared.halves.Phase.TheVariants.{Passes, Tells,
 use Rattle.bhs_protocols.specs.Shuttle.{other_in, text_by}
 use Rattle.bhs_protocols.specs.Halving.{rounds, walks_at}
 use Rattle.bhs_protocols.specs.Halves.{own_in, left_by, does_in, after_in}
-use Rattle.bhs_protocols.proofs.HalvesDues.{spent, back, ways_due, owing, paces, miss, mark_at, beside, come, last}
-use Rattle.bhs_protocols.proofs.HalvesDues.{part, told}
+use Rattle.bhs_protocols.proofs.HalvesDues.{spent, back, ways_due, owing, paces, tasks, miss, mark_at, beside, come}
+use Rattle.bhs_protocols.proofs.HalvesDues.{last, part, told}
 use Rattle.bhs_protocols.proofs.SearchLemmas.{agents_two, both, opposite, read_other, sides, text_fits, text_other}
 use Rattle.bhs_protocols.proofs.HalvingLemmas.{ways_are_paid, rounds_half, rounds_within, walks_at_within}
 use Rattle.bhs_protocols.proofs.TurnLemmas.{writes, writes_not}
 use Rattle.bhs_protocols.proofs.HalvesMarks.{mark_after, mark_before, mark_here, read_own}
 use Rattle.bhs_protocols.proofs.HalvesState.{Game, IsDone, IsPlaced, Onward, Turn, assembled, distance, due, link, mem}
 use Rattle.bhs_protocols.proofs.HalvesState.{nodes_due, rest_of, stale, trial as trial_of}
+use Rattle.bhs_protocols.proofs.HalvesTurns.{tasks_few}
 use Rattle.bhs_protocols.proofs.HalvesTurns.{accuse_turn, ahead_fits, by_port, distances, done_part, far_safe, has_room}
 use Rattle.bhs_protocols.proofs.HalvesTurns.{other_fit, own_fit, part_small, placed_as, small_side, two_sides}
 use Rattle.bhs_protocols.proofs.HalvesArrivals.{far_below, firsts_back, follows_at, homes_are, marked_far}
@@ -135,6 +136,8 @@ module _ {game : Game} (on : Turn game) where
       let length_of : length put ≤ 4 = text_fits s M.own (M.mine + 2) pair.own in
       let fits : length put ≤ world.board = omega (arith, length_of, room) in
       let p : paces M.phase ≡ 1 = ap paces is in
+      let t : tasks M.phase ≡ 1 = ap tasks is in
+      let few_tasks : tasks phase ≤ 1 = tasks_few on phase in
       let cm : come M.mine M.phase ≡ M.mine = ap (come M.mine) is in
       let two : M.mine + O.mine + 2 ≤ n = two_sides on in
       let enough_left : 2 ≤ rest = omega (arith, two, last_node, not_one) in
@@ -348,7 +351,7 @@ module _ {game : Game} (on : Turn game) where
                 (beside M.mine (done.unmarked i) k))
           ];
         };
-        once = omega arith;
+        spends = omega (arith, dues, rounds_fewer, small, st, st_after, t, few_tasks);
         dues = omega (arith, dues);
         progress = inr (inl (record {
           rest = rest;
@@ -394,6 +397,7 @@ module _ {game : Game} (on : Turn game) where
       let node : ℕ = ways.node (opposite s) steps in
       let came : Option ℕ = placed.3.came in
       let p : paces M.phase ≡ 1 = ap paces is in
+      let t : tasks M.phase ≡ 1 = ap tasks is in
       let c : come M.mine M.phase ≡ M.mine = ap (come M.mine) is in
       let q : owing B W M.mine M.phase ≡ (B - 0) + 0 + (W - (M.mine + steps)) = ap (owing B W M.mine) is in
       let there : port < world.net.degree node =
@@ -447,8 +451,8 @@ module _ {game : Game} (on : Turn game) where
       (writes_not trial configuration s (agents_two (sides search) s pair.own) node came expect put placed.3.at says
       (has_room on (omega (arith, p))) fits none)
       (ap (λ (ph : Phase). after_in n M ph (Heard (Changed (configuration.shown node)))) is) refl done few placed.2
-      placed.5 (λ k was. was) (λ k some far. (own_fit on).reached k some (omega (arith, far, c))) (omega arith)
-      (omega (arith, q)) (omega (arith, p, st_is))))
+      placed.5 (λ k was. was) (λ k some far. (own_fit on).reached k some (omega (arith, far, c)))
+      (omega (arith, t, st_is)) (omega (arith, q)) (omega (arith, p, st_is))))
     where
       by_steps : (steps port : ℕ) (came : Option ℕ) → M.phase ≡ Tells steps port → IsDone game M v → steps ≡ O.mine
           → left_by n M.mine steps ≢ 1

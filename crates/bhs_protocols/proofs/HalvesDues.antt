@@ -89,6 +89,11 @@ paces (NearsBack steps) = 2
 paces Ends = 0
 paces phase = 1
 
+-- its commands besides departures and writes: its accusation
+abbrev pub tasks : Phase → ℕ
+tasks Ends = 0
+tasks phase = 1
+
 -- a write that will fail
 abbrev pub miss : Bool → ℕ
 miss true = 0

@@ -15,7 +15,7 @@ use Rattle.bhs_protocols.specs.declared.halves.Phase.TheVariants.{GoesOut, Tells
 use Rattle.bhs_protocols.specs.Shuttle.{text_by}
 use Rattle.bhs_protocols.specs.Halving.{rounds, walks_at, most_moves}
 use Rattle.bhs_protocols.specs.Halves.{left_by, is_done, does_in, after_in, halves_trial}
-use Rattle.bhs_protocols.specs.Halving.{most_turns}
+use Rattle.bhs_protocols.specs.Halving.{most_turns, most_commands}
 use Rattle.bhs_protocols.proofs.HalvesDues.{mark_at, beside, last}
 use Rattle.bhs_protocols.specs.HalvesLaws.{halves_bounds, HalvesSolve}
 use Rattle.bhs_protocols.specs.Invariants.{CostBounds, GoesOn, IsInvariant}
@@ -25,7 +25,7 @@ use Rattle.bhs_protocols.proofs.MovingLemmas.{is_steady, fails_not, sleeps_not, 
 use Rattle.bhs_protocols.proofs.HalvingLemmas.{rounds_within, walks_at_within}
 use Rattle.bhs_protocols.proofs.HalvesMarks.{mark_after, mark_here}
 use Rattle.bhs_protocols.proofs.HalvesState.{AreMarked, Game, Inv, Onward, at_turn, due, mem, rest_of, swapped}
-use Rattle.bhs_protocols.proofs.HalvesState.{trial as trial_of, turns_due}
+use Rattle.bhs_protocols.proofs.HalvesState.{trial as trial_of, turns_due, commands_due}
 use Rattle.bhs_protocols.proofs.HalvesRest.{any_turn}
 use Rattle.bhs_protocols.proofs.HalvesVerdict.{at_rest}
 
@@ -113,13 +113,25 @@ module _ (game : Game) where
       let second : 0 < left = search.nor_around in
       omega (arith, dues, few, sum, first, second)
 
+  first_commands : commands_due game 0 (mem game blank 0) 0 blank.shown
+      + commands_due game 1 (mem game blank 1) 0 blank.shown ≤ most_commands n
+  first_commands =
+      let dues : due game 0 (mem game blank 0) 0 + due game 1 (mem game blank 1) 0 ≤ most_moves n = first_numbers.0 in
+      let few : rounds (rest_of game 0 (mem game blank 0) 0) + rounds (rest_of game 1 (mem game blank 1) 0)
+      ≤ rounds (n / 2) =
+      first_numbers.1 in
+      let sum : right + left ≡ n = search.sum in
+      let first : 0 < right = search.not_home in
+      let second : 0 < left = search.nor_around in
+      omega (arith, dues, few, sum, first, second)
+
   pub first_inv : Inv game 0 1 0 0 blank
   first_inv =
       let three : 3 ≤ n = search.ring.three in
       let dues : due game 0 (mem game blank 0) 0 + due game 1 (mem game blank 1) 0 ≤ most_moves n = first_numbers.0 in
-      let turns : turns_due game 0 (mem game blank 0) 0 blank.shown + turns_due game 1 (mem game blank 1) 0 blank.shown
-      ≤ most_turns n =
-      first_turns in
+      let commands : commands_due game 0 (mem game blank 0) 0 blank.shown
+      + commands_due game 1 (mem game blank 1) 0 blank.shown ≤ most_commands n =
+      first_commands in
       record {
         state = record {
           own = record {
@@ -153,7 +165,7 @@ module _ (game : Game) where
           marked_too = empty_marked 1 (omega arith);
         };
         moves = omega (arith, dues);
-        used = λ k. omega (arith, turns);
+        used = λ k. omega (arith, commands);
       }
 
   -- ---- all together
@@ -213,8 +225,9 @@ module _ (game : Game) where
         ≤ most_moves n = held.inv.moves in
         omega (arith, moves);
     commands = λ configuration turns agent held.
-        let used : configuration.used agent + turns_due game 0 (mem game configuration 0) held.mark configuration.shown
-        + turns_due game 1 (mem game configuration 1) held.mark_too configuration.shown ≤ most_turns n =
+        let used : configuration.used agent
+        + commands_due game 0 (mem game configuration 0) held.mark configuration.shown
+        + commands_due game 1 (mem game configuration 1) held.mark_too configuration.shown ≤ most_commands n =
         held.inv.used agent in
         omega (arith, used);
     fine = λ configuration turns agent within held.

@@ -16,10 +16,9 @@ use Rattle.bhs_protocols.specs.declared.halves.Phase.TheVariants.{Begins, GoesOu
 use Rattle.bhs_protocols.specs.declared.halves.Phase.TheVariants.{Writes, GoesHome, NearsHome, Follows, Passes, Tells}
 use Rattle.bhs_protocols.specs.declared.halves.Phase.TheVariants.{ComesHome, NearsBack, Ends}
 use Rattle.bhs_protocols.specs.Shuttle.{text_by}
-use Rattle.bhs_protocols.specs.Halving.{rounds, walks_at, most_moves}
+use Rattle.bhs_protocols.specs.Halving.{rounds, walks_at, most_moves, most_commands}
 use Rattle.bhs_protocols.specs.Halves.{after_in, halves, halves_trial}
-use Rattle.bhs_protocols.proofs.HalvesDues.{Seat, owing, paces, miss, mark_at, beside, come, last, part, told}
-use Rattle.bhs_protocols.specs.Halving.{most_turns}
+use Rattle.bhs_protocols.proofs.HalvesDues.{Seat, owing, paces, tasks, miss, mark_at, beside, come, last, part, told}
 use Rattle.bhs_protocols.proofs.SearchLemmas as lemmas
 use Rattle.bhs_protocols.proofs.SearchLemmas.{opposite, Pair, apart_from, sides}
 use Rattle.bhs_protocols.proofs.TurnLemmas.{Becomes}
@@ -34,7 +33,7 @@ pub record Game : Type 0 where
   pub ways : Ways
   pub search : IsSearch world n right left ways
   pub room : 4 ≤ world.board
-  pub enough : most_turns n ≤ world.quota
+  pub enough : most_commands n ≤ world.quota
 
 module _ (game : Game) where
   open game use {world, n, right, left, wakeups, ways, search}
@@ -195,11 +194,16 @@ module _ (game : Game) where
       2 * due s m mark + 2 * (distance s - 1 - m.mine) + 2 * rounds (rest_of s m mark) + paces m.phase
       + stale s m m.phase shown
 
+  abbrev pub commands_due : (s : ℕ) → Memory → (mark : ℕ) → (ℕ → List ℕ) → ℕ
+  commands_due s m mark shown =
+      due s m mark + 2 * (distance s - 1 - m.mine) + 2 * rounds (rest_of s m mark) + tasks m.phase
+      + stale s m m.phase shown
+
   pub record Inv (s o v w : ℕ) (configuration : Configuration) : Type 0 where
     pub state : State s o v w (seat configuration s) (seat configuration o) configuration.shown configuration.reached
     pub moves : configuration.moves + due s (mem configuration s) v + due o (mem configuration o) w ≤ most_moves n
-    pub used : (k : ℕ) → configuration.used k + turns_due s (mem configuration s) v configuration.shown
-        + turns_due o (mem configuration o) w configuration.shown ≤ most_turns n
+    pub used : (k : ℕ) → configuration.used k + commands_due s (mem configuration s) v configuration.shown
+        + commands_due o (mem configuration o) w configuration.shown ≤ most_commands n
 
   pub swapped : (s o v w : ℕ) (configuration : Configuration) → Inv s o v w configuration → Inv o s w v configuration
   swapped s o v w configuration it =
@@ -216,8 +220,8 @@ module _ (game : Game) where
         };
         moves = omega (arith, moves);
         used = λ k.
-            let used : configuration.used k + turns_due s (mem configuration s) v configuration.shown
-            + turns_due o (mem configuration o) w configuration.shown ≤ most_turns n = it.used k in
+            let used : configuration.used k + commands_due s (mem configuration s) v configuration.shown
+            + commands_due o (mem configuration o) w configuration.shown ≤ most_commands n = it.used k in
             omega (arith, used);
       }
 
@@ -270,7 +274,8 @@ module _ (game : Game) where
   pub record Keeps (s o v w : ℕ) (old : Configuration) (a : Seat) (costs moved mark mark_too : ℕ) (shown : ℕ → List ℕ)
       (seen : ℕ → Bool) : Type 0 where
     pub state : State s o mark mark_too a (seat old o) shown seen
-    pub once : costs ≤ 1
+    pub spends : costs + commands_due s a.memory mark shown + commands_due o (mem old o) mark_too shown
+        ≤ commands_due s (mem old s) v old.shown + commands_due o (mem old o) w old.shown
     pub dues : moved + due s a.memory mark + due o (mem old o) mark_too ≤ due s (mem old s) v + due o (mem old o) w
     pub progress : Progress s o v w mark mark_too (mem old s) (mem old o) a.memory moved
     pub fewer : turns_due s a.memory mark shown + turns_due o (mem old o) mark_too shown
@@ -308,7 +313,12 @@ module _ (game : Game) where
       ≤ due s (mem old s) v + due o (mem old o) w = keeps.dues in
       let fewer : turns_due s after mark shown + turns_due o (mem old o) mark_too shown
       < turns_due s (mem old s) v old.shown + turns_due o (mem old o) w old.shown = keeps.fewer in
-      let once : costs ≤ 1 = keeps.once in
+      let commands : commands_due s (mem new s) mark new.shown + commands_due o (mem new o) mark_too new.shown
+      ≡ commands_due s after mark shown + commands_due o (mem old o) mark_too shown =
+      λ i. commands_due s (own_mem i) mark (becomes.shown i) + commands_due o (other_mem i) mark_too (becomes.shown i)
+      in
+      let spends : costs + commands_due s after mark shown + commands_due o (mem old o) mark_too shown
+      ≤ commands_due s (mem old s) v old.shown + commands_due o (mem old o) w old.shown = keeps.spends in
       record {
         mark = mark;
         mark_too = mark_too;
@@ -320,17 +330,17 @@ module _ (game : Game) where
               keeps.state)));
           moves = omega (arith, moves, was, dues, dues_are);
           used = λ k.
-              let before : old.used k + turns_due s (mem old s) v old.shown + turns_due o (mem old o) w old.shown
-              ≤ most_turns n = inv.used k in
+              let before : old.used k + commands_due s (mem old s) v old.shown + commands_due o (mem old o) w old.shown
+              ≤ most_commands n = inv.used k in
               elim (eqb_tells k s) [
                 | inl h ↦
                     let mine : new.used s ≡ old.used s + costs = becomes.used in
                     let here : new.used k ≡ old.used k + costs =
                     subst (λ (j : ℕ). new.used j ≡ old.used j + costs) (sym h.1) mine in
-                    omega (arith, before, here, turns, fewer, once)
+                    omega (arith, before, here, commands, spends)
                 | inr h ↦
                     let here : new.used k ≡ old.used k = becomes.other_used k h.0 in
-                    omega (arith, before, here, turns, fewer)
+                    omega (arith, before, here, commands, spends)
               ];
         };
         moved = moved;

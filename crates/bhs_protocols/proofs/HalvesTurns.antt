@@ -17,16 +17,15 @@ use Rattle.bhs_protocols.specs.declared.halves.Phase.{Phase}
 use Rattle.bhs_protocols.specs.declared.halves.Phase.TheVariants.{Begins, GoesOut, Leaves, Tries, Turns, Returns}
 use Rattle.bhs_protocols.specs.declared.halves.Phase.TheVariants.{GoesHome, NearsHome, Follows, Passes, ComesHome}
 use Rattle.bhs_protocols.specs.declared.halves.Phase.TheVariants.{NearsBack, Ends}
-use Rattle.bhs_protocols.specs.Halving.{rounds, walks_at}
+use Rattle.bhs_protocols.specs.Halving.{rounds, walks_at, most_commands}
 use Rattle.bhs_protocols.specs.Halves.{target_by, theirs_by, left_by, is_done, does_in, after_in}
-use Rattle.bhs_protocols.specs.Halving.{most_turns}
-use Rattle.bhs_protocols.proofs.HalvesDues.{spent, owing, paces, come, last, part, told}
+use Rattle.bhs_protocols.proofs.HalvesDues.{spent, owing, paces, tasks, come, last, part, told}
 use Rattle.bhs_protocols.proofs.SearchLemmas.{agents_two, opposite, sides}
 use Rattle.bhs_protocols.proofs.HalvingLemmas.{last_ways_are_paid}
 use Rattle.bhs_protocols.proofs.TurnLemmas.{Becomes, enters, departs, accuses as accuses_link}
 use Rattle.bhs_protocols.proofs.HalvesState.{Fit, Game, IsDone, IsLate, IsPlaced, Onward, Turn, assembled, distance}
 use Rattle.bhs_protocols.proofs.HalvesState.{due, link, mem, nodes_due, rest_of, seat, stale, sum_is, trial as trial_of}
-use Rattle.bhs_protocols.proofs.HalvesState.{turns_due, within_n}
+use Rattle.bhs_protocols.proofs.HalvesState.{commands_due, within_n}
 
 module _ {game : Game} (on : Turn game) where
   open game use {world, n, ways, search, enough}
@@ -89,14 +88,17 @@ module _ {game : Game} (on : Turn game) where
       → theirs ≤ O.mine
       → IsPlaced game s (held target theirs own other phase) O.mine v phase place accused
       → ((k : ℕ) → configuration.reached k ≡ true → seen k ≡ true)
-      → ((k : ℕ) → 0 < k → k ≤ come M.mine phase → seen (ways.node s k) ≡ true) → costs ≤ 1
+      → ((k : ℕ) → 0 < k → k ≤ come M.mine phase → seen (ways.node s k) ≡ true)
+      → costs + owing B W M.mine phase + tasks phase
+      + stale game s (held target theirs own other phase) phase configuration.shown
+      ≤ owing B W M.mine M.phase + tasks M.phase + stale game s M M.phase configuration.shown
       → moved + owing B W M.mine phase ≤ owing B W M.mine M.phase
       → paces phase + stale game s (held target theirs own other phase) phase configuration.shown + 1
       ≤ paces M.phase + stale game s M M.phase configuration.shown + 2 * moved
       → (moved + owing B W M.mine phase ≡ owing B W M.mine M.phase) ⊎ IsLate game s v M O
       → Onward game s o v w configuration (turn_in trial configuration s)
   paced_by target theirs own other phase place news costs moved accused seen becomes is same same_too reachable known
-      placed grows reached once dues fewer exact_or_late =
+      placed grows reached spends dues fewer exact_or_late =
       let after : Memory = held target theirs own other phase in
       let rests : rest_of game s after v ≡ rest_of game s M v =
       λ i. if nat_lt (same i) (distance game s) then n - 1 - same i - same_too i else 1 in
@@ -133,7 +135,7 @@ module _ {game : Game} (on : Turn game) where
           marked = inv.state.marked;
           marked_too = inv.state.marked_too;
         };
-        once = once;
+        spends = omega (arith, spends, due_is, rounds_are);
         dues = omega (arith, dues, due_is);
         progress = elim exact_or_late [
           | inl exact ↦ inl (record {
@@ -156,24 +158,39 @@ module _ {game : Game} (on : Turn game) where
       → theirs ≤ O.mine
       → IsPlaced game s (held target theirs own other phase) O.mine v phase place accused
       → ((k : ℕ) → configuration.reached k ≡ true → seen k ≡ true)
-      → ((k : ℕ) → 0 < k → k ≤ come M.mine phase → seen (ways.node s k) ≡ true) → costs ≤ 1
+      → ((k : ℕ) → 0 < k → k ≤ come M.mine phase → seen (ways.node s k) ≡ true)
+      → costs + tasks phase + stale game s (held target theirs own other phase) phase configuration.shown
+      ≤ tasks M.phase + stale game s M M.phase configuration.shown + moved
       → moved + owing B W M.mine phase ≡ owing B W M.mine M.phase
       → paces phase + stale game s (held target theirs own other phase) phase configuration.shown + 1
       ≤ paces M.phase + stale game s M M.phase configuration.shown + 2 * moved
       → Onward game s o v w configuration (turn_in trial configuration s)
   paced target theirs own other phase place news costs moved accused seen becomes is same same_too reachable known
-      placed grows reached once dues fewer =
+      placed grows reached spends dues fewer =
       paced_by target theirs own other phase place news costs moved accused seen becomes is same same_too reachable
-      known placed grows reached once (omega (arith, dues)) fewer (inl dues)
+      known placed grows reached (omega (arith, spends, dues)) (omega (arith, dues)) fewer (inl dues)
+
+  -- who has not ended has its accusation left
+  pub tasks_some : (phase : Phase) → 1 ≤ paces phase → tasks phase ≡ 1
+  tasks_some Ends some = absurd (omega (arith, some))
+  tasks_some phase some = refl
+
+  pub tasks_few : (phase : Phase) → tasks phase ≤ 1
+  tasks_few Ends = omega arith
+  tasks_few phase = one
+    where
+      one : 1 ≤ 1
+      one = omega arith
 
   pub has_room : 1 ≤ paces M.phase → configuration.used s < world.quota
   has_room some =
-      let used : configuration.used s + turns_due game s M v configuration.shown + turns_due game o O w
+      let used : configuration.used s + commands_due game s M v configuration.shown + commands_due game o O w
       configuration.shown
-      ≤ most_turns n =
+      ≤ most_commands n =
       inv.used s in
-      let quota : most_turns n ≤ world.quota = enough in
-      omega (arith, used, quota, some)
+      let quota : most_commands n ≤ world.quota = enough in
+      let left : tasks M.phase ≡ 1 = tasks_some M.phase some in
+      omega (arith, used, quota, left)
 
   -- ---- it goes on by a port
 
@@ -191,7 +208,10 @@ module _ {game : Game} (on : Turn game) where
       paced M.target M.theirs M.own M.other phase (Bound node port) (Heard Gone) 1 1 (configuration.accused s)
       configuration.reached (departs trial configuration s (agents_two (sides search) s pair.own) node port came at says
       (has_room (omega (arith, one))) there) is refl refl own_fit.reachable own_fit.known placed (λ k was. was)
-      (λ k some far. own_fit.reached k some (omega (arith, far, came_to))) (omega arith) dues
+      (λ k some far. own_fit.reached k some (omega (arith, far, came_to)))
+      (let t : tasks M.phase ≡ 1 = tasks_some M.phase (omega (arith, one)) in
+      let few : tasks phase ≤ 1 = tasks_few phase in
+      omega (arith, t, few, none)) dues
       (omega (arith, one, two, none))
 
   pub small_side : (side steps : ℕ) → side < 2 → steps < distance game side → steps < n
@@ -284,6 +304,7 @@ module _ {game : Game} (on : Turn game) where
       let says : trial.strategies s (configuration.history s) ≡ Says Enter = ap (does_in n M) is in
       let q : owing B W M.mine M.phase ≡ (B - 0) + 0 + W = ap (owing B W M.mine) is in
       let p : paces M.phase ≡ 2 = ap paces is in
+      let t : tasks M.phase ≡ 1 = ap tasks is in
       let c : come M.mine M.phase ≡ M.mine = ap (come M.mine) is in
       paced M.target M.theirs M.own M.other (GoesOut 0 M.side) (At world.home None)
       (Heard (Here (world.net.degree world.home) None (configuration.shown world.home))) 0 0 (configuration.accused s)
@@ -297,7 +318,7 @@ module _ {game : Game} (on : Turn game) where
         record { came = None; at = ap (λ (k : ℕ). At k None) (sym (search.ring.home s)) },
         placed.3,
       )
-      (λ k was. was) (λ k some far. own_fit.reached k some (omega (arith, far, c))) (omega arith)
+      (λ k was. was) (λ k some far. own_fit.reached k some (omega (arith, far, c))) (omega (arith, t))
       (omega (arith, q, none)) (omega (arith, p))
 
   pub turns_turn : (port : ℕ) → M.phase ≡ Turns port → Onward game s o v w configuration (turn_in trial configuration s)
@@ -392,12 +413,13 @@ module _ {game : Game} (on : Turn game) where
   accuse_turn phase node port came is holds says at there all right_one none c one exact_or_late =
       let q : owing B W M.mine M.phase ≡ owing B W M.mine phase = ap (owing B W M.mine) is in
       let p : paces M.phase ≡ paces phase = ap paces is in
+      let t : tasks M.phase ≡ 1 = tasks_some M.phase (omega (arith, p, one)) in
       let come_is : come M.mine M.phase ≡ come M.mine phase = ap (come M.mine) is in
       paced_by M.target M.theirs M.own M.other Ends After (Heard Noted) 1 0 (Some (node, port)) configuration.reached
       (accuses_link trial configuration s (agents_two (sides search) s pair.own) node port came at says
       (has_room (omega (arith, p, one)))
       there) holds refl refl own_fit.reachable own_fit.known (refl, all, right_one) (λ k was. was)
-      (λ k some far. own_fit.reached k some (omega (arith, far, come_is, c))) (omega arith)
+      (λ k some far. own_fit.reached k some (omega (arith, far, come_is, c))) (omega (arith, q, none, t))
       (omega (arith, q, none)) (omega (arith, p, one)) exact_or_late
 
   pub out_turn : (steps port : ℕ) → M.phase ≡ GoesOut steps port

@@ -9,7 +9,7 @@ use Rattle.bhs_protocols.specs.Configurations.{Configuration, blank, can_move_in
 use Rattle.bhs_protocols.specs.declared.halves.Memory.{Memory}
 use Rattle.bhs_protocols.specs.declared.halves.Phase.TheVariants.{Tries, Ends}
 use Rattle.bhs_protocols.specs.StandardRings.{standard_ways}
-use Rattle.bhs_protocols.specs.Halving.{doubled, rounds, walks, walks_at, most_moves, most_turns}
+use Rattle.bhs_protocols.specs.Halving.{doubled, rounds, walks, walks_at, most_moves, most_commands}
 use Rattle.bhs_protocols.specs.Attained.{IsAttained, worst_in, worst_distance, worst_world, WorstIsWithin, HalvesAttain}
 use Rattle.bhs_protocols.specs.Attained.{HalvesAttainOnStandardRings}
 use Rattle.bhs_protocols.proofs.AttainedLemmas.{attained_by, two_rest}
@@ -499,7 +499,7 @@ halves_attain_on_standard_rings n wakeups three =
       holes = worst_distance n ∷ [];
       dark = [];
       agents = 2;
-      quota = most_turns n;
+      quota = most_commands n;
       board = 4;
     }) (record {
       three = three;

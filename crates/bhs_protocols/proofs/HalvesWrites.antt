@@ -20,7 +20,7 @@ use Rattle.bhs_protocols.specs.declared.halves.Phase.TheVariants.{NearsBack, End
 use Rattle.bhs_protocols.specs.Shuttle.{other_in, text_by}
 use Rattle.bhs_protocols.specs.Halving.{rounds, walks_at}
 use Rattle.bhs_protocols.specs.Halves.{own_in, does_in, after_in}
-use Rattle.bhs_protocols.proofs.HalvesDues.{owing, paces, miss, mark_at, beside, come, last, part, told}
+use Rattle.bhs_protocols.proofs.HalvesDues.{owing, paces, tasks, miss, mark_at, beside, come, last, part, told}
 use Rattle.bhs_protocols.proofs.SearchLemmas.{agents_two, both, opposite, read_other, sides, text_fits, text_other}
 use Rattle.bhs_protocols.proofs.TurnLemmas.{writes, writes_not}
 use Rattle.bhs_protocols.proofs.HalvesMarks.{mark_after, mark_before, mark_here, read_own}
@@ -191,6 +191,7 @@ module _ {game : Game} (on : Turn game) where
       let came : Option ℕ = placed.3.came in
       let q : owing B W M.mine M.phase ≡ (B - 2) + 0 + W = ap (owing B W M.mine) is in
       let p : paces M.phase ≡ 1 = ap paces is in
+      let t : tasks M.phase ≡ 1 = ap tasks is in
       let c : come M.mine M.phase ≡ M.mine + 1 = ap (come M.mine) is in
       let node : ℕ = ways.node s M.mine in
       let expect : List ℕ = text_by s M.own M.other in
@@ -295,7 +296,7 @@ module _ {game : Game} (on : Turn game) where
               ∙ sym (text_other s o (mark_at (M.mine + 1) 0 0) (mark_at O.mine w 0) pair)
               ∙ ap (λ (j : ℕ). text_by o (mark_at O.mine w j) (beside (M.mine + 1) 0 j)) (sym k_none));
         };
-        once = omega arith;
+        spends = omega (arith, q, t, lasts, walks_are, rounds_are, next, small, st_is);
         dues = omega (arith, q, lasts, walks_are, next);
         progress = inl (record {
           exactly = omega (arith, q, lasts, walks_are, next);
@@ -311,8 +312,8 @@ module _ {game : Game} (on : Turn game) where
       (writes_not trial configuration s (agents_two (sides search) s pair.own) node came expect put placed.3.at says
       (has_room on (omega (arith, p))) fits none)
       (ap (λ (ph : Phase). after_in n M ph (Heard (Changed (configuration.shown node)))) is) refl more next placed.2
-      placed.6 (λ k was. was) (λ k some far. (own_fit on).reached k some (omega (arith, far, c))) (omega arith)
-      (omega (arith, q)) (omega (arith, p, st_is)))
+      placed.6 (λ k was. was) (λ k some far. (own_fit on).reached k some (omega (arith, far, c)))
+      (omega (arith, t, st_is)) (omega (arith, q)) (omega (arith, p, st_is)))
     where
       not_above : (a b : ℕ) → nat_lt a b ≡ false → b ≤ a
       not_above a b none =

@@ -5,7 +5,7 @@ use Rattle.std.proofs.Common.{None, List, [], ◌∷◌, ◌++◌, refl, sym, ap
 use Rattle.std.proofs.Common.{arith}
 use Rattle.std.specs.Prelude.{◌≢◌}
 use Rattle.std.specs.List.{list_any, range_with_len}
-use Rattle.std.proofs.lemmas.Bool.{true≢false, cond-true, cond-false, eqb-true, ne_eqb}
+use Rattle.std.proofs.lemmas.Bool.{true≢false, cond-true, cond-false, ne_eqb}
 use Rattle.std.proofs.lemmas.Bool.Decides.{eqb_tells}
 use Rattle.bhs_model.specs.declared.commands.Command.{Command}
 use Rattle.bhs_model.specs.declared.commands.Command.TheVariants.{Enter, Look, Write, Depart, Accuse, Leave, Bad}
@@ -29,14 +29,14 @@ use Rattle.bhs_protocols.specs.Configurations.{Configuration, configuration_of, 
 use Rattle.bhs_protocols.specs.Configurations.{told_at, refused_in}
 use Rattle.bhs_protocols.specs.Configurations.{said_in, arrived_in, delivered_in, done_in, turn_in, turns_in, found_in}
 use Rattle.bhs_protocols.specs.Configurations.{outcome_in}
-use Rattle.bhs_protocols.specs.LastWord.{searched, SolvesFor, AccusationsComeLast}
+use Rattle.bhs_protocols.specs.LastWord.{searched, SolvesFor}
 use Rattle.bhs_protocols.proofs.ConfigurationLemmas.{configurations_follow}
 use Rattle.bhs_explore.proofs.Turns.{own_at}
 
 -- ---- what no turn undoes
 
 -- a node that was reached
-reached_told : (trial : Trial) (configuration : Configuration) (agent node : ℕ) (it : Action)
+pub reached_told : (trial : Trial) (configuration : Configuration) (agent node : ℕ) (it : Action)
     → configuration.reached node ≡ true
     → (done_in trial configuration agent it).reached node ≡ true
 reached_told trial configuration agent node (Makes (Tell other command)) was =
@@ -72,7 +72,7 @@ reached_told trial configuration agent node (Makes Close) was = was
 reached_told trial configuration agent node Wakes was = was
 reached_told trial configuration agent node Rests was = was
 
-reached_later : (trial : Trial) (configuration : Configuration) (schedule : List ℕ) (node : ℕ)
+pub reached_later : (trial : Trial) (configuration : Configuration) (schedule : List ℕ) (node : ℕ)
     → configuration.reached node ≡ true
     → (turns_in trial configuration schedule).reached node ≡ true
 reached_later trial configuration [] node was = was
@@ -81,7 +81,7 @@ reached_later trial configuration (agent ∷ schedule) node was =
     (reached_told trial configuration agent node (deed_in trial configuration agent) was)
 
 -- an accusation is the last that an agent does
-abbrev IsHonest : Position → Option (ℕ × ℕ) → Type 0
+abbrev pub IsHonest : Position → Option (ℕ × ℕ) → Type 0
 IsHonest position accused = (accused ≡ None) ⊎ (position ≡ After)
 
 pub accused_write : (reply : Reply) (expect put : List ℕ) (place : Position) (before : Option (ℕ × ℕ))
@@ -129,7 +129,7 @@ told_honest world After Look shown = inl refl
 told_honest world After Leave shown = inl refl
 told_honest world After Bad shown = inl refl
 
-abbrev IsHonestIn : (agent : ℕ) → Configuration → Type 0
+abbrev pub IsHonestIn : (agent : ℕ) → Configuration → Type 0
 IsHonestIn agent configuration = IsHonest (configuration.position agent) (configuration.accused agent)
 
 -- an agent that says something
@@ -161,11 +161,11 @@ said_honest world configuration k command none = by_cases (is_heard world config
         (told_honest world (configuration.position k) command configuration.shown))
 
 -- nobody else's turn changes where an agent is and whom it has accused
-record IsUntouched (k : ℕ) (old new : Configuration) : Type 0 where
-  position : new.position k ≡ old.position k
-  accused : new.accused k ≡ old.accused k
+pub record IsUntouched (k : ℕ) (old new : Configuration) : Type 0 where
+  pub position : new.position k ≡ old.position k
+  pub accused : new.accused k ≡ old.accused k
 
-other_untouched : (trial : Trial) (configuration : Configuration) (agent k : ℕ) (it : Action) → IsOwn agent it
+pub other_untouched : (trial : Trial) (configuration : Configuration) (agent k : ℕ) (it : Action) → IsOwn agent it
     → (k == agent) ≡ false
     → IsUntouched k configuration (done_in trial configuration agent it)
 other_untouched trial configuration agent k (Makes (Tell other command)) own apart =
@@ -214,7 +214,7 @@ own_in trial configuration agent =
     (trial.strategies agent (configuration.history agent)) agent) tt
 
 -- who has ended does nothing
-ended_rests : (trial : Trial) (configuration : Configuration) (k : ℕ) → configuration.position k ≡ After
+pub ended_rests : (trial : Trial) (configuration : Configuration) (k : ℕ) → configuration.position k ≡ After
     → turn_in trial configuration k ≡ configuration
 ended_rests trial configuration k at =
     ap (done_in trial configuration k) ((λ i. if nat_lt k trial.world.agents
@@ -248,7 +248,7 @@ own_honest trial configuration k (Makes Close) own none = absurd own
 own_honest trial configuration k Wakes own none = inl none
 own_honest trial configuration k Rests own none = inl none
 
-turn_honest : (trial : Trial) (configuration : Configuration) (agent k : ℕ) → IsHonestIn k configuration
+pub turn_honest : (trial : Trial) (configuration : Configuration) (agent k : ℕ) → IsHonestIn k configuration
     → IsHonestIn k (turn_in trial configuration agent)
 turn_honest trial configuration agent k honest = elim (eqb_tells k agent) [
   | inl h ↦
@@ -268,7 +268,8 @@ turn_honest trial configuration agent k honest = elim (eqb_tells k agent) [
       ]
 ]
 
-honest_later : (trial : Trial) (configuration : Configuration) (schedule : List ℕ) (k : ℕ) → IsHonestIn k configuration
+pub honest_later : (trial : Trial) (configuration : Configuration) (schedule : List ℕ) (k : ℕ)
+    → IsHonestIn k configuration
     → IsHonestIn k (turns_in trial configuration schedule)
 honest_later trial configuration [] k honest = honest
 honest_later trial configuration (agent ∷ schedule) k honest =
@@ -440,31 +441,3 @@ module _ (world : World) (held : Held) (wakeups : ℕ) (strategies : Strategies)
           same = ap (λ (p : Configuration). turns_in two p rest.other) (sym h) ∙ rest.same;
         }
       ]
-
-pub last_word : AccusationsComeLast
-last_word world held wakeups strategies solves hole below not_home schedule agent link within accused node below_too
-    not_home_too apart =
-    let trial : Trial = searched world held wakeups strategies hole in
-    let other : Trial = searched world held wakeups strategies node in
-    let follows : configuration_of trial (under trial schedule) ≡ turns_in trial blank schedule =
-    configurations_follow trial schedule in
-    let configuration : Configuration = turns_in trial blank schedule in
-    by_cases (configuration.reached node) ((configuration_of trial (under trial schedule)).reached node ≡ true)
-    (λ was. ap (λ (p : Configuration). p.reached node) follows ∙ was)
-    (λ never.
-    let here : configuration.accused agent
-    ≡ Some link = ap (λ (p : Configuration). p.accused agent) (sym follows) ∙ accused in
-    let run : IsSameRun world held wakeups strategies hole node blank schedule =
-    same_run world held wakeups strategies hole node schedule blank never in
-    let there : (turns_in other blank run.other).accused agent ≡ Some link =
-    ap (λ (p : Configuration). p.accused agent) run.same ∙ here in
-    let right : is_right trial.world link ≡ true =
-    right_after trial schedule agent link (solves hole below not_home) within here in
-    let right_too : is_right other.world link ≡ true =
-    right_after other run.other agent link (solves node below_too not_home_too) within there in
-    let target : ℕ = (world.net.far link.0 link.1).0 in
-    let hole_is : hole ≡ target =
-    eqb-true hole target (sym (doomed_is world held wakeups strategies hole node hole link.0 link.1) ∙ right) in
-    let node_is : node ≡ target =
-    eqb-true node target (sym (doomed_is world held wakeups strategies hole node node link.0 link.1) ∙ right_too) in
-    absurd (apart (node_is ∙ sym hole_is)))

@@ -62,7 +62,7 @@ value_is_among f start (suc count) place q after before is = elim (eqb_tells q (
 ]
 
 -- different numbers below one bound are no more than the bound
-few_values : (f : ℕ → ℕ) (count bound : ℕ) → ((k : ℕ) → k < count → f k < bound)
+pub few_values : (f : ℕ → ℕ) (count bound : ℕ) → ((k : ℕ) → k < count → f k < bound)
     → ((i j : ℕ) → i < j → j < count → f i ≢ f j) → count ≤ bound
 few_values f count bound below apart =
     let xs : List ℕ = map f (range_with_len 0 count) in

@@ -1,7 +1,8 @@
 -- The standard ring is a ring, so the shuttle solves it.
 use Rattle.std.proofs.Common.{ℕ, zero, suc, ◌+◌, ◌-◌, ◌*◌, ◌<◌, ◌≤◌, ◌≡◌, Bool, true, false, ◌==◌, List, [], length}
-use Rattle.std.proofs.Common.{refl, sym, ap, ◌∙◌, if◌then◌else◌, arith}
+use Rattle.std.proofs.Common.{refl, sym, ap, ◌∙◌, subst, if◌then◌else◌, arith}
 use Rattle.std.specs.Prelude.{◌≢◌, slice_index_or}
+use Rattle.std.proofs.Math.ListN.{get_or-eq_default}
 use Rattle.std.proofs.lemmas.Bool.{cond-true, cond-false, eq-eqb, ne_eqb}
 use Rattle.std.proofs.lemmas.List.FromFn.{get_or-map-range_with_len, length-map-range_with_len}
 use Rattle.bhs_net.specs.Links.{End}
@@ -16,21 +17,58 @@ use Rattle.bhs_protocols.specs.StandardRings.{StandardRings, ShuttleSolvesStanda
 use Rattle.bhs_protocols.proofs.SearchLemmas.{both}
 use Rattle.bhs_protocols.proofs.ShuttleLemmas.{shuttle_solves}
 
+-- ---- the rows of a standard ring
+
+module _ (n : ℕ) where
+  pub size_is : networks.nodes_of (standard_ring n) ≡ n
+  size_is = length-map-range_with_len (standard_row n) 0 n
+
+  row_is : (node : ℕ) → node < n → networks.row_of (standard_ring n) node ≡ standard_row n node
+  row_is node within = get_or-map-range_with_len (standard_row n) 0 n node node [] within (omega arith)
+
+  far_is : (node port : ℕ) → node < n
+      → networks.far_of (standard_ring n) node port ≡ slice_index_or (standard_row n node) port (0, 0)
+  far_is node port within = ap (λ (row : List End). slice_index_or row port (0, 0)) (row_is node within)
+
+  pub degree_is : (node : ℕ) → node < n → networks.degree_of (standard_ring n) node ≡ 2
+  degree_is node within = ap (λ (row : List End). length row) (row_is node within)
+
+  -- there is no node beyond them
+  pub no_degree : (node : ℕ) → n ≤ node → networks.degree_of (standard_ring n) node ≡ 0
+  no_degree node beyond =
+      let least : networks.nodes_of (standard_ring n) ≤ node = subst (λ (k : ℕ). k ≤ node) (sym size_is) beyond in
+      ap (λ (row : List End). length row) (get_or-eq_default (standard_ring n) [] least)
+
+  -- to the right
+  pub to_right : (node : ℕ) → node + 1 < n → networks.far_of (standard_ring n) node 0 ≡ (node + 1, 1)
+  to_right node within =
+      let apart : node + 1 ≢ n = λ h. omega (arith, h, within) in
+      far_is node 0 (omega (arith, within))
+      ∙ ap (λ (k : ℕ). let end : ℕ × ℕ = (k, 1) in end) (cond-false _ _ _ (ne_eqb (node + 1) n apart))
+
+  -- to the left
+  pub to_left : (node : ℕ) → 0 < node → node < n → networks.far_of (standard_ring n) node 1 ≡ (node - 1, 0)
+  to_left node some within =
+      let apart : node ≢ 0 = λ h. omega (arith, h, some) in
+      far_is node 1 within
+      ∙ ap (λ (k : ℕ). let end : ℕ × ℕ = (k, 0) in end) (cond-false _ _ _ (ne_eqb node 0 apart))
+
+  -- across, from node 0 to the last one
+  pub across : 0 < n → networks.far_of (standard_ring n) 0 1 ≡ (n - 1, 0)
+  across some = far_is 0 1 some
+
+  -- and from the last one to node 0
+  pub to_first : (node : ℕ) → node + 1 ≡ n → networks.far_of (standard_ring n) node 0 ≡ (0, 1)
+  to_first node last =
+      far_is node 0 (omega (arith, last))
+      ∙ ap (λ (k : ℕ). let end : ℕ × ℕ = (k, 1) in end) (cond-true _ _ _ (eq-eqb (node + 1) n last))
+
 module _ (n hole : ℕ) (setup : Setup) (is : IsSetUp n hole setup) where
   abbrev world : World
   world = world_of (standard_ring n) setup
 
   abbrev ways : Ways
   ways = standard_ways n
-
-  row_is : (node : ℕ) → node < n → networks.row_of (standard_ring n) node ≡ standard_row n node
-  row_is node within = get_or-map-range_with_len (standard_row n) 0 n node node [] within (omega arith)
-
-  far_is : (node port : ℕ) → node < n → world.net.far node port ≡ slice_index_or (standard_row n node) port (0, 0)
-  far_is node port within = ap (λ (row : List End). slice_index_or row port (0, 0)) (row_is node within)
-
-  degree_is : (node : ℕ) → node < n → world.net.degree node ≡ 2
-  degree_is node within = ap (λ (row : List End). length row) (row_is node within)
 
   left_node : (steps : ℕ) → 0 < steps → ways.node 1 steps ≡ n - steps
   left_node steps some =
@@ -41,51 +79,28 @@ module _ (n hole : ℕ) (setup : Setup) (is : IsSetUp n hole setup) where
   left_within (suc k) within =
       let at : ways.node 1 (suc k) ≡ n - suc k = left_node (suc k) (omega arith) in omega (arith, at, within)
 
-  -- to the right
-  to_right : (node : ℕ) → node + 1 < n → world.net.far node 0 ≡ (node + 1, 1)
-  to_right node within =
-      let apart : node + 1 ≢ n = λ h. omega (arith, h, within) in
-      far_is node 0 (omega (arith, within))
-      ∙ ap (λ (k : ℕ). let end : ℕ × ℕ = (k, 1) in end) (cond-false _ _ _ (ne_eqb (node + 1) n apart))
-
-  -- to the left
-  to_left : (node : ℕ) → 0 < node → node < n → world.net.far node 1 ≡ (node - 1, 0)
-  to_left node some within =
-      let apart : node ≢ 0 = λ h. omega (arith, h, some) in
-      far_is node 1 within
-      ∙ ap (λ (k : ℕ). let end : ℕ × ℕ = (k, 0) in end) (cond-false _ _ _ (ne_eqb node 0 apart))
-
-  -- across, between the last node and node 0
-  across : 0 < n → world.net.far 0 1 ≡ (n - 1, 0)
-  across some = far_is 0 1 some
-
-  around_back : 0 < n → world.net.far (n - 1) 0 ≡ (0, 1)
-  around_back some =
-      far_is (n - 1) 0 (omega (arith, some))
-      ∙ ap (λ (k : ℕ). let end : ℕ × ℕ = (k, 1) in end)
-      (cond-true _ _ _ (eq-eqb (n - 1 + 1) n (omega (arith, some))))
-
   pair_is : (a b c d : ℕ) → a ≡ c → b ≡ d → ◌≡◌ {A = ℕ × ℕ} (a, b) (c, d)
   pair_is a b c d h k i = (h i, k i)
 
   left_out : (steps : ℕ) → steps + 1 < n → world.net.far (ways.node 1 steps) 1 ≡ (ways.node 1 (steps + 1), 0)
   left_out zero within =
-      across (omega (arith, within)) ∙ pair_is _ _ _ _ (sym (left_node 1 (omega arith))) refl
+      across n (omega (arith, within)) ∙ pair_is _ _ _ _ (sym (left_node 1 (omega arith))) refl
   left_out (suc k) within =
       let at : ways.node 1 (suc k) ≡ n - suc k = left_node (suc k) (omega arith) in
       let to : ways.node 1 (suc k + 1) ≡ n - (suc k + 1) = left_node (suc k + 1) (omega arith) in
       ap (λ (node : ℕ). world.net.far node 1) at
-      ∙ to_left (n - suc k) (omega (arith, within)) (omega (arith, within))
+      ∙ to_left n (n - suc k) (omega (arith, within)) (omega (arith, within))
       ∙ pair_is _ _ _ _ (omega (arith, to, within)) refl
 
   left_back : (steps : ℕ) → steps + 1 < n → world.net.far (ways.node 1 (steps + 1)) 0 ≡ (ways.node 1 steps, 1)
   left_back zero within =
-      ap (λ (node : ℕ). world.net.far node 0) (left_node 1 (omega arith)) ∙ around_back (omega (arith, within))
+      ap (λ (node : ℕ). world.net.far node 0) (left_node 1 (omega arith))
+      ∙ to_first n (n - 1) (omega (arith, within))
   left_back (suc k) within =
       let at : ways.node 1 (suc k) ≡ n - suc k = left_node (suc k) (omega arith) in
       let from : ways.node 1 (suc k + 1) ≡ n - (suc k + 1) = left_node (suc k + 1) (omega arith) in
       ap (λ (node : ℕ). world.net.far node 0) from
-      ∙ to_right (n - (suc k + 1)) (omega (arith, within))
+      ∙ to_right n (n - (suc k + 1)) (omega (arith, within))
       ∙ pair_is _ _ _ _ (omega (arith, at, within)) refl
 
   is_ring : IsRing world n ways
@@ -93,19 +108,19 @@ module _ (n hole : ℕ) (setup : Setup) (is : IsSetUp n hole setup) where
       let three : 3 ≤ n = is.three in
       record {
         three = is.three;
-        size = length-map-range_with_len (standard_row n) 0 n;
+        size = size_is n;
         home = λ side. by_home side ∙ sym is.home;
         first = λ side below. refl;
         two = λ side steps below within. both (λ (k : ℕ). world.net.degree (ways.node k steps) ≡ 2)
-            (degree_is steps within) (degree_is (ways.node 1 steps) (left_within steps within)) side below;
+            (degree_is n steps within) (degree_is n (ways.node 1 steps) (left_within steps within)) side below;
         port = λ side steps below within. below;
         out = λ side steps below within. both (λ (k : ℕ). world.net.far (ways.node k steps) (ways.ahead k steps)
             ≡ (ways.node k (steps + 1), 1 - ways.ahead k (steps + 1)))
-            (to_right steps within) (left_out steps within) side below;
+            (to_right n steps within) (left_out steps within) side below;
         back = λ side steps below within. both (λ (k : ℕ).
             world.net.far (ways.node k (steps + 1)) (1 - ways.ahead k (steps + 1))
             ≡ (ways.node k steps, ways.ahead k steps))
-            (to_left (steps + 1) (omega arith) within ∙ pair_is _ _ _ _ (omega arith) refl)
+            (to_left n (steps + 1) (omega arith) within ∙ pair_is _ _ _ _ (omega arith) refl)
             (left_back steps within) side below;
         around = λ steps rest sum some some_too. left_node steps some ∙ omega (arith, sum);
         apart = λ one other below below_too same. same;

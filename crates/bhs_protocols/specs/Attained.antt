@@ -12,7 +12,7 @@ use Rattle.bhs_protocols.specs.AllRings.{IsSetOn}
 use Rattle.bhs_protocols.specs.StandardRings.{standard_ring}
 use Rattle.bhs_protocols.specs.Shuttle.{moves_on, commands_on}
 use Rattle.bhs_protocols.specs.Laws.{shuttle_trial}
-use Rattle.bhs_protocols.specs.Halving.{doubled, rounds, most_moves, most_turns}
+use Rattle.bhs_protocols.specs.Halving.{doubled, rounds, most_moves, most_commands}
 use Rattle.bhs_protocols.specs.Halves.{halves_trial}
 
 -- there is a schedule after which nothing more can happen, and exactly this number of moves is made
@@ -72,12 +72,12 @@ WorstIsWithin = (n : ℕ) → 3 ≤ n → (0 < worst_distance n) × (worst_dista
 -- moves that there may be.
 abbrev pub HalvesAttain : Type 0
 HalvesAttain = (world : World) (n other wakeups : ℕ) (ways : Ways) → IsSearch world n (worst_distance n) other ways
-    → 4 ≤ world.board → most_turns n ≤ world.quota → IsAttained (halves_trial world wakeups n) (most_moves n)
+    → 4 ≤ world.board → most_commands n ≤ world.quota → IsAttained (halves_trial world wakeups n) (most_moves n)
 
 -- so it is on each ring of a file, from each home base, with some black hole
 abbrev pub HalvesAttainOnAllRings : Type 0
 HalvesAttainOnAllRings = (net : Network) (setup : Setup) (hole wakeups : ℕ) → IsSetOn net setup hole → 4 ≤ setup.board
-    → most_turns (nodes_of net) ≤ setup.quota
+    → most_commands (nodes_of net) ≤ setup.quota
     → IsAttainedOn net setup (λ world. halves_trial world wakeups (nodes_of net)) (most_moves (nodes_of net))
 
 -- these distances, on the rings of 3 to 18 nodes
@@ -94,7 +94,7 @@ worst_world n = record {
   holes = worst_distance n ∷ [];
   dark = [];
   agents = 2;
-  quota = most_turns n;
+  quota = most_commands n;
   board = 4;
 }
 

@@ -30,10 +30,15 @@ walks_at n left = walks n (rounds left)
 abbrev pub most_moves : (n : ℕ) → ℕ
 most_moves n = 3 * (n - 2) + 1 + walks_at n (n / 2)
 
--- The most turns that move, and the most commands that are used: for each move a departure and an arrival, for each
--- node and each division a write and at most one that fails, and each agent enters and accuses.
+-- The most turns that move: for each move a departure and an arrival, for each node and each division a write and at
+-- most one that fails, and each agent enters and accuses.
 abbrev pub most_turns : (n : ℕ) → ℕ
 most_turns n = 2 * most_moves n + 2 * (n - 2) + 2 * rounds (n / 2) + 4
+
+-- The most commands that an agent uses, and so do both together: for each move a departure, for each node and each
+-- division a write and at most one that fails, and each agent accuses. To enter costs none.
+abbrev pub most_commands : (n : ℕ) → ℕ
+most_commands n = most_moves n + 2 * (n - 2) + 2 * rounds (n / 2) + 2
 
 -- A way to the other's last safe node, with `left` nodes left then, the way back, and what comes after that, are paid
 -- for by what was left when the way began.

@@ -12,6 +12,7 @@ pub mod Losses
 pub mod Sizes
 pub mod Endless
 pub mod Halving
+pub mod Quotas
 pub mod Halves
 pub mod HalvesExamples
 pub mod HalvesLaws

@@ -12,7 +12,7 @@ use Rattle.bhs_explore.specs.Schedules.{Trial, under, IsAtRest, verdict}
 use Rattle.bhs_explore.specs.Everywhere.{EveryScheduleSolves}
 use Rattle.bhs_protocols.specs.Programs.{strategies_by}
 use Rattle.bhs_protocols.specs.AllRings.{IsSetOn}
-use Rattle.bhs_protocols.specs.Halving.{most_turns}
+use Rattle.bhs_protocols.specs.Halving.{most_commands}
 use Rattle.bhs_protocols.specs.Halves.{halves}
 use Rattle.bhs_protocols.specs.LastWord.{searched, SolvesEverywhere}
 
@@ -46,5 +46,5 @@ ALossIsNeededOnNetworks = (net : Network) (setup : Setup) (held : Held) (wakeups
 -- most, so on rings one loss is needed and suffices.
 abbrev pub TheHalvesSolveEverywhere : Type 0
 TheHalvesSolveEverywhere = (net : Network) (setup : Setup) (hole wakeups : ℕ) → IsSetOn net setup hole → 4 ≤ setup.board
-    → most_turns (nodes_of net) ≤ setup.quota
+    → most_commands (nodes_of net) ≤ setup.quota
     → SolvesEverywhere (world_of net setup) none_held wakeups (strategies_by (halves (nodes_of net)))

@@ -1,10 +1,10 @@
 -- An agent that does not know how many nodes a ring has cannot search it.
-use Rattle.std.specs.Prelude.{ℕ, ◌+◌, ◌==◌, ◌<◌, ◌≤◌, [], ◌∷◌, if◌then◌else◌}
+use Rattle.std.specs.Prelude.{ℕ, ◌≢◌, ◌==◌, ◌<◌, ◌≤◌, [], ◌∷◌, if◌then◌else◌}
 use Rattle.bhs_model.specs.Worlds.{Network}
 use Rattle.bhs_model.specs.Examples.{none_held}
 use Rattle.bhs_explore.specs.Strategies.{Strategies}
 use Rattle.bhs_explore.specs.Schedules.{Trial}
-use Rattle.bhs_protocols.specs.LastWord.{SolvesFor}
+use Rattle.bhs_protocols.specs.LastWord.{SolvesFor, FindsFor}
 use Rattle.bhs_protocols.specs.StandardRings.{next_node, node_before}
 
 -- the standard ring of n nodes by its rule
@@ -44,7 +44,17 @@ abbrev pub SolvesSize : (n : ℕ) → Limits → Strategies → Type 0
 SolvesSize n terms strategies =
     (hole : ℕ) → 0 < hole → hole < n → SolvesFor (played_on (ring_net n) terms strategies 0 hole)
 
--- No team solves the rings of two sizes that follow each other, if it is the same team and is not told which it is.
+-- a team finds the black hole there, in the sense of the literature
+abbrev pub FindsSize : (n : ℕ) → Limits → Strategies → Type 0
+FindsSize n terms strategies =
+    (hole : ℕ) → 0 < hole → hole < n → FindsFor (played_on (ring_net n) terms strategies 0 hole) hole
+
+-- No team finds the black holes of rings of two sizes, if it is the same team and is not told which of the two it is.
+abbrev pub NoTeamFindsOnTwoSizes : Type 0
+NoTeamFindsOnTwoSizes = (n size : ℕ) (terms : Limits) (strategies : Strategies) → 3 ≤ n → 3 ≤ size → n ≢ size
+    → FindsSize n terms strategies → FindsSize size terms strategies → ⊥
+
+-- So no team solves them.
 abbrev pub NoTeamSolvesTwoSizes : Type 0
-NoTeamSolvesTwoSizes = (n : ℕ) (terms : Limits) (strategies : Strategies) → 3 ≤ n → SolvesSize n terms strategies
-    → SolvesSize (n + 1) terms strategies → ⊥
+NoTeamSolvesTwoSizes = (n size : ℕ) (terms : Limits) (strategies : Strategies) → 3 ≤ n → 3 ≤ size → n ≢ size
+    → SolvesSize n terms strategies → SolvesSize size terms strategies → ⊥

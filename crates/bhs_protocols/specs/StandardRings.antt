@@ -1,6 +1,7 @@
 -- The standard ring of n nodes: node k is joined by its port 0 to the next node, and by its port 1 to the one before.
 use Rattle.std.specs.Prelude.{ℕ, ◌+◌, ◌-◌, ◌*◌, ◌==◌, ◌≡◌, ◌<◌, ◌≤◌, List, [], ◌∷◌, map, if◌then◌else◌}
 use Rattle.std.specs.List.{range_with_len}
+use Rattle.bhs_net.specs.declared.faults.TheConstants.{MAX_NODES}
 use Rattle.bhs_net.specs.Links.{End}
 use Rattle.bhs_net.specs.Network as networks
 use Rattle.bhs_model.specs.declared.setups.Setup.{Setup}
@@ -9,6 +10,7 @@ use Rattle.bhs_model.specs.Examples.{triangle}
 use Rattle.bhs_referee.specs.declared.verdicts.Outcome.TheVariants.{Solved}
 use Rattle.bhs_explore.specs.Schedules.{under, verdict}
 use Rattle.bhs_protocols.specs.Invariants.{IsSolved}
+use Rattle.bhs_protocols.specs.AllRings.{IsSetOn}
 use Rattle.bhs_protocols.specs.Rings.{Ways, IsSearch}
 use Rattle.bhs_protocols.specs.Shuttle.{moves_on, commands_on}
 use Rattle.bhs_protocols.specs.Laws.{shuttle_trial, shuttle_bounds}
@@ -46,6 +48,15 @@ pub record IsSetUp (n hole : ℕ) (setup : Setup) : Type 0 where
 abbrev pub StandardRings : Type 0
 StandardRings = (n hole : ℕ) (setup : Setup) → IsSetUp n hole setup
     → IsSearch (world_of (standard_ring n) setup) n hole (n - hole) (standard_ways n)
+
+-- The standard ring of n nodes is a network of a file, if a file can name so many.
+abbrev pub StandardRingsAreNetworks : Type 0
+StandardRingsAreNetworks = (n : ℕ) → 3 ≤ n → n ≤ MAX_NODES → networks.IsNetwork (standard_ring n)
+
+-- so the theorems on the rings of files speak of it
+abbrev pub StandardRingsAreSet : Type 0
+StandardRingsAreSet = (n hole : ℕ) (setup : Setup) → n ≤ MAX_NODES → IsSetUp n hole setup
+    → IsSetOn (standard_ring n) setup hole
 
 -- so the shuttle solves each standard ring
 abbrev pub ShuttleSolvesStandardRings : Type 0

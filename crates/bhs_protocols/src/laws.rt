@@ -10,13 +10,14 @@ ghost use Rattle.bhs_protocols.specs.HalvesExamples.{OnFive, OnFour, OnSix, OnTh
 ghost use Rattle.bhs_protocols.specs.HalvesLaws.{HalvesSolve, HalvesSolveAllRings, TurnsAreFew};
 ghost use Rattle.bhs_protocols.specs.Halving.{LastWaysArePaid, MovesAre, MovesAreFew, RoundsAreLeast, RoundsReach};
 ghost use Rattle.bhs_protocols.specs.Halving.{WaysArePaid};
-ghost use Rattle.bhs_protocols.specs.LastWord.{AccusationsComeLast};
+ghost use Rattle.bhs_protocols.specs.LastWord.{AccusationsComeLast, SolversFind};
 ghost use Rattle.bhs_protocols.specs.Losses.{ALossIsNeeded, ALossIsNeededOnNetworks, EachBlackHoleDestroys};
 ghost use Rattle.bhs_protocols.specs.Losses.{TheHalvesSolveEverywhere};
 ghost use Rattle.bhs_protocols.specs.Laws.{InvariantsSolve, ConfigurationsFollow, ShuttleSolves};
-ghost use Rattle.bhs_protocols.specs.Sizes.{NoTeamSolvesTwoSizes};
+ghost use Rattle.bhs_protocols.specs.Quotas.{HalvesHaveTheirQuota, ShuttlesHaveTheirQuota};
+ghost use Rattle.bhs_protocols.specs.Sizes.{NoTeamFindsOnTwoSizes, NoTeamSolvesTwoSizes};
 ghost use Rattle.bhs_protocols.specs.StandardRings.{MovesAreSquares, ShuttleSolvesStandardRings, StandardRings};
-ghost use Rattle.bhs_protocols.specs.StandardRings.{TheTriangleIsSolved};
+ghost use Rattle.bhs_protocols.specs.StandardRings.{StandardRingsAreNetworks, StandardRingsAreSet, TheTriangleIsSolved};
 
 /// A match that is played can be followed without its events and without pasts.
 pub fn configurations_follow()
@@ -39,6 +40,13 @@ pub fn the_shuttle_solves_standard_rings()
     ensures are_rings { StandardRings }
     ensures solves { ShuttleSolvesStandardRings }
     ensures moves { MovesAreSquares }
+{}
+
+/// The standard ring of each size that a file can name is a network of a file, so the theorems on rings of files speak
+/// of it.
+pub fn standard_rings_are_networks()
+    ensures networks { StandardRingsAreNetworks }
+    ensures set { StandardRingsAreSet }
 {}
 
 /// The shuttle on a triangle, worked out by hand.
@@ -65,9 +73,15 @@ pub fn the_shuttle_bound_is_attained()
     ensures all_rings { ShuttleAttainsOnAllRings }
 {}
 
-/// A team that solves the match whichever node is the black hole has reached all the others before it accuses.
+/// A team that finds the black hole whichever node it is has reached all the others before it accuses.
 pub fn accusations_come_last()
     ensures { AccusationsComeLast }
+{}
+
+/// A team that solves the match whichever node is the black hole finds it: what it accuses is right, and no schedule
+/// keeps it from accusing.
+pub fn solvers_find()
+    ensures { SolversFind }
 {}
 
 /// A team that solves the match whichever node is the black hole loses an agent to each of them under some schedule.
@@ -78,9 +92,11 @@ pub fn a_loss_is_needed()
     ensures halves { TheHalvesSolveEverywhere }
 {}
 
-/// A team that is not told how many nodes a ring has does not solve rings of two sizes that follow each other.
+/// A team that is not told how many nodes a ring has finds the black holes of no two sizes of rings, so it does not
+/// solve them.
 pub fn no_team_solves_two_sizes()
-    ensures { NoTeamSolvesTwoSizes }
+    ensures finds { NoTeamFindsOnTwoSizes }
+    ensures solves { NoTeamSolvesTwoSizes }
 {}
 
 /// Agents that look for ever solve a match under every schedule that comes to rest, so `IsSolved` also says that
@@ -98,6 +114,12 @@ pub fn halving_costs()
     ensures few { MovesAreFew }
     ensures least { RoundsAreLeast }
     ensures reach { RoundsReach }
+{}
+
+/// Up to which size a file can set the quota that the searches ask for.
+pub fn quotas_of_files()
+    ensures halves { HalvesHaveTheirQuota }
+    ensures shuttle { ShuttlesHaveTheirQuota }
 {}
 
 /// The search by halves on small rings, worked out.

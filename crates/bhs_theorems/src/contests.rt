@@ -7,7 +7,7 @@ ghost use Rattle.bhs_theorems.specs.ContestExample.{TheHeadlineSpeaksOfTheOther,
 ghost use Rattle.bhs_theorems.specs.ContestExample.{TheHeadlineSpeaksOfWhoIsOnALink};
 ghost use Rattle.bhs_theorems.specs.ContestMet.{EqualPastsAreSentEqualBytes, SentAsMet};
 ghost use Rattle.bhs_theorems.specs.ContestTime.{EqualWaitsInContests, EveryArrivalInContests};
-ghost use Rattle.bhs_theorems.specs.TimeExample.{TheTheoremOfTimeSpeaksOfIt};
+ghost use Rattle.bhs_theorems.specs.TimeExample.{TheTheoremOfTimeSpeaksOfThem};
 
 /// A session whose pass settled with its match wrote the bytes of what its agent met in the log, and behind them at
 /// most one line; or a front of that, if a write failed or memory ran out.
@@ -50,7 +50,8 @@ pub fn worked_session()
     ensures on_a_link { TheHeadlineSpeaksOfWhoIsOnALink }
 {}
 
-/// A match under the oblivious schedule, worked out by hand, of which the theorem over every arrival speaks.
+/// Two matches under one oblivious schedule, on different networks and with any law of delays, worked out by hand: the
+/// theorem over every arrival speaks of them.
 pub fn worked_walk()
-    ensures { TheTheoremOfTimeSpeaksOfIt }
+    ensures { TheTheoremOfTimeSpeaksOfThem }
 {}

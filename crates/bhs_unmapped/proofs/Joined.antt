@@ -1,6 +1,6 @@
 -- A member of the family is connected, also without any one node: what is left of the cycle is a path, and each hub
 -- has links to more than one of its nodes.
-use Rattle.std.proofs.Common.{ℕ, zero, suc, ◌+◌, ◌-◌, ◌*◌, ◌<◌, ◌≤◌, ◌≡◌, refl, sym, ap}
+use Rattle.std.proofs.Common.{ℕ, ◌+◌, ◌-◌, ◌*◌, ◌<◌, ◌≤◌, ◌≡◌, refl, sym, ap}
 use Rattle.std.proofs.Common.{◌∙◌, subst, inl, inr, arith}
 use Rattle.std.specs.Prelude.{◌≢◌}
 use Rattle.std.proofs.lemmas.Bool.{cases_lt}
@@ -9,7 +9,8 @@ use Rattle.bhs_net.specs.declared.faults.TheConstants.{MAX_NODES}
 use Rattle.bhs_net.specs.Network.{Network, IsNetwork, Leads}
 use Rattle.bhs_net.specs.Paths.{IsPath, Without}
 use Rattle.bhs_net.specs.Search.{ReachesAll}
-use Rattle.bhs_net.proofs.Walks.{IsPath-none, IsPath-more, IsPath-append, Leads-back, joined_without, connected}
+use Rattle.bhs_net.proofs.Walks.{IsPath-more, Leads-back, joined_without, connected}
+use Rattle.bhs_protocols.proofs.Cycles.{IsCycle, IsStart, some_start}
 use Rattle.bhs_unmapped.proofs.Cycle.{Member, IsMember, beside, next_is, before_is, hub_end, slot_at, slot_at_is}
 use Rattle.bhs_unmapped.proofs.Rows.{net_of, size, labelled, link_leads, hub_leads}
 
@@ -39,65 +40,19 @@ module _ (d : ℕ) (three : 3 ≤ d) (fits : 2 * d + 2 ≤ MAX_NODES) (member : 
     | inr h ↦ absurd (h.0 refl)
   ]
 
+  cycle : IsCycle net (2 * d)
+  cycle = record { three = omega (arith, three); onward = leads_next; back = leads_before; around = leads_round }
+
   module _ (cut : ℕ) where
     abbrev Step : ℕ → ℕ → Type 0
     Step = Without cut (Leads net)
 
-    -- the nodes before the cut, from the first one on
-    onward : (node : ℕ) → node < cut → node < 2 * d → IsPath Step 0 node
-    onward zero before below = IsPath-none Step 0
-    onward (suc node) before below =
-        let same : node + 1 ≡ suc node = omega arith in
-        IsPath-more Step 0 node (suc node) (onward node (omega (arith, before)) (omega (arith, below))) (
-          subst (Leads net node) same (leads_next node (omega (arith, below))),
-          (λ h. omega (arith, h, before)),
-          (λ h. omega (arith, h, before)),
-        )
-
-    -- and those after it, from the last one back
-    backward : (count node : ℕ) → node + count + 1 ≡ 2 * d → cut < node → IsPath Step (2 * d - 1) node
-    backward zero node is_last after =
-        subst (IsPath Step (2 * d - 1)) (let same : 2 * d - 1 ≡ node = omega (arith, is_last) in same)
-        (IsPath-none Step (2 * d - 1))
-    backward (suc count) node is_there after =
-        IsPath-more Step (2 * d - 1) (node + 1) node
-        (backward count (node + 1) (omega (arith, is_there)) (omega (arith, after)))
-        (leads_before node (omega (arith, is_there)), (λ h. omega (arith, h, after)), (λ h. omega (arith, h, after)))
-
-    -- a node of the cycle to which all others lead
-    record IsStart (start : ℕ) : Type 0 where
-      reaches : (node : ℕ) → node < 2 * d → node ≢ cut → IsPath Step start node
-
-    first_start : cut ≢ 0 → IsStart 0
-    first_start apart = record {
-      reaches = λ node below off. elim (cases_lt node cut) [
-        | inl h ↦ onward node h below
-        | inr h ↦
-            let after : cut < node = omega (arith, h, off) in
-            path_round node after below (backward (2 * d - 1 - node) node (omega (arith, below)) after)
-      ];
-    }
-      where
-        path_round : (node : ℕ) → cut < node → node < 2 * d → IsPath Step (2 * d - 1) node → IsPath Step 0 node
-        path_round node after below path =
-            first_step (2 * d - 1) node
-            (IsPath-more Step 0 0 (2 * d - 1) (IsPath-none Step 0)
-            (leads_round, (λ h. apart (sym h)), (λ h. omega (arith, h, after, below)))) path
-          where
-            first_step : (middle end : ℕ) → IsPath Step 0 middle → IsPath Step middle end → IsPath Step 0 end
-            first_step middle end = IsPath-append Step 0 middle end
-
-    last_start : cut ≡ 0 → IsStart (2 * d - 1)
-    last_start zeroth = record {
-      reaches = λ node below off.
-          let after : cut < node = omega (arith, zeroth, off) in
-          backward (2 * d - 1 - node) node (omega (arith, below)) after;
-    }
+    from : IsStart net (2 * d) cut
+    from = some_start net (2 * d) cycle cut
 
     -- a hub has two links to nodes that differ
-    hub_reached : (start : ℕ) → IsStart start → (hub : ℕ) → 2 * d ≤ hub → hub < 2 * d + 2 → hub ≢ cut
-        → IsPath Step start hub
-    hub_reached start from hub after before off = elim (eqb_tells (member.owner (slot_at d hub 0)) cut) [
+    hub_reached : (hub : ℕ) → 2 * d ≤ hub → hub < 2 * d + 2 → hub ≢ cut → IsPath Step from.start hub
+    hub_reached hub after before off = elim (eqb_tells (member.owner (slot_at d hub 0)) cut) [
       | inr h ↦ by_port 0 (omega (arith, three)) h.1
       | inl h ↦ by_port 1 (omega (arith, three)) (λ same.
           let zeroth = slot_at_is d hub 0 after before (omega (arith, three)) in
@@ -110,11 +65,11 @@ module _ (d : ℕ) (three : 3 ≤ d) (fits : 2 * d + 2 ≤ MAX_NODES) (member : 
           omega (arith, ports))
     ]
       where
-        by_port : (port : ℕ) → port < d → member.owner (slot_at d hub port) ≢ cut → IsPath Step start hub
+        by_port : (port : ℕ) → port < d → member.owner (slot_at d hub port) ≢ cut → IsPath Step from.start hub
         by_port port small apart =
             let owner : ℕ = member.owner (slot_at d hub port) in
             let at = slot_at_is d hub port after before small in
-            IsPath-more Step start owner hub
+            IsPath-more Step from.start owner hub
             (from.reaches owner (is.owner_below (slot_at d hub port) at.below) apart) (
               Leads-back net (labelled d three fits member is) hub owner
                   (hub_leads d three fits member is hub port after before small),
@@ -122,22 +77,17 @@ module _ (d : ℕ) (three : 3 ≤ d) (fits : 2 * d + 2 ≤ MAX_NODES) (member : 
               off,
             )
 
-    reaches_all : (start : ℕ) → IsStart start → ReachesAll net start cut
-    reaches_all start from node below off = elim (cases_lt node (2 * d)) [
+    reaches_all : ReachesAll net from.start cut
+    reaches_all node below off = elim (cases_lt node (2 * d)) [
       | inl h ↦ from.reaches node h off
-      | inr h ↦ hub_reached start from node h (subst (λ (n : ℕ). node < n) (size d member) below) off
+      | inr h ↦ hub_reached node h (subst (λ (n : ℕ). node < n) (size d member) below) off
     ]
 
   pub is_network : IsNetwork net
   is_network = record {
     labelled = labelled d three fits member is;
-    connected = connected net (labelled d three fits member is) 0 (2 * d + 2)
-        (subst (λ (n : ℕ). n ≤ 2 * d + 2) (sym (size d member)) (omega arith))
-        (reaches_all (2 * d + 2) 0 (first_start (2 * d + 2) (λ h. omega (arith, h))));
-    biconnected = λ cut below. elim (eqb_tells cut 0) [
-      | inl h ↦ joined_without net (labelled d three fits member is) (2 * d - 1) cut
-          (reaches_all cut (2 * d - 1) (last_start cut h.1))
-      | inr h ↦ joined_without net (labelled d three fits member is) 0 cut
-          (reaches_all cut 0 (first_start cut h.1))
-    ];
+    connected = connected net (labelled d three fits member is) (from (2 * d + 2)).start (2 * d + 2)
+        (subst (λ (n : ℕ). n ≤ 2 * d + 2) (sym (size d member)) (omega arith)) (reaches_all (2 * d + 2));
+    biconnected = λ cut below. joined_without net (labelled d three fits member is) (from cut).start cut
+        (reaches_all cut);
   }

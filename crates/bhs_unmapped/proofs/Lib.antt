@@ -5,3 +5,4 @@ pub mod Game
 pub mod Rows
 pub mod Joined
 pub mod UnmappedLemmas
+pub mod RingsAlone

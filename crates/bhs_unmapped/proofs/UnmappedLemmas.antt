@@ -1,23 +1,20 @@
--- A team that solves all networks of the family loses one agent after the other, and in the end more than it has.
-use Rattle.std.proofs.Common.{ℕ, zero, suc, ◌+◌, ◌*◌, ◌<◌, ◌≤◌, ◌≡◌, false, List}
+-- A team that finds the black hole on all networks of the family loses one agent after the other, and in the end more
+-- than it has.
+use Rattle.std.proofs.Common.{ℕ, zero, suc, ◌+◌, ◌*◌, ◌<◌, ◌≤◌, ◌≡◌, List}
 use Rattle.std.proofs.Common.{[], ◌++◌, refl, sym, ap, ◌∙◌, subst, inl, inr, arith}
-use Rattle.std.specs.Prelude.{◌≢◌}
 use Rattle.std.proofs.lemmas.Bool.{cases_lt}
 use Rattle.bhs_net.specs.declared.faults.TheConstants.{MAX_NODES}
 use Rattle.bhs_net.specs.Network.{far_of}
 use Rattle.bhs_model.specs.Worlds as worlds
 use Rattle.bhs_model.specs.Setups.{network_of}
-use Rattle.bhs_referee.specs.declared.verdicts.Outcome.TheVariants.{Solved}
-use Rattle.bhs_referee.specs.declared.verdicts.Verdict.{Verdict}
+use Rattle.bhs_model.specs.Examples.{none_held}
 use Rattle.bhs_explore.specs.Strategies.{Strategies}
-use Rattle.bhs_explore.specs.Schedules.{Trial, under}
-use Rattle.bhs_explore.proofs.Turns.{verdict_is}
-use Rattle.bhs_protocols.specs.Configurations.{Configuration, configuration_of, outcome_in}
-use Rattle.bhs_protocols.specs.LastWord.{SolvesFor}
+use Rattle.bhs_explore.specs.Schedules.{Trial}
+use Rattle.bhs_protocols.specs.Configurations.{Configuration}
+use Rattle.bhs_protocols.specs.LastWord.{SomeoneHasAccused, FindsFor}
 use Rattle.bhs_protocols.specs.Sizes.{Limits, played_on}
-use Rattle.bhs_protocols.proofs.ConfigurationLemmas.{configurations_follow}
-use Rattle.bhs_protocols.proofs.AloneLemmas as lemmas
-use Rattle.bhs_unmapped.specs.Unmapped.{SolvesNetworks, ManyAgentsAreNeeded}
+use Rattle.bhs_protocols.proofs.FindsLemmas.{never_accused, solver_finds}
+use Rattle.bhs_unmapped.specs.Unmapped.{FindsOnNetworks, ManyAgentsAreNeededToFind, ManyAgentsAreNeeded}
 use Rattle.bhs_unmapped.proofs.Cycle.{Member, IsMember, leads}
 use Rattle.bhs_unmapped.proofs.Alike.{Far, over}
 use Rattle.bhs_unmapped.proofs.Game as game
@@ -26,7 +23,7 @@ use Rattle.bhs_unmapped.proofs.Rows.{net_of, size, degree_is, far_is, degrees_cy
 use Rattle.bhs_unmapped.proofs.Joined.{is_network}
 
 module _ (d : ℕ) (three : 3 ≤ d) (fits : 2 * d + 2 ≤ MAX_NODES) (terms : Limits) (strategies : Strategies)
-    (few : terms.agents ≤ d) (solves : SolvesNetworks (2 * d + 2) d terms strategies) where
+    (few : terms.agents ≤ d) (finds : FindsOnNetworks (2 * d + 2) d terms strategies) where
   abbrev far : Member → Far
   far member = far_of (net_of d member)
 
@@ -60,33 +57,27 @@ module _ (d : ℕ) (three : 3 ≤ d) (fits : 2 * d + 2 ≤ MAX_NODES) (terms : L
     far = far_of (net_of d member);
   }
 
-  solved : (member : Member) → IsMember d member → SolvesFor (match_on member)
-  solved member is =
-      subst (λ (net : worlds.Network). SolvesFor (played_on net terms strategies 0 (2 * d + 1))) (same_network member)
-      (solves (net_of d member) 0 (2 * d + 1) (is_network d three fits member is) (size d member)
+  found : (hole : ℕ) → 0 < hole → hole < 2 * d + 2 → (member : Member) → IsMember d member
+      → FindsFor (over (2 * d + 2) (degrees d) hole terms strategies (far member)) hole
+  found hole not_home within member is =
+      subst (λ (net : worlds.Network). FindsFor (played_on net terms strategies 0 hole) hole) (same_network member)
+      (finds (net_of d member) 0 hole (is_network d three fits member is) (size d member)
       (record {
         most = λ node. subst (λ (n : ℕ). n ≤ d) (sym (degree_is d member node)) (few_links member node);
         attained = (2 * d, degree_is d member (2 * d) ∙ degrees_hub d (2 * d) (omega arith) (omega arith));
       })
-      (omega arith) (omega arith) (λ same. omega (arith, same)))
+      (omega arith) within (λ same. omega (arith, same, not_home)))
 
-  -- a match in which the safe hub was not reached is not solved
-  unreached_unsolved : (member : Member) (configuration : Configuration) → configuration.reached (2 * d) ≡ false
-      → outcome_in (match_on member).world configuration ≢ Solved
-  unreached_unsolved member configuration never =
-      lemmas.unreached_unsolved (match_on member).world (2 * d + 1) (2 * d) configuration (omega arith)
-      (λ h. omega (arith, h, three)) (λ h. omega (arith, h)) never
-
-  -- so no schedule with such a state has come to rest
-  unrested : (count : ℕ) (member : Member) (schedule : List ℕ) → State count member schedule
-      → (outcome_in (match_on member).world (configuration_of (match_on member) (under (match_on member) schedule))
-      ≡ Solved)
-      → ⊥
-  unrested count member schedule state says =
-      let follows : configuration_of (match_on member) (under (match_on member) schedule) ≡ state.configuration =
-      configurations_follow (match_on member) schedule ∙ state.plays member state.is (λ node port was. refl) in
-      unreached_unsolved member state.configuration state.stands.unreached
-      (ap (outcome_in (match_on member).world) (sym follows) ∙ says)
+  -- where the safe hub was not reached, nobody has accused: it can be the black hole too
+  silent : (count : ℕ) (member : Member) (schedule : List ℕ) → State count member schedule
+      → SomeoneHasAccused (match_on member) schedule → ⊥
+  silent count member schedule state it =
+      never_accused (match_on member).world none_held terms.wakeups strategies (2 * d + 1) (2 * d)
+      (found (2 * d + 1) (omega arith) (omega arith) member state.is)
+      (found (2 * d) (omega (arith, three)) (omega arith) member state.is)
+      (λ same. omega (arith, same)) schedule it
+      (ap (λ (p : Configuration). p.reached (2 * d)) (state.plays member state.is (λ node port was. refl))
+      ∙ state.stands.unreached)
 
   -- So some agent departs by a port that can lead into the black hole, and one more is lost: again and again, until
   -- more are lost than there are.
@@ -97,12 +88,9 @@ module _ (d : ℕ) (three : 3 ≤ d) (fits : 2 * d + 2 ≤ MAX_NODES) (terms : L
       game.enough d count terms.agents member state.known state.configuration state.is state.stands in
       omega (arith, left, lost)
   lost_all (suc rounds) count member schedule left state =
-      let it : SolvesFor (match_on member) = solved member state.is in
-      let more = it.rests schedule in
-      elim (game.walk d three terms strategies few far cycle_far more.0 count member schedule state) [
-        | inl last ↦ unrested count member (schedule ++ more.0) last
-            (sym (ap (λ (v : Verdict). v.outcome) (verdict_is (match_on member)
-            (under (match_on member) (schedule ++ more.0)))) ∙ (it.solves (schedule ++ more.0) more.1).outcome)
+      let said = (found (2 * d + 1) (omega arith) (omega arith) member state.is).accuses schedule in
+      elim (game.walk d three terms strategies few far cycle_far said.0 count member schedule state) [
+        | inl last ↦ silent count member (schedule ++ said.0) last said.1
         | inr grown ↦ lost_all rounds (count + 1) grown.member grown.schedule (omega (arith, left)) grown.state
       ]
 
@@ -110,6 +98,14 @@ module _ (d : ℕ) (three : 3 ≤ d) (fits : 2 * d + 2 ≤ MAX_NODES) (terms : L
   impossible = lost_all (terms.agents + 1) 0 game.first_member [] (omega arith)
       (game.first_state d three terms strategies few far cycle_far)
 
+pub many_agents_are_needed_to_find : ManyAgentsAreNeededToFind
+many_agents_are_needed_to_find degree terms strategies three fits few finds =
+    impossible degree three fits terms strategies few finds
+
+-- who solves finds
 pub many_agents_are_needed : ManyAgentsAreNeeded
 many_agents_are_needed degree terms strategies three fits few solves =
-    impossible degree three fits terms strategies few solves
+    impossible degree three fits terms strategies few
+    (λ net home hole is nodes degrees_are home_within hole_within apart.
+    solver_finds (played_on (network_of net) terms strategies home hole).world none_held terms.wakeups strategies hole
+    (solves net home hole is nodes degrees_are home_within hole_within apart))

@@ -4,7 +4,10 @@ use Rattle.bhs_net.specs.declared.faults.TheConstants.{MAX_NODES}
 use Rattle.bhs_net.specs.Network.{Network, IsNetwork, nodes_of, degree_of}
 use Rattle.bhs_model.specs.Setups.{network_of}
 use Rattle.bhs_explore.specs.Strategies.{Strategies}
-use Rattle.bhs_protocols.specs.LastWord.{SolvesFor}
+use Rattle.bhs_protocols.specs.Programs.{strategies_by}
+use Rattle.bhs_protocols.specs.LastWord.{SolvesFor, FindsFor}
+use Rattle.bhs_protocols.specs.Halving.{most_commands}
+use Rattle.bhs_protocols.specs.Halves.{halves}
 use Rattle.bhs_protocols.specs.Sizes.{Limits, played_on}
 
 -- no node of the network has more links than this, and some node has as many
@@ -19,8 +22,29 @@ SolvesNetworks n degree terms strategies = (net : Network) (home hole : ℕ) →
     → HasGreatestDegree net degree → home < n → hole < n → hole ≢ home
     → SolvesFor (played_on (network_of net) terms strategies home hole)
 
+-- a team finds the black hole on each of them, in the sense of the literature
+abbrev pub FindsOnNetworks : (n degree : ℕ) → Limits → Strategies → Type 0
+FindsOnNetworks n degree terms strategies = (net : Network) (home hole : ℕ) → IsNetwork net → nodes_of net ≡ n
+    → HasGreatestDegree net degree → home < n → hole < n → hole ≢ home
+    → FindsFor (played_on (network_of net) terms strategies home hole) hole
+
 -- Take a degree of 3 or more, and 2 * degree + 2 nodes, if a file can have this number. No team of at most as many
--- agents as the degree solves all networks of this size and greatest degree.
+-- agents as the degree finds the black hole on all networks of this size and greatest degree.
+abbrev pub ManyAgentsAreNeededToFind : Type 0
+ManyAgentsAreNeededToFind = (degree : ℕ) (terms : Limits) (strategies : Strategies) → 3 ≤ degree
+    → 2 * degree + 2 ≤ MAX_NODES → terms.agents ≤ degree
+    → FindsOnNetworks (2 * degree + 2) degree terms strategies → ⊥
+
+-- So none solves them all.
 abbrev pub ManyAgentsAreNeeded : Type 0
 ManyAgentsAreNeeded = (degree : ℕ) (terms : Limits) (strategies : Strategies) → 3 ≤ degree → 2 * degree + 2 ≤ MAX_NODES
     → terms.agents ≤ degree → SolvesNetworks (2 * degree + 2) degree terms strategies → ⊥
+
+-- two agents, with the quota that a search of n nodes by halves asks for and whiteboards of 4 bytes
+abbrev pub halves_limits : (n wakeups : ℕ) → Limits
+halves_limits n wakeups = record { agents = 2; quota = most_commands n; board = 4; wakeups = wakeups }
+
+-- Where the greatest degree is 2, each network is a ring: two agents that search by halves solve them all. So a team
+-- can do what the premise says, and the degree has to be 3 or more.
+abbrev pub HalvesSolveNetworks : Type 0
+HalvesSolveNetworks = (n wakeups : ℕ) → SolvesNetworks n 2 (halves_limits n wakeups) (strategies_by (halves n))

@@ -1,5 +1,5 @@
-use Rattle.bhs_protocols.proofs.LastWordLemmas.{last_word}
+use Rattle.bhs_protocols.proofs.FindsLemmas.{accusations_come_last}
 use Rattle.bhs_protocols.proofs.laws.accusations_come_last.Goals as goal
 
 pub returns : goal.returns
-returns c = last_word
+returns c = accusations_come_last
