@@ -35,10 +35,10 @@ def rounds(left: int) -> int:
 
 
 def halves(nodes: int) -> Bounds:
-    """`most_moves` and `most_turns` of crates/bhs_protocols/specs/Halving.antt, the first in closed form."""
+    """`most_moves` and `most_commands` of crates/bhs_protocols/specs/Halving.antt, the first in closed form."""
     times = rounds(nodes - 1)
     moves = 2 * (nodes - 2) * times + nodes + 1 - 2 ** times
-    return Bounds(moves, 2 * moves + 2 * (nodes - 2) + 2 * rounds(nodes // 2) + 4)
+    return Bounds(moves, moves + 2 * (nodes - 2) + 2 * rounds(nodes // 2) + 2)
 
 
 def shuttle(nodes: int) -> Bounds:

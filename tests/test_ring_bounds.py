@@ -1,0 +1,31 @@
+"""The picture of bounds on rings draws what PROTOCOLS says, and every search lies between the bounds."""
+import pathlib
+import re
+import unittest
+
+from bench.ring_bounds import AGENTS, explored, least_moves, more_moves, most_moves
+
+PROTOCOLS = pathlib.Path(__file__).resolve().parents[1] / "docs" / "PROTOCOLS.md"
+
+
+class Bounds(unittest.TestCase):
+    def test_the_rows_of_the_document(self) -> None:
+        rows = re.findall(r"^\| ([\d,]+) \| ([\d,]+) \| ([\d,]+) \|$", PROTOCOLS.read_text(encoding="utf-8"), re.M)
+        found = [tuple(int(number.replace(",", "")) for number in row) for row in rows]
+        self.assertEqual(found, [(n, more_moves(n), most_moves(n)) for n in (8, 16, 64, 256, 1024)])
+
+    def test_what_was_explored_lies_between_the_bounds(self) -> None:
+        for agent in AGENTS:
+            points = explored(agent)
+            self.assertGreater(len(points), 5, agent)
+            for nodes, moves in points.items():
+                with self.subTest(agent, nodes=nodes):
+                    self.assertLessEqual(max(least_moves(nodes), more_moves(nodes)), moves)
+                    self.assertLessEqual(moves, most_moves(nodes))
+
+    def test_halves_make_as_many_moves_as_they_may(self) -> None:
+        self.assertEqual(explored("ring.py"), {nodes: most_moves(nodes) for nodes in explored("ring.py")})
+
+
+if __name__ == "__main__":
+    unittest.main()
