@@ -13,6 +13,7 @@ mod locks;
 mod matches;
 mod memory;
 mod model;
+mod modules;
 mod networks;
 mod paces;
 mod pasts;

@@ -1,0 +1,7 @@
+use Rattle.std.proofs.Common.{◌≡◌, ◌+◌, drop}
+use Rattle.bhs_wasm.specs.States.{put_at}
+use Rattle.bhs_wasm.proofs.memories.put_into.Given as goal
+
+abbrev pub invariant-loop-byte : goal.invariant-loop-byte
+invariant-loop-byte l = (l.place ≡ l.at + l.byte-index)
+    × (put_at l.memory (drop l.byte-index l.bytes) l.place ≡ put_at l.initial.memory l.bytes l.at)

@@ -1,0 +1,164 @@
+//! The interpreter, one instruction after another.
+
+ghost use Rattle.std.specs.Prelude.{◌≡◌, IfOk, option_map};
+ghost use Rattle.bhs_wasm.specs.States as specs;
+
+use crate::instructions::Instruction;
+use crate::interpreters::{Interpreter, Progress};
+use crate::modules::Module;
+use crate::stacks::{low, push_zeros};
+use std::alloc::AllocError;
+
+impl Interpreter {
+    ghost use Rattle.bhs_wasm.specs.States.{state_of};
+
+    /// Runs until the module waits in a command, returns or traps. It traps also after `fuel` instructions.
+    #[tactic(auto, unfolding(crate::specs::States::stepped))]
+    pub fn run(&mut self, program: &Module, fuel: u32) -> Result<Progress, AllocError>
+        ensures { specs.Gives (specs.run program.now fuel (state_of self.old)) result (state_of self.new) }
+    {
+        self.is_out_of_fuel = false;
+        for _ in 0..fuel {
+            let progress = self.step(program)?;
+            match progress {
+                Progress::Continues => {}
+                Progress::Waits(_) => return Ok(progress),
+                Progress::Ends => return Ok(progress),
+                Progress::Traps => return Ok(progress),
+            }
+        }
+        self.is_out_of_fuel = true;
+        Ok(Progress::Traps)
+    }
+
+    /// Instantiates a module, and calls the function that it exports as `run`. `argument` answers from the arguments.
+    pub fn instantiate(
+        &mut self,
+        program: &Module,
+        arguments: &[u32],
+    ) -> Result<Progress, AllocError>
+        ensures { specs.Gives (specs.instantiated program.now arguments.now) result (state_of self.new) }
+    {
+        self.forget();
+        self.frames.clear();
+        self.stack.clear();
+        self.globals.clear();
+        self.globals.extend_from_slice(&program.globals)?;
+        self.memory.clear();
+        self.pages = program.pages;
+        self.arguments.clear();
+        self.arguments.extend_from_slice(arguments)?;
+        self.base = 0;
+        self.program_counter = 0;
+        if !self.put(0, &program.memory)? {
+            return Ok(Progress::Traps);
+        }
+        match program.functions.get(program.entry as usize).copied() {
+            Some(function) => {
+                push_zeros(&mut self.stack, function.locals)?;
+                Ok(self.jump(function.start))
+            }
+            None => Ok(Progress::Traps),
+        }
+    }
+
+    /// Forgets what the last reply says.
+    pub fn forget(&mut self)
+        ensures { state_of self.new ≡ specs.forgotten (state_of self.old) }
+    {
+        self.last_reply.ports = 0;
+        self.last_reply.came = 0;
+        self.last_reply.board.clear();
+    }
+
+    /// Returns from the command in which the module waits: pops its parameters, and pushes its result.
+    pub fn answer(&mut self, parameters: u32, value: u32) -> Result<Progress, AllocError>
+        ensures { specs.Gives (specs.answered parameters value (state_of self.old)) result (state_of self.new) }
+    {
+        let parameters = parameters as usize;
+        let length = self.stack.len();
+        if parameters <= length {
+            self.stack.truncate(length - parameters);
+            self.push(u64::from(value))
+        } else {
+            Ok(Progress::Traps)
+        }
+    }
+
+    /// The operand at this depth, as an i32: 0 is the top of the stack. It is 0 if the stack is not so high.
+    pub fn operand(&self, depth: usize) -> u32
+        ensures { result ≡ specs.operand depth (state_of self.now) }
+    {
+        if depth < self.stack.len() {
+            low(self.stack[self.stack.len() - 1 - depth])
+        } else {
+            0
+        }
+    }
+
+    /// The bytes of the memory from an address on; None if they are not all in it.
+    pub fn bytes(&self, at: u32, count: u32) -> Result<Option<Vec<u8>>, AllocError>
+        ensures { IfOk result (λ found. option_map (λ bytes. bytes.items) found
+            ≡ specs.bytes_in at count (state_of self.now)) }
+    {
+        if self.is_within(u64::from(at), u64::from(count)) {
+            Ok(Some(self.copied(u64::from(at), u64::from(count))?))
+        } else {
+            Ok(None)
+        }
+    }
+
+    /// Executes the next instruction.
+    #[tactic(auto, unfolding(crate::specs::States::step))]
+    pub(crate) fn step(&mut self, program: &Module) -> Result<Progress, AllocError>
+        ensures { specs.Gives (specs.step program.now (state_of self.old)) result (state_of self.new) }
+    {
+        match program.code.get(self.program_counter as usize).copied() {
+            Some(instruction) => self.execute(program, instruction),
+            None => Ok(Progress::Traps),
+        }
+    }
+
+    // Executes an instruction.
+    fn execute(
+        &mut self,
+        program: &Module,
+        instruction: Instruction,
+    ) -> Result<Progress, AllocError>
+        ensures { specs.Gives (specs.do_instruction program.now instruction (state_of self.old)) result
+            (state_of self.new) }
+    {
+        match instruction {
+            Instruction::Unreachable => Ok(Progress::Traps),
+            Instruction::Const(value) => self.push(value),
+            Instruction::Unary32(op) => self.do_unary32(op),
+            Instruction::Unary64(op) => self.do_unary64(op),
+            Instruction::Binary32(op) => self.do_binary32(op),
+            Instruction::Binary64(op) => self.do_binary64(op),
+            Instruction::Drop => self.do_drop(),
+            Instruction::Select => self.do_select(),
+            Instruction::LocalGet(local) => self.do_local_get(local),
+            Instruction::LocalSet(local) => self.do_local_set(local),
+            Instruction::LocalTee(local) => self.do_local_tee(local),
+            Instruction::GlobalGet(global) => self.do_global_get(global),
+            Instruction::GlobalSet(global) => self.do_global_set(global),
+            Instruction::Load { bytes, offset } => self.do_load(bytes, offset),
+            Instruction::Store { bytes, offset } => self.do_store(bytes, offset),
+            Instruction::MemorySize => self.push(u64::from(self.pages)),
+            Instruction::MemoryGrow => self.do_memory_grow(program.max_pages),
+            Instruction::MemoryCopy => self.do_memory_copy(),
+            Instruction::MemoryFill => self.do_memory_fill(),
+            Instruction::Jump { to } => Ok(self.jump(to)),
+            Instruction::JumpIfZero { to } => self.do_jump_if_zero(to),
+            Instruction::Branch { to, keep, height } => self.branch(to, keep, height),
+            Instruction::BranchIf { to, keep, height } => self.do_branch_if(to, keep, height),
+            Instruction::BranchTable { count } => self.do_branch_table(count),
+            Instruction::Return { keep } => self.do_return(keep),
+            Instruction::Call(function) => self.do_call(program, function),
+            Instruction::CallIndirect { function_type } => {
+                self.do_call_indirect(program, function_type)
+            }
+            Instruction::CallHost(function) => self.do_call_host(function),
+        }
+    }
+}

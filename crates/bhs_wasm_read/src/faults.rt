@@ -1,0 +1,92 @@
+//! Why a file is no module that agents can be.
+
+use std::alloc::{AllocError, AllocFailed};
+use std::fmt;
+use std::fmt::{Display, Formatter};
+use thiserror::Error;
+
+/// What is wrong with a file.
+#[derive(Clone, Copy, Debug, PartialEq, Eq, Error)]
+pub enum FaultKind {
+    /// The program's memory ran out.
+    #[error("memory")]
+    Memory,
+    /// It does not begin as a WebAssembly module, version 1.
+    #[error("head")]
+    Head,
+    /// It ends too soon, or a part of it does.
+    #[error("end")]
+    End,
+    /// A number is too long or too large.
+    #[error("number")]
+    Number,
+    /// A name is not in UTF-8.
+    #[error("name")]
+    Name,
+    /// It has floating-point numbers.
+    #[error("float")]
+    Float,
+    /// It has an instruction that agents do without.
+    #[error("opcode {0}")]
+    Opcode(u32),
+    /// It does not have the types that its instructions and functions want.
+    #[error("type")]
+    Type,
+    /// It imports something that is no function of `arena`, or that has another type.
+    #[error("import")]
+    Import,
+    /// It has a start function.
+    #[error("start")]
+    Start,
+    /// A segment is not active, or lies outside of its memory or table.
+    #[error("segment")]
+    Segment,
+    /// A section is unknown, out of order, or longer than what it holds.
+    #[error("section")]
+    Section,
+    /// It is larger than a limit.
+    #[error("size")]
+    Large,
+    /// It names a function, type, local, global, memory or table that it does not have.
+    #[error("index")]
+    Index,
+    /// Its blocks do not match.
+    #[error("block")]
+    Block,
+    /// An instruction assumes a greater alignment than its size.
+    #[error("alignment")]
+    Alignment,
+    /// It exports no function `run` without parameters and results.
+    #[error("run")]
+    Run,
+}
+
+/// Why a file is refused: what is wrong, at which byte, and what it imports, if that is wrong.
+#[derive(Debug, Drop)]
+pub struct ModuleFault {
+    pub kind: FaultKind,
+    pub at: usize,
+    pub import: String,
+}
+
+impl Display for ModuleFault {
+    fn fmt<W: fmt::Write>(&self, f: &mut Formatter<W>) -> fmt::Result {
+        match self.kind {
+            FaultKind::Memory => f.write_str("memory"),
+            FaultKind::Import => write!(f, "import {} at byte {}", self.import.as_str(), self.at),
+            kind => write!(f, "{kind} at byte {}", self.at),
+        }
+    }
+}
+
+impl From<AllocError> for FaultKind {
+    fn from(_: AllocError) -> FaultKind {
+        FaultKind::Memory
+    }
+}
+
+impl<T: Drop> From<AllocFailed<T>> for FaultKind {
+    fn from(_: AllocFailed<T>) -> FaultKind {
+        FaultKind::Memory
+    }
+}

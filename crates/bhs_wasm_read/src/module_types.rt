@@ -1,0 +1,95 @@
+//! The types of a module, of its functions and of the functions of the host.
+
+use crate::bytes::Bytes;
+use crate::faults::FaultKind;
+use crate::opcodes::ValueType;
+use bhs_wasm::HostFunction;
+use std::alloc::Global;
+
+/// The most parameters, results, locals and operands of a function.
+pub(crate) const MAX_LOCALS: u32 = 50_000;
+
+/// The types of the parameters and of the results of a function.
+#[derive(Drop)]
+pub(crate) struct FunctionType {
+    pub(crate) parameters: Vec<ValueType>,
+    pub(crate) results: Vec<ValueType>,
+}
+
+impl FunctionType {
+    /// Reads a type of functions.
+    pub(crate) fn read(alloc: Global, bytes: &mut Bytes<'_>) -> Result<FunctionType, FaultKind> {
+        if bytes.byte()? != 0x60 {
+            return Err(FaultKind::Type);
+        }
+        let parameters = value_types(alloc, bytes)?;
+        let results = value_types(alloc, bytes)?;
+        Ok(FunctionType {
+            parameters,
+            results,
+        })
+    }
+
+    /// Whether two types are equal.
+    pub(crate) fn is_equal(&self, other: &FunctionType) -> bool {
+        self.parameters.as_slice() == other.parameters.as_slice()
+            && self.results.as_slice() == other.results.as_slice()
+    }
+
+    /// Whether it takes this many integers of 32 bits and gives one.
+    pub(crate) fn is_of_host(&self, parameters: usize) -> bool {
+        self.parameters.len() == parameters
+            && self.parameters.iter().all(|value| *value == ValueType::I32)
+            && self.results.as_slice() == [ValueType::I32].as_slice()
+    }
+}
+
+fn value_types(alloc: Global, bytes: &mut Bytes<'_>) -> Result<Vec<ValueType>, FaultKind> {
+    let count = bytes.u32()?;
+    if count > MAX_LOCALS {
+        return Err(FaultKind::Large);
+    }
+    let mut types = Vec::new(alloc);
+    for _ in 0..count {
+        types.push(value_type(bytes.byte()?)?)?;
+    }
+    Ok(types)
+}
+
+/// The type of values that a byte is.
+pub(crate) fn value_type(byte: u8) -> Result<ValueType, FaultKind> {
+    match byte {
+        0x7f => Ok(ValueType::I32),
+        0x7e => Ok(ValueType::I64),
+        0x7c | 0x7d => Err(FaultKind::Float),
+        _ => Err(FaultKind::Type),
+    }
+}
+
+/// How many parameters a function of the host has. They and the result are integers of 32 bits.
+pub(crate) fn parameters_of(function: HostFunction) -> u32 {
+    match function {
+        HostFunction::Write => 4,
+        HostFunction::Board => 2,
+        HostFunction::Depart | HostFunction::Accuse | HostFunction::Argument => 1,
+        _ => 0,
+    }
+}
+
+/// The function of the host that has this name.
+pub(crate) fn host_function_of(name: &str) -> Option<HostFunction> {
+    match name {
+        "enter" => Some(HostFunction::Enter),
+        "look" => Some(HostFunction::Look),
+        "write" => Some(HostFunction::Write),
+        "depart" => Some(HostFunction::Depart),
+        "accuse" => Some(HostFunction::Accuse),
+        "leave" => Some(HostFunction::Leave),
+        "sleep" => Some(HostFunction::Sleep),
+        "ports" => Some(HostFunction::Ports),
+        "came" => Some(HostFunction::Came),
+        "board" => Some(HostFunction::Board),
+        "argument" => Some(HostFunction::Argument),
+        _ => None,
+    }
+}

@@ -1,0 +1,5 @@
+pub mod Agents
+pub mod Answering
+pub mod Codes
+pub mod Laws
+pub mod Tables

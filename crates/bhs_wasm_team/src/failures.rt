@@ -1,0 +1,37 @@
+//! How agents fail that run a module.
+
+use bhs_wasm::Module;
+use thiserror::Error;
+
+/// Why an agent fails.
+#[derive(Clone, Copy, Debug, PartialEq, Eq, Error)]
+pub enum FailureCause {
+    /// It executed too many instructions without a command.
+    #[error("fuel")]
+    Fuel,
+    /// An instruction trapped.
+    #[error("trap")]
+    Trap,
+    /// A port is no port, or a text lies outside of the memory or is not in ASCII.
+    #[error("command")]
+    Command,
+}
+
+/// How an agent failed, and in which function of its module.
+#[derive(Clone, Copy, Debug, PartialEq, Eq)]
+pub struct ModuleFailure {
+    pub cause: FailureCause,
+    pub function: u32,
+}
+
+/// The function of a module that has this instruction. Functions are counted as in the file, those that are imported
+/// first.
+pub(crate) fn function_at(program: &Module, instruction: u32) -> u32 {
+    let mut count = program.imports;
+    for function in program.functions.iter().skip(1) {
+        if function.start <= instruction {
+            count = count.wrapping_add(1);
+        }
+    }
+    count
+}

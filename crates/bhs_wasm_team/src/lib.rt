@@ -1,0 +1,15 @@
+//! WebAssembly modules as the agents of a match.
+#![tactic(auto)]
+
+mod agents;
+mod exploring;
+mod failures;
+mod laws;
+mod saving;
+mod saying;
+
+pub use agents::Agents;
+pub use exploring::explore_module;
+pub use failures::{FailureCause, ModuleFailure};
+pub use laws::{modules_answer, modules_solve};
+pub use saving::{MemoryTable, Saved, Status};
