@@ -195,15 +195,10 @@ answers from a file: processor seconds, states a second, and the most memory of 
 of each state twice: in the search, and in the check of its result.
 """
 SPIN_NOTE = """\
-All schedules of two agents of `examples/agents/ring.py`, each black hole in turn, in seconds of one processor. SPIN
-searches two models of `experiments/models`, written by hand; its start takes some 0.1 s. The merged model has fewer
-states: it joins a step that no agent can observe with the step before. `./arena-lab explore` plays the program as it
-is, and
+All schedules of two agents of `examples/agents/ring_step.py`, each black hole in turn, in seconds of one processor.
+SPIN searches two models of `experiments/models`, written by hand; its start takes some 0.1 s. The merged model has
+fewer states: it joins a step that no agent can observe with the step before. `./arena-lab explore` asks the step, and
 `arena explore` alone reads the answers from a file. All find the same moves.
-"""
-MERGES_NOTE = """\
-Two agents. Processor seconds of the host for its answers to all questions of the program, without and with checks of
-merged histories, and for twenty sampled schedules. The Python model's search of small matches is not in the table.
 """
 HUNTS_NOTE = """\
 Schedules until a wrong agent of `arena_lab/mutants` fails, of ten seeds. `run` plays fair schedules. A hunt plays the
@@ -263,9 +258,7 @@ def without_other(setting: Setting) -> str:
     return "" if setting.other else "name another build by --other"
 
 
-EXPLORED = ["ring:8=ring", "ring:16=ring", "ring:24=ring", "hypercube:4=known_map", "torus:4x4=known_map",
-            "ring:27=ring"]
-MERGED = ["ring:12=ring", "torus:3x3=known_map", "torus:4x4=known_map"]
+EXPLORED = ["ring:8=ring_step", "ring:16=ring_step", "ring:24=ring_step", "ring:27=ring_step", "ring:6=ring"]
 TRAPS = ["--contests", "5", "--nodes", "32", "--pause", "2", "--timeouts", "512", "1500", "--traps", "--turns", "30000"]
 BENCHMARKS: Dict[str, Benchmark] = {
     "gate": Benchmark("The gate", lambda at: [sys.executable, "tools/prove/gate_times"], gate_text, build="the proofs"),
@@ -285,8 +278,6 @@ BENCHMARKS: Dict[str, Benchmark] = {
     "explore": Benchmark("Every schedule", lambda at: of_debians("bench.explore", *EXPLORED), noted_text(EXPLORE_NOTE)),
     "spin": Benchmark("Every schedule beside SPIN", lambda at: of_debians("bench.spin"), noted_text(SPIN_NOTE),
                       lambda at: "" if spin.HAS_SPIN else "spin is not installed"),
-    "merges": Benchmark("Checks of merged histories", lambda at: of_debians("bench.merges", "--hole", "5", *MERGED),
-                        noted_text(MERGES_NOTE)),
     "hunts": Benchmark("Hunts", lambda at: of_debians("bench.hunts"), noted_text(HUNTS_NOTE),
                        build="the Python model"),
     "waits": Benchmark("Waiting", lambda at: of_python("bench.waits"), noted_text(WAITS_NOTE)),

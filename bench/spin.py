@@ -6,11 +6,10 @@
 
 On the ring of each number of nodes (16, 24 and 32), each node but the home base is the black hole in turn. SPIN
 searches two models of `examples/agents/ring.py` that were written by hand: "natural" with SPIN's own reductions, and
-"merged", in which steps that nobody can know of were merged by hand as well. `./arena-lab explore` plays the program as
-it is:
-its row has the whole, and the next row what `arena explore` takes if it reads the agents' answers from a file. A row
-has who searched, the states, the most moves, the seconds of one processor, and megabytes. All must find the same moves.
-The seconds of SPIN do not count the compiler.
+"merged", in which steps that nobody can know of were merged by hand as well. `./arena-lab explore` asks the same search
+as a step, `ring_step.py`: its row has the whole, and the next row what `arena explore` takes if it reads the agents'
+answers from a file. A row has who searched, the states, the most moves, the seconds of one processor, and megabytes.
+All must find the same moves. The seconds of SPIN do not count the compiler.
 """
 import argparse
 from typing import List, NamedTuple
@@ -39,7 +38,7 @@ def rows_of(nodes: int) -> List[Row]:
         if one.errors:
             raise SystemExit(f"{name} finds a schedule of the ring of {nodes} that fails")
         found.append(Row(name, one.states, one.moves, one.seconds, f"{one.memory:.0f}"))
-    matches = measured(f"ring:{nodes}", "ring", STATES)
+    matches = measured(f"ring:{nodes}", "ring_step", STATES)
     states, moves = sum(it.states for it in matches), max(it.moves for it in matches)
     found.append(Row("./arena-lab explore", states, moves, sum(it.processor for it in matches), ""))
     found.append(Row("arena explore alone", states, moves, sum(it.program for it in matches),

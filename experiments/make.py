@@ -220,7 +220,7 @@ EXPLORED_HEAD = ("network", "agents", "states", "most moves", "most lost", "seco
 def explored_row(search: Search, asked: Asked) -> Cells:
     """What was found of all schedules on a network."""
     said = said_by([*search.words(), "--keep", str(asked.out / "explored")], asked)
-    states = re.search(r"^(\d+) states in (\S+) s: every schedule solves ", said, re.M)
+    states = re.search(r"^(\d+) states in (\S+) s: every schedule that the lab tried solves, ", said, re.M)
     most = re.search(r"^most moves (\d+), most agents lost (\d+), most turns ", said, re.M)
     if not states or not most:
         sys.exit(f"{shown(search.words())}: {said}")

@@ -9,22 +9,27 @@ If you name neither a black hole nor a dark link, each node but the home base is
 says how many states there are and the most moves of all schedules. It stops at the first schedule that fails, and
 writes that one to a folder. The exit status is 1 if a schedule fails.
 
-The program tries the schedules (`arena explore`), and the lab answers what the agents do. What is found is a theorem
-about programs that are functions of what they hold, as they answered here. Of an agent inside the lab (--agent) that is
-what its frames, objects and modules hold; what has no name is told, with what to write instead, and the agent's history
-stands for it. A program of its own (--command) is told apart by its history, or by a member "memory" of its lines, by
-which it declares what it holds; that, with its key, must be all on which it goes on.
+The program tries the schedules (`arena explore`), and the lab answers what the agents do. An agent is explored by its
+history, that is by all that it was told: two states are one if each agent has the same history in both. So a network
+has many more states for a program that could do with a small memory. Such an agent is better written as a step, that is
+a function step(memory, reply) which gives its new memory and its next command; it is explored by that memory, which is
+a plain value (examples/agents/ring_step.py, and `take_steps` in client.py beside it). A program of its own (--command)
+may have a member "memory" in its lines, by which it declares its memory; that, with its key, must be all on which it
+goes on.
 
-It is checked that programs are such functions, and the line of the verdict says how often. Where two histories come to
-one memory, the second agent is played on beside the first for some steps. The agents play 20 drawn schedules (--check
-N: N), and must do what they had answered. On small matches the Python model's search, which merges no histories, must
-find the same. If every schedule solves, the agents of one match are repeated alone as `run --repeat` does it, and a
-warning tells if one says something else. With --check 0 nothing is checked.
+What is found was tried, and is no theorem about the agents: they may do something else another time. So it is checked
+that they do the same, and the line of the verdict says how often. The agents play 20 drawn schedules (--check N: N),
+and must do what they had answered. Other processes, each with another order of sets, tell agents inside the lab what
+they were told here, alone. On small matches the Python model's search must find the same. Where two histories come to
+one declared memory, the second agent is played on beside the first for some steps. If every schedule solves, the agents
+of one match are repeated alone as `run --repeat` does it, and a warning tells if one says something else. With --check
+0 nothing is checked. The line also says if agents draw by chance without a seed, read a clock, know their process or
+where objects lie, share installed packages, or reach files and programs: they may do something else then.
 
 A schedule also fails if an agent raises or breaks a rule under it, also once it has ended or when it is told that the
 match is over, and if it sleeps where nothing happens any more. The Python model's search takes over if an agent may use
-more commands than its quota, and --search model asks for it. Nothing is proved of it. It plays agents inside the lab,
-takes a step that meets nobody at once, and writes the schedule with the most moves if none fails.
+more commands than its quota, and --search model asks for it. It plays agents inside the lab, takes a step that meets
+nobody at once, and writes the schedule with the most moves if none fails.
 
 Where a network has too many states, --draws N draws N schedules of each match instead: a hundred thousand runs take the
 program seconds once it was answered what the agents do. The command says how many of them solve, and the least, mean,
@@ -32,10 +37,11 @@ median and most moves. --scheduler NAME says whose turn it is: each agent that c
 as far
 as they can (last-departed), one waits for all others (starved), or some agents or links are slow (slow-agents,
 slow-links). --objective moves begins every second schedule as the worst so far began, to find one with more moves, and
---objective lost one with more agents lost. The first schedule that fails is kept, or the worst. Of it the verdict is a
-theorem, as above; nothing is proved of schedules that were not drawn, nor of the counts.
+--objective lost one with more agents lost. The first schedule that fails is kept, or the worst. Nothing is known of
+schedules that were not drawn.
 
-    ./arena-lab explore --network ring:32 --agent "examples/agents/ring.py {nodes}" --draws 100000 --objective moves
+    ./arena-lab explore --network ring:32 --agent "examples/agents/ring_step.py {nodes}" --draws 100000 \
+        --objective moves
 
 A sleeper wakes once after each change of the whiteboard in front of it, and --spurious-wakeups times more: a team that
 waits by
@@ -51,8 +57,8 @@ moves of each network over its nodes, beside each --bound. If you interrupt the 
 the last row. `made.json` has the SHA-256 of all that rows depend on, as that of a sweep, and if one of them is another,
 the command refuses to go on.
 
-    ./arena-lab explore --network ring:3..16 --agent "examples/agents/ring.py {nodes}" --workers 4 --out out/rings \
-        --bound "2 n log2 n"
+    ./arena-lab explore --network ring:3..16 --agent "examples/agents/ring_step.py {nodes}" --workers 4 \
+        --out out/rings --bound "2 n log2 n"
 
 A round of turns that may go on for ever is told with the schedule that leads to it. It is fair if each agent that can
 move throughout it has a turn in it; if it is not fair, agents may wait for one that never has a turn. A round in which
@@ -104,16 +110,16 @@ def add_words(parser: argparse.ArgumentParser) -> None:
     parser.add_argument("--keep", metavar="FOLDER", type=pathlib.Path, default=FOLDER, help="write the schedule that "
                         f"is told there ({FOLDER})")
     parser.add_argument("--search", choices=(PROGRAM, MODEL), help="who tries the schedules: the program, or the "
-                        "Python model, of which nothing is proved (the engine)")
+                        "Python model (the engine)")
     parser.add_argument("--check", metavar="N", type=not_negative, default=CHECKED, help="after the program's search, "
                         "play this many drawn schedules by the agents, and compare what they do with what they "
-                        f"answered ({CHECKED}); with 0 merges of histories are not checked either")
+                        f"answered ({CHECKED}); with 0 nothing else is checked either")
     parser.add_argument("--workers", metavar="N", type=at_least_one, default=1, help="how many matches of a network "
                         "are tried at a time (1); each takes the memory of its own states")
     parser.add_argument("--cluster", metavar="ADDRESS", help="let the workers of a Dask scheduler try them, such as "
                         "tcp://192.0.2.7:8786; each needs this folder at the same path")
-    parser.add_argument("--out", metavar="FOLDER", type=pathlib.Path, help="write a row for each match that is proved, "
-                        "and a plot, and go on there if there are rows")
+    parser.add_argument("--out", metavar="FOLDER", type=pathlib.Path, help="write a row for each match that every "
+                        "schedule solves, and a plot, and go on there if there are rows")
     parser.add_argument("--bound", choices=BOUNDS, action="append", help="moves that the plot shows beside, and more "
                         "by more of these")
     add_engine(parser)

@@ -3,6 +3,7 @@
 Where
 the program says nothing, as an agent may use more than its quota, the Python model's search takes over, and says so."""
 import pathlib
+import time
 from typing import Any, Callable, Iterator, List, NamedTuple, Optional, Sequence, Tuple, Union
 
 from arena_lab.play import kept_matches, games
@@ -22,7 +23,11 @@ from arena_lab.search.parallel import ParallelMatches, Parallelism, ExploreJob
 from arena_lab.support import built
 from arena_lab.support.progress import bar
 
-THEOREM = "every schedule solves (a theorem about programs that are functions of what they hold, as they answered here)"
+SOLVED_ALL = "every schedule that the lab tried solves"
+# by what agents are told apart: steps, others inside the lab, and programs of their own
+OF_STEPS, OF_PYTHON = "memories of Python steps", "histories of Python programs"
+OF_PROGRAMS = "histories or declared memories of programs"
+AS_STEPS = "an agent that is written as a step has fewer states: see `./arena-lab explore --help`"
 # how an agent fails under a schedule that the program tells
 FAILURES = {"program": "fails", "close": "fails when it is told that the match is over",
             "asleep": "sleeps, and nothing changes any more"}
@@ -53,11 +58,12 @@ class ExploreRequest(NamedTuple):
 
 
 class Search(NamedTuple):
-    """The matches that were tried, up to the first that fails or is not tried as a whole, and what was checked of how
-    their agents were taken for machines."""
+    """The matches that were tried, up to the first that fails or is not tried as a whole, what was checked of how their
+    agents were taken for machines, and the seconds that passed."""
 
     tries: List[MatchResult]
     checks: str
+    seconds: float
 
 
 def run(all_wanted: Sequence[ExploreRequest]) -> int:
@@ -96,7 +102,7 @@ def cells_of(name: str, search: Search) -> Tuple[str, ...]:
     moves, lost = zip(*(bounds_of(tried) for tried in search.tries))
     answered = [tried.answered for tried in search.tries]
     return (name, str(len(answered)), str(sum(it.counts.get("states", 0) for it in answered)), str(max(moves)),
-            str(max(lost)), f"{sum(it.seconds for it in answered):.1f}")
+            str(max(lost)), f"{search.seconds:.1f}")
 
 
 def table_of(rows: Sequence[Sequence[str]]) -> List[str]:
@@ -108,6 +114,7 @@ def table_of(rows: Sequence[Sequence[str]]) -> List[str]:
 
 def all_tried(wanted: ExploreRequest, work: ExploreJob, after: After, line: Callable[[MatchResult], str]) -> Search:
     """Tries the matches of a game, and prints a line for each."""
+    started = time.monotonic()
     for tried in wanted.before:
         print(f"{line(tried)}, as it was written before", flush=True)
     # what is written is checked first, as other processes do
@@ -119,9 +126,7 @@ def all_tried(wanted: ExploreRequest, work: ExploreJob, after: After, line: Call
             print(line(tried), flush=True)
             if wanted.write and tried.is_whole() and not tried.has_failed():
                 wanted.write(tried)
-    for what, count in search.unnamed.items():
-        print(f"{count} times history stands for what a program holds: {what}")
-    return Search(search.tries, str(search.checks))
+    return Search(search.tries, str(search.checks), time.monotonic() - started)
 
 
 def tries_of(search: Union[Proving, ParallelMatches], work: ExploreJob, after: After,
@@ -143,7 +148,7 @@ def beside(wanted: ExploreRequest, tried: MatchResult, shown: Any) -> MatchResul
     if any(agent.kind != INSIDE for agent in game.agents):
         raise NoFunction(f"{why}, and the Python model's search, which takes over then, plays agents inside the lab "
                          "alone")
-    print(f"{why}: the Python model's search takes over, of which nothing is proved", flush=True)
+    print(f"{why}: the Python model's search takes over", flush=True)
     try:
         states = min(wanted.states, fitting(OF_MODEL))
         return tried._replace(beside=explored(tried.fixture, game.agents, shown, states, game.limit))
@@ -172,11 +177,13 @@ def report_matches(wanted: ExploreRequest, search: Search) -> int:
     """Says what was found of all matches, and writes the schedule that fails."""
     tries, last = search.tries, search.tries[-1]
     states = sum(tried.answered.counts.get("states", 0) for tried in tries)
-    counts = f"{states} states in {sum(tried.answered.seconds for tried in tries):.1f} s"
+    counts = f"{states} states in {search.seconds:.1f} s"
     if last.beside is not None and (last.has_failed() or not last.is_whole()):
         return told_by_model(wanted.game, [last.beside], wanted.keep, wanted.engine)
     if not last.is_whole():
         print(f"{counts}: stopped before all were visited; no schedule failed until then")
+        if OF_PYTHON in told_apart(wanted.game):
+            print(AS_STEPS)
         return 130
     if last.has_failed():
         print(f"{counts}: a schedule fails")
@@ -184,7 +191,7 @@ def report_matches(wanted: ExploreRequest, search: Search) -> int:
     says_less = any(tried.beside is not None for tried in tries)
     engine = name_of(wanted.program)
     by = "" if engine == built.PROGRAM else f", by {engine}"
-    said = "no schedule fails, in part of the Python model" if says_less else THEOREM
+    said = "no schedule fails, in part of the Python model" if says_less else f"{SOLVED_ALL}, {told_apart(wanted.game)}"
     print(f"{counts}: {said}{by}; {search.checks}")
     moves, lost = zip(*(bounds_of(tried) for tried in tries))
     naps, turns = wanted.game.naps, [found_in(tried)["turns"] for tried in tries if tried.beside is None]
@@ -198,6 +205,13 @@ def report_matches(wanted: ExploreRequest, search: Search) -> int:
         print(f"warning: some agents still sleep after {naps} naps, and what they do when they wake once more is not "
               f"known: try --spurious-wakeups {naps + 1}")
     return 0
+
+
+def told_apart(game: Game) -> str:
+    """By what the states of agents are told apart."""
+    kinds = (OF_STEPS if agent.is_step() else OF_PYTHON if agent.kind == INSIDE else OF_PROGRAMS
+             for agent in game.agents)
+    return f"by {' and '.join(dict.fromkeys(kinds))}"
 
 
 def do_not_repeat(game: Game) -> List[str]:
@@ -237,7 +251,7 @@ def keep(wanted: ExploreRequest, tried: MatchResult, choices: List[Choice], verd
     come_to, same = played.verdict(), 2 if tried.fixture.held else 3
     if found["found"] == BREAKS and not played.faults or verdict and come_to[:same] != verdict[:same]:
         raise NoFunction("played again it comes to something else: explore needs agents that are functions of what "
-                         "they hold")
+                         "they are told")
 
 
 # what the Python model's search found

@@ -71,8 +71,7 @@ def report_samples(wanted: ExploreRequest, draws: SampleRequest, search: Search)
     tries, last = search.tries, search.tries[-1]
     solved, failed, turns = (sum(tried.answered.counts.get(what, 0) for tried in tries)
                              for what in ("solved", "failed", "turns"))
-    seconds = sum(tried.answered.seconds for tried in tries)
-    counts = f"{solved + failed} drawn schedules, {turns} steps in {seconds:.1f} s"
+    counts = f"{solved + failed} drawn schedules, {turns} steps in {search.seconds:.1f} s"
     if last.answered.found is None:
         print(f"{counts}: stopped before all were drawn; no schedule failed until then")
         return 130

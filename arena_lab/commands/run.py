@@ -28,6 +28,7 @@ Schedulers:
     FILE.py:NAME    your own: a function of the seed that gives a function of (choices, state) that gives a choice
 """
 import argparse
+import contextlib
 import collections
 import pathlib
 import re
@@ -93,9 +94,11 @@ def run(words: argparse.Namespace) -> int:
     games.maker_of(words.scheduler)
     numbers = words.seeds or range(words.seed, words.seed + words.runs)
     asked = [Asked(game, words.scheduler, seed, program, words.repeat) for seed in numbers]
-    tally, was_stopped, out = Tally(), False, sys.stderr if words.json else sys.stdout
+    tally, was_stopped, out, printed = Tally(), False, sys.stderr if words.json else sys.stdout, sys.stdout
     try:
-        count(games.rows_of(asked, words.workers), tally, words.json)
+        # what agents print is no row
+        with contextlib.redirect_stdout(out):
+            count(games.rows_of(asked, words.workers), tally, printed if words.json else None)
     except KeyboardInterrupt:
         was_stopped = True
         print("interrupted; this was played:", file=out)
@@ -105,12 +108,12 @@ def run(words: argparse.Namespace) -> int:
     return 1 if tally.failed else 130 if was_stopped else 0
 
 
-def count(rows: Iterable[Row], tally: Tally, is_printed: bool) -> None:
-    """Counts what matches come to, and prints their rows if they are asked for."""
+def count(rows: Iterable[Row], tally: Tally, printed: Optional[TextIO]) -> None:
+    """Counts what matches come to, and prints their rows if it is said where."""
     for row in rows:
         tally.add(row)
-        if is_printed:
-            print(row.line(), flush=True)
+        if printed:
+            print(row.line(), file=printed, flush=True)
 
 
 def report(tally: Tally, best: Row, keep: Optional[pathlib.Path], out: TextIO) -> None:

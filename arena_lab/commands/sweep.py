@@ -4,7 +4,9 @@
 
 The folder gets `runs.csv`, with a row for each run, `summary.csv`, `report.html`, which opens without a network, and
 the runs with the most moves, each with its schedule, its replay and its page. If you interrupt the command, run it
-again: it goes on behind the last row. The same file gives the same rows, however many --workers there are.
+again: it goes on behind the last row. The same file gives the same rows, however many --workers there are. The summary
+counts the different matches of each group: schedulers such as `starved` play few, however many seeds there are, and
+then the confidence of the mean says little. With holes = "by seed" it says nothing of holes that no seed has.
 
 With --cluster the runs are spread over the workers of a Dask scheduler (Debian's python3-distributed), on this machine
 or others: `dask-scheduler`, then `dask-worker ADDRESS` for each, then `--cluster ADDRESS`. The rows are the same.
@@ -15,10 +17,9 @@ the program plays the runs that are kept once more, and their replays must be th
 
 With --explore N the program also tries every schedule of each match of the sweep, as `explore` does: of each network,
 team and choice of black holes. `every.csv` gets a row for each, and the summary and the report say whether every
-schedule solves, and with how many moves and lost agents at most, beside what the runs came to. That is a theorem about
-programs that are functions of what they hold, as they answered, and nap at most twice where nothing has changed. A
-match that has more than N states is said to have too many; the same command with a larger N tries it again. A run that
-does what no schedule does ends the command, and says so.
+schedule solves, and with how many moves and lost agents at most, beside what the runs came to. Agents nap at most twice
+where nothing has changed. A match that has more than N states is said to have too many; the same command with a larger
+N tries it again. A run that does what no schedule does ends the command, and says so.
 
 `made.json` has the SHA-256 of all that rows depend on: the sweep, the files of agents and schedulers with what they
 import, the files that agents inside the lab read while they play, the lab, the program and Python. If one of them is

@@ -2,10 +2,11 @@
 
     FILE.py[:FUNCTION] [WORD ..]
 
-The function is `search` unless another is named. It takes an agent, its key, and the words, which are whole numbers;
-`{nodes}` and `{links}` stand for the network's numbers and `{home}` for the home base. A parameter `sleep` behind the
-words gets a function to wait by. For agents that have a map, parameters `network` and `home` get the network's links as
-(node, port, node, port) and the home base.
+The function is `search` unless another is named, or `step` if there is no `search`. It takes an agent, its key, and the
+words, which are whole numbers; `{nodes}` and `{links}` stand for the network's numbers and `{home}` for the home base.
+A function whose first parameters are `memory` and `reply` is a step (arena_lab/play/steps.py). A parameter `sleep`
+behind the words gets a function to wait by. For agents that have a map, parameters `network` and `home` get the
+network's links as (node, port, node, port) and the home base.
 
 Each agent of each match has modules of its own, as a program outside has: its file, what it imports from beside it, and
 `random`, which begins with the agent's number as its seed. So agents share no variable with each other, nor with an
@@ -25,7 +26,7 @@ from importlib.machinery import SourceFileLoader
 from types import CellType, CodeType, FunctionType, ModuleType
 from typing import Any, Callable, Dict, List, Sequence, Set, Tuple
 
-from arena_lab.play import kept_lines, foreign_files
+from arena_lab.play import foreign_files, steps
 from arena_lab.play.imports import files_behind
 from arena_lab.play.own_modules import OwnModules
 from arena_lab.rules.model import Setup
@@ -94,14 +95,14 @@ def executed(path: pathlib.Path) -> ModuleType:
     return module
 
 
-def member(word: str, usual: str) -> Any:
-    """What a word `FILE.py:NAME` names, or `FILE.py` with the usual name."""
+def member(word: str, *usual: str) -> Any:
+    """What a word `FILE.py:NAME` names, or `FILE.py` with the first of the usual names that there is."""
     path, _, name = word.partition(":")
     module = loaded(file_of(path))
-    found = getattr(module, name or usual, None)
-    if not callable(found):
-        raise NoAgent(f"{path}: it has no function {name or usual}")
-    return found
+    for one in [name] if name else usual:
+        if callable(getattr(module, one, None)):
+            return getattr(module, one)
+    raise NoAgent(f"{path}: it has no function {name or ' or '.join(usual)}")
 
 
 def numbers_of(words: Sequence[str], setup: Setup) -> List[int]:
@@ -127,31 +128,62 @@ def folder_of(path: pathlib.Path, _here: str) -> str:
 def loaded_anew(path: pathlib.Path, modules: OwnModules) -> Tuple[ModuleType, ModuleType]:
     """The module in a file, and the client that it imports, among the modules of one agent."""
     modules.begin([folder_of(path, os.getcwd()), str(AGENTS)], [CLIENT])
-    module, client = modules.kept.get(module_name(path)) or executed(path), importlib.import_module("client")
-    if client.__file__ == CLIENT:
-        kept_lines.use_in(client)
+    module, client = executed(path), importlib.import_module("client")
     return module, client
+
+
+def function_of(words: str) -> Callable[..., Any]:
+    """The function that the words of an agent name."""
+    found: Callable[..., Any] = member(words.split()[0], "search", "step")
+    return found
+
+
+class Loader:
+    """Loads the function that the words of an agent name, and gives it what it takes in a match behind its first two
+    parameters."""
+
+    def __init__(self, words: str, setup: Setup) -> None:
+        file, *rest = words.split()
+        self._path, function = file_of(file.partition(":")[0]), function_of(words)
+        self._name = file.partition(":")[2] or ("step" if steps.is_step(function) else "search")
+        self._numbers = numbers_of(rest, setup)
+        self._asked = asked_behind(words, inspect.signature(function), len(self._numbers))
+        self._facts: Dict[str, Any] = {"network": tuple(setup.links), "home": setup.home}
+
+    def load(self, modules: OwnModules, **more: Any) -> Tuple[Callable[[Any, Any], Any], ModuleType]:
+        """The function among the modules of one agent, and the client that its file imports."""
+        values = {**more, **self._facts}
+        given = {word: values[word] for word in self._asked if word in values}
+        module, client = loaded_anew(self._path, modules)
+        function, numbers = getattr(module, self._name), self._numbers
+        return lambda first, second: function(first, second, *numbers, **given), client
 
 
 def script_of(words: str, setup: Setup) -> Script:
     """The agent that these words name, as it plays this match."""
-    file, *rest = words.split()
-    name = file.partition(":")[2] or "search"
-    path = file_of(file.partition(":")[0])
-    numbers = numbers_of(rest, setup)
-    asked = asked_behind(words, inspect.signature(member(file, "search")), len(numbers))
-    # one tuple for all agents: it is named once
-    facts: Dict[str, Any] = {"network": tuple(setup.links), "home": setup.home}
+    loader, is_step = Loader(words, setup), steps.is_step(function_of(words))
 
     def play(lines: Any, key: str, sleep: Sleep) -> None:
-        values: Dict[str, Any] = {"sleep": sleep, **facts}
-        given = {word: values[word] for word in asked if word in values}
-        module, client = loaded_anew(path, lines.modules)
-        try:
-            getattr(module, name)(client.Agent(lines), key, *numbers, **given)
-        except client.MatchOver:
-            pass
+        function, client = loader.load(lines.modules, sleep=sleep)
+        play_by(function, is_step, client, lines, key, sleep)
     return play
+
+
+def play_by(function: Callable[[Any, Any], Any], is_step: bool, client: ModuleType, lines: Any, key: str,
+            sleep: Sleep) -> None:
+    """Plays one agent by a function, which is a step or takes an agent and its key."""
+    try:
+        if is_step:
+            client_module().take_steps(client.Agent(lines), key, steps.fresh(function), sleep)
+        else:
+            function(client.Agent(lines), key)
+    except (client.MatchOver, client_module().MatchOver):
+        pass
+
+
+def step_of(words: str, setup: Setup, modules: OwnModules) -> steps.Step:
+    """The step that these words name, in this match and among these modules."""
+    return Loader(words, setup).load(modules)[0]
 
 
 def asked_behind(words: str, signature: inspect.Signature, count: int) -> List[str]:
@@ -179,18 +211,23 @@ def script_of_function(function: Callable[..., None], setup: Setup) -> Script:
         if it.name not in MAY_ASK and it.default is it.empty and it.kind in (*PLAIN, it.KEYWORD_ONLY):
             raise NoAgent(f"{function.__name__}: it has a parameter {it.name}; behind the agent and its key stand "
                           f"{', '.join(MAY_ASK)}, and what has a default")
-    values: Dict[str, Any] = {"nodes": setup.nodes, "links": len(setup.links), "home": setup.home,
-                              "network": tuple(setup.links)}
 
     def play(lines: Any, key: str, sleep: Sleep) -> None:
-        lines.modules.begin([])
-        given = {**values, "sleep": sleep}
-        client, own = client_module(), with_own_variables(function, lines.modules.random)
-        try:
-            own(client.Agent(lines), key, **{it.name: given[it.name] for it in asked if it.name in given})
-        except client.MatchOver:
-            pass
+        own = loaded_function(function, setup, lines.modules, sleep=sleep)
+        play_by(own, steps.is_step(function), client_module(), lines, key, sleep)
     return play
+
+
+def loaded_function(function: Callable[..., Any], setup: Setup, modules: OwnModules,
+                    **more: Any) -> Callable[[Any, Any], Any]:
+    """A function of this process with variables of its own, which is given by their names what its parameters ask for
+    behind the first two."""
+    values = {**more, "nodes": setup.nodes, "links": len(setup.links), "home": setup.home,
+              "network": tuple(setup.links)}
+    asked = list(inspect.signature(function).parameters)[2:]
+    modules.begin([])
+    own, given = with_own_variables(function, modules.random), {name: values[name] for name in asked if name in values}
+    return lambda first, second: own(first, second, **given)
 
 
 def client_module() -> ModuleType:

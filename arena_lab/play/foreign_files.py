@@ -1,13 +1,18 @@
 """Notes of programs inside the lab what they reach outside of them: files that they write, the environment, threads,
-other programs; and which files they read. Python tells an audit hook of these.
+other programs; whether they go by chance, a clock or the number of their process; and which files they read. Python
+tells an audit hook of most; the functions of the library that read the rest are wrapped.
 """
 import contextlib
+import functools
 import importlib.util
 import os
 import pathlib
+import random
 import sys
 import sysconfig
-from typing import Any, Dict, Iterator, List, Optional, Set
+import time
+from types import ModuleType
+from typing import Any, Callable, Dict, Iterator, List, Optional, Set, Tuple
 
 from arena_lab.play.imports import PACKAGE, digest_named, named, package_digest
 from arena_lab.support.built import LAB
@@ -22,6 +27,13 @@ REACHES = {"os.putenv": "sets a variable of the environment", "os.unsetenv": "se
            "os.system": "starts a program", "os.fork": "starts a program", "os.posix_spawn": "starts a program",
            "os.kill": "sends a signal", "sqlite3.connect": "opens a database", "socket.__new__": "opens a socket",
            "ctypes.dlopen": "loads a library", "mmap.__new__": "maps a file"}
+# what functions of the library read that is another thing another time
+CLOCKS = [f"{name}{unit}" for name in ("time", "monotonic", "perf_counter", "process_time", "thread_time")
+          for unit in ("", "_ns")]
+CHANCE, CLOCK, PROCESS, IDENTITY = "draw by chance", "read a clock", "know their process", "know where objects lie"
+READS: Dict[str, List[Tuple[ModuleType, str]]] = {
+    CHANCE: [(os, "urandom"), (os, "getrandom"), (random, "_urandom")], PROCESS: [(os, "getpid")],
+    CLOCK: [(time, name) for name in [*CLOCKS, "localtime", "gmtime", "ctime", "strftime"]]}
 WRITES = os.O_WRONLY | os.O_RDWR | os.O_CREAT | os.O_APPEND | os.O_TRUNC
 # folders whose files are no part of an agent: those of Python, of the lab, and of Linux
 PYTHONS = ("stdlib", "platstdlib", "purelib", "platlib")
@@ -31,10 +43,12 @@ IS_WATCHED: List[bool] = []
 
 
 class Notes:
-    """What a program has reached outside, or nothing, and what it has read: files and modules."""
+    """What a program has reached outside, or nothing, and what it has read: files, modules, and what is another thing
+    another time."""
 
     def __init__(self) -> None:
         self.reaches: Optional[str] = None
+        self.reads: Set[str] = set()
         self.files: Set[str] = set()
         self.modules: Set[str] = set()
 
@@ -67,7 +81,10 @@ def watch() -> None:
     if IS_WATCHED:
         return
     IS_WATCHED.append(True)
-    current, noted = needed("greenlet").getcurrent, frozenset(("open", "import", *REACHES))
+    for what, places in READS.items():
+        for module, name in places:
+            setattr(module, name, reading(getattr(module, name), what))
+    current, noted = needed("greenlet").getcurrent, frozenset(("open", "import", "builtins.id", *REACHES))
 
     def note(event: str, given: Any) -> None:
         if event not in noted:
@@ -81,10 +98,34 @@ def watch() -> None:
     sys.addaudithook(note)
 
 
+def note_read(what: str) -> None:
+    """Notes that the program which runs now reads what is another thing another time."""
+    if not IS_WATCHED:
+        return
+    thread = needed("greenlet").getcurrent()
+    if thread.parent is not None:
+        notes_of(thread).reads.add(what)
+    elif LOADING:
+        LOADING[-1].reads.add(what)
+
+
+def reading(function: Callable[..., Any], what: str) -> Callable[..., Any]:
+    """A function of the library that notes who calls it."""
+    @functools.wraps(function)
+    def read(*given: Any, **more: Any) -> Any:
+        note_read(what)
+        return function(*given, **more)
+    return read
+
+
 def note_of(notes: Notes, event: str, given: Any) -> None:
     """Notes one thing."""
     if event == "import":
         notes.modules.add(given[0].partition(".")[0])
+    elif event == "builtins.id":
+        # the library asks for identities where it comes to nothing
+        if not sys._getframe(2).f_code.co_filename.startswith(NOT_READ):
+            notes.reads.add(IDENTITY)
     elif event != "open":
         notes.reaches = notes.reaches or f"what lies outside, since it {REACHES[event]}"
     elif isinstance(given[0], (str, bytes)):
@@ -98,8 +139,13 @@ def note_of(notes: Notes, event: str, given: Any) -> None:
 def read_by(thread: Any) -> Dict[str, str]:
     """The SHA-256 of each file that a program has read, also while its file was loaded first, and of each installed
     package, by their names."""
+    return read_in(notes_of(thread))
+
+
+def read_in(of_program: Notes) -> Dict[str, str]:
+    """The same of a program's notes."""
     found: Set[str] = set()
-    for notes in (notes_of(thread), LOADED) if IS_WATCHED else ():
+    for notes in (of_program, LOADED) if IS_WATCHED else ():
         files = (source_of(os.path.abspath(file)) for file in notes.files)
         found.update(named(pathlib.Path(file)) for file in files
                      if not file.startswith(NOT_READ) and os.path.isfile(file))

@@ -79,8 +79,8 @@ def write_refused(path: pathlib.Path, played: PlayedMatch) -> None:
         path.write_text("".join(f"{it}\n" for it in played.refused), encoding="utf-8")
 
 
-def refused_in(path: pathlib.Path) -> List[str]:
-    """What a file says of lines that were refused, or nothing if there is none."""
+def lines_in(path: pathlib.Path) -> List[str]:
+    """The lines of what is said of a match in a file, or nothing if there is none."""
     return path.read_text(encoding="utf-8").splitlines() if path.is_file() else []
 
 

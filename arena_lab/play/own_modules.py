@@ -1,6 +1,8 @@
-"""Modules that one agent inside the lab has for itself, as a program outside has: its file, what it imports from beside
-it, and `random`. They stand in their places while the agent runs, and those of the lab stand there else.
+"""Modules that one agent inside the lab has for itself, as a program outside has: its file, what it imports that is
+neither Python's nor installed, wherever it stands, and `random` and `datetime`. They stand in their places while the
+agent runs, and those of the lab stand there else.
 """
+import datetime
 import operator
 import os
 import random
@@ -8,13 +10,15 @@ import sys
 import threading
 import weakref
 from types import ModuleType
-from typing import Collection, Dict, FrozenSet, List, Mapping, Sequence, Set, Tuple
+from typing import Any, Collection, Dict, FrozenSet, List, Sequence, Set, Tuple
+
+from arena_lab.play.foreign_files import CHANCE, CLOCK, NOT_READ, note_read
 
 # one thread at a time changes which modules there are
 LOADING = threading.RLock()
 # all folders out of which agents were loaded
 FOLDERS: Set[str] = set()
-RANDOM = "random"
+RANDOM, DATETIME = "random", "datetime"
 # what of the module `random` belongs to one generator
 OF_ONE = [name for name, value in vars(random).items() if getattr(value, "__self__", None) is random._inst]
 # an object's identity as a number. Python tells the audit hook of each `id`, which costs more than to ask for this
@@ -28,14 +32,24 @@ ALL_FOREIGN: Dict[Tuple[str, ...], Sequence[object]] = {}
 STANDS_IN: "weakref.WeakKeyDictionary[ModuleType, FrozenSet[str]]" = weakref.WeakKeyDictionary()
 
 
-def is_beside(module: ModuleType, folders: Collection[str]) -> bool:
-    """Whether a module is a file in one of these folders, or a package in it."""
+def folders_of(module: ModuleType) -> FrozenSet[str]:
+    """The folders that a module stands in, or the package that it is."""
     # what stands among the modules may be another object
     found = STANDS_IN.get(module) if isinstance(module, ModuleType) else frozenset()
     if found is None:
         places: Sequence[str] = list(getattr(module, "__path__", None) or [getattr(module, "__file__", None) or ""])
         found = STANDS_IN[module] = frozenset(os.path.dirname(place) for place in places)
-    return not found.isdisjoint(folders)
+    return found
+
+
+def is_beside(module: ModuleType, folders: Collection[str]) -> bool:
+    """Whether a module is a file in one of these folders, or a package in it."""
+    return not folders_of(module).isdisjoint(folders)
+
+
+def is_elsewhere(module: ModuleType) -> bool:
+    """Whether a module is a file that is neither Python's, nor installed, nor the lab's."""
+    return any(folder and not f"{folder}{os.sep}".startswith(NOT_READ) for folder in folders_of(module))
 
 
 def own_names(folders: Collection[str], shared: Collection[str] = ()) -> List[str]:
@@ -58,7 +72,8 @@ def own_names(folders: Collection[str], shared: Collection[str] = ()) -> List[st
     for name, module in [(name, it) for name, it in list(sys.modules.items()) if IDENTITY(it) in unknown]:
         if "." in name or name == "arena_lab":
             others[IDENTITY(module)] = module
-        elif is_beside(module, folders) and getattr(module, "__file__", None) not in shared:
+        elif getattr(module, "__file__", None) not in shared and (
+                is_beside(module, folders) or folders is not FOLDERS and is_elsewhere(module)):
             tops.add(name)
         elif FOREIGN_TO.issuperset(folders) and (not is_beside(module, FOREIGN_TO) or folders is FOLDERS):
             foreign[IDENTITY(module)] = module
@@ -68,13 +83,65 @@ def own_names(folders: Collection[str], shared: Collection[str] = ()) -> List[st
     return [name for name in sys.modules if name.partition(".")[0] in tops] if tops else []
 
 
+class NotedRandom(random.Random):
+    """A generator that notes who draws by it and has not seeded it."""
+
+    _is_seeded = False
+
+    def seed(self, a: Any = None, version: int = 2) -> None:
+        self._is_seeded = a is not None
+        super().seed(a, version)
+
+    def random(self) -> float:
+        self._note()
+        return super().random()
+
+    def getrandbits(self, k: int, /) -> int:
+        self._note()
+        return super().getrandbits(k)
+
+    def _note(self) -> None:
+        if not self._is_seeded:
+            note_read(CHANCE)
+
+
+def datetime_of_its_own() -> ModuleType:
+    """A module `datetime` that notes who asks it what time it is."""
+    class NotedDate(datetime.date):
+        @classmethod
+        def today(cls) -> Any:
+            note_read(CLOCK)
+            return super().today()
+
+    class NotedTime(datetime.datetime):
+        @classmethod
+        def now(cls, tz: Any = None) -> Any:
+            note_read(CLOCK)
+            return super().now(tz)
+
+        @classmethod
+        def utcnow(cls) -> Any:
+            note_read(CLOCK)
+            return super().utcnow()
+
+        @classmethod
+        def today(cls) -> Any:
+            note_read(CLOCK)
+            return super().today()
+    made = ModuleType(DATETIME, datetime.__doc__)
+    vars(made).update(vars(datetime))
+    vars(made).update(date=NotedDate, datetime=NotedTime)
+    return made
+
+
 def random_from(seed: int) -> ModuleType:
     """A module `random` of its own that begins with this seed. It is not loaded anew, since each `random` that is
     loaded stays in memory until the process ends, to be seeded again when it forks."""
-    own, made = random.Random(seed), ModuleType(RANDOM, random.__doc__)
+    own, made = NotedRandom(seed), ModuleType(RANDOM, random.__doc__)
+    own._is_seeded = False
     vars(made).update(vars(random))
     vars(made).update({name: getattr(own, name) for name in OF_ONE})
-    setattr(made, "_inst", own)
+    vars(made).update(Random=NotedRandom, _inst=own)
     return made
 
 
@@ -83,8 +150,7 @@ class OwnModules:
 
     def __init__(self, seed: int) -> None:
         self.random = random_from(seed)
-        # loaded modules that it takes instead of loading them anew
-        self.kept: Mapping[str, ModuleType] = {}
+        self._given = {RANDOM: self.random, DATETIME: datetime_of_its_own()}
         self._own: Dict[str, ModuleType] = {}
         self._folders: List[str] = []
         self._files: Collection[str] = ()
@@ -101,12 +167,8 @@ class OwnModules:
         self._folders, self._files, self._seen = list(folders), files, ([], -1)
         FOLDERS.update(folders)
         self._shared.update({name: sys.modules.pop(name) for name in own_names(FOLDERS, files)})
-        self._own = {**self.kept, RANDOM: self.random}
+        self._own = dict(self._given)
         self._put(self._own)
-
-    def own(self) -> Dict[str, ModuleType]:
-        """The modules of the agent, by their names."""
-        return self._own
 
     def __enter__(self) -> "OwnModules":
         LOADING.acquire()
@@ -125,7 +187,7 @@ class OwnModules:
             return
         if self._own and self._count != len(sys.modules):
             names = own_names(self._folders, self._files)
-            self._own = {name: sys.modules[name] for name in names} | {RANDOM: self.random}
+            self._own = {name: sys.modules[name] for name in names} | self._given
         for name in self._own:
             sys.modules.pop(name, None)
         sys.modules.update(self._shared)

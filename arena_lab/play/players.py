@@ -6,7 +6,6 @@ is the line that it sent, or None if its input has ended.
 import operator
 import pathlib
 import signal
-import sys
 import threading
 import traceback
 from collections import deque
@@ -52,7 +51,6 @@ class Player:
     line: Optional[bytes] = None
     fault: Optional[str] = None
     ahead: Optional[Deque[str]] = None
-    handled: Optional[BaseException] = None
     _is_over = _is_closed = False
 
     def __init__(self, team: "Team", number: int, key: str, script: Script) -> None:
@@ -63,8 +61,6 @@ class Player:
         # the line that it was told last, and those ahead of it on a way that it goes once more
         self.latest = ""
         self.ahead = None
-        # while it waits, the exception that it handles
-        self.handled = None
         # those that the script loads for this agent alone
         self.modules = OwnModules(number)
         self._team = team
@@ -138,7 +134,7 @@ class Player:
                 # it is for an agent that waits as this one does: a way that was gone before is gone again in one turn.
                 # All that the program can read is as if it had waited
                 self._team.turns += 1
-                self.state, self.handled, self.line, self.latest = state, None, None, ahead.popleft()
+                self.state, self.line, self.latest = state, None, ahead.popleft()
                 return self.latest
             self._wait(state)
         return self._heard.popleft()
@@ -147,11 +143,8 @@ class Player:
         self._wait(SLEEPS)
 
     def _wait(self, state: str) -> None:
-        self.state, self.handled = state, sys.exception()
-        try:
-            self._thread.parent.switch()
-        finally:
-            self.handled = None
+        self.state = state
+        self._thread.parent.switch()
 
     def _run(self, script: Script, key: str) -> None:
         try:

@@ -8,6 +8,7 @@ breaks the rules ends its own play, and a line names it.
 
 What a program has sent counts, also if it ends before it is answered, as for `arena serve`.
 """
+import contextlib
 import hashlib
 import math
 import os
@@ -23,8 +24,8 @@ from typing import Any, Callable, Deque, Dict, List, Mapping, NamedTuple, Option
 
 from arena_lab.play.agent_files import NoAgent
 from arena_lab.play.bounds import READ_NOTHING, SENT_NOTHING, TimeBound, Room
-from arena_lab.play.last_words import error_in, usage_in
-from arena_lab.play.mistakes import plain
+from arena_lab.play.last_words import asked_behind, error_in, usage_in
+from arena_lab.play.mistakes import plain, shown
 from arena_lab.play.players import DENIALS, DONE, LAST_LINES, TRAVELS, WAITS
 from arena_lab.rules.fixtures import Fixture
 from arena_lab.rules.model import MAX_LINE
@@ -145,7 +146,8 @@ class Lines:
         self._connection = connection
         self._changed = threading.Condition()
         self._lines: Deque[bytes] = deque()
-        self._kept = 0
+        # how many lines have come, and how many bytes of them are kept
+        self.count = self._kept = 0
         self._is_over = False
         # what stands behind the last line feed
         self.rest = b""
@@ -161,6 +163,16 @@ class Lines:
             self._kept -= len(self._lines[0])
             self._changed.notify()
             return self._lines.popleft()
+
+    def is_over(self) -> bool:
+        """Whether the program has closed its connection."""
+        with self._changed:
+            return self._is_over
+
+    def latest(self) -> bytes:
+        """The line that came last of those that are kept."""
+        with self._changed:
+            return self._lines[-1] if self._lines else b""
 
     def close(self) -> None:
         """Reads no more."""
@@ -193,6 +205,7 @@ class Lines:
     def _keep(self, lines: List[bytes]) -> None:
         with self._changed:
             self._lines.extend(lines)
+            self.count += len(lines)
             self._kept += sum(map(len, lines))
             self._changed.notify()
             self._changed.wait_for(lambda: self._kept < AHEAD or self._is_over)
@@ -298,6 +311,24 @@ class Player:
         """What the program has sent behind its last line feed."""
         return b"" if self._lines is None else self._lines.rest.strip()
 
+    def came(self) -> int:
+        """How many lines have come of the program."""
+        return self._lines.count if self._lines else 0
+
+    def stirs(self, before: int) -> Optional[str]:
+        """What the program has done, if more lines than so many have come of it or its input has ended."""
+        if self._lines is None:
+            return None
+        if self._lines.count > before:
+            return f"has sent `{shown(self._lines.latest())}`"
+        if not self._lines.is_over():
+            return None
+        if self._child is not None:
+            with contextlib.suppress(subprocess.TimeoutExpired):
+                self._child.wait(GRACE)
+        words = self._last_words().removeprefix(": ")
+        return f"has ended ({words})" if words else "has ended"
+
     def stop(self, fault: Optional[str] = None) -> None:
         """Ends the program and all that it started."""
         self.fault = self.fault or fault
@@ -398,7 +429,8 @@ class Player:
             return f": an argument is missing, or there is one too many: it is called as `{plain(usage)[:WORDS]}`"
         if not words:
             return ""
-        return f": {plain(words)[:WORDS]}{self._ground.hint(words) or self._ground.hint(text.strip()[-PIECE // 64:])}"
+        hint = self._ground.hint(words) or self._ground.hint(text.strip()[-PIECE // 64:]) or asked_behind(words)
+        return f": {plain(words)[:WORDS]}{hint}"
 
     def _hung(self) -> str:
         """What is said of the program once the lab waits for it no more, with what it may have forgotten."""

@@ -2,12 +2,15 @@
 import pathlib
 from typing import Callable, Dict, List, NamedTuple, Optional, Sequence
 
-from arena_lab.play.agent_files import NoAgent, Script, digests, script_of, script_of_function, source_digest
+from arena_lab.play.agent_files import (NoAgent, Script, digests, function_of, loaded_function, script_of,
+                                        script_of_function, source_digest, step_of)
 from arena_lab.play.bounds import LIMIT
 from arena_lab.play.matches import Team
+from arena_lab.play.own_modules import OwnModules
 from arena_lab.play.players import Team as Inside
 from arena_lab.play.programs import Team as Outside
 from arena_lab.play.programs import seeds_of
+from arena_lab.play.steps import Step, is_step
 from arena_lab.rules import networks
 from arena_lab.rules.fixtures import Fixture, NoMatch, fixture_of
 from arena_lab.rules.limits import MOST_AGENTS, SMALL_BOARD, SMALL_QUOTA
@@ -38,6 +41,14 @@ class AgentWords(NamedTuple):
     def script(self, setup: Setup) -> Script:
         """An agent inside, as it plays this match."""
         return script_of_function(self.function, setup) if self.function else script_of(self.words, setup)
+
+    def is_step(self) -> bool:
+        """Whether it is written as a step."""
+        return self.kind == INSIDE and is_step(self.function or function_of(self.words))
+
+    def step(self, setup: Setup, modules: OwnModules) -> Step:
+        """An agent that is written as a step, in this match and among these modules."""
+        return loaded_function(self.function, setup, modules) if self.function else step_of(self.words, setup, modules)
 
     def digests(self) -> Dict[str, str]:
         """The SHA-256 of each file that the agent is made of."""

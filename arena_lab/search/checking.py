@@ -1,6 +1,6 @@
-"""How `explore` checks that agents are the machines for which the lab takes them: the merges of their histories, drawn
-schedules that the agents play, and on small matches the Python model's search, which merges nothing."""
-from typing import Any, List, NamedTuple, Optional, Protocol
+"""How `explore` checks that agents are the machines for which the lab takes them: drawn schedules that the agents play,
+on small matches the Python model's search, and the merges of memories that programs declare."""
+from typing import Any, FrozenSet, List, NamedTuple, Optional, Protocol
 
 from arena_lab.play.teams import INSIDE, AgentWords
 from arena_lab.rules.engines import Differs
@@ -10,14 +10,16 @@ from arena_lab.search.explore import Explored, explored
 from arena_lab.search.sampled_runs import follow
 from arena_lab.search.machines import Machines
 from arena_lab.search.history_tree import NoFunction
+from arena_lab.search.played_apart import PROCESSES, histories_of, play_apart
 
 # for how many seconds of a processor the Python model searches a match beside the program, and how many states
 SECONDS, STATES = 1.0, 20_000
 
 
 class Counted(NamedTuple):
-    """What was checked of matches, and agreed: how many merges of histories of how many, drawn schedules, and matches
-    that the Python model searched, of how many. `str` says it."""
+    """What was checked of matches, and agreed: how many merges of declared memories of how many, drawn schedules,
+    histories that agents were told in other processes, and matches that the Python model searched, of how many; and
+    what agents were seen to go by but what they are told. `str` says it."""
 
     checked: int = 0
     merged: int = 0
@@ -25,23 +27,31 @@ class Counted(NamedTuple):
     searched: int = 0
     matches: int = 0
     is_wanted: bool = True
+    apart: int = 0
+    seen: FrozenSet[str] = frozenset()
 
     def more(self, other: "Counted") -> "Counted":
         """What was checked in both."""
         return Counted(self.checked + other.checked, self.merged + other.merged, self.schedules + other.schedules,
                        self.searched + other.searched, self.matches + other.matches,
-                       self.is_wanted and other.is_wanted)
+                       self.is_wanted and other.is_wanted, self.apart + other.apart, self.seen | other.seen)
 
     def since(self, other: "Counted") -> "Counted":
         """What was checked since then."""
         return Counted(self.checked - other.checked, self.merged - other.merged, self.schedules - other.schedules,
-                       self.searched - other.searched, self.matches - other.matches, self.is_wanted)
+                       self.searched - other.searched, self.matches - other.matches, self.is_wanted,
+                       self.apart - other.apart, self.seen)
 
     def __str__(self) -> str:
-        merges = f"{self.checked} of {self.merged} merges of histories"
+        seen = f"; the agents {' and '.join(sorted(self.seen))}, and may do something else another time"
+        return self._checked() + (seen if self.seen else "")
+
+    def _checked(self) -> str:
         if not self.is_wanted:
-            return f"nothing was checked: {merges}"
-        said = [merges, f"{self.schedules} drawn schedules"]
+            return "nothing was checked"
+        said = [f"{self.schedules} drawn schedules", f"{self.apart} histories told in other processes"]
+        if self.merged:
+            said.insert(0, f"{self.checked} of {self.merged} merges of declared memories")
         if self.searched:
             said.append(f"the Python model's search of {self.searched} of {self.matches} matches")
         return f"checked, and all agree: {', '.join(said)}"
@@ -63,7 +73,9 @@ class Checks:
     def __init__(self, machines: Machines, game: Matches, schedules: int, matches: int) -> None:
         """Of this many schedules each match gets its part."""
         self._machines, self._game, self._wanted, self._matches = machines, game, schedules, matches
-        self._seen = self._schedules = self._searched = 0
+        self._seen = self._schedules = self._searched = self._apart = 0
+        # the memories before this number were told in other processes
+        self._told = 0
         # whether the Python model's search of each match has come to an end in time so far
         self._is_small = all(agent.kind == INSIDE for agent in game.agents)
 
@@ -73,6 +85,8 @@ class Checks:
         if not self._wanted or found is None:
             return
         if found["found"] in (SOLVES, COMES):
+            self._play_apart(fixture, number)
+        if found["found"] in (SOLVES, COMES):
             first, last = (self._wanted * it // self._matches for it in (number, number + 1))
             for seed in range(first, last):
                 follow(fixture, self._game.agents, self._machines, seed, self._game.limit)
@@ -80,6 +94,14 @@ class Checks:
         if found["found"] != COMES and self._is_small:
             self._is_small = self._is_searched(fixture, found, shown)
             self._searched += self._is_small
+
+    def _play_apart(self, fixture: Fixture, number: int) -> None:
+        """Has other processes tell the agents histories of the match of a number."""
+        histories = histories_of(self._machines, self._game.agents, self._told)
+        self._told = len(self._machines.ways)
+        for place in range(-(-PROCESSES // self._matches)):
+            seed = 1 + number + place * self._matches
+            self._apart += play_apart(fixture, self._game.agents, self._game.limit, histories, seed)
 
     def _is_searched(self, fixture: Fixture, found: Found, shown: Any) -> bool:
         """Whether the Python model's search comes to an end in time; then it must come to the same."""
@@ -97,7 +119,8 @@ class Checks:
     def counted(self) -> Counted:
         """What was checked so far."""
         beside = self._machines.beside
-        return Counted(beside.checked, beside.merged, self._schedules, self._searched, self._seen, bool(self._wanted))
+        return Counted(beside.checked, beside.merged, self._schedules, self._searched, self._seen, bool(self._wanted),
+                       self._apart, self._machines.seen())
 
     def __str__(self) -> str:
         return str(self.counted())

@@ -1,30 +1,27 @@
-"""Agents as machines: what each does next is a function of what its program holds, and each thing that a program may
-hold has a number, its memory.
+"""Agents as machines: what each does next is a function of its memory, and each memory has a number.
 
-`Machines` answers what an agent holds at the start, and what it holds after something has happened to it. It plays a
-program up to there, and names what the program holds then. Of an agent inside the lab that is what its frames hold
-(arena_lab/search/memories.py). A program of its own may declare it, by a member `memory` of the line that it sends.
-What has
-no name is named by what was named last and all that has happened since; `unnamed` counts these. A program that may
-share state with others is played alone, each time from its start.
-
-Each agent has a start of its own, since it has a key and a number that no other has. Agents of the same words come to
-one memory once neither its key nor its number can be told in it. Whenever two programs are given one memory, the second
-is played on beside the first for some steps, and a difference is told: see `Beside`.
+`Machines` answers which memory an agent has at the start, and which one after something has happened to it. An agent
+that is written as a step is asked (arena_lab/search/step_machines.py), and its memory is the value that it gives.
+Another one is played up to there, and its memory is its history: the agent's number and all that has happened to it. A
+program that has ended or failed does nothing more, so all its histories are one memory then. A program of its own may
+declare another memory, by a member `memory` of the line that it sends; whenever two histories of it come to one memory,
+the second is played on beside the first for some steps, and a difference is told: see `MergeChecks`.
 """
 import collections
-import contextlib
+import hashlib
 import json
-from typing import Any, ContextManager, Dict, List, Optional, OrderedDict, Set, Tuple
+from typing import Any, Dict, FrozenSet, List, Optional, OrderedDict, Tuple
 
-from arena_lab.play.foreign_files import watch
-from arena_lab.play.players import DONE, WAKES, Player
-from arena_lab.play.teams import INSIDE, AgentWords
+from arena_lab.play.foreign_files import read_in, watch
+from arena_lab.play.imports import PACKAGE
+from arena_lab.play.players import DONE, TRAVELS, WAKES, Player
+from arena_lab.play.teams import INSIDE, AgentWords, digests_of
 from arena_lab.rules.fixtures import Fixture
 from arena_lab.rules.model import Object, command_of, spelled, text_of
-from arena_lab.search.merge_checks import MERGES, MergeChecks
+from arena_lab.search.agent_processes import FAIL, SAYS, STOP, AgentProcess, AgentProcesses, AgentStep, Way
 from arena_lab.search.history_tree import NoFunction
-from arena_lab.search.agent_processes import SAYS, AgentProcess, AgentProcesses, AgentStep, Way
+from arena_lab.search.merge_checks import MERGES, MergeChecks
+from arena_lab.search.step_machines import StepMachine, StepMemory
 
 # how many programs are left where they wait, to go on from there: inside the lab, and of their own
 MOST_LEFT, MOST_PROCESSES = 4096, 200
@@ -69,7 +66,7 @@ class Machines:
     """The machines of a team, one for each agent."""
 
     def __init__(self, fixture: Fixture, agents: List[AgentWords], seconds: float, merges: int = MERGES) -> None:
-        """Of this many merges at least all are checked; of more, a sample."""
+        """Of this many merges of declared memories at least all are checked; of more, a sample."""
         self.steps: List[AgentStep] = []
         self.asked = 0
         self.names: List[bytes] = []
@@ -77,54 +74,57 @@ class Machines:
         # of each memory the way by which programs have come there last on the shortest one, and how long that is
         self._short: List[Way] = []
         self._length: List[int] = []
-        self._seats = AgentProcesses(fixture, agents, seconds)
-        self.unnamed = self._seats.unnamed
+        # before the agents' files are loaded, which may take functions out of modules
+        watch()
+        self._agents, self._processes = agents, AgentProcesses(fixture, agents, seconds)
+        self._fixture = fixture
+        # the machines of agents that are written as steps, and what stands behind the numbers of their memories
+        self._steps: Dict[AgentWords, StepMachine] = {}
+        self._held: Dict[int, Tuple[StepMachine, StepMemory]] = {}
         self._numbers: Dict[bytes, int] = {}
         self._starts: Dict[int, int] = {}
         self._after: Dict[Tuple[int, str], int] = {}
         self._news: Dict[bytes, str] = {}
         # of each memory, what was answered of it first
         self._first: Dict[int, Tuple[str, int]] = {}
-        # memories at which a program may share state with others
-        self._alone: Set[int] = set()
         most = MOST_LEFT if all(agent.kind == INSIDE for agent in agents) else MOST_PROCESSES
-        self._left, self._most_left = Left(most), most
+        self._left = Left(most)
         self._replayed = 0
         self.beside = MergeChecks(self, merges, most // 2)
 
     def start(self) -> None:
-        watch()
-        self._seats.start()
+        self._processes.start()
 
     def stop(self) -> None:
         """Ends all programs."""
-        self._seats.stop()
+        self._processes.stop()
         self._left.stop()
         self.beside.stop()
 
-    def check_shared(self) -> None:
-        """Refuses a team whose programs have changed what all programs of this process share, and that no name has."""
-        changed = self._seats.shared.changed()
-        if changed is not None:
-            raise NoFunction(f"an agent changes {changed}, which all programs of this process share: explore needs "
-                             "agents that keep what they know in variables of their own")
-
     def begin(self, agent: int) -> int:
-        """What an agent holds at the start."""
+        """The memory of an agent at the start."""
         if agent not in self._starts:
-            one = self._seats.begun(agent)
-            if self._parts():
-                one = self._seats.begun(agent)
-            self._starts[agent] = self._number(one, (-1 - agent, ""))
+            words, way = self._agents[agent], (-1 - agent, "")
+            if words.is_step():
+                machine = self._steps.setdefault(words, StepMachine(
+                    words, self._fixture.setup, self._processes.team, self._processes.notes))
+                self._starts[agent] = self._held_as(machine, machine.begin(self._fixture.keys[agent]), way)
+            else:
+                self._starts[agent] = self._number(self._processes.begun(agent), way)
         return self._starts[agent]
 
     def next(self, before: int, news: str) -> int:
-        """What an agent holds that held this before, and that wakes now or hears this reply."""
+        """The memory of an agent that had this one before, and that wakes now or hears this reply."""
         found = self._after.get((before, news))
-        if found is None:
-            found = self._after[before, news] = self._number(self.told((before, news)), (before, news))
-            self._first.setdefault(before, (news, found))
-            self.beside.answered(before, news, found)
+        if found is not None:
+            return found
+        if before in self._held:
+            machine, held = self._held[before]
+            found = self._after[before, news] = self._held_as(machine, machine.next(held, news), (before, news))
+            return found
+        found = self._after[before, news] = self._number(self.told((before, news)), (before, news))
+        self._first.setdefault(before, (news, found))
+        self.beside.answered(before, news, found)
         return found
 
     def news_in(self, told: bytes) -> str:
@@ -135,21 +135,21 @@ class Machines:
             found = self._news[told] = WAKES if "wakes" in question else spelled(question["hears"])
         return found
 
-    def known(self, before: int, news: str) -> Optional[int]:
-        """The same, if it was asked."""
-        return self._after.get((before, news))
-
     def told_at(self, memory: int) -> Optional[Tuple[str, int]]:
         """What was told first at a memory, and the memory after it."""
         return self._first.get(memory)
 
     def way_to(self, memory: int) -> Tuple[int, List[str]]:
         """The agent that was played to a memory first, and what has happened to it, in order."""
-        way, all_news = self.ways[memory], []
-        while way[0] >= 0:
-            all_news.append(way[1])
-            way = self.ways[way[0]]
-        return -1 - way[0], all_news[::-1]
+        return self._along(self.ways, memory)
+
+    def steps_to(self, memory: int) -> List[AgentStep]:
+        """What the agent did that was played to a memory first: at the start, and after each thing that happened."""
+        found = [self.steps[memory]]
+        while self.ways[memory][0] >= 0:
+            memory = self.ways[memory][0]
+            found.append(self.steps[memory])
+        return found[::-1]
 
     def seen_by(self, memory: int) -> Optional[str]:
         """What an agent that was played to a memory is told if it looks and nothing has changed since it saw its node
@@ -168,53 +168,54 @@ class Machines:
                 here = {**here, "board": said.get("board", said.get("put"))}
         return spelled(here) if here else None
 
+    def seen(self) -> FrozenSet[str]:
+        """What the programs inside the lab were seen to go by but what they are told, as one says it of them."""
+        found, notes = set(self._processes.notes.reads), self._processes.notes
+        packages = sorted(name[len(PACKAGE):] for name in digests_of(self._inside()) if name.startswith(PACKAGE))
+        if packages:
+            found.add(f"share the installed {', '.join(packages)}")
+        if notes.reaches:
+            found.add(f"reach {notes.reaches}")
+        return frozenset(found)
+
+    def read(self) -> Dict[str, str]:
+        """The SHA-256 of each file that programs inside the lab have read, by their names."""
+        return read_in(self._processes.notes)
+
+    def _inside(self) -> List[AgentWords]:
+        return [agent for agent in self._agents if agent.kind == INSIDE]
+
     def looks(self, memory: int) -> bool:
-        """Whether a program that holds this memory looks next."""
+        """Whether a program that has this memory looks next."""
         step = self.steps[memory]
         return step.does == SAYS and command_of(text_of(step.line)).get("do") == "look"
 
     def told(self, way: Way) -> AgentProcess:
         """A program that has come this way."""
         before, news = way
-        self._parts()
         if before < 0:
-            one = self._seats.begun(-1 - before)
-        else:
-            one = self._left.take(before) or self._played(before)
-            self._seats.tell(one, news)
-        return self.told(way) if self._parts() else one
+            return self._processes.begun(-1 - before)
+        one = self._left.take(before) or self._played(before)
+        self._processes.tell(one, news)
+        return one
 
-    def tell(self, one: AgentProcess, news: str) -> bool:
-        """Tells a program a line, or wakes it; false if it had modules in common with others, and something has changed
-        in them."""
-        if self._parts() or self._seats.is_stale(one):
-            return False
-        self._seats.tell(one, news)
-        return not self._parts()
-
-    def _parts(self) -> bool:
-        """Whether something has changed in modules that programs have in common. No program has such any more then, and
-        those that wait end: they are played anew."""
-        if not self._seats.has_changed():
-            return False
-        self._seats.part()
-        self._left.stop()
-        self._left = Left(self._most_left)
-        self.beside.part()
-        return True
+    def tell(self, one: AgentProcess, news: str) -> None:
+        """Tells a program a line, or wakes it."""
+        self._processes.tell(one, news)
 
     def name_of(self, one: AgentProcess, way: Way) -> bytes:
-        """A name of what a program holds and does next."""
-        return self._seats.name(one, way)
+        """A name of a program's memory, and of what it does next."""
+        step, player = one.step(), one.player
+        is_over = step.does == FAIL or player.line is None and bool(step.line) or (
+            step.does == STOP and (player.state != TRAVELS or one.has_ended))
+        declared = None if is_over or isinstance(player, Player) else declared_in(step.line)
+        held = "over" if is_over else (player.number, way if declared is None else declared, player.state)
+        return hashlib.blake2b(repr((step, held)).encode(), digest_size=24).digest()
 
     def leave(self, memory: int, one: AgentProcess) -> None:
-        """Leaves a program where it waits, if it has not ended. One that was played alone ends, and what it has changed
-        is put back."""
-        if self._seats.is_stale(one) or one.player.state == DONE and memory not in self._alone:
+        """Leaves a program where it waits, if it has not ended."""
+        if one.player.state == DONE:
             one.player.stop()
-        elif memory in self._alone:
-            one.player.stop()
-            self._seats.shared.restore()
         else:
             self._left.put(memory, one)
 
@@ -222,36 +223,29 @@ class Machines:
         """A program that is played up to a memory, from the nearest one before it at which a program is left, or from
         its start."""
         one, all_news = self._nearest(memory)
-        modules: ContextManager[Any] = contextlib.nullcontext()
-        if isinstance(one.player, Player):
-            modules = one.player.modules
-        with modules:
-            self._seats.tell_all(one, all_news)
-        if one.step() != self.steps[memory] and not self._seats.has_changed():
+        self._processes.tell_all(one, all_news)
+        if one.step() != self.steps[memory]:
             raise NoFunction(f"agent {one.player.number} does something else when it is played again: explore needs "
                              "agents that are functions of what they are told")
         return one
 
     def _nearest(self, memory: int) -> Tuple[AgentProcess, List[str]]:
         """A program, and what it is to be told to come to a memory: one that is left before it, or that begins. As a
-        check one of many begins, and each that may share state with others."""
+        check one of many begins."""
         self._replayed += 1
-        if self._replayed % FROM_START and memory not in self._alone:
+        if self._replayed % FROM_START:
             found = self._left_before(memory)
             if found is not None:
                 return found
-        way, all_news = self._short[memory], []
-        while way[0] >= 0:
-            all_news.append(way[1])
-            way = self._short[way[0]]
-        return self._seats.begun(-1 - way[0]), all_news[::-1]
+        agent, all_news = self._along(self._short, memory)
+        return self._processes.begun(agent), all_news
 
     def _left_before(self, memory: int) -> Optional[Tuple[AgentProcess, List[str]]]:
         """The nearest program that is left on the shortest way to a memory, and what it is to be told to come there.
         Others may be nearer, but to look for them takes longer than to play on."""
-        left, short, alone = self._left.programs, self._short, self._alone
+        left, short = self._left.programs, self._short
         all_news: List[str] = []
-        while memory >= 0 and memory not in alone:
+        while memory >= 0:
             if memory in left:
                 one = self._left.take(memory)
                 return (one, all_news[::-1]) if one else None
@@ -259,27 +253,48 @@ class Machines:
             all_news.append(news)
         return None
 
+    @staticmethod
+    def _along(ways: List[Way], memory: int) -> Tuple[int, List[str]]:
+        """The agent that comes to a memory on these ways, and what happens to it, in order."""
+        (before, news), all_news = ways[memory], []
+        while before >= 0:
+            all_news.append(news)
+            before, news = ways[before]
+        return -1 - before, all_news[::-1]
+
     def _number(self, one: AgentProcess, way: Way) -> int:
-        """The number of what a program holds, which is left there, or goes on beside the program that was there
+        """The number of a program's memory. The program is left there, or goes on beside the one that was there
         first."""
-        self.asked += 1
-        name = self._seats.name(one, way)
-        number = self._numbers.get(name)
-        if number is None:
-            number = self._numbers[name] = len(self.ways)
-            self.ways.append(way)
-            self._short.append(way)
-            self._length.append(self._length_of(way))
-            self.steps.append(one.step())
-            self.names.append(name)
-            if one.is_alone:
-                self._alone.add(number)
-        else:
+        name = self.name_of(one, way)
+        number, is_new = self._named(name, way, one.step())
+        if not is_new:
             self._shorten(number, way)
             if self.beside.takes(number, one, way):
                 return number
         self.leave(number, one)
         return number
+
+    def _held_as(self, machine: StepMachine, held: StepMemory, way: Way) -> int:
+        """The number of what an agent holds that is written as a step."""
+        name = hashlib.blake2b(repr((machine.words, held)).encode(errors="replace"), digest_size=24).digest()
+        number, is_new = self._named(name, way, held.step)
+        if is_new:
+            self._held[number] = machine, held
+        return number
+
+    def _named(self, name: bytes, way: Way, step: AgentStep) -> Tuple[int, bool]:
+        """The number of a memory by its name, and whether it is a new one."""
+        self.asked += 1
+        number = self._numbers.get(name)
+        if number is not None:
+            return number, False
+        number = self._numbers[name] = len(self.ways)
+        self.ways.append(way)
+        self._short.append(way)
+        self._length.append(self._length_of(way))
+        self.steps.append(step)
+        self.names.append(name)
+        return number, True
 
     def _length_of(self, way: Way) -> int:
         return self._length[way[0]] + 1 if way[0] >= 0 else 0
@@ -288,3 +303,12 @@ class Machines:
         """Takes a way to a memory if it is shorter than those known. What is played again then takes it."""
         if self._length_of(way) < self._length[number]:
             self._short[number], self._length[number] = way, self._length_of(way)
+
+
+def declared_in(line: bytes) -> Any:
+    """What a line declares as its program's memory, as it is spelled, or None."""
+    try:
+        said = json.loads(line)
+    except ValueError:
+        return None
+    return json.dumps(said["memory"], sort_keys=True) if isinstance(said, dict) and "memory" in said else None

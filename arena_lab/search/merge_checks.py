@@ -1,16 +1,14 @@
-"""Merges are checked. When a program comes to a memory to which another one has come before, the two are taken for
-one from then on. `MergeChecks` keeps the second, tells it what the first is told, and compares what it holds then with
-what
-the first held, for some steps."""
-import collections
+"""Merges of declared memories are checked. When a program comes to a memory to which another one has come before, the
+two are taken for one from then on. `MergeChecks` keeps the second, tells it what the first is told, and compares what
+both do then, for some steps."""
 from typing import Any, Dict, List, NamedTuple
 
 from arena_lab.search.history_tree import NoFunction
 from arena_lab.search.agent_processes import AgentProcess, Way
 
-# how many merges are all checked, which one of those that follow is, and how many at least of each place in a program;
-# for how many steps a program goes on beside another
-MERGES, ONE_OF, OF_EACH, STEPS = 1000, 16, 8, 4
+# how many merges are all checked, and which one of those that follow is; for how many steps a program goes on beside
+# another
+MERGES, ONE_OF, STEPS = 1000, 16, 4
 
 
 class MergedProgram(NamedTuple):
@@ -32,7 +30,6 @@ class MergeChecks:
         self.merged = self.checked = self.compared = 0
         self._waiting: Dict[int, List[MergedProgram]] = {}
         self._count = 0
-        self._of_each: Dict[Any, int] = collections.Counter()
 
     def stop(self) -> None:
         for waiting in self._waiting.values():
@@ -45,33 +42,17 @@ class MergeChecks:
         if way == self._machines.ways[memory] or one.is_over():
             return False
         self.merged += 1
-        if not self._is_chosen(one):
+        if not self._is_chosen():
             return False
         self.checked += 1
         self._go_on(memory, MergedProgram(one, memory, way, STEPS))
         return True
 
-    def part(self) -> None:
-        """Plays those that wait once more, as what they had in common with others has changed."""
-        waiting = [second for of_memory in self._waiting.values() for second in of_memory]
-        self._waiting, self._count = {}, 0
-        for second in waiting:
-            self._again(second)
-
-    def _again(self, second: MergedProgram) -> None:
-        """Plays a program once more to where it came second, and lets it go on from there."""
-        second.one.player.stop()
-        self._go_on(second.memory, second._replace(one=self._machines.told(second.way), steps=STEPS))
-
-    def _is_chosen(self, one: AgentProcess) -> bool:
-        """All are, while there are few; then one of many, and some of each place in each program."""
+    def _is_chosen(self) -> bool:
+        """All are, while there are few; then one of many."""
         if not self._merges or self._count >= self._most_waiting:
             return False
-        if self.checked < self._merges or self.merged % ONE_OF == 0:
-            return True
-        place = one.place()
-        self._of_each[place] += 1
-        return self._of_each[place] <= OF_EACH
+        return self.checked < self._merges or self.merged % ONE_OF == 0
 
     def answered(self, memory: int, news: str, after: int) -> None:
         """Tells those who wait at a memory what the first was told there."""
@@ -95,11 +76,9 @@ class MergeChecks:
 
     def _step(self, memory: int, second: MergedProgram, news: str, after: int) -> None:
         """Tells the second what the first was told at a memory, and compares what it does then, and after its last step
-        what it holds."""
+        its memory."""
         machines, one = self._machines, second.one
-        if not machines.tell(one, news):
-            self._again(second)
-            return
+        machines.tell(one, news)
         self.compared += 1
         is_last = second.steps == 1 or one.is_over()
         if one.step() != machines.steps[after] or is_last and machines.name_of(
@@ -112,8 +91,8 @@ class MergeChecks:
         machines, came = self._machines, second.way
         agent, first = machines.way_to(after)
         step, wanted = second.one.step(), machines.steps[after]
-        does = f"both {step}, and hold different things" if step == wanted else f"one {wanted}, the other {step}"
+        does = f"both {step}, and come to different memories" if step == wanted else f"one {wanted}, the other {step}"
         other = [*machines.way_to(came[0])[1], came[1]] if came[0] >= 0 else []
-        return (f"agent {agent} came to one memory in two ways, and goes on in two: {does}. What names its memory "
-                "leaves something out, or it is no function of what it holds. The ways: "
+        return (f"agent {agent} came to one memory in two ways, and goes on in two: {does}. What it declares leaves "
+                "something out, or it is no function of its memory. The ways: "
                 f"{' '.join(first) or 'nothing'}; {' '.join(other) or 'nothing'}")

@@ -5,7 +5,7 @@ import multiprocessing.util
 import pickle
 import signal
 import sys
-from typing import Any, Counter, Dict, Iterator, List, NamedTuple, Optional, Sequence
+from typing import Any, Dict, Iterator, List, NamedTuple, Optional, Sequence
 
 from arena_lab.play import parallel
 from arena_lab.play.agent_files import digests
@@ -38,11 +38,10 @@ class Parallelism(NamedTuple):
 
 
 class ExploreJobResult(NamedTuple):
-    """A match that was tried, what was checked of it, and how often which history stands for what a program holds."""
+    """A match that was tried, and what was checked of it."""
 
     tried: MatchResult
     counted: Counted
-    unnamed: Dict[str, int]
 
 
 class ExploreJob(NamedTuple):
@@ -89,14 +88,12 @@ class LocalMatches:
     def done(self, number: int) -> ExploreJobResult:
         """Tries the match of a number."""
         work, machines, checks, shown = self._work, self._machines, self._checks, NoProgress()
-        fixture, counted, unnamed = self._fixtures[number], checks.counted(), Counter(machines.unnamed)
+        fixture, counted = self._fixtures[number], checks.counted()
         tried = MatchResult(fixture, asked(work.program, fixture, machines, work.states, shown.update,
                                            draws=work.draws))
         if tried.is_whole():
             checks.check(fixture, tried.answered.found, shown, number)
-        if not tried.has_failed():
-            machines.check_shared()
-        return ExploreJobResult(tried, checks.counted().since(counted), Counter(machines.unnamed) - unnamed)
+        return ExploreJobResult(tried._replace(read=machines.read()), checks.counted().since(counted))
 
 
 # of this process: the work, as it was sent, and its matches
@@ -120,7 +117,6 @@ class ParallelMatches:
         """Those of earlier runs come first, and are not tried again."""
         self.tries: List[MatchResult] = list(before)
         self.checks = Counted()
-        self.unnamed: Dict[str, int] = {}
         self._work, self._way, self._first = work, way, len(before)
 
     def tried(self, after: After, shown: Any) -> Iterator[MatchResult]:
@@ -144,8 +140,6 @@ class ParallelMatches:
     def _counted(self, done: ExploreJobResult) -> MatchResult:
         """A match, once it is counted what was checked of it."""
         self.checks = self.checks.more(done.counted)
-        for what, count in done.unnamed.items():
-            self.unnamed[what] = self.unnamed.get(what, 0) + count
         return done.tried
 
     def _results(self, cases: List[NumberedMatch]) -> Any:

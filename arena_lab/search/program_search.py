@@ -1,4 +1,4 @@
-"""The program's own search through all schedules: `arena explore` asks what agents hold, and the lab answers."""
+"""The program's own search through all schedules: `arena explore` asks what agents do, and the lab answers."""
 import json
 import pathlib
 import subprocess

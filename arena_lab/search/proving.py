@@ -1,7 +1,7 @@
 """All schedules of the matches of a game, tried or drawn by the program (arena_lab/search/program_search.py), and the
 schedule that
 it tells, as the agents play it."""
-from typing import Any, Callable, Iterator, List, NamedTuple, Optional, Sequence, Tuple
+from typing import Any, Callable, Dict, Iterator, List, NamedTuple, Optional, Sequence, Tuple
 
 from arena_lab.play.matches import MatchRun
 from arena_lab.play.schedulers import ANSWER, ARRIVE, WAKE, Choice
@@ -23,11 +23,13 @@ FOUND = (FAILS, BREAKS, ENDLESS)
 
 
 class MatchResult(NamedTuple):
-    """A match whose schedules were tried by the program, and by the Python model if the program says nothing of it."""
+    """A match whose schedules were tried by the program, and by the Python model if the program says nothing of it; and
+    the SHA-256 of each file that its agents have read, by their names, where rows are written."""
 
     fixture: Fixture
     answered: ExploreAnswer
     beside: Optional[Explored] = None
+    read: Dict[str, str] = {}
 
     def has_failed(self) -> bool:
         if self.beside is not None:
@@ -55,23 +57,20 @@ class Proving:
         self.tries: List[MatchResult] = []
         self.machines = Machines(self._fixtures[0], game.agents, game.limit, MERGES if check else 0)
         self.checks = Checks(self.machines, game, check, len(self._fixtures))
-        self.unnamed = self.machines.unnamed
 
     def tried(self, one: Try, shown: Any) -> Iterator[MatchResult]:
-        """Tries the matches, one after the other."""
+        """Tries the matches, one after the other, and checks each before it is told."""
         self.machines.start()
         try:
             for fixture in self._fixtures:
                 tried = one(self.machines, fixture, shown)
                 shown.clear()
                 self.tries.append(tried)
-                yield tried
                 if tried.beside is None and tried.is_whole():
                     self.checks.check(fixture, tried.answered.found, shown, len(self.tries) - 1)
+                yield tried
                 if not tried.is_whole() or tried.has_failed():
                     break
-            if not self.tries[-1].has_failed():
-                self.machines.check_shared()
         finally:
             self.machines.stop()
 

@@ -1,5 +1,5 @@
 """Drawn schedules of a match, played by the agents' programs and followed in what they answered before: the check that
-a memory names all that a program holds."""
+a program is a function of what it is told, or of the memory that it declares."""
 import random
 from typing import List
 
@@ -15,7 +15,7 @@ from arena_lab.search.agent_processes import SLEEP, STOP, AgentStep
 
 
 class SampledProgram:
-    """An agent's program that plays, and what it holds by what was answered."""
+    """An agent's program that plays, and its memory by what was answered."""
 
     def __init__(self, machines: Machines, player: Player) -> None:
         self._machines, self.player = machines, player
@@ -49,8 +49,8 @@ class SampledProgram:
             return
         if does != step:
             raise NoFunction(f"after {step_number} choices of a drawn schedule agent {player.number} {does.does} "
-                             f"{does.line!r}, and it answered {step.does} {step.line!r}: what names its memory leaves "
-                             "something out, or it is no function of what it holds")
+                             f"{does.line!r}, and it answered {step.does} {step.line!r}: it is no function of what "
+                             "it is told, or of the memory that it declares")
 
 
 def follow(fixture: Fixture, agents: List[AgentWords], machines: Machines, seed: int, seconds: float) -> int:

@@ -14,7 +14,8 @@ PACKAGES = {
     "networkx": "python3-networkx", "numpy": "python3-numpy", "scipy": "python3-scipy",
     "matplotlib": "python3-matplotlib", "distributed": "python3-distributed", "aiohttp": "python3-aiohttp",
     "jinja2": "python3-jinja2", "markupsafe": "python3-markupsafe", "django": "python3-django",
-    "rest_framework": "python3-djangorestframework", "gunicorn": "gunicorn", "psycopg2": "python3-psycopg2",
+    "rest_framework": "python3-djangorestframework", "waitress": "python3-waitress",
+    "whitenoise": "python3-whitenoise", "psycopg2": "python3-psycopg2",
 }
 DEBIANS_PYTHON = "/usr/bin/python3"
 

@@ -10,16 +10,16 @@ from arena_lab.search.program_search import SOLVES, ExploreAnswer
 from arena_lab.search.proving import MatchResult, found_in
 from arena_lab.sweep.grid import BOUNDS
 from arena_lab.sweep.report import COLOURS, POINTS, moves_up, new_figure, over_nodes, svg_of
-from arena_lab.sweep.tables import NoTable, cells_in, checked, line_of, made_by, prepared
+from arena_lab.sweep.tables import NoTable, cells_in, checked, line_of, made_by, note_read, prepared
 
 MATCHES, PLOT = "matches.csv", "moves.svg"
-# of a match: where it stands, what is proved of it, and how many memories sleep and were never woken once more
+# of a match: where it stands, what was found of it, and how many memories sleep and were never woken once more
 COLUMNS = ("match", "network", "nodes", "links", "home", "holes", "agents", "naps", "states", "moves", "lost", "turns",
            "asleep", "check")
-PROVED = COLUMNS[COLUMNS.index("states"):-1]
+FOUND = COLUMNS[COLUMNS.index("states"):-1]
 
 
-class Proved(NamedTuple):
+class MostMoves(NamedTuple):
     """The most moves and lost agents of all matches on a network, under every schedule."""
 
     network: str
@@ -62,11 +62,12 @@ class Folder:
     def add(self, tried: MatchResult) -> None:
         """Writes the row of the next match."""
         if tried.beside is not None:
-            raise NoTable("an agent may use more commands than its quota, of which nothing is proved, and --out writes "
-                          "what is proved alone: give a larger --quota")
+            raise NoTable("an agent may use more commands than its quota, of which the program finds nothing, and "
+                          "--out writes what it finds alone: give a larger --quota")
         found, answered = found_in(tried), tried.answered
-        proved = answered.counts["states"], found["moves"], found["lost"], found["turns"], answered.unwoken
-        cells = [*self._asked[self._count], *map(str, proved)]
+        came_to = answered.counts["states"], found["moves"], found["lost"], found["turns"], answered.unwoken
+        cells = [*self._asked[self._count], *map(str, came_to)]
+        note_read(self._path, tried.read)
         with (self._path / MATCHES).open("a", encoding="utf-8", newline="") as file:
             file.write(line_of(checked(cells, COLUMNS)))
         self._count += 1
@@ -74,13 +75,13 @@ class Folder:
     def draw(self, bounds: Sequence[str]) -> str:
         """Draws the most moves of each network; gives the name of the file."""
         rows = [dict(zip(COLUMNS, cells)) for cells in cells_in(self._path / MATCHES, COLUMNS)]
-        (self._path / PLOT).write_text(plot(proved_in(rows), bounds), encoding="utf-8")
+        (self._path / PLOT).write_text(plot(most_in(rows), bounds), encoding="utf-8")
         return str(self._path / PLOT)
 
 
 def tried_of(fixture: Fixture, row: Sequence[str]) -> MatchResult:
     """A match as its row has it. What it took is not in it."""
-    states, moves, lost, turns, asleep = (int(dict(zip(COLUMNS, row))[name]) for name in PROVED)
+    states, moves, lost, turns, asleep = (int(dict(zip(COLUMNS, row))[name]) for name in FOUND)
     found = {"found": SOLVES, "moves": moves, "lost": lost, "turns": turns}
     return MatchResult(fixture, ExploreAnswer(found, {"states": states}, 0.0, unwoken=asleep))
 
@@ -92,21 +93,21 @@ def made_of(games: Sequence[Game], program: str) -> Dict[str, Any]:
     return {**made_by(program), "files": files, "matches": hashlib.sha256(asked.encode()).hexdigest()}
 
 
-def proved_in(rows: Iterable[Dict[str, str]]) -> List[Proved]:
-    """What is proved of each network, in order."""
+def most_in(rows: Iterable[Dict[str, str]]) -> List[MostMoves]:
+    """What was found of each network, in order."""
     found: Dict[Tuple[str, int], List[Dict[str, str]]] = {}
     for row in rows:
         found.setdefault((row["network"], int(row["nodes"])), []).append(row)
-    return [Proved(*name, *(max(int(row[what]) for row in of) for what in ("moves", "lost")))
+    return [MostMoves(*name, *(max(int(row[what]) for row in of) for what in ("moves", "lost")))
             for name, of in found.items()]
 
 
-def plot(proved: Sequence[Proved], bounds: Sequence[str]) -> str:
+def plot(found: Sequence[MostMoves], bounds: Sequence[str]) -> str:
     """The plot of the most moves over the nodes, as an SVG element, with the bounds that are named."""
     figure = new_figure()
     axes = figure.add_subplot()
-    nodes = [one.nodes for one in proved]
-    axes.plot(nodes, [one.moves for one in proved], color=COLOURS[0], linestyle="", marker="o", markersize=4,
+    nodes = [one.nodes for one in found]
+    axes.plot(nodes, [one.moves for one in found], color=COLOURS[0], linestyle="", marker="o", markersize=4,
               label="most moves under every schedule")
     first, last = min(nodes), max(nodes)
     across = [first + (last - first) * point / POINTS for point in range(POINTS + 1)]

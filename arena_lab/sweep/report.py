@@ -7,8 +7,8 @@ from arena_lab.support.missing import needed
 from arena_lab.sweep.grid import BOUNDS, Grid
 from arena_lab.sweep.statistic import Confidence, spread_of
 
-HEAD = ("network", "nodes", "team", "agents", "scheduler", "runs", "solved", "mean moves", "confidence 95 %",
-        "lower quartile", "median", "upper quartile", "most moves", "its run", "most lost", "bound")
+HEAD = ("network", "nodes", "team", "agents", "scheduler", "runs", "different", "solved", "mean moves",
+        "confidence 95 %", "lower quartile", "median", "upper quartile", "most moves", "its run", "most lost", "bound")
 # what the summary has beside it where the program has tried every schedule, and what the report has of each match
 EVERY = ("every schedule", "its most moves", "its most lost")
 MATCHES = ("network", "team", "black hole", "every schedule", "states", "most moves", "most in runs", "most lost",
@@ -43,12 +43,13 @@ class KeptRun(NamedTuple):
 
 
 class RunGroup(NamedTuple):
-    """The runs of one team on one network under one scheduler."""
+    """The runs of one team on one network under one scheduler, and how many different matches they are."""
 
     name: Name
     nodes: int
     agents: int
     runs: int
+    different: int
     solved: int
     moves: Confidence
     worst: Row
@@ -61,8 +62,8 @@ class RunGroup(NamedTuple):
         """The group as a row of the summary."""
         network, team, scheduler = self.name
         bound = "" if self.bound is None else f"{self.bound:.0f}"
-        return [network, str(self.nodes), team, str(self.agents), scheduler, str(self.runs), str(self.solved),
-                f"{self.moves.mean:.1f}", f"{self.moves.confidence:.1f}", f"{self.moves.low:g}",
+        return [network, str(self.nodes), team, str(self.agents), scheduler, str(self.runs), str(self.different),
+                str(self.solved), f"{self.moves.mean:.1f}", f"{self.moves.confidence:.1f}", f"{self.moves.low:g}",
                 f"{self.moves.median:g}", f"{self.moves.high:g}", self.worst["moves"], self.worst["run"],
                 str(self.lost), bound, *self.every_cells()]
 
@@ -131,7 +132,8 @@ def matches(rows: Sequence[Row], every: Sequence[Row]) -> List[Sequence[str]]:
 def group_of(name: Name, rows: List[Row], spec: Grid) -> RunGroup:
     moves = [int(row["moves"]) for row in rows]
     nodes = int(rows[0]["nodes"])
-    return RunGroup(name, nodes, int(rows[0]["agents"]), len(rows), sum(map(is_solved, rows)), spread_of(moves),
+    return RunGroup(name, nodes, int(rows[0]["agents"]), len(rows), len({row["replay"] for row in rows}),
+                    sum(map(is_solved, rows)), spread_of(moves),
                  max(rows, key=lambda row: int(row["moves"])), max(int(row["lost"]) for row in rows),
                  BOUNDS[spec.bound](nodes) if spec.bound else None)
 

@@ -1,15 +1,32 @@
 """The words of `run`, and what is worth most of the matches that were played."""
 import argparse
+import contextlib
 import io
 import unittest
 from typing import Any, Dict
 from unittest import mock
 
+from arena_lab.commands import run as command
 from arena_lab.commands.run import Tally, rank, report, seeds
 
 
 def row(**more: Any) -> Dict[str, Any]:
     return {"outcome": "solved", "failed": False, "moves": 5, "choices": 9, **more}
+
+
+class Rows(unittest.TestCase):
+    def test_what_agents_print_is_no_row(self) -> None:
+        def prints(*_: Any) -> Any:
+            print("not a row")
+            yield mock.Mock(line=lambda: "a row")
+        said, told = io.StringIO(), io.StringIO()
+        words = argparse.Namespace(json=True, seeds=None, seed=0, runs=1, scheduler="fair", repeat=False, workers=1)
+        with contextlib.redirect_stdout(said), contextlib.redirect_stderr(told), mock.patch.object(
+                command, "program_of"), mock.patch.object(command, "game_of"), mock.patch.object(
+                command.games, "rows_of", prints), mock.patch.object(command, "Tally", mock.Mock(
+                    return_value=mock.Mock(best=None))):
+            command.run(words)
+        self.assertEqual((said.getvalue(), told.getvalue()), ("a row\n", "not a row\n"))
 
 
 class Words(unittest.TestCase):

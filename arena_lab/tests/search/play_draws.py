@@ -64,7 +64,7 @@ class Drawing(InExplore):
                               "--check", 2)
         self.assertEqual(status, 0, self.said)
         self.assertIn("4000 drawn schedules, ", self.said)
-        self.assertRegex(self.said, r"checked, and all agree: (\d+) of \1 merges of histories, 2 drawn schedules\n")
+        self.assertIn("checked, and all agree: 2 drawn schedules, 200 histories told in other processes\n", self.said)
         self.assertIn("most moves: home 0 holes [1], solved moves 14 lost 1\n", self.said)
         self.assertIn("the program's verdict: solved moves 14 lost 1", self.said)
         self.assertEqual(main(["replay", str(self.folder / "find"), "--program", program()]), 0)

@@ -21,7 +21,7 @@ from arena_lab.search.history_tree import NoFunction
 from arena_lab.tests.search.exploring import InExplore
 from arena_lab.tests.playing import AGENTS, FAULTY, KNOWN_MAP, MAP, RING, program
 
-THEOREM = "every schedule solves (a theorem about programs that are functions of what they hold, as they answered here)"
+SOLVED = "every schedule that the lab tried solves, by histories of Python programs"
 # a program that asks nothing, and tells now and then how far it is
 LONG = '''#!/usr/bin/env python3
 import time
@@ -136,13 +136,6 @@ def hides(agent, key):
     agent.leave()
 
 
-def sorts(agent, key):
-    # it waits inside `sorted`, and what that holds has no name
-    agent.enter(key)
-    sorted([1, 0], key=lambda it: agent.look() and it)
-    agent.leave()
-
-
 def drawn(*words):
     return int.from_bytes(hashlib.blake2b(repr(words).encode(), digest_size=4).digest(), "big")
 
@@ -196,9 +189,8 @@ class Exploring(InExplore):
             with self.subTest(nodes=nodes):
                 status = self.command("--network", f"ring:{nodes}", "--agent", RING.words, "--check", 2)
                 self.assertEqual(status, 0, self.said)
-                self.assertIn(THEOREM, self.said)
+                self.assertIn(SOLVED, self.said)
                 self.assertIn(f"most moves {moves}, most agents lost 1, most turns ", self.said)
-                self.assertNotIn("history stands", self.said)
                 self.assertNotIn("warning", self.said)
 
     def test_several_networks_end_in_a_table(self) -> None:
@@ -206,7 +198,7 @@ class Exploring(InExplore):
         self.assertEqual(status, 1, self.said)
         table = self.said.partition("network matches states moves lost seconds\n")[2].split("\n")
         self.assertEqual([row.split()[:5] for row in table[:2]],
-                         [["ring:3", "2", "57", "4", "1"], ["ring:4", "3", "246", "9", "1"]])
+                         [["ring:3", "2", "106", "4", "1"], ["ring:4", "3", "1283", "9", "1"]])
         self.assertNotIn("torus", "".join(table))
 
     def test_other_sample_agents(self) -> None:
@@ -215,8 +207,7 @@ class Exploring(InExplore):
                        MAP.words]):
             with self.subTest(words=words):
                 self.assertEqual(self.command(*words), 0, self.said)
-                self.assertIn(THEOREM, self.said)
-                self.assertNotIn("history stands", self.said)
+                self.assertIn(SOLVED, self.said)
 
     def test_wrong_versions_are_found_out(self) -> None:
         for name, network in (("forgets_to_mark", "ring:4"), ("reads_once", "ring:4")):
@@ -276,7 +267,7 @@ class Exploring(InExplore):
                 agents = [word for name in names for word in self.odd(name)]
                 status = self.command("--network", "ring:3", "--hole", 2, *agents)
                 self.assertEqual(status, 1 if found else 0, self.said)
-                self.assertIn(f"{found}, " if found else THEOREM, self.said)
+                self.assertIn(f"{found}, " if found else SOLVED, self.said)
                 self.assertIn(f"\n{fault}", self.said)
 
     def test_agents_that_do_not_enter(self) -> None:
@@ -322,10 +313,6 @@ class Exploring(InExplore):
             far = re.compile(rf" MB: {states} states, [\d,]+ a second, 37 turns on the path$")
             self.assertTrue(any(map(far.search, all_told)), states)
 
-    def test_what_has_no_name_is_told_by_name(self) -> None:
-        self.command("--network", "ring:3", "--hole", 1, *self.odd("sorts"))
-        self.assertRegex(self.said, r"\d+ times history stands for what a program holds: the stack of ")
-
     def test_programs_of_their_own(self) -> None:
         for how in ("declares", "says nothing"):
             with self.subTest(how):
@@ -333,7 +320,8 @@ class Exploring(InExplore):
                 match = ["--network", "ring:3", "--hole", 2, "--agents", 1]
                 status = self.command(*match, "--command", team, "--check", 1)
                 self.assertEqual(status, 0, self.said)
-                self.assertIn(THEOREM, self.said)
+                self.assertIn("every schedule that the lab tried solves, by histories or declared memories of programs",
+                              self.said)
         built = self.folder / "ring"
         subprocess.run(["cc", "-O2", "-o", built, AGENTS / "ring.c"], check=True)
         status = self.command("--network", "ring:3", "--command", f"{built} {{port}} {{key}} {{nodes}}")
@@ -347,18 +335,20 @@ class Exploring(InExplore):
         self.assertEqual(answered.found, {"found": "fails", "outcome": "silent", "moves": 1, "lost": 0,
                                           "schedule": [0, 0]})
 
-    def test_a_name_that_leaves_something_out_is_found_by_drawn_schedules(self) -> None:
+    def test_an_agent_that_is_no_function_is_found_by_drawn_schedules(self) -> None:
         game, fixture = self.game("--network", "ring:3", "--hole", "1", *self.odd("hides"))
-        for leaves_out in (False, True):
-            with self.subTest(leaves_out=leaves_out), contextlib.ExitStack() as stack:
-                if leaves_out:
-                    line_alone = mock.patch("arena_lab.search.agent_processes.memory_of",
-                                            lambda thread, *_: thread.gr_frame.f_lineno)
-                    stack.enter_context(line_alone)
+        for is_told_all in (True, False):
+            with self.subTest(is_told_all=is_told_all), contextlib.ExitStack() as stack:
                 machines = Machines(fixture, game.agents, 5)
                 machines.start()
                 stack.callback(machines.stop)
-                stack.enter_context(self.assertRaises(NoFunction) if leaves_out else contextlib.nullcontext())
+                if not is_told_all:
+                    # one history for all whiteboards
+                    plain = machines.next
+                    empty = re.compile('"board":"[^"]*"')
+                    stack.enter_context(mock.patch.object(
+                        machines, "next", lambda before, news: plain(before, empty.sub('"board":""', news))))
+                    stack.enter_context(self.assertRaises(NoFunction))
                 for seed in range(20):
                     follow(fixture, game.agents, machines, seed, 5)
 

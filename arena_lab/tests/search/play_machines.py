@@ -1,5 +1,6 @@
 """What agents hold and do next does not depend on the order in which it is asked: programs that wait go on, and others
 are played again. Programs that have ended are not kept."""
+import collections
 import itertools
 import unittest
 from typing import Dict, List, Tuple
@@ -68,11 +69,12 @@ class Order(unittest.TestCase):
         self.assertGreater(len(one.found), 100)
         for history in one.found:
             self.assertEqual(one.step(history), other.step(history), history)
-        # the same histories come to one memory
+        # the same histories come to one memory, and only those of programs that have ended
         pairs = {(memory, other.found[history]) for history, memory in one.found.items()}
         self.assertEqual(len(pairs), len(set(one.found.values())))
         self.assertEqual(len(pairs), len(set(other.found.values())))
-        self.assertLess(len(pairs), len(one.found))
+        by_memory = collections.Counter(one.found.values())
+        self.assertTrue(all(one.machines.steps[it].does == STOP for it, count in by_memory.items() if count > 1))
         for asked, state in itertools.chain(((one, it) for it in one.left), ((other, it) for it in other.left)):
             self.assertNotEqual(state, DONE, asked)
 

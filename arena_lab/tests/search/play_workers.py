@@ -18,6 +18,17 @@ from arena_lab.tests.playing import RING, program
 # the numbers of a line that tells of a match or of all: without seconds, and what was checked
 TELLS = re.compile(r"^home .*, (?=[\d.]+ s)|^most moves.*", re.MULTILINE)
 WRONG = "arena_lab/mutants/reads_once.py {nodes}"
+# an agent that goes by a file beside it
+PLANNED = '''
+import pathlib
+
+
+def search(agent, key):
+    port = int((pathlib.Path(__file__).parent / "plan.json").read_text())
+    agent.enter(key)
+    agent.depart(1)
+    agent.accuse(port)
+'''
 
 
 class Workers(InExplore):
@@ -33,7 +44,8 @@ class Workers(InExplore):
         self.assertEqual((status, len(alone)), (0, 7), self.said)
         self.assertEqual(self.explored("--network", "ring:3..4", "--workers", 3), (0, alone))
         self.assertIn("checked, and all agree", self.said)
-        self.assertRegex(self.said, r"20 drawn schedules, the Python model's search of 3 of 3 matches")
+        self.assertRegex(self.said, r"20 drawn schedules, \d+ histories told in other processes, the Python model's "
+                                    "search of 3 of 3 matches")
 
     def test_a_schedule_that_fails_is_told_and_kept(self) -> None:
         words = ["--network", "ring:4", "--agent", WRONG]
@@ -75,13 +87,25 @@ class Workers(InExplore):
         self.assertEqual(self.explored(*words)[0], 2)
         self.assertIn("is not as it was written", self.said)
 
-    def test_what_fails_or_is_not_proved_gets_no_row(self) -> None:
+    def test_rows_of_an_agent_whose_file_has_changed_are_refused(self) -> None:
+        (self.folder / "planned.py").write_text(PLANNED, encoding="utf-8")
+        plan = self.folder / "plan.json"
+        words = ["--network", "ring:3", "--hole", 1, "--agents", 1, "--agent", self.folder / "planned.py", "--out",
+                 self.folder / "out"]
+        plan.write_text("1")
+        for _ in range(2):
+            self.assertEqual(self.command(*words), 0, self.said)
+        plan.write_text("0")
+        self.assertEqual(self.command(*words), 2, self.said)
+        self.assertIn(f"rows that were made otherwise: {plan} differ", self.said)
+
+    def test_what_fails_or_is_not_tried_gets_no_row(self) -> None:
         words = ["--network", "ring:4", "--agent", WRONG]
         self.assertEqual(self.command(*words, "--out", self.folder / "out"), 1, self.said)
         self.assertNotIn("\n2,", self.rows())
         game, fixture = self.game(*words, "--hole", "1")
         folder = proofs.Folder(self.folder / "few", [game], program())
-        with self.assertRaisesRegex(NoTable, "writes what is proved alone"):
+        with self.assertRaisesRegex(NoTable, "writes what it finds alone"):
             folder.add(MatchResult(fixture, ExploreAnswer({"found": "exceeds"}, {"states": 1}, 1.0), mock.Mock()))
 
     def test_words_that_do_not_belong_together(self) -> None:

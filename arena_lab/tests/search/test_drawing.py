@@ -27,13 +27,12 @@ class Drawing(unittest.TestCase):
         said, checks = io.StringIO(), mock.Mock(__str__=lambda _: "checked")
         wanted: Any = None
         with contextlib.redirect_stdout(said), mock.patch.object(explore_samples, "shown_schedule"):
-            self.assertEqual(explore_samples.report_samples(wanted, SampleRequest(7, 1, "fair", hunt), Search(tries,
-                                                                                                              checks)),
-                                                                                                              0)
+            search, draws = Search(tries, checks, 1.25), SampleRequest(7, 1, "fair", hunt)
+            self.assertEqual(explore_samples.report_samples(wanted, draws, search), 0)
         return said.getvalue()
 
-    def test_counts_are_those_of_all_matches(self) -> None:
-        self.assertIn("14 drawn schedules, 18 steps in 2.0 s: none of them fails", self.told([tried(2, 1, 0)] * 2))
+    def test_counts_are_those_of_all_matches_and_the_seconds_those_that_passed(self) -> None:
+        self.assertIn("14 drawn schedules, 18 steps in 1.2 s: none of them fails", self.told([tried(2, 1, 0)] * 2))
 
     def test_the_worst_of_all_matches_is_told(self) -> None:
         few, many = tried(1, 2, 1), tried(2, 3, 0)

@@ -83,10 +83,10 @@ class Every(InFolder):
         self.assertIn("summary.csv is not what is made of the rows", self.swept("--verify")[1])
 
     def test_a_match_of_too_many_states_is_tried_again_with_more(self) -> None:
-        self.comes_to(0, "--explore", "20")
+        self.comes_to(0, "--explore", "60")
         limited = [number for number, row in enumerate(self.rows()) if row[9] == every.LIMIT]
         self.assertTrue(limited and len(limited) < 10)
-        self.assertEqual({row[10] for row in self.rows() if row[9] == every.LIMIT}, {"20"})
+        self.assertEqual({row[10] for row in self.rows() if row[9] == every.LIMIT}, {"60"})
         self.assertEqual(self.found()["ring:4", "right"], ["too many states", "", ""])
         with mock.patch.object(every, "over_processes", side_effect=every.over_processes) as over:
             self.comes_to(1, "--explore", "100000")

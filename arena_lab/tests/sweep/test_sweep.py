@@ -88,10 +88,12 @@ def row(run: int, moves: int, outcome: str = "solved", network: str = "ring:4", 
 class Reports(unittest.TestCase):
     def test_a_summary(self) -> None:
         grid = grid_of(text('bound = "n^2"\n'))
-        groups = report.groups_of([row(0, 4), row(1, 8), row(2, 6), row(3, 9, network="ring:5")], grid)
+        again = {**row(2, 6), "replay": "01"}
+        groups = report.groups_of([row(0, 4), row(1, 8), again, row(3, 9, network="ring:5")], grid)
         self.assertEqual(report.summary(groups)[1],
-                         ["ring:4", "4", "a", "2", "fair", "3", "3", "6.0", "5.0", "5", "6", "7", "8", "1", "1", "16"])
-        self.assertEqual(report.summary(groups)[2][7:12], ["9.0", "0.0", "9", "9", "9"])
+                         ["ring:4", "4", "a", "2", "fair", "3", "2", "3", "6.0", "5.0", "5", "6", "7", "8", "1", "1",
+                          "16"])
+        self.assertEqual(report.summary(groups)[2][8:13], ["9.0", "0.0", "9", "9", "9"])
         # moves are numbers: 10 are more than 9
         self.assertEqual(report.groups_of([row(0, 9), row(1, 10)], grid)[0].worst["run"], "1")
 

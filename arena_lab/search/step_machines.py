@@ -1,0 +1,77 @@
+"""Agents that are written as a step, as machines: what one does next is asked by its memory and a reply, and nothing is
+played again. The memory is named by its value alone."""
+import json
+from typing import Any, Dict, NamedTuple, Optional
+
+from arena_lab.play.agent_files import client_module
+from arena_lab.play.foreign_files import Notes
+from arena_lab.play.own_modules import OwnModules
+from arena_lab.play.players import DEPARTED, WAKES, Team, TooSlow
+from arena_lab.play.steps import Step, memory_of, name_of
+from arena_lab.play.teams import AgentWords
+from arena_lab.rules.model import Object, Setup
+from arena_lab.search.agent_processes import ENDS, FAIL, SAYS, SLEEP, STOP, AgentStep
+from arena_lab.support.missing import needed
+
+OUTSIDE, WAITS, AWAY, OVER = "outside", "waits", "away", "over"
+
+
+class StepMemory(NamedTuple):
+    """Where an agent is in its match, its memory by its name, and what it does next."""
+
+    where: str
+    memory: bytes
+    step: AgentStep
+
+
+START, ENDED, FAILED = name_of(None), StepMemory(OVER, b"", AgentStep(STOP)), StepMemory(OVER, b"", AgentStep(FAIL))
+
+
+class StepMachine:
+    """The machine of all agents with the same step."""
+
+    def __init__(self, agent: AgentWords, setup: Setup, team: Team, notes: Optional[Notes] = None) -> None:
+        """What the step reads and reaches is noted in these notes."""
+        self.words = agent.words
+        self._agent, self._setup, self._team, self._notes = agent, setup, team, notes or Notes()
+        self._modules = OwnModules(0)
+        self._loaded: Dict[str, Step] = {}
+
+    def begin(self, key: str) -> StepMemory:
+        """An agent that is to enter by its key."""
+        line = client_module().line_of({"do": "enter", "key": key})
+        return StepMemory(OUTSIDE, START, AgentStep(SAYS, line.encode()))
+
+    def next(self, before: StepMemory, news: str) -> StepMemory:
+        """The agent once it has heard a reply, or has woken."""
+        if before.where == OVER or news in ENDS:
+            return ENDED if before.step.does != FAIL else FAILED
+        if news == DEPARTED:
+            return before._replace(where=AWAY, step=AgentStep(STOP))
+        reply: Object = dict(client_module().WOKE) if news == WAKES else json.loads(news)
+        if before.where == OUTSIDE and "no" in reply:
+            return FAILED
+        # in a greenlet, so that the team's clocks end a step that computes without end
+        thread = needed("greenlet").greenlet(self._taken)
+        vars(thread)["notes"] = self._notes
+        self._team.turns += 1
+        with self._modules:
+            found: StepMemory = thread.switch(before.memory, reply)
+        return found
+
+    def _taken(self, memory: bytes, reply: Object) -> StepMemory:
+        """What a step comes to."""
+        client: Any = client_module()
+        try:
+            after, command = self._step()(memory_of(memory), reply)
+            name, is_sleeping = name_of(after), command["do"] == "sleep"
+            line = b"" if is_sleeping else client.line_of(command).encode(errors="replace")
+        except (TooSlow, Exception, SystemExit):
+            return FAILED
+        return StepMemory(WAITS, name, AgentStep(SLEEP if is_sleeping else SAYS, line))
+
+    def _step(self) -> Step:
+        """The step, which is loaded when it is asked first."""
+        if not self._loaded:
+            self._loaded["step"] = self._agent.step(self._setup, self._modules)
+        return self._loaded["step"]

@@ -1,0 +1,110 @@
+"""`explore` says of agents that go by more than they are told: accidents of one process, chance, clocks, and libraries
+that they share. Outside each of them fails, always or now and then."""
+import pathlib
+import subprocess
+import sys
+from unittest import main as run_tests
+
+from arena_lab import api as lab
+from arena_lab.tests.playing import program
+from arena_lab.tests.search.exploring import InExplore
+
+AGENT = '''{lines}
+def search(agent, key):
+    agent.enter(key)
+    {first}
+    agent.depart(1)
+    agent.accuse(1 if {is_right} else 0)
+'''
+# agents that do something else now and then when they are told the same: lines, what they do first, and when they are
+# right
+ACCIDENTS = {
+    "the order of a set": ("", "agent.write('', ' '.join({'left', 'right', 'up', 'down'}))", "True"),
+    "the system's chance": ("import os", "pass", "os.urandom(1)[0] > 20"),
+    "chance that nobody seeds": ("import random\nR = random.Random()", "pass", "R.random() > .1"),
+    "a secret": ("import secrets", "pass", "secrets.randbelow(10)"),
+    "a clock": ("import time", "pass", "time.time_ns() // 1000 % 10"),
+    "the time": ("from datetime import datetime", "pass", "datetime.now().microsecond % 10"),
+    "what all programs share": ("import string", "string.zz = getattr(string, 'zz', 0) + 1", "string.zz % 7"),
+}
+# agents that may do what they did, and of which it is said by what they go
+READ = {
+    "draw by chance": ("import random", "pass", "random.random() < 2"),
+    "read a clock": ("import time", "pass", "time.monotonic() > 0"),
+    "know their process": ("import os", "pass", "os.getpid() > 0"),
+    "know where objects lie": ("", "pass", "id(agent) > 0"),
+    "share the installed greenlet": ("import greenlet", "pass", "True"),
+    "reach what lies outside, since it writes a file": ("", "open('/dev/null', 'w').close()", "True"),
+}
+MATES = '''
+import sys
+sys.path.insert(0, {folder!r})
+import marks
+
+
+def first(agent, key):
+    agent.enter(key)
+    marks.MARKS.append("safe")
+    agent.leave()
+
+
+def second(agent, key):
+    agent.enter(key)
+    agent.look()
+    agent.depart(1)
+    agent.accuse(1 if marks.MARKS else 0)
+'''
+
+
+class Apart(InExplore):
+    def explored(self, lines: str, first: str, is_right: str) -> int:
+        (self.folder / "agent.py").write_text(AGENT.format(lines=lines, first=first, is_right=is_right))
+        return self.command("--network", "ring:3", "--hole", 1, "--agents", 1, "--agent", f"{self.folder}/agent.py")
+
+    def test_accidents_are_found_out(self) -> None:
+        for name, agent in ACCIDENTS.items():
+            with self.subTest(name):
+                self.assertNotEqual(self.explored(*agent), 0, self.said)
+                self.assertNotIn("every schedule solves", self.said)
+
+    def test_two_looks_are_two_texts(self) -> None:
+        first = "agent.write('', 'seen'); kept = agent.look().board is agent.look().board"
+        self.assertEqual(self.explored("", first, "kept"), 1, self.said)
+
+    def test_it_is_said_what_agents_go_by(self) -> None:
+        for said, agent in READ.items():
+            with self.subTest(said):
+                self.assertEqual(self.explored(*agent), 0, self.said)
+                self.assertIn(f"; the agents {said}, and may do something else another time\n", self.said)
+        self.assertEqual(self.explored("import random\nrandom.seed(7)", "pass", "random.random() < 2"), 0)
+        self.assertIn("checked, and all agree: 20 drawn schedules, 200 histories told in other processes, the Python "
+                      "model's search of 1 of 1 matches\n", self.said)
+
+    def test_a_library_in_another_folder_is_of_one_agent(self) -> None:
+        (self.folder / "elsewhere").mkdir()
+        (self.folder / "elsewhere" / "marks.py").write_text("MARKS = []\n")
+        file = self.folder / "mates.py"
+        file.write_text(MATES.format(folder=str(self.folder / "elsewhere")))
+        team = ["--agent", f"{file}:first", "--agent", f"{file}:second"]
+        self.assertEqual(self.command("--network", "ring:3", "--hole", 1, *team), 1, self.said)
+        self.assertIn("it comes to: home 0 holes [1], wrong", self.said)
+        self.assertNotIn("marks", sys.modules)
+        row = lab.play("ring:3", [f"{file}:first", f"{file}:second"], holes=[1])[0]
+        self.assertEqual(row["outcome"], "wrong")
+
+    def test_what_a_program_of_the_lab_finds_does_not_hang_on_its_start(self) -> None:
+        """The lab's own command fixes the order of sets; a script that uses `arena_lab.api` has any."""
+        (self.folder / "agent.py").write_text(AGENT.format(
+            lines="", first="agent.write('', ' '.join({'left', 'right', 'up', 'down'}))", is_right="True"))
+        text = ("import sys, arena_lab.api as lab\n"
+                f"print(lab.explore('ring:3', {str(self.folder / 'agent.py')!r}, count=1, holes=[1], "
+                f"engine={program()!r}).solves)")
+        for seed in map(str, range(4)):
+            ran = subprocess.run([sys.executable, "-c", text], capture_output=True, text=True, check=False,
+                                 env={"PYTHONHASHSEED": seed, "PATH": "/usr/bin:/bin",
+                                      "PYTHONPATH": str(pathlib.Path.cwd())})
+            self.assertNotIn("True", ran.stdout, ran.stderr)
+
+
+if __name__ == "__main__":
+    run_tests()
