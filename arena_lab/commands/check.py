@@ -6,12 +6,13 @@
 AGENT is the words that start the program of one agent, with {host}, {port} and {key}; or without {port} a file in
 Python that is written against `client.py`, which plays inside the lab and is checked faster. Two of them play a few
 matches on small networks (rings of 3 to 8 and 12 nodes, unless you name others by --network), each under a fair
-schedule and under one with slow agents. Each agent is repeated alone, as in a course; lines that were refused are told;
-then a hunt looks for a schedule under which the team fails, for a minute at most, and every schedule of a ring of 5 is
-tried, if that takes three minutes at most. In the end the agent is right, and one sentence says on what; or the first
-thing to mend is told, one fact a line, and how to see it again. The exit status is 1 if there is something to mend.
+schedule and under one with slow agents. Each agent is repeated alone, as in a course; lines that were refused are told.
+A program is kept waiting for an arrival, longer by the clock than a link takes in a contest of the usual delays. Then
+schedules are drawn and hunted on rings of 5, 6 and 8, for a minute at most, and every schedule of a ring of 5 is tried,
+if that takes three minutes at most. In the end the agent is right, and one sentence says on what; or the first thing to
+mend is told, one fact a line, and how to see it again. The exit status is 1 if there is something to mend.
 
-Under --network the hunt and the search of all schedules take the smallest of the networks that you name.
+Under --network the searches take the smallest three of the networks that you name.
 """
 import argparse
 import contextlib
@@ -19,7 +20,7 @@ import pathlib
 import signal
 import threading
 import time
-from typing import Any, Iterator, List, NamedTuple, Optional, Tuple
+from typing import Any, Iterator, List, NamedTuple, Optional, Sequence, Tuple
 
 import arena_lab
 from arena_lab import api
@@ -28,27 +29,39 @@ from arena_lab.play import kept_matches
 from arena_lab.play.agent_files import NoAgent
 from arena_lab.play.bounds import LIMIT
 from arena_lab.play.games import Asked, Record, Row, rows_of
+from arena_lab.play.late_arrivals import LATE, kept_waiting
+from arena_lab.play.schedules import Schedule
 from arena_lab.play.teams import INSIDE, NAPS, OUTSIDE, QUOTA, BOARD, AgentWords, Game, filled
 from arena_lab.rules import networks
 from arena_lab.rules.engines import MODEL
-from arena_lab.search.hunt import Hunt, Hunter, hunted
+from arena_lab.search.hunt import Hunt, Hunter
 from arena_lab.search.history_tree import NoFunction
 from arena_lab.support.progress import bar
 
 NETWORKS = ("ring:3", "ring:4", "ring:5", "ring:6", "ring:7", "ring:8", "ring:12")
 SCHEDULERS = ("fair", "slow-agents")
-HUNTED, EXPLORED = "ring:6", "ring:5"
+# the networks of drawn and hunted schedules, and the one of all schedules; and who draws, fair draws more often
+SEARCHED, EXPLORED = ("ring:5", "ring:6", "ring:8"), "ring:5"
+DRAWN = ("fair", "slow-agents", "fair", "slow-links")
 FOLDER = pathlib.Path("out/check")
 SECONDS, LONGER, MOST = 60, 3, 100_000
+# how many schedules of each network are drawn and hunted at most
+DRAWS, HUNTS = 300, 1000
 # seconds between two interrupts of a search whose time is up
 AGAIN = 5.0
 
 
 class ToMend(NamedTuple):
-    """The first thing to mend: what is wrong, fact by fact, and the match that shows it."""
+    """The first thing to mend: what is wrong, fact by fact, and the match that shows it; and whether the match shows it
+    again when it is played without a clock."""
 
     said: List[str]
     record: Record
+    is_repeatable: bool = True
+
+
+# what an agent is right on, as a part of the last line, and what is to be mended first, if anything is
+Step = Tuple[str, Optional[ToMend]]
 
 
 class Checked(NamedTuple):
@@ -67,11 +80,11 @@ class Checked(NamedTuple):
         return Game(name, networks.named(name), filled([self.agent], self.agents), quota=QUOTA, board=BOARD, naps=NAPS,
                     limit=self.limit)
 
-    def smallest(self, usual: str) -> str:
-        """The network of a search: the smallest that was named, if other networks than the usual ones were."""
+    def smallest(self, usual: Sequence[str]) -> Sequence[str]:
+        """The networks of a search: the smallest that were named, if other networks than the usual ones were."""
         if self.networks == NETWORKS:
             return usual
-        return min(self.networks, key=lambda name: networks.named(name).nodes)
+        return sorted(self.networks, key=lambda name: networks.named(name).nodes)[:len(usual)]
 
 
 def add_words(parser: argparse.ArgumentParser) -> None:
@@ -92,6 +105,8 @@ def add_words(parser: argparse.ArgumentParser) -> None:
 
 
 def run(words: argparse.Namespace) -> int:
+    if words.agent.endswith(".toml"):
+        raise NoAgent(f"{words.agent}: that is no agent; of a tournament it is `arena check {words.agent}`")
     kind = OUTSIDE if "{port}" in words.agent else INSIDE
     names = tuple(words.network or NETWORKS)
     asked = Checked(AgentWords(kind, words.agent), words.agents, names, words.limit, program_of(words), words.seconds,
@@ -103,24 +118,29 @@ def run(words: argparse.Namespace) -> int:
     print(wrong.record.keep(words.keep)[-1])
     again = f"{arena_lab.called} replay {words.keep}{'' if asked.program else f' --engine {MODEL}'}"
     print("\n  ".join([f"To mend first: {wrong.said[0]}", *wrong.said[1:]]))
-    print(f"See it again by `{again}`, and try a mended agent by `{again} --follow`")
+    print(f"See it again by `{again}`, and try a mended agent by `{again} --follow`" if wrong.is_repeatable else
+          "A replay has no clock and does not show it: check again once it is mended")
     return 1
 
 
-def checked(asked: Checked) -> Tuple[str, Optional[ToMend]]:
+def checked(asked: Checked) -> Step:
     """What the agent is right on, and what is to be mended first, if anything is."""
-    count, wrong = matches(asked)
-    if wrong is not None:
-        return "", wrong
-    tried, wrong = hunt(asked)
-    if wrong is not None:
-        return "", wrong
-    said, wrong = every(asked)
-    return f"Right on all {count} matches and {said or f'under {tried} schedules that were hunted'}", wrong
+    right: List[str] = []
+    for step in (matches, wait, search, every):
+        said, wrong = step(asked)
+        if wrong is not None:
+            return "", wrong
+        right += [said] if said else []
+    return f"Right {listed(right)}", None
 
 
-def matches(asked: Checked) -> Tuple[int, Optional[ToMend]]:
-    """Plays the matches; gives how many there are, and what is to be mended first, if anything is."""
+def listed(parts: Sequence[str]) -> str:
+    """Parts of a sentence as a list."""
+    return " and ".join([", ".join(parts[:-1]), parts[-1]] if len(parts) > 1 else parts)
+
+
+def matches(asked: Checked) -> Step:
+    """Plays the matches."""
     rows: List[Row] = []
     for number, name in enumerate(asked.networks):
         each = [Asked(asked.game(name), scheduler, 3 * number + place, asked.program, asked.repeats)
@@ -128,13 +148,13 @@ def matches(asked: Checked) -> Tuple[int, Optional[ToMend]]:
         rows += rows_of(each)
         wrong = next((row for row in rows if row["failed"]), None)
         if wrong is not None:
-            return len(rows), ToMend(failure(wrong.match(), f"on {wrong['network']} under {wrong['scheduler']} "
-                                                            f"{wrong['seed']}"), wrong.match())
+            return "", ToMend(failure(wrong.match(), f"on {wrong['network']} under {wrong['scheduler']} "
+                                                     f"{wrong['seed']}"), wrong.match())
     refused = next((row for row in rows if row["refused"]), None)
     print(f"{len(rows)} matches on {', '.join(asked.networks)}: all solved")
     if refused is None:
-        return len(rows), None
-    return len(rows), ToMend(["lines are refused, which cost commands", *refused["refused"]], refused.match())
+        return f"on all {len(rows)} matches", None
+    return "", ToMend(["lines are refused, which cost commands", *refused["refused"]], refused.match())
 
 
 def failure(record: Record, where: str) -> List[str]:
@@ -142,29 +162,79 @@ def failure(record: Record, where: str) -> List[str]:
     return [f"{where} the match came to {record.verdict}", *record.told(), *record.faults(), *record.played.refused]
 
 
-def hunt(asked: Checked) -> Tuple[int, Optional[ToMend]]:
-    """Hunts for a schedule under which the team fails; gives how many were tried."""
-    name = asked.smallest(HUNTED)
+def wait(asked: Checked) -> Step:
+    """Keeps programs waiting for their first arrivals. An agent inside the lab has no clock that could run out."""
+    if asked.agent.kind == INSIDE:
+        return "", None
+    name = asked.smallest([EXPLORED])[0]
+    record = kept_waiting(asked.game(name), asked.program)
+    if record.has_failed:
+        return "", ToMend(failure(record, f"on {name} with arrivals {LATE} s late"), record, False)
+    print(f"a match on {name} with arrivals {LATE} s late: solved")
+    return f"with arrivals {LATE} s late", None
+
+
+def search(asked: Checked) -> Step:
+    """Draws schedules, then hunts for one, until the team fails under one."""
+    names = asked.smallest(SEARCHED)
+    drawn, wrong = draw(asked, names)
+    tried, wrong = (0, wrong) if wrong else hunt(asked, names)
+    if wrong is not None:
+        return "", wrong
+    print(f"{drawn} schedules of {', '.join(names)} were drawn and {tried} were hunted: none fails")
+    return f"under {drawn} schedules that were drawn and {tried} that were hunted on {listed(names)}", None
+
+
+def draw(asked: Checked, names: Sequence[str]) -> Tuple[int, Optional[ToMend]]:
+    """Draws schedules on each network in turn, for half of the time; gives how many."""
+    until, number = time.monotonic() + asked.seconds / 2, 0
     with bar(None, "schedule") as shown:
-        timed = TimedProgress(shown, asked.seconds)
-        hunter = Hunter(Hunt(asked.game(name), runs=MOST if asked.agent.kind == OUTSIDE else 3000), timed)
-        hunted(hunter)
+        while number < DRAWS * len(names) and time.monotonic() < until:
+            name, scheduler = names[number % len(names)], DRAWN[number // len(names) % len(DRAWN)]
+            record = Asked(asked.game(name), scheduler, number, None).play()
+            if record.has_failed:
+                shown.clear()
+                return number, under(record.schedule, f"{scheduler} {number} on {name}", asked)
+            number += 1
+            shown.update()
         shown.clear()
-    if hunter.was_stopped and not timed.is_over():
-        raise KeyboardInterrupt
-    best = hunter.best
-    if best is None or not best.has_failed:
-        print(f"{hunter.tried} schedules of {name} were hunted: none fails")
-        return hunter.tried, None
-    schedule = hunter.schedule()
+    return number, None
+
+
+def hunt(asked: Checked, names: Sequence[str]) -> Tuple[int, Optional[ToMend]]:
+    """Hunts on each network, for half of the time in all; gives how many schedules were tried."""
+    tried = 0
+    for name in names:
+        hunter = hunted(asked, name, asked.seconds / 2 / len(names))
+        tried += hunter.tried
+        if hunter.best is not None and hunter.best.has_failed:
+            return tried, under(hunter.schedule(), f"a schedule of {name} that was hunted", asked)
+    return tried, None
+
+
+def hunted(asked: Checked, name: str, seconds: float) -> Hunter:
+    """A hunt on a network, behind what was drawn."""
+    with bar(None, "schedule") as shown:
+        timed = TimedProgress(shown, seconds)
+        hunter = Hunter(Hunt(asked.game(name), runs=HUNTS), timed)
+        try:
+            hunter.search(["generate", "target", "shrink"])
+        except KeyboardInterrupt:
+            if not timed.is_over():
+                raise
+        shown.clear()
+    return hunter
+
+
+def under(schedule: Schedule, where: str, asked: Checked) -> ToMend:
+    """What is to be mended as the team fails under a schedule."""
     record = Record(schedule, kept_matches.played_again(schedule, asked.program), asked.program)
-    return hunter.tried, ToMend(failure(record, f"under a schedule of {name} that was hunted"), record)
+    return ToMend(failure(record, f"under {where}"), record)
 
 
-def every(asked: Checked) -> Tuple[str, Optional[ToMend]]:
-    """Tries every schedule of a small network; gives what the agent is right under, or nothing if they are too many or
-    the agent cannot be explored."""
-    name = asked.smallest(EXPLORED)
+def every(asked: Checked) -> Step:
+    """Tries every schedule of a small network, unless they are too many or the agent cannot be explored."""
+    name = asked.smallest([EXPLORED])[0]
     alarm: Optional[Alarm] = None
     try:
         with within(LONGER * asked.seconds) as alarm:

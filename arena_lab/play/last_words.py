@@ -3,6 +3,7 @@
 Each language ends what it prints otherwise: Node.js with its version, Java with the last frame, Rust with a note. Its
 marks tell the language, and where the error stands in what it prints.
 """
+import itertools
 import pathlib
 import re
 from typing import Callable, List, Optional, Sequence, Tuple
@@ -16,11 +17,20 @@ LOOKS = re.compile(r"\b(?:\w*error|\w*exception|panic\w*|fatal|abort\w*|assert\w
                    re.IGNORECASE)
 
 
-# a frame of Python's traceback; and how a program is called, as it prints it: after "usage:", or as an indented line
-# that ends in words in capitals
+# a frame of Python's traceback; how a program is called, behind "usage:"; and an argument in a line that shows a call
 FRAME = re.compile(r'  File "(.*)", line (\d+)')
 USAGE = re.compile(r"\s*usage:\s*(\S.*)", re.IGNORECASE)
-CALL = re.compile(r"\s+(\S.*?(?: \[?[A-Z]{2,}\]?){2,})\s*$")
+ARGUMENT = re.compile(r"\[?[A-Z]{2,}\]?")
+
+
+# what an answer of a departure lacks, and every answer that shows a node has
+LACKS = re.compile(r"KeyError: '(ports|from|board)'")
+
+
+def asked_behind(error: str) -> str:
+    """What may be behind an error that names a part of an answer."""
+    found = LACKS.search(error)
+    return f"; an answer had no `{found[1]}`: a departure is answered twice, are both answers read?" if found else ""
 
 
 def usage_in(text: str) -> str:
@@ -28,8 +38,15 @@ def usage_in(text: str) -> str:
     lines = [line[:WIDEST] for line in text.split("\n")]
     if any(of(lines) for of in LANGUAGES) or any(LOOKS.search(line) for line in lines):
         return ""
-    found = next((it for pattern in (USAGE, CALL) for line in lines if (it := pattern.match(line))), None)
-    return found[1].strip() if found else ""
+    told = (it[1] for line in lines if (it := USAGE.match(line)))
+    return next(itertools.chain(told, filter(is_call, lines)), "").strip()
+
+
+def is_call(line: str) -> bool:
+    """Whether an indented line shows a call: words, of which the last two or more are arguments in capitals."""
+    words = line.split()
+    arguments = list(itertools.takewhile(ARGUMENT.fullmatch, reversed(words)))
+    return line[:1].isspace() and 2 <= len(arguments) < len(words)
 
 
 def first(lines: Sequence[str], pattern: str) -> Optional[int]:

@@ -7,7 +7,7 @@ import tempfile
 import unittest
 from typing import Dict, List, Tuple
 
-from arena_lab.play.last_words import error_in, usage_in
+from arena_lab.play.last_words import asked_behind, error_in, usage_in
 
 # what programs print, and the line that names the error
 PRINTED: Dict[str, Tuple[str, str]] = {
@@ -151,8 +151,14 @@ class Errors(unittest.TestCase):
         for printed, wanted in ((f"Searches a ring.\n\n    {called}\n\nNothing is decided by time.\n", called),
                                 ("usage: ./careful HOST PORT KEY NODES\n", "./careful HOST PORT KEY NODES"),
                                 ("usage: a.py [-h] nodes\na.py: error: arguments are required: nodes\n", ""),
-                                ("starting\nat HOME SWEET\n", "")):
+                                ("starting\nat HOME SWEET\n", ""),
+                                ("  HOST PORT\n", "")):
             self.assertEqual(usage_in(printed), wanted)
+
+    def test_who_reads_one_answer_of_a_departure_is_asked_about_the_other(self) -> None:
+        said = asked_behind("KeyError: 'ports' (careful.py, line 44)")
+        self.assertEqual(said, "; an answer had no `ports`: a departure is answered twice, are both answers read?")
+        self.assertEqual(asked_behind("KeyError: 'links'"), "")
 
     def test_what_programs_print_here(self) -> None:
         for name, (source, command, wanted) in SOURCES.items():
@@ -167,6 +173,7 @@ class Errors(unittest.TestCase):
         for text in ("x" * 65_536, "a.b" * 20_000, "==" * 30_000, "  at " * 13_000, "\n".join(["^" * 100] * 600),
                      "thread '" * 8_000, "\0\r\n\t" * 9_000):
             self.assertNotIn("\n", error_in(text))
+            self.assertEqual(usage_in(text), "")
 
 
 if __name__ == "__main__":

@@ -7,6 +7,7 @@ from arena_lab.play.matches import STUCK
 from arena_lab.play.referee import told
 from arena_lab.rules import networks
 from arena_lab.rules.model import Match, Setup
+from arena_lab.tests.needing import needs
 
 # what happens in a match, in words: who does it, what, and by which port
 Happens = Sequence[str]
@@ -56,6 +57,7 @@ class Told(unittest.TestCase):
 
 
 class Places(unittest.TestCase):
+    @needs("greenlet", "tqdm")
     def test_an_exception_has_the_line_of_the_agent(self) -> None:
         def search(agent: object, key: str) -> None:
             raise KeyError("west")
