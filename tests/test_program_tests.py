@@ -104,7 +104,7 @@ class Played(unittest.TestCase):
         table = """Changes:
 ~ old cup.toml
 x => right => match right¶last
-match x => bad => bad¶last
+match x¶last => bad¶  what helps => bad
 ¶last =>  => {}
 """
         self.assertEqual(self.faults(first + table.format("match x"))[:2], ["", ""])

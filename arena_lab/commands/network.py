@@ -1,7 +1,8 @@
-"""Writes a network file.
+"""Writes a network file, or a page that shows the network.
 
     ./arena-lab network torus:5x5 --out torus25.toml
     ./arena-lab network random:40:deg4:seed7 --ports shuffled:3
+    ./arena-lab network petersen:5x2 --page petersen.html
 
 A network must stay connected when any one node is taken away. The command refuses another, and names the node. With
 --ports shuffled:SEED the ports of each node are numbered anew, so that a label says nothing of where a link leads.
@@ -10,6 +11,7 @@ import argparse
 import pathlib
 import sys
 
+from arena_lab.pages import network_page
 from arena_lab.rules import networks
 from arena_lab.rules.networks import Network, NoNetwork
 
@@ -40,10 +42,22 @@ def add_words(parser: argparse.ArgumentParser) -> None:
     group.add_argument("network", metavar="NAME", help="the network")
     add_ports(parser)
     parser.add_argument("--out", metavar="FILE", type=pathlib.Path, help="write it there, and not to standard output")
+    parser.add_argument("--page", metavar="FILE", type=pathlib.Path, help="write a page there on which one sees nodes "
+                        "and ports, and no network file but by --out")
 
 
 def run(words: argparse.Namespace) -> int:
     network = network_for(words.network, words)
+    if words.page is not None:
+        words.page.write_text(network_page.page_of(network, words.network), encoding="utf-8")
+        print(f"see it: {words.page}")
+    if words.page is None or words.out is not None:
+        return write_file(network, words)
+    return 0
+
+
+def write_file(network: Network, words: argparse.Namespace) -> int:
+    """Writes the network file, or prints it."""
     text = f"# {words.network}\n{networks.text_of(network)}"
     if words.out is None:
         sys.stdout.write(text)

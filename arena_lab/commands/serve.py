@@ -11,8 +11,11 @@ it is proved, it judges no contest and it writes no parts.
 """
 import argparse
 import pathlib
+import sys
 
+from arena_lab.play import tournament_notes
 from arena_lab.play.server import ServeOptions, served
+from arena_lab.rules.delays import PAUSE
 
 # for how many milliseconds the agents of a match gather, if nothing else is said
 GATHER = 60_000
@@ -24,7 +27,7 @@ def add_words(parser: argparse.ArgumentParser) -> None:
     for option, most, about in (("port", 4000, "listen on this port of 127.0.0.1"),
                                 ("sessions", 1024, "serve this many connections"),
                                 ("turns", 100_000, "close each match after this many turns"),
-                                ("pause", 5, "wait this many milliseconds before each turn")):
+                                ("pause", round(1000 * PAUSE), "wait this many milliseconds before each turn")):
         parser.add_argument(f"--{option}", type=int, default=most, help=f"{about} ({most:,})")
     parser.add_argument("--replay", metavar="P", help="write the replay of each match M to PM.jsonl; by default P is "
                         "the tournament's name, and the matches gather for 60,000 milliseconds and end early")
@@ -36,6 +39,8 @@ def add_words(parser: argparse.ArgumentParser) -> None:
 
 
 def run(words: argparse.Namespace) -> int:
+    for line in tournament_notes.of_file(pathlib.Path(words.tournament)):
+        print(line, file=sys.stderr)
     is_plain = words.replay is None
     gather = GATHER if is_plain and words.gather is None else words.gather or 0
     prefix = str(pathlib.Path(words.tournament).with_suffix("").name) if is_plain else words.replay

@@ -214,10 +214,14 @@ def run(words: argparse.Namespace) -> int:
     if path.exists():
         raise NoNetwork(f"{path}: there is a tournament, whose keys teams may have: name another folder by --out")
     entries = entries_of(words)
+    setups = {words.out / entry.file: entry.fixture.setup for entry in entries}
+    for file in setups:
+        # it may be the very file that --network names, with what its author wrote beside the links
+        if file.exists():
+            raise NoNetwork(f"{file}: there is a file of this name: name another folder by --out")
     words.out.mkdir(parents=True, exist_ok=True)
-    for file, setup in {entry.file: entry.fixture.setup for entry in entries}.items():
-        text = networks.text_of(networks.Network(setup.nodes, setup.links))
-        (words.out / file).write_text(text, encoding="utf-8")
+    for file, setup in setups.items():
+        file.write_text(networks.text_of(networks.Network(setup.nodes, setup.links)), encoding="utf-8")
     for file, text in secret_files(words.team, entries, delays_of(words)).items():
         write_secret(words.out / file, text)
     print(f"{path}: {len(entries)} matches of {len(words.team)} teams; try `arena check {TOURNAMENT}` in the folder")

@@ -6,6 +6,8 @@ from arena_lab.rules.chacha8 import delay_word, turn_word
 
 ADAPTIVE, OBLIVIOUS = "adaptive", "oblivious"
 SCALES, ODDS = 10, 32
+# seconds before each turn of a contest, if nothing else is said
+PAUSE = 0.005
 
 
 class Delays(NamedTuple):

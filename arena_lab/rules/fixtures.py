@@ -107,7 +107,7 @@ def delays_in(found: Object) -> Optional[Delays]:
 def fixture_in(row: Dict[str, Any], folder: pathlib.Path) -> Fixture:
     """The fixture of a match's table, in a tournament whose file is in this folder."""
     network = networks.in_file(network_path(row["network"], folder))
-    holes = row["holes"] if "holes" in row else [row["hole"]] if row["hole"] != "none" else []
+    holes = row["holes"] if "holes" in row or "hole" not in row else [row["hole"]] if row["hole"] != "none" else []
     dark = list(map(place_of, row.get("dark", [])))
     setup = Setup(network.nodes, network.links, row["home"], holes, len(row["keys"]), row["quota"], row["board"], dark)
     return Fixture(row["team"], checked(setup), row["keys"], list(map(place_of, row.get("held", []))))

@@ -4,12 +4,18 @@
     hypercube:D     2^D nodes: port I leads to the node whose number differs in bit I
     complete:N      N nodes, each joined to all others: port P of node V leads to node V + P + 1, round and round
     torus:RxC       R rows and C columns: ports 0 to 3 lead east, west, south and north
+    grid:RxC        R rows and C columns: ports lead east, west, south and north, as far as there is a node
+    wheel:N         a hub, node 0, and a ring of N nodes around it: port P of the hub leads to node P + 1, whose ports
+                    0 and 1 lead on and back around, and port 2 to the hub
+    petersen:NxK    the generalized Petersen graph of 2N nodes, petersen:5x2 for Petersen's: ports 0 and 1 lead on and
+                    back by one place among nodes 0 to N - 1, by K among the others, and port 2 from ring to ring
     ccc:D           the cube-connected cycles of D 2^D nodes: node D W + I stands at place I of the cycle W; port 0
                     leads on along the cycle, port 1 back, and port 2 to the cycle whose number differs in bit I
     random:SEED     3 to 24 nodes with 2 to 6 ports each, drawn by the seed; ports are numbered by chance
     random:N:degK:seedS
                     N nodes with K ports each, drawn by the seed S; ports are numbered by chance
     FILE            a network file, as `arena check` reads it
+    FILE.graphml    a graph in GraphML: nodes in their order, and the ports of a node in the order of its links
 """
 import collections
 import pathlib
@@ -25,7 +31,9 @@ from arena_lab.support.missing import needed
 
 Link = Tuple[int, int, int, int]
 
-NAMES = "ring:N, hypercube:D, complete:N, torus:RxC, ccc:D, random:SEED, random:N:degK:seedS"
+NAMES = ("ring:N, hypercube:D, complete:N, torus:RxC, grid:RxC, wheel:N, petersen:NxK, ccc:D, random:SEED, "
+         "random:N:degK:seedS")
+GRAPHML = ".graphml"
 LARGEST = 24
 LARGEST_DEGREE = 6
 
@@ -87,6 +95,34 @@ def torus(rows: int, columns: int) -> Network:
         links.append((node, 0, row * columns + (column + 1) % columns, 1))
         links.append((node, 2, (row + 1) % rows * columns + column, 3))
     return Network(rows * columns, links)
+
+
+def grid(rows: int, columns: int) -> Network:
+    """A torus without the links around it."""
+    near = [[node + step for step, is_there in ((1, node % columns < columns - 1), (-1, node % columns > 0),
+                                                (columns, node + columns < rows * columns), (-columns, node >= columns))
+             if is_there] for node in range(rows * columns)]
+    return of_neighbours(near)
+
+
+def wheel(rim: int) -> Network:
+    """A hub that is joined to each node of a ring around it."""
+    return of_neighbours([[*range(1, rim + 1)], *([place % rim + 1, (place - 2) % rim + 1, 0]
+                                                  for place in range(1, rim + 1))])
+
+
+def petersen(nodes: int, step: int) -> Network:
+    """The generalized Petersen graph: two rings, by places of one and of another step, whose nodes are joined."""
+    if not 1 <= step < nodes / 2:
+        raise ValueError("no such network")
+    return of_neighbours([[*((place + by) % nodes + own for by in (pace, -pace)), place + other]
+                          for own, other, pace in ((0, nodes, 1), (nodes, 0, step)) for place in range(nodes)])
+
+
+def of_neighbours(near: Sequence[Sequence[int]]) -> Network:
+    """The network in which port P of node V leads to the node at place P of V's list."""
+    return Network(len(near), [(v, p, w, near[w].index(v)) for v, ends in enumerate(near) for p, w in enumerate(ends)
+                               if v < w])
 
 
 def cube_connected_cycles(dimension: int) -> Network:
@@ -182,6 +218,17 @@ def in_file(path: str) -> Network:
         raise NoNetworkFile(f"{path}: it is no network file ({fault_text(fault)}); `arena check` says more") from None
 
 
+def in_graphml(path: str) -> Network:
+    """The network of a graph in GraphML."""
+    networkx = needed("networkx")
+    try:
+        graph = networkx.read_graphml(path)
+    except (ValueError, KeyError, SyntaxError, networkx.NetworkXException) as fault:
+        raise NoNetworkFile(f"{path}: it is no GraphML ({fault})") from None
+    graph.name = path
+    return of_graph(graph)
+
+
 def fault_text(fault: Exception) -> str:
     """What is wrong with a file of TOML, by the exception of its reader."""
     return f"it has no key {fault}" if isinstance(fault, KeyError) else str(fault)
@@ -206,12 +253,12 @@ def named(name: str) -> Network:
     if not colon:
         if not pathlib.Path(name).is_file():
             raise NoNetwork(f"{name}: there is no such file; a network is {NAMES} or a file")
-        return in_file(name)
+        return in_graphml(name) if name.endswith(GRAPHML) else in_file(name)
     try:
         sizes, made = sizes_of(kind, size), MADE[kind]
         if not SMALLEST.get(kind, 0) <= min(sizes) or sizes[0] > LARGEST_SIZE.get(kind, sizes[0]):
-            raise NoNetwork(f"{name}: a network has 3 to {MOST_NODES} nodes, a torus 3 rows and columns or more, and "
-                            "cube-connected cycles 3 dimensions or more")
+            raise NoNetwork(f"{name}: a network has 3 to {MOST_NODES} nodes, a torus 3 rows and columns or more, a "
+                            "grid 2, a ring around a hub 3 nodes, and cube-connected cycles 3 dimensions or more")
         network: Network = made(*sizes)
     except (KeyError, TypeError, ValueError):
         raise NoNetwork(f"{name}: a network is {NAMES} or a file; N times K is even, and K less than N") from None
@@ -232,11 +279,13 @@ def in_range(name: str) -> List[str]:
 
 
 MADE: Dict[str, Callable[..., Network]] = {
-    "ring": ring, "hypercube": hypercube, "complete": complete, "torus": torus, "ccc": cube_connected_cycles,
+    "ring": ring, "hypercube": hypercube, "complete": complete, "torus": torus, "grid": grid, "wheel": wheel,
+    "petersen": petersen, "ccc": cube_connected_cycles,
     "random": lambda *sizes: regular(*sizes) if len(sizes) == 3 else drawn(random.Random(*sizes)),
 }
-SMALLEST = {"torus": 3, "ccc": 3}
-LARGEST_SIZE = {"hypercube": 12, "ccc": 9, "ring": MOST_NODES, "complete": SMALL_NODES, "torus": MOST_NODES}
+SMALLEST = {"torus": 3, "ccc": 3, "grid": 2, "wheel": 3}
+LARGEST_SIZE = {"hypercube": 12, "ccc": 9, "ring": MOST_NODES, "complete": SMALL_NODES, "torus": MOST_NODES,
+                "grid": MOST_NODES, "wheel": MOST_NODES, "petersen": MOST_NODES}
 
 
 def sizes_of(kind: str, size: str) -> List[int]:

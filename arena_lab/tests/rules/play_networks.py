@@ -15,8 +15,8 @@ from arena_lab.rules.fixtures import read_tournament
 from arena_lab.rules.networks import Network, cut_of
 from arena_lab.tests.playing import program
 
-NAMES = ("ring:32", "torus:5x5", "hypercube:4", "complete:8", "ccc:3", "random:40:deg4:seed7", "random:12:deg3:seed1",
-         "random:5")
+NAMES = ("ring:32", "grid:4x5", "wheel:7", "petersen:5x2", "torus:5x5", "hypercube:4", "complete:8", "ccc:3",
+         "random:40:deg4:seed7", "random:12:deg3:seed1", "random:5")
 
 
 def lab(*words: str) -> Tuple[int, str, str]:
@@ -50,6 +50,15 @@ class Written(unittest.TestCase):
                 links = tomllib.loads(pathlib.Path(file).read_text())["links"]
                 nodes = len({end for link in links for end in link[::2]})
                 self.assertIn(f"match 0 red nodes {nodes} ", self.checked(folder))
+
+    def test_a_network_file_of_its_author_is_kept(self) -> None:
+        text = "# a triangle\nnodes = 3\nlinks = [[0, 0, 1, 0], [1, 1, 2, 0], [2, 1, 0, 1]]\n"
+        pathlib.Path("mine.toml").write_text(text)
+        status, _, errors = lab("tournament", "--team", "red", "--network", "mine.toml", "--out", ".")
+        self.assertEqual(status, 2)
+        self.assertIn("mine.toml: there is a file of this name: name another folder by --out", errors)
+        self.assertEqual(pathlib.Path("mine.toml").read_text(), text)
+        self.assertEqual(sorted(os.listdir()), ["mine.toml"])
 
     def test_standard_output_has_the_same_file(self) -> None:
         lab("network", "ccc:3", "--out", "ccc.toml")

@@ -65,6 +65,14 @@ class Files(unittest.TestCase):
                 with self.subTest(text), self.assertRaisesRegex(NoMatch, "it is no tournament"):
                     read_tournament(str(file))
 
+    def test_a_match_without_black_holes_lacks_the_key_of_later_versions(self) -> None:
+        with tempfile.TemporaryDirectory() as folder:
+            (pathlib.Path(folder) / "four.toml").write_text(text_of(NETWORK))
+            cup = pathlib.Path(folder) / "cup.toml"
+            cup.write_text(tournament_text(SEED, [(fixture_of(RIGHT), "four.toml")]).replace("holes", "hloes"))
+            with self.assertRaisesRegex(NoMatch, "it has no key 'holes'"):
+                read_tournament(str(cup))
+
     def test_a_network_is_looked_for_as_the_program_does(self) -> None:
         with tempfile.TemporaryDirectory() as name:
             folder, elsewhere = pathlib.Path(name, "week"), pathlib.Path(name, "elsewhere")

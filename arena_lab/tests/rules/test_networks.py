@@ -2,15 +2,20 @@
 import argparse
 import contextlib
 import io
+import pathlib
 import random
+import tempfile
 import unittest
 
 from arena_lab.__main__ import main
 from arena_lab.commands.network import ports_seed
 from arena_lab.commands.tournament import file_of, number_or, team_name
 from arena_lab.rules import networks
+from arena_lab.support.missing import needed
+from arena_lab.tests.needing import needs
 
-NAMES = ("ring:5", "hypercube:3", "torus:3x4", "complete:5", "ccc:3", "ccc:5", "random:7")
+NAMES = ("ring:5", "hypercube:3", "torus:3x4", "complete:5", "ccc:3", "ccc:5", "random:7", "grid:3x4", "grid:2x2",
+         "wheel:3", "wheel:6", "petersen:5x2", "petersen:7x3")
 
 
 def far_ends(network: networks.Network) -> dict:
@@ -33,6 +38,40 @@ class Networks(unittest.TestCase):
         self.assertEqual(far[3 * 5 + 2, 0], (3 * 5 + 0, 1))
         self.assertEqual(far[3 * 5 + 1, 2], (3 * 7 + 1, 2))
         self.assertEqual(far[3 * 5 + 0, 2], (3 * 4 + 0, 2))
+
+    def test_grids_wheels_and_petersen_graphs(self) -> None:
+        far = far_ends(networks.named("grid:2x3"))
+        self.assertEqual([far[1, port] for port in range(3)], [(2, 0), (0, 0), (4, 2)])
+        far = far_ends(networks.named("wheel:4"))
+        self.assertEqual([far[place] for place in ((0, 3), (4, 0), (4, 1))], [(4, 2), (1, 1), (3, 0)])
+        far = far_ends(networks.named("petersen:5x2"))
+        self.assertEqual([far[place] for place in ((4, 0), (4, 2), (9, 0))], [(0, 1), (9, 2), (6, 1)])
+
+    @needs("networkx")
+    def test_a_graph_in_graphml(self) -> None:
+        networkx = needed("networkx")
+        with tempfile.TemporaryDirectory() as folder:
+            path = str(pathlib.Path(folder) / "it.graphml")
+            networkx.write_graphml(networkx.petersen_graph(), path)
+            network = networks.biconnected(path)
+            self.assertEqual((network.nodes, len(network.links)), (10, 15))
+            networkx.write_graphml(networkx.path_graph(4), path)
+            with self.assertRaisesRegex(networks.NoNetwork, "without node 1 some other nodes are apart"):
+                networks.biconnected(path)
+            pathlib.Path(path).write_text("nodes")
+            with self.assertRaisesRegex(networks.NoNetwork, "it is no GraphML"):
+                networks.named(path)
+
+    @needs("networkx", "numpy", "scipy", "jinja2")
+    def test_a_page_has_each_node_and_each_port(self) -> None:
+        with tempfile.TemporaryDirectory() as folder:
+            page, file = (pathlib.Path(folder) / name for name in ("it.html", "it.toml"))
+            with contextlib.redirect_stdout(io.StringIO()) as said:
+                self.assertEqual(main(["network", "petersen:5x2", "--page", str(page), "--out", str(file)]), 0)
+            text = page.read_text()
+            self.assertEqual((text.count("<circle"), text.count("<line"), text.count('class="port"')), (10, 15, 30))
+            self.assertEqual(said.getvalue().splitlines()[0], f"see it: {page}")
+            self.assertIn("nodes = 10", file.read_text())
 
     def test_shuffled_ports_join_the_same_nodes_by_other_labels(self) -> None:
         network = networks.named("torus:4x4")
@@ -57,7 +96,8 @@ class Networks(unittest.TestCase):
         for name, said in (("ccc:2", "cube-connected cycles 3 dimensions or more"), ("hypercube:40", "3 to 4096 nodes"),
                            ("complete:100000", "3 to 4096 nodes"), ("ccc:9", "this one has 4608"),
                            ("random:9:deg3:seed1", "N times K is even"), ("ring:8:deg2:seed1", "a network is ring:N"),
-                           ("random:5000:deg3:seed1", "3 to 4096 nodes")):
+                           ("random:5000:deg3:seed1", "3 to 4096 nodes"), ("grid:1x9", "a grid 2"),
+                           ("wheel:2", "around a hub 3 nodes"), ("petersen:4x2", "petersen:NxK")):
             with self.subTest(name), self.assertRaisesRegex(networks.NoNetwork, said):
                 networks.named(name)
 

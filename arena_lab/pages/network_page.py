@@ -1,0 +1,33 @@
+"""A page of a network, to see before anything is played where each port leads."""
+from typing import Any, Dict, List
+
+from arena_lab.pages.page import SCALE, layout
+from arena_lab.pages.parts import filled
+from arena_lab.rules.networks import Network
+
+# how far from its node the number of a port stands, and how large a node is drawn, in thousandths of the picture
+NEAR, RADIUS = 48, 22
+
+
+def page_of(network: Network, title: str) -> str:
+    """The page: each node with its number, and the number of each port where it leaves its node."""
+    spots = layout({"nodes": network.nodes, "links": network.links})
+    degrees = network.degrees()
+    about = (f"{network.nodes} nodes, {len(network.links)} links, {min(degrees)} to {max(degrees)} ports a node. "
+             "Agents see no number of a node, and of ports only those of the node where they stand.")
+    return filled("network.html", title=title, about=about, nodes=spots, links=[drawn(spots, link) for link
+                  in network.links], radius=RADIUS, edge=2 * NEAR, size=SCALE + 4 * NEAR)
+
+
+def drawn(spots: List[List[int]], link: Any) -> Dict[str, Any]:
+    """A link as it is drawn: its two ends, and the number of its port at each."""
+    v, p, w, q = link
+    one, two = spots[v], spots[w]
+    return {"one": one, "two": two, "ports": [(p, *towards(one, two)), (q, *towards(two, one))]}
+
+
+def towards(here: List[int], there: List[int]) -> List[int]:
+    """Where the number of a port stands that leads from one spot to another."""
+    length = max(1.0, ((there[0] - here[0]) ** 2 + (there[1] - here[1]) ** 2) ** 0.5)
+    part = min(NEAR / length, 0.4)
+    return [round(here[axis] + part * (there[axis] - here[axis])) for axis in (0, 1)]

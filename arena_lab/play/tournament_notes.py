@@ -1,0 +1,136 @@
+"""What `./arena check` and `./arena serve` say of a tournament on standard error, beside the lines of the program: keys
+that are ignored and why a file cannot be read, and behind `check` the schedule and the links that are held or dark.
+
+    python3 -m arena_lab.play.tournament_notes ignored|schedule WORDS OF THE PROGRAM ..
+
+The tournament is the first of the words that ends in .toml.
+"""
+import difflib
+import pathlib
+import re
+import sys
+import tomllib
+from typing import Any, Dict, Iterator, List, Sequence, Set, Tuple
+
+from arena_lab.play.mistakes import plain
+from arena_lab.rules.delays import OBLIVIOUS
+from arena_lab.rules.fixtures import network_path
+
+VERSION, MATCH, NETWORK, SCHEDULE = "version", "match", "network", "schedule"
+Keys = Dict[int, Set[str]]
+# the keys of a file and of a match, by the file's version
+FILE_KEYS: Keys = {1: {VERSION, "seed", MATCH}}
+FILE_KEYS[2] = FILE_KEYS[1]
+FILE_KEYS[3] = FILE_KEYS[2] | {SCHEDULE, "delay_scales", "delay_odds"}
+ALIKE = {"team", NETWORK, "home", "quota", "board", "keys", "held"}
+MATCH_KEYS: Keys = {1: ALIKE | {"hole"}, 2: ALIKE | {"holes", "dark"}, 3: ALIKE | {"holes", "dark"}}
+IGNORED, NEAR = "ignored", 0.6
+LONE_MATCH = re.compile(r"\s*\[\s*match\s*\]")
+
+
+def ignored(found: Dict[str, Any]) -> List[str]:
+    """Of each key that the program ignores where it stands, and how to mend that."""
+    version = found.get(VERSION)
+    if version not in FILE_KEYS or isinstance(version, bool):
+        return []
+    lines = [f"{key} is ignored: {mend}" for key, mend in strange(found, version, FILE_KEYS, MATCH_KEYS)]
+    if version == 3 and found.get(SCHEDULE) != OBLIVIOUS:
+        lines += [f'{key} is ignored without schedule = "{OBLIVIOUS}"' for key in ("delay_scales", "delay_odds")
+                  if key in found]
+    for number, row in enumerate(matches_of(found)):
+        lines += [f"match {number} {key} is ignored: {mend}" for key, mend
+                  in strange(row, version, MATCH_KEYS, FILE_KEYS)]
+    return lines
+
+
+def strange(row: Dict[str, Any], version: int, here: Keys, there: Keys) -> Iterator[Tuple[str, str]]:
+    """The keys that do not belong into a part of the file, which has keys of its own and not those of the other part,
+    each with how to mend it."""
+    for key in row:
+        later = [number for number in here if key in here[number]]
+        near = difflib.get_close_matches(key, sorted(here[version] - set(row)), 1, NEAR)
+        if key in here[version]:
+            continue
+        if later:
+            yield key, f"it is a key of version {' and '.join(map(str, later))}, and the file has version {version}"
+        elif key in there[version]:
+            where = "above the first [[match]]" if there is FILE_KEYS else "below a [[match]]"
+            yield key, f"it belongs {where}"
+        elif near:
+            yield key, f"did you mean {'[[match]]' if near[0] == MATCH else near[0]}?"
+        else:
+            yield key, f"the keys here are {', '.join(sorted(here[version]))}"
+
+
+def matches_of(found: Dict[str, Any]) -> List[Dict[str, Any]]:
+    """The matches of a file that are tables."""
+    rows = found.get(MATCH)
+    return [row for row in rows if isinstance(row, dict)] if isinstance(rows, list) else []
+
+
+def schedule(found: Dict[str, Any]) -> List[str]:
+    """The schedule of a tournament that is right, and the links of each match that are held or dark."""
+    is_oblivious = found[VERSION] == 3 and found.get(SCHEDULE) == OBLIVIOUS
+    lines = [f"the schedule is oblivious: a link takes less than {1 << found['delay_scales']:,} turns and a few picks, "
+             f"by delay_scales {found['delay_scales']} and delay_odds {found['delay_odds']}" if is_oblivious else
+             'the schedule is adaptive: no delays, and no turns to appeal by; version 3 has schedule = "oblivious"']
+    for number, row in enumerate(matches_of(found)):
+        of_match = [f"{kind} {', '.join(f'{node},{port}' for node, port in row[kind])}"
+                    for kind in ("held", "dark") if row.get(kind) and kind in MATCH_KEYS[found[VERSION]]]
+        if of_match:
+            lines.append(f"match {number} of {row['team']} has links (node,port) {' and '.join(of_match)}")
+    return lines
+
+
+def unread(path: pathlib.Path) -> List[str]:
+    """Why a file cannot be read, if it cannot."""
+    try:
+        path.read_bytes()
+    except FileNotFoundError:
+        return ["there is no such file"]
+    except IsADirectoryError:
+        return ["it is a folder"]
+    except PermissionError:
+        return ["you may not read it: see `ls -l`"]
+    except OSError as fault:
+        return [str(fault.strerror)]
+    return []
+
+
+def of_file(path: pathlib.Path) -> List[str]:
+    """What is said of a file before the program reads it, with the file's name."""
+    why = unread(path)
+    if why:
+        return [f"{path}: {line}" for line in why]
+    text = path.read_text(encoding="utf-8", errors="replace")
+    found = table_of(text)
+    if found is None:
+        lone = [number for number, line in enumerate(text.split("\n"), 1) if LONE_MATCH.match(line)]
+        return [f"{path}: line {lone[0]} has [match]: write [[match]], as of a match among others"] if lone else []
+    names = {row[NETWORK] for row in matches_of(found) if isinstance(row.get(NETWORK), str)}
+    places = [network_path(name, path.parent) for name in sorted(names) if "\0" not in name]
+    return [*(f"{path}: {line}" for line in ignored(found)),
+            *(f"{place}: {line}" for place in places for line in unread(pathlib.Path(place)))]
+
+
+def table_of(text: str) -> Any:
+    """What a text is as TOML, or None if it is none."""
+    try:
+        return tomllib.loads(text)
+    except (ValueError, RecursionError):
+        return None
+
+
+def main(words: Sequence[str]) -> List[str]:
+    """The lines of what is asked for."""
+    path = next((pathlib.Path(word) for word in words[1:] if word.endswith(".toml")), None)
+    if path is None:
+        return []
+    if words[0] == IGNORED:
+        return of_file(path)
+    return [f"{path}: {line}" for line in schedule(table_of(path.read_text(encoding="utf-8")))]
+
+
+if __name__ == "__main__":
+    for said in main(sys.argv[1:]):
+        print(plain(said))

@@ -1,0 +1,88 @@
+"""What is said of a tournament beside the program's lines: keys that are ignored, files that cannot be read, and the
+schedule."""
+import contextlib
+import io
+import pathlib
+import tempfile
+import unittest
+from typing import List
+
+from arena_lab import __main__ as lab
+from arena_lab.play.tournament_notes import IGNORED, SCHEDULE, main
+
+MATCH = ('team = "red"\nnetwork = "tri.toml"\nhome = 0\nholes = [1]\ndark = []\nquota = 9\nboard = 9\nkeys = ["a"]\n'
+         "held = [[0, 1], [2, 0]]\n")
+DELAYS = 'schedule = "oblivious"\ndelay_scales = 10\ndelay_odds = 32\n'
+NEEDS_IT = [f'{it} is ignored without schedule = "oblivious"' for it in ("delay_scales", "delay_odds")]
+
+
+def tournament(version: int = 3, more: str = DELAYS, match: str = MATCH, mark: str = "[[match]]") -> str:
+    return f'version = {version}\nseed = "{"0" * 64}"\n{more}{mark}\n{match}'
+
+
+class Notes(unittest.TestCase):
+    def setUp(self) -> None:
+        folder = tempfile.TemporaryDirectory()
+        self.addCleanup(folder.cleanup)
+        self.folder = pathlib.Path(folder.name)
+        self.network = self.folder / "tri.toml"
+        self.network.write_text("version = 1\n")
+
+    def said(self, text: str, what: str = IGNORED) -> List[str]:
+        """The lines of a tournament, without its name."""
+        path = self.folder / "cup.toml"
+        path.write_text(text)
+        return [line.removeprefix(f"{path}: ") for line in main([what, "check", str(path)])]
+
+    def test_a_misspelt_key_is_named_with_the_one_that_is_meant(self) -> None:
+        self.assertEqual(self.said(tournament()), [])
+        self.assertEqual(self.said(tournament(more=DELAYS.replace("schedule", "schedul"))),
+                         ["schedul is ignored: did you mean schedule?", *NEEDS_IT])
+        self.assertEqual(self.said(tournament(match=MATCH.replace("dark", "drak"))),
+                         ["match 0 drak is ignored: did you mean dark?"])
+        self.assertEqual(self.said(tournament(match=MATCH.replace("held", "hled"))),
+                         ["match 0 hled is ignored: did you mean held?"])
+        self.assertEqual(self.said(tournament(more=DELAYS + "turns = 5\n")), [
+            "turns is ignored: the keys here are delay_odds, delay_scales, match, schedule, seed, version"])
+        self.assertEqual(self.said(tournament(mark="[[matches]]")), ["matches is ignored: did you mean [[match]]?"])
+
+    def test_a_key_in_another_place_or_of_another_version(self) -> None:
+        version = "is ignored: it is a key of version 3, and the file has version 2"
+        self.assertEqual(self.said(tournament(2)), [f"{key} {version}" for key in (
+            "schedule", "delay_scales", "delay_odds")])
+        self.assertEqual(self.said(tournament(1, "", MATCH.replace("dark = []\n", ""))), [
+            "match 0 holes is ignored: it is a key of version 2 and 3, and the file has version 1"])
+        self.assertEqual(self.said(tournament(2, "home = 0\n")), ["home is ignored: it belongs below a [[match]]"])
+        self.assertEqual(self.said(tournament(match=f"{MATCH}seed = 1\n")), [
+            "match 0 seed is ignored: it belongs above the first [[match]]"])
+        self.assertEqual(self.said(tournament(more=DELAYS.replace("oblivious", "adaptive"))), NEEDS_IT)
+
+    def test_a_match_with_single_brackets_is_blamed_where_it_stands(self) -> None:
+        self.assertEqual(self.said(f"{tournament(2, '', mark='[match]')}[[match]]\n"), [
+            "line 3 has [match]: write [[match]], as of a match among others"])
+        self.assertEqual(self.said("version = \n"), [])
+
+    def test_why_a_file_cannot_be_read(self) -> None:
+        self.network.unlink()
+        self.assertEqual(self.said(tournament()), ["tri.toml: there is no such file"])
+        self.network.mkdir()
+        self.assertEqual(self.said(tournament()), [f"{self.network}: it is a folder"])
+        absent = self.folder / "absent.toml"
+        self.assertEqual(main([IGNORED, "serve", "--early", str(absent)]), [f"{absent}: there is no such file"])
+        self.assertEqual(main([IGNORED, "check", "absent"]), [])
+
+    def test_the_schedule_and_what_is_held_and_dark(self) -> None:
+        self.assertEqual(self.said(tournament(match=MATCH.replace("[]", "[[1, 1]]")), SCHEDULE), [
+            "the schedule is oblivious: a link takes less than 1,024 turns and a few picks, by delay_scales 10 and "
+            "delay_odds 32", "match 0 of red has links (node,port) held 0,1, 2,0 and dark 1,1"])
+        self.assertEqual(self.said(tournament(2, match=MATCH.replace("held", "hled")), SCHEDULE), [
+            'the schedule is adaptive: no delays, and no turns to appeal by; version 3 has schedule = "oblivious"'])
+
+    def test_check_of_the_lab_names_the_program_s(self) -> None:
+        with contextlib.redirect_stderr(io.StringIO()) as said:
+            self.assertEqual(lab.main(["check", "cup.toml", "--engine", "model"]), 2)
+        self.assertIn("cup.toml: that is no agent; of a tournament it is `arena check cup.toml`", said.getvalue())
+
+
+if __name__ == "__main__":
+    unittest.main()
