@@ -1,20 +1,20 @@
 #!/usr/bin/env python3
-"""Shows a hall on this machine: three sample teams practise and play rated series, and a fourth never comes.
+"""Shows a hall on this machine: three sample teams practise and hand in programs, and a fourth never comes.
 
     python3 examples/hall.py [--demo-seconds N] [--port N] [--no-browser]
 
 Starts `./arena-lab hall` on examples/hall/course.toml in a temporary folder, opens its page in a browser, and has the
-teams
-play until Enter is pressed, or for N seconds. Then all of it ends, and the standings are printed. It says by which
-token one logs in as a team, and by which password as the teacher.
+teams play until Enter is pressed, or for N seconds. Then all of it ends, and the standings are printed. It says by
+which token one logs in as a team, and by which password as the teacher.
 
-It needs Debian's packages python3-django, python3-djangorestframework, gunicorn, python3-distributed, python3-networkx,
-python3-numpy, python3-scipy, python3-greenlet, python3-tqdm and python3-jinja2. The program is the proved one if it is
-built, else one without a proof, which is compiled in a minute or two and says so; ARENA in the environment names
-another.
+It needs Debian's packages python3-django, python3-djangorestframework, python3-waitress, python3-whitenoise,
+python3-networkx, python3-numpy, python3-scipy, python3-greenlet, python3-tqdm and python3-jinja2. The program is the
+proved one if it is built, else one without a proof, which is compiled in a minute or two and says so; ARENA in the
+environment names another.
 """
 import argparse
 import csv
+import io
 import json
 import os
 import pathlib
@@ -28,6 +28,7 @@ import time
 import urllib.error
 import urllib.request
 import webbrowser
+import zipfile
 from typing import Dict, List, NamedTuple, Optional
 
 TOP = pathlib.Path(__file__).resolve().parent.parent
@@ -44,20 +45,21 @@ ON_RINGS, WITH_SIDE, WITH_MAP = [*ENTERS, "{nodes}"], [*ENTERS, "{nodes}", "{age
 
 
 class Turn(NamedTuple):
-    """What a team plays: the network, whether it is rated, the program of an agent and its words."""
+    """What a team practises: the network, the program of an agent and its words."""
 
     network: str
-    is_rated: bool
     agent: str
     words: List[str] = ON_RINGS
 
 
 PLAYED: Dict[str, List[Turn]] = {
-    "amber": [Turn("ring of 8", True, "ring.py"), Turn("ring of 12", True, "ring.py"),
-              Turn("ring of 8", False, "ring.py")],
-    "birch": [Turn("torus with a map", True, "known_map.py", WITH_MAP), Turn("ring of 8", True, "ring3.py")],
-    "cedar": [Turn("ring of 12", False, "shuttle.py", WITH_SIDE), Turn("ring of 8", True, "shuttle.py", WITH_SIDE)],
+    "amber": [Turn("ring of 8", "ring.py"), Turn("ring of 12", "ring.py")],
+    "birch": [Turn("torus with a map", "known_map.py", WITH_MAP)],
+    "cedar": [Turn("ring of 12", "shuttle.py", WITH_SIDE)],
 }
+# what teams hand in; the second needs a third agent, and solves nothing
+PROGRAMS = {"amber": "ring.py", "birch": "ring3.py"}
+EDGE = "----a-program"
 
 
 class Demo:
@@ -70,7 +72,7 @@ class Demo:
         course = shutil.copy2(COURSE, folder)
         program = ["--program", os.environ["ARENA"]] if "ARENA" in os.environ else []
         self._hall = subprocess.Popen([DEBIANS_PYTHON, "-m", "arena_lab", "hall", str(course), "--port", str(port),
-                                       *program],
+                                       "--weak-walls", *program],
                                       cwd=TOP, stdout=subprocess.DEVNULL)
         self._teams: List[threading.Thread] = []
 
@@ -99,8 +101,20 @@ class Demo:
                                        headers={"Authorization": f"Bearer {self.tokens()['amber']}"})
         with urllib.request.urlopen(asked) as told:
             rows = json.load(told)["teams"]
-        return "".join(f"{'absent' if row['absent'] else row['place']:>6} {row['name']:<16} {row['points']:>6}\n"
-                       for row in rows)
+        return "".join(f"{'absent' if row['absent'] else row['place']:>6} {row['name']:<16} "
+                       f"{row['solved']} of {row['matches']}\n" for row in rows)
+
+    def hand_in(self, team: str, program: str) -> None:
+        """Hands in a program with the module that it imports."""
+        made = io.BytesIO()
+        with zipfile.ZipFile(made, "w") as archive:
+            archive.write(AGENTS / program, "agent.py")
+            archive.write(AGENTS / "client.py", "client.py")
+        head = f'--{EDGE}\r\nContent-Disposition: form-data; name="file"; filename="agent.zip"\r\n\r\n'
+        asked = urllib.request.Request(
+            f"{self.address}/api/hand-ins", head.encode() + made.getvalue() + f"\r\n--{EDGE}--\r\n".encode(),
+            {"Authorization": f"Bearer {self.tokens()[team]}", "Content-Type": f"multipart/form-data; boundary={EDGE}"})
+        urllib.request.urlopen(asked).close()
 
     def end(self) -> None:
         self._is_over.set()
@@ -117,13 +131,14 @@ class Demo:
             return False
 
     def _play(self, team: str, token: str) -> None:
-        """A team that plays again and again."""
+        """A team that hands in its program, and practises again and again."""
+        if team in PROGRAMS:
+            self.hand_in(team, PROGRAMS[team])
         while not self._is_over.is_set():
             for turn in PLAYED[team]:
                 if self._is_over.is_set():
                     return
-                words = [*(["--rated"] if turn.is_rated else []), self.address, turn.network, sys.executable,
-                         str(AGENTS / turn.agent), *turn.words]
+                words = [self.address, turn.network, sys.executable, str(AGENTS / turn.agent), *turn.words]
                 ran = subprocess.Popen([sys.executable, str(PRACTISE), *words], stdout=subprocess.DEVNULL,
                                        stderr=subprocess.DEVNULL, env={**os.environ, "ARENA_TOKEN": token})
                 while ran.poll() is None and not self._is_over.wait(0.2):

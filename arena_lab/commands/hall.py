@@ -1,21 +1,26 @@
-"""Serves a hall: a place that stays up for a term, where teams practise, try again, hand in programs, and are ranked.
+"""Serves a hall: a place that stays up for a term, where teams practise, hand in programs, and are ranked by these.
 
     ./arena-lab hall new COURSE.toml              writes the file of a course, to be changed
     ./arena-lab hall COURSE.toml                  serves its hall on http://127.0.0.1:8000/
     ./arena-lab hall keys COURSE.toml             draws tokens for teams that have none, and writes their key sheets
     ./arena-lab hall password COURSE.toml         sets the teacher's password, which it asks for or draws
-    ./arena-lab hall contest COURSE.toml --network NAME --start 18:00 --minutes 45
-                                                     has the matches of all teams begin together
+    ./arena-lab hall contest COURSE.toml --networks NAME .. --start 18:00 --minutes 90 --freeze 19:00
+                                                  plans a contest: programs are handed in then, on these networks
+    ./arena-lab hall worker COURSE.toml           plays and grades for a hall that another machine serves
     ./arena-lab hall backup COURSE.toml FILE      writes all that the hall has into an archive, while it is served
+    ./arena-lab hall restore COURSE.toml FILE     puts the hall of an archive in the place of this one, which is put
+                                                  aside
 
-A team logs in by the token of its key sheet, or sends it with each request as a script. It asks for a match on a
-network of the course, gets a host, a port and keys, and connects its agents from its own machine. Each match has a
-server of its own, `arena serve`. The hall keeps its folder, COURSE.hall, beside the file; nobody else may read it.
+A team logs in by the token of its key sheet, or sends it with each request as a script. To practise it asks for a match
+on a network of the course, gets a host, a port and keys, and connects its agents from its own machine. Each match has a
+server of its own, `arena serve`. Programs that teams hand in are graded in sandboxes, and ranked. The hall keeps its
+folder, COURSE.hall, beside the file; nobody else may read it.
 
-docs/HALL.md says more, for teachers. It needs Debian's packages python3-django, python3-djangorestframework, gunicorn
-and python3-distributed.
+docs/HALL.md says more, for teachers. It needs Debian's packages python3-django, python3-djangorestframework,
+python3-waitress and python3-whitenoise.
 """
 import argparse
+import contextlib
 import datetime
 import getpass
 import os
@@ -23,60 +28,73 @@ import pathlib
 import sys
 from typing import Any, Callable, Dict
 
-from arena_lab.commands.words import add_program, at_least_one
+from arena_lab.commands.words import add_program, at_least_one, not_negative
 from arena_lab.course import sandbox
 from arena_lab.course.sandbox import Isolation
-from arena_lab.hall import backup, entry, place, supervisor
+from arena_lab.hall import backup, entry, place, serving
 from arena_lab.hall.course import Hall, NoHall, read
 from arena_lab.hall.place import HallFolder, folder_of
 from arena_lab.rules.engines import program_at
 from arena_lab.support.missing import check
 
-NEEDED = ("django", "rest_framework", "gunicorn", "distributed")
-ACTIONS = ("new", "serve", "keys", "password", "contest", "backup")
+NEEDED = ("django", "rest_framework", "waitress", "whitenoise")
+ACTIONS = ("new", "serve", "worker", "keys", "password", "contest", "backup", "restore")
 SHEET = "keys.csv"
+# how far off the deadline of a new course is
+A_TERM = datetime.timedelta(weeks=16)
 
 
 def add_words(parser: argparse.ArgumentParser) -> None:
     """The words of the command `hall`."""
     parser.add_argument("words", metavar="WORDS", nargs="+", help="what to do (serve), the file of the "
-                        "course, and for `backup` the archive")
+                        "course, and for `backup` and `restore` the archive")
     parser.add_argument("--folder", metavar="FOLDER", type=pathlib.Path, help="where the hall keeps everything (the "
                         "file's name with .hall)")
     parser.add_argument("--port", metavar="N", type=at_least_one, default=8000, help="the port of the pages (8000)")
     parser.add_argument("--address", metavar="A", default="127.0.0.1", help="the address of the pages (127.0.0.1); "
                         "others reach them by nginx or Caddy, which encrypt: docs/HALL.md has both files")
-    parser.add_argument("--workers", metavar="N", type=at_least_one, default=2, help="how many workers of Dask (2)")
-    parser.add_argument("--cluster", metavar="ADDRESS", help="give work to the workers of this scheduler of Dask, "
-                        "which need the same folders and the database, so PostgreSQL")
+    parser.add_argument("--workers", metavar="N", type=not_negative, default=2, help="how many processes play matches "
+                        "and grade programs (2; 0 if other machines do)")
     parser.add_argument("--weak-walls", action="store_true", help="take hand-ins although this machine puts up no "
                         "walls between programs: they can then read what this user can, also the hall")
     parser.add_argument("--seconds", metavar="N", type=float, help="end after this number of seconds")
     group = parser.add_argument_group("contest")
-    group.add_argument("--network", metavar="NAME", help="the network of the contest, as the course names it")
+    group.add_argument("--name", metavar="NAME", default="contest", help="what the contest is called (contest)")
+    group.add_argument("--networks", metavar="NAME", nargs="+", default=[], help="the networks of the contest, as the "
+                       "course names them")
     group.add_argument("--start", metavar="HH:MM", help="when it begins today, or a whole time such as \"2026-12-18 "
                        "18:00\" (now)")
-    group.add_argument("--minutes", metavar="N", type=at_least_one, default=45, help="how long its matches go on (45)")
+    group.add_argument("--minutes", metavar="N", type=at_least_one, default=45, help="how long it goes on (45)")
+    group.add_argument("--freeze", metavar="HH:MM", help="from when on its table does not change for teams (never)")
     add_program(parser)
 
 
 def run(words: argparse.Namespace) -> int:
     action, *given = words.words if words.words[0] in ACTIONS else ["serve", *words.words]
-    wanted = 2 if action == "backup" else 1
+    wanted = 2 if action in ("backup", "restore") else 1
     if len(given) != wanted:
         raise NoHall(f"`hall {action}` takes {'COURSE.toml and the archive' if wanted == 2 else 'COURSE.toml'}")
     course = pathlib.Path(given[0])
     if action == "new":
         return write_new(course)
     check(*NEEDED)
-    hall = read(course)
     folder = (words.folder or folder_of(course)).resolve()
     if action == "serve":
-        return serve(words, hall, HallFolder(folder, course.resolve(), program_at(words.program, words.needs)))
+        return serve(words, HallFolder(folder, course.resolve(), program_at(words.program, words.needs)))
+    if action == "restore":
+        backup.take_course(pathlib.Path(given[1]), course)
+    hall = read(course)
+    if action == "worker":
+        return work(words, hall, folder)
+    if action == "restore":
+        return restore(HallFolder(folder, course.resolve(), None), pathlib.Path(given[1]))
     begin(place.at(folder))
-    if action == "backup":
-        return report(f"wrote {backup.write(place.at(folder), pathlib.Path(given[1]))}")
-    return DONE[action](words, hall, folder)
+    try:
+        if action == "backup":
+            return report(f"wrote {backup.write(place.at(folder), pathlib.Path(given[1]))}")
+        return DONE[action](words, hall, folder)
+    finally:
+        place.leave(folder, folder.stat())
 
 
 def report(line: str) -> int:
@@ -89,7 +107,8 @@ def write_new(course: pathlib.Path) -> int:
     if course.exists():
         raise NoHall(f"{course}: there is such a file already")
     text = (pathlib.Path(place.__file__).parent / "new.toml").read_text(encoding="utf-8")
-    course.write_text(text, encoding="utf-8")
+    deadline = datetime.date.today() + A_TERM
+    course.write_text(text.replace("2099-12-31", str(deadline)), encoding="utf-8")
     return report(f"wrote {course}: change it, and serve it by `arena-lab hall {course}`")
 
 
@@ -112,16 +131,43 @@ def check_walls(words: argparse.Namespace, hall: Hall) -> None:
         print(f"hall: {sandbox.weakness()}; {sandbox.strongest().value}", file=sys.stderr)
 
 
-def serve(words: argparse.Namespace, hall: Hall, of: HallFolder) -> int:
-    check_walls(words, hall)
+def restore(of: HallFolder, archive: pathlib.Path) -> int:
+    """Restores a hall that nobody serves."""
+    owner = (of.folder if of.folder.exists() else of.folder.parent).stat()
+    with serving.alone(of) if of.folder.exists() else contextlib.nullcontext():
+        aside = backup.restore(of, archive)
+        entry.begin(str(of.folder))
+        backup.load(of, aside)
+        begin(of)
+    place.leave(of.folder, owner)
+    said = f"; what was there before is in {aside}" if aside else ""
+    return report(f"{of.folder} is as it stood in {archive}{said}: serve it by `arena-lab hall {of.course}`")
+
+
+def serve(words: argparse.Namespace, of: HallFolder) -> int:
     os.umask(0o077)
+    if not of.folder.exists():
+        read(of.course)
     of.write()
-    with supervisor.alone(of):
+    with serving.alone(of):
+        hall = of.keep()
+        check_walls(words, hall)
+        for line in hall.notes:
+            place.tell(line)
         begin(of)
         prepare(hall, of)
         print(f"hall http://{words.address}:{words.port}/ (the teacher's pages: /teacher/)", flush=True)
-        options = supervisor.Options(words.address, words.port, words.workers, words.cluster)
-        supervisor.serve(of, options, words.seconds)
+        serving.serve(of, serving.Options([words.address, words.port], words.workers), words.seconds)
+    return 0
+
+
+def work(words: argparse.Namespace, hall: Hall, folder: pathlib.Path) -> int:
+    """Workers on another machine than the pages, or besides those that they have."""
+    if hall.database == "sqlite":
+        raise NoHall("workers on other machines need PostgreSQL: `database` in the course's file, and the same folder")
+    check_walls(words, hall)
+    os.umask(0o077)
+    serving.serve(place.at(folder), serving.Options(None, words.workers), words.seconds)
     return 0
 
 
@@ -129,9 +175,7 @@ def prepare(hall: Hall, of: HallFolder) -> None:
     """Makes teams, tokens and the teacher's password, where they are not there yet."""
     from arena_lab.hall import keys
     keys.sync(hall)
-    sheet = keys.missing_tokens()
-    if sheet:
-        keys.write_sheet(of.folder / SHEET, sheet)
+    if keys.draw_missing(of.folder / SHEET):
         print(f"hall: give each team its token out of {of.folder / SHEET}", flush=True)
     if not keys.has_password():
         place.write_whole(of.folder / place.PASSWORD, keys.set_password() + "\n")
@@ -142,10 +186,8 @@ def prepare(hall: Hall, of: HallFolder) -> None:
 def draw_keys(words: argparse.Namespace, hall: Hall, folder: pathlib.Path) -> int:
     from arena_lab.hall import keys
     keys.sync(hall)
-    sheet = keys.missing_tokens()
-    if sheet:
-        keys.write_sheet(folder / SHEET, sheet)
-    return report(f"{len(sheet)} tokens were drawn; the sheets are in {folder / SHEET}")
+    count = keys.draw_missing(folder / SHEET)
+    return report(f"{count} tokens were drawn; the sheets are in {folder / SHEET}")
 
 
 def set_password(words: argparse.Namespace, hall: Hall, folder: pathlib.Path) -> int:
@@ -161,27 +203,34 @@ def set_password(words: argparse.Namespace, hall: Hall, folder: pathlib.Path) ->
     return report(f"the password is in {folder / place.PASSWORD}")
 
 
-def start_of(word: Any, hall: Hall) -> Any:
-    """When a contest begins."""
+def moment_of(word: str) -> Any:
+    """A time that is named, of today or whole."""
     from django.utils import timezone
-    now = timezone.localtime()
     try:
-        if word is None:
-            return now
         if len(word) <= 5:
             hours, minutes = map(int, word.split(":"))
-            return now.replace(hour=hours, minute=minutes, second=0, microsecond=0)
+            return timezone.localtime().replace(hour=hours, minute=minutes, second=0, microsecond=0)
         return timezone.make_aware(datetime.datetime.fromisoformat(word))
     except ValueError:
         raise NoHall(f"{word}: write a time as 18:00, or as \"2026-12-18 18:00\"") from None
 
 
 def plan_contest(words: argparse.Namespace, hall: Hall, folder: pathlib.Path) -> int:
-    from arena_lab.hall.attempts.models import Contest
-    if words.network not in hall.nets:
-        raise NoHall(f"name a network of the course by --network: {', '.join(hall.nets)}")
-    made = Contest.objects.create(network=words.network, start=start_of(words.start, hall), minutes=words.minutes)
-    return report(f"contest {made.pk}: {made}, {made.minutes} minutes; teams see their keys then")
+    from django.core.exceptions import ValidationError
+    from django.utils import timezone
+
+    from arena_lab.hall.handins.models import Contest
+    if hall.hand_ins is None:
+        raise NoHall("a contest is of programs that are handed in: write [hand_ins] into the course's file")
+    start = moment_of(words.start) if words.start else timezone.localtime()
+    made = Contest(name=words.name, networks=words.networks, start=start, end=start + datetime.timedelta(
+        minutes=words.minutes), freeze=moment_of(words.freeze) if words.freeze else None)
+    try:
+        made.full_clean()
+    except ValidationError as fault:
+        raise NoHall("; ".join(fault.messages)) from None
+    made.save()
+    return report(f"contest {made.pk}, {made}: from {made.start:%Y-%m-%d %H:%M} to {made.end:%H:%M}")
 
 
 DONE: Dict[str, Callable[[argparse.Namespace, Hall, pathlib.Path], int]] = {

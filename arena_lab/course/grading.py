@@ -22,7 +22,7 @@ from arena_lab.course.points import marks
 from arena_lab.course.pool import Budget, Limited, TimedResult, in_time
 from arena_lab.course.rounds import OF_ALL, Repeating, in_a_line
 from arena_lab.pages import page
-from arena_lab.play import kept_matches, programs
+from arena_lab.play import kept_matches, programs, referee
 from arena_lab.play.agent_files import digests
 from arena_lab.play.matches import PlayedMatch, play
 from arena_lab.play.schedulers import Scheduler, in_runs
@@ -48,6 +48,8 @@ HURRIED = 4
 TIME_IS_UP = "the time for this was up, so there may be a smaller one"
 # what came of repeating solved matches
 REPEATS, REPEATS_HEAD = "repeats.csv", ("run", "team", "fault")
+# of a failed match what came of it, a fact a line
+TOLD = "told.txt"
 
 
 class NotSmaller(Exception):
@@ -95,6 +97,7 @@ class GradingRun(NamedTuple):
         sandbox.remove(place)
         if played.has_failed() or tables.row_of(row)["outcome"] != SOLVED:
             kept_matches.write_find(place, schedule, played, self.program)
+            (place / TOLD).write_text("\n".join(referee.told(played.match, played.faults)), encoding="utf-8")
         else:
             self.replay_of(case).parent.mkdir(exist_ok=True)
             self.replay_of(case).write_bytes(played.replay)
@@ -104,7 +107,7 @@ class GradingRun(NamedTuple):
     def refused(self, case: Case) -> List[str]:
         """What is said of the lines of a match that were refused."""
         solved = rounds.refused_of(self.out, case.team.name, case.number)
-        return kept_matches.refused_in(self.place(case) / kept_matches.REFUSED) or kept_matches.refused_in(solved)
+        return kept_matches.lines_in(self.place(case) / kept_matches.REFUSED) or kept_matches.lines_in(solved)
 
     def repeating(self) -> Repeating:
         """What repeats agents of solved matches."""
@@ -198,7 +201,8 @@ class Cutting(NamedTuple):
             choices = None
         errors = sorted((path.name for path in place.glob(f"{kept_matches.ERRORS}*.txt")), key=lambda name: (len(name),
                                                                                                              name))
-        return Failure(case.number, choices, has_smallest, said, (place / kept_matches.PAGE).exists(), errors)
+        told = kept_matches.lines_in(place / TOLD)
+        return Failure(case.number, choices, has_smallest, said, (place / kept_matches.PAGE).exists(), errors, told)
 
     def digests(self) -> Dict[str, str]:
         return self.graded.digests()

@@ -66,8 +66,8 @@ class LeagueRow(NamedTuple):
 
 class Failure(NamedTuple):
     """A failed match: its number, how many choices its schedule has, if it was played, whether a smallest schedule was
-    found, what is said of that, whether there are pages to watch, and the files of what its programs wrote to standard
-    error."""
+    found, what is said of that, whether there are pages to watch, the files of what its programs wrote to standard
+    error, and what came of it as a referee tells it."""
 
     number: int
     choices: Optional[int]
@@ -75,6 +75,7 @@ class Failure(NamedTuple):
     said: str
     has_pages: bool
     errors: Sequence[str] = ()
+    told: Sequence[str] = ()
 
 
 def standings_of(rows: Sequence[Row], teams: Sequence[str]) -> List[LeagueRow]:

@@ -1,4 +1,4 @@
-"""A hall's file: the teams of a course, the networks they search, and the rules by which they are ranked.
+"""A hall's file: the teams of a course, the networks on which they practise, and how their programs are graded.
 
     title = "Black hole search, autumn term"
     host = "arena.example.org"
@@ -25,41 +25,31 @@
     public        true if everybody may see the standings, and not only who has logged in (false)
     freeze        the time from which on the standings do not change for teams, such as "2026-12-18 18:00"
 
-Each [[team]] has a `name`, of 1 to 16 characters out of a to z, 0 to 9 and -, and may have a `display` name of any
-script. Each [[network]] has a `name` and a `network`, as --network takes it, and may have `agents`, a number or
+Each [[team]] has a `name`, of 1 to 16 characters out of a to z, 0 to 9 and - (not first), and may have a `display` name
+of any script. Each [[network]] has a `name` and a `network`, as --network takes it, and may have `agents`, a number or
 "degree" for one more than the greatest degree (2), `holes` (1), `quota` (1000), `board` (4096), `labels`, "drawn" for
 each match or "fixed" ("drawn"), and `map`, true if teams get the network and the home base (false).
 
-    [rated]
-    series        how many matches a rated attempt has, which are drawn together (3)
-    a_day         how many rated attempts a team has a day and network (3)
-    counts        which of them counts, "best" or "last" ("best")
-    by            how a series is weighed, by the "mean" or the "worst" of its matches ("mean")
-    solved        points of a network for a match that is solved (100)
-    moves         more points for moves: the best team has all of them, others as much less as they move more (20)
-    traps         how many matches more a rated attempt has which are traps: they have no black hole, and nobody arrives
-                  at some of their nodes, so a team that takes a long silence for a black hole is deceived (0)
-    deceived      points that a team loses on a network if all traps of its series have deceived it (20)
-
     [limits]
-    at_once       how many attempts of a team wait or run at a time (2)
-    a_day         how many attempts of practice a team has a day (300)
+    at_once       how many matches of a team wait or run at a time (2)
+    a_day         how many matches of practice a team has a day (300)
     requests      how many requests a team makes a minute (120)
     disk          how many megabytes the files of a team take (200)
     matches       how many matches are played at a time (64)
-    gradings      how many programs are graded at a time (1)
+    gradings      how many programs are graded at a time (2)
 
     [hand_ins]
     command       the words that start the program of one agent, as in a course of `grade`
     file          the name of a file that is handed in by itself ("agent.py")
     networks      networks on which each hand-in is graded at once, as --network takes them
-    secret        networks on which the last hand-in of each team is graded after the deadline ([])
-    deadline      a time, such as "2026-12-18 18:00"; after it nothing is taken
+    secret        networks on which the last hand-in of each team is graded after the deadline, by one draw for all
+                  teams (the same as `networks`)
+    deadline      a time, such as "2026-12-18 18:00"; after it nothing is taken, and the last hand-ins are graded
     a_day         how many hand-ins a team has a day (10)
     agents, holes, schedulers, seeds
                   as in a course of `grade` (2, 2, ["fair", "slow-agents"], 2)
 
-Without [hand_ins] nothing is handed in. Times are of the zone.
+Without [hand_ins] nothing is handed in, and nobody is ranked. Times are of the zone.
 """
 import datetime
 import functools
@@ -78,10 +68,11 @@ from arena_lab.sweep.grid import DEGREE, NoSweep, is_count, is_number, is_text, 
 
 LANGUAGES = ("en", "de", "fr")
 DRAWN, FIXED = "drawn", "fixed"
-BEST, LAST, MEAN, WORST = "best", "last", "mean", "worst"
-TEAM = re.compile("[a-z0-9-]{1,16}")
+# a table of earlier files, which is passed over
+RATED = "rated"
+TEAM = re.compile("[a-z0-9][a-z0-9-]{0,15}")
 KEYS = {"title", "host", "address", "ports", "names", "https", "zone", "language", "database", "minutes", "gather",
-        "pause", "freeze", "public", "team", "network", "rated", "limits", "hand_ins"}
+        "pause", "freeze", "public", "team", "network", RATED, "limits", "hand_ins"}
 NET_KEYS = {"name", "network", "agents", "holes", "quota", "board", "labels", "map"}
 TIMES = "a time such as \"2026-12-18 18:00\""
 
@@ -98,9 +89,10 @@ class Member(NamedTuple):
 
 
 class Net(NamedTuple):
-    """A network of the hall, and how matches on it are drawn."""
+    """A network of the hall: by which word or file it is named, and how matches on it are drawn."""
 
     name: str
+    word: str
     network: Network
     agents: int
     holes: int
@@ -108,24 +100,6 @@ class Net(NamedTuple):
     board: int
     labels: str
     has_map: bool
-
-
-class Rated(NamedTuple):
-    """How teams are rated."""
-
-    series: int
-    a_day: int
-    counts: str
-    by: str
-    solved: int
-    moves: int
-    traps: int = 0
-    deceived: int = 20
-
-    @property
-    def matches(self) -> int:
-        """How many matches a rated attempt has, with its traps."""
-        return self.series + self.traps
 
 
 class TeamLimits(NamedTuple):
@@ -174,9 +148,10 @@ class Hall(NamedTuple):
     freeze: Optional[datetime.datetime]
     teams: List[Member]
     nets: Dict[str, Net]
-    rated: Rated
     limits: TeamLimits
     hand_ins: Optional[HandInRules]
+    # what the teacher is told when the hall starts
+    notes: List[str]
 
     @property
     def turns(self) -> int:
@@ -184,10 +159,10 @@ class Hall(NamedTuple):
         return self.minutes * 60_000 // self.pause
 
 
-def read(path: pathlib.Path) -> Hall:
-    """The hall of a file."""
+def read(path: pathlib.Path, kept: Optional[pathlib.Path] = None) -> Hall:
+    """The hall of a file, or of a copy of it that was kept."""
     try:
-        return hall_of(path.read_text(encoding="utf-8"), path.resolve())
+        return hall_of((kept or path).read_text(encoding="utf-8"), path.resolve())
     except FileNotFoundError:
         raise NoHall(f"{path}: there is no such file: `arena-lab hall new FILE` writes one") from None
     except UnicodeDecodeError:
@@ -204,9 +179,8 @@ def hall_of(text: str, path: pathlib.Path) -> Hall:
     except tomllib.TOMLDecodeError as fault:
         raise NoSweep(f"it is no TOML: {fault}") from None
     check_keys(found, KEYS, "a hall")
-    nets, rated = nets_of(found, path.parent), rated_of(table(found, "rated"))
-    check_ports(ports_of(found), limits_of(table(found, "limits")), rated)
-    check_traps(nets, rated)
+    nets = nets_of(found, path.parent)
+    check_ports(ports_of(found), limits_of(table(found, "limits")))
     zone = taken(found, "zone", is_zone, "a time zone such as \"Europe/Berlin\"", "UTC")
     minutes, gather, pause = numbers(found, {"minutes": 8, "gather": 60, "pause": 5})
     return Hall(
@@ -217,9 +191,18 @@ def hall_of(text: str, path: pathlib.Path) -> Hall:
         language=taken(found, "language", lambda it: it in LANGUAGES, f"one of {', '.join(LANGUAGES)}", "en"),
         database=text_in(found, "database", "sqlite"), minutes=minutes, gather=gather, pause=pause,
         public=taken(found, "public", is_bool, "true or false", False), freeze=time_of(found, "freeze", zone),
-        teams=teams_of(found), nets=nets, rated=rated,
-        limits=limits_of(table(found, "limits")),
-        hand_ins=hand_ins_of(found["hand_ins"], zone) if "hand_ins" in found else None)
+        teams=teams_of(found), nets=nets, limits=limits_of(table(found, "limits")),
+        hand_ins=hand_ins_of(found["hand_ins"], zone) if "hand_ins" in found else None, notes=notes_of(found))
+
+
+def notes_of(found: Dict[str, Any]) -> List[str]:
+    """What a file says that comes to nothing."""
+    notes = []
+    if RATED in found:
+        notes.append(f"[{RATED}] is passed over: matches over sockets are practice, and only hand-ins are ranked")
+    if "hand_ins" in found and "deadline" not in found["hand_ins"]:
+        notes.append("[hand_ins] has no deadline: no hand-in is graded by the secret draw until you write one")
+    return notes
 
 
 def text_in(found: Dict[str, Any], name: str, usual: str) -> str:
@@ -230,7 +213,7 @@ def limits_of(found: Dict[str, Any]) -> TeamLimits:
     """What a team may take."""
     check_keys(found, TeamLimits._fields, "limits")
     return TeamLimits(*numbers(found, {"at_once": 2, "a_day": 300, "requests": 120, "disk": 200, "matches": 64,
-                                   "gradings": 1}))
+                                   "gradings": 2}))
 
 
 def check_keys(found: Dict[str, Any], keys: Any, name: str) -> None:
@@ -271,23 +254,11 @@ def ports_of(found: Dict[str, Any]) -> Tuple[int, int]:
     return first, last
 
 
-def check_ports(ports: Tuple[int, int], limits: TeamLimits, rated: Rated) -> None:
-    """Refuses a hall that could play more matches than it has ports for, or no series at all."""
+def check_ports(ports: Tuple[int, int], limits: TeamLimits) -> None:
+    """Refuses a hall that could play more matches than it has ports for."""
     count = ports[1] - ports[0] + 1
     if limits.matches > count:
         raise NoSweep(f"[limits] has matches = {limits.matches}, and there are only {count} ports: name more by ports")
-    if rated.matches > limits.matches:
-        raise NoSweep(f"a series has {rated.matches} matches, and [limits] lets only {limits.matches} be played at a "
-                      "time")
-
-
-def check_traps(nets: Dict[str, Net], rated: Rated) -> None:
-    """Refuses traps on networks that have room for none: nobody arrives at one node more than there are black holes."""
-    for net in nets.values():
-        if rated.traps and not 1 <= net.holes < net.network.nodes - 1:
-            raise NoSweep(f"[rated] has traps = {rated.traps}, and {net.name} has {net.holes} black holes of "
-                          f"{net.network.nodes} nodes: a trap needs a black hole to hide, and one node more than that "
-                          "besides the home base")
 
 
 def time_of(found: Dict[str, Any], name: str, zone: str) -> Optional[datetime.datetime]:
@@ -307,7 +278,8 @@ def teams_of(found: Dict[str, Any]) -> List[Member]:
     made = []
     for row in taken(found, "team", lambda it: isinstance(it, list), "given as [[team]]", []):
         check_keys(row, {"name", "display"}, "a team")
-        name = taken(row, "name", is_team, "given for each team, of 1 to 16 characters out of a to z, 0 to 9 and -")
+        name = taken(row, "name", is_team, "given for each team, of 1 to 16 characters out of a to z, 0 to 9 and -, "
+                     "which does not come first")
         made.append(Member(name, taken(row, "display", is_text, "a text", name)))
     if len({it.name for it in made}) < len(made):
         raise NoSweep("two teams have the same name")
@@ -329,31 +301,17 @@ def net_of(row: Dict[str, Any], folder: pathlib.Path) -> Net:
     name = taken(row, "name", lambda it: is_text(it) and len(it) <= 60, "given for each network: a text of at most 60 "
                  "characters, such as \"ring of 16\"")
     word = taken(row, "network", is_text, f"given for {name}, such as \"ring:16\"")
-    network = networks.biconnected(word if ":" in word else str(folder / word))
+    word = word if ":" in word else str(folder / word)
+    network = networks.biconnected(word)
     agents: Union[int, str] = taken(row, "agents", lambda it: it == DEGREE or is_count(it) and it <= MOST_AGENTS,
                                     f'1 to {MOST_AGENTS}, or "{DEGREE}"', 2)
     return Net(
-        name, network, max(network.degrees()) + 1 if isinstance(agents, str) else agents,
+        name, word, network, max(network.degrees()) + 1 if isinstance(agents, str) else agents,
         taken(row, "holes", lambda it: is_number(it) and it < network.nodes, "a whole number less than the nodes", 1),
         taken(row, "quota", lambda it: is_count(it) and it <= MOST_QUOTA, f"1 to {MOST_QUOTA}", SMALL_QUOTA),
         taken(row, "board", lambda it: is_number(it) and it <= MOST_BOARD, f"0 to {MOST_BOARD}", SMALL_BOARD),
         taken(row, "labels", lambda it: it in (DRAWN, FIXED), f'"{DRAWN}" or "{FIXED}"', DRAWN),
         taken(row, "map", is_bool, "true or false", False))
-
-
-def rated_of(found: Dict[str, Any]) -> Rated:
-    """The rules by which teams are rated."""
-    check_keys(found, Rated._fields, "rated")
-    series, a_day = numbers({name: found[name] for name in ("series", "a_day") if name in found},
-                            {"series": 3, "a_day": 3})
-    counts = taken(found, "counts", lambda it: it in (BEST, LAST), f'"{BEST}" or "{LAST}"', BEST)
-    by = taken(found, "by", lambda it: it in (MEAN, WORST), f'"{MEAN}" or "{WORST}"', MEAN)
-    usual = {"solved": 100, "moves": 20, "traps": 0, "deceived": 20}
-    solved, moves, traps, deceived = (taken(found, name, is_number, "a whole number", number)
-                                      for name, number in usual.items())
-    if series + traps > 20:
-        raise NoSweep("a series has 1 to 20 matches, with its traps")
-    return Rated(series, a_day, counts, by, solved, moves, traps, deceived)
 
 
 def hand_ins_of(found: Any, zone: str) -> HandInRules:
@@ -371,5 +329,5 @@ def hand_ins_of(found: Any, zone: str) -> HandInRules:
         networks.biconnected(name)
     a_day, agents, holes, seeds = numbers(found, {"a_day": 10, "agents": 2, "holes": 2, "seeds": 2})
     schedulers = taken(found, "schedulers", is_texts, "a list of names", ["fair", "slow-agents"])
-    return HandInRules(command, file, names, secret, time_of(found, "deadline", zone), a_day, agents, holes, schedulers,
-                   seeds)
+    return HandInRules(command, file, names, secret or names, time_of(found, "deadline", zone), a_day, agents, holes,
+                       schedulers, seeds)

@@ -1,37 +1,25 @@
-"""Where a worker begins: what Dask runs for a piece of work. Nothing of Django is imported before the hall is known."""
+"""Where a process of a hall begins. Nothing of Django is imported before the hall is known.
+
+    python3 -m arena_lab.hall.entry FOLDER web ADDRESS PORT
+    python3 -m arena_lab.hall.entry FOLDER worker NUMBER
+"""
 import importlib
 import os
-import threading
-from typing import Dict
+import sys
 
 from arena_lab.hall.place import VARIABLE
-
-# what plays each kind of work
-RUNS: Dict[str, str] = {
-    "attempt": "arena_lab.hall.attempts.playing:play",
-    "pages": "arena_lab.hall.attempts.playing:make_pages",
-    "grading": "arena_lab.hall.handins.grading:grade",
-}
-_lock = threading.Lock()
 
 
 def begin(folder: str) -> None:
     """Makes this process one of the hall of a folder."""
     import django
     from django.apps import apps
-    with _lock:
-        os.environ[VARIABLE] = folder
-        os.environ.setdefault("DJANGO_SETTINGS_MODULE", "arena_lab.hall.settings")
-        if not apps.ready:
-            django.setup()
+    os.environ[VARIABLE] = folder
+    os.environ.setdefault("DJANGO_SETTINGS_MODULE", "arena_lab.hall.settings")
+    if not apps.ready:
+        django.setup()
 
 
-def run(folder: str, kind: str, number: int, holder: str) -> None:
-    """Does a piece of work. What comes of it stands in the database."""
-    begin(folder)
-    from django.db import connections
-    module, _, name = RUNS[kind].partition(":")
-    try:
-        getattr(importlib.import_module(module), name)(number, holder)
-    finally:
-        connections.close_all()
+if __name__ == "__main__":
+    begin(sys.argv[1])
+    importlib.import_module(f"arena_lab.hall.{sys.argv[2]}").main(*sys.argv[3:])

@@ -34,9 +34,14 @@ def new_tokens(teams: Iterable[Team], who: str) -> Sheet:
     return found
 
 
-def missing_tokens() -> Sheet:
-    """Draws tokens for the teams that have none."""
-    return new_tokens(list(Team.objects.filter(digest="")), "hall")
+def draw_missing(path: pathlib.Path) -> int:
+    """Draws tokens for the teams that have none, and writes them into a file of key sheets, both or neither; gives how
+    many."""
+    with transaction.atomic():
+        sheet = new_tokens(list(Team.objects.filter(digest="")), "hall")
+        if sheet:
+            write_sheet(path, sheet)
+    return len(sheet)
 
 
 def write_sheet(path: pathlib.Path, sheet: Sheet) -> None:

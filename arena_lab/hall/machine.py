@@ -2,8 +2,8 @@
 
 The database has the state, and the database is the truth: whoever acts on a piece of work does it by one step of this
 table, which happens wholly or not at all. So a process may be killed before or after any step. A worker holds its work
-by a lease that it renews. When the lease has run out, the keeper notes that the work is lost to its worker, and it is
-run again, once. A worker that comes back too late names a holder that is not the holder any more, and changes nothing.
+by a lease that it renews. When the lease has run out, others note that the work is lost to its worker, and it is run
+again, once. A worker that comes back too late names a holder that is not the holder any more, and changes nothing.
 """
 from typing import Dict, FrozenSet, List, NamedTuple, Optional, Tuple
 
@@ -13,7 +13,7 @@ STATES = (WAITING, HELD, RUNNING, OVER, LOST, CANCELLED)
 ENDED: FrozenSet[str] = frozenset((OVER, LOST, CANCELLED))
 ACTIVE: FrozenSet[str] = frozenset((HELD, RUNNING))
 
-# the keeper gives the work to a worker; the worker begins, renews its lease, and ends it or fails; the lease has run
+# a worker claims the work, begins, renews its lease, and ends it or fails; the worker gives it up, or its lease has run
 # out; a team or the teacher gives it up
 CLAIM, BEGIN, RENEW, FINISH, FAIL, LOSE, CANCEL = "claim", "begin", "renew", "finish", "fail", "lose", "cancel"
 EVENTS = (CLAIM, BEGIN, RENEW, FINISH, FAIL, LOSE, CANCEL)

@@ -1,15 +1,19 @@
 """The folder of a hall: which course it is of, which program plays, its database, its secrets and all files of attempts
 and hand-ins. Only the user who runs the hall may look into it, since files of matches have their black holes."""
+import contextlib
 import json
 import os
 import pathlib
 import secrets
+import sys
 from typing import NamedTuple, Optional
 
 from arena_lab.hall.course import Hall, NoHall, read
 
 VARIABLE = "ARENA_HALL"
 PLACE, KEY, SECRET, PASSWORD = "hall.json", "key.txt", "secret.txt", "password.txt"
+# the course's file as it was when the hall was started last
+KEPT = "course.toml"
 
 
 class HallFolder(NamedTuple):
@@ -20,7 +24,22 @@ class HallFolder(NamedTuple):
     program: Optional[str]
 
     def hall(self) -> Hall:
-        return read(self.course)
+        """The course as it was when the hall was started: what is saved meanwhile is read at the next start."""
+        kept = self.folder / KEPT
+        return read(self.course, kept if kept.exists() else None)
+
+    def keep(self) -> Hall:
+        """Reads the course's file for a start. If it has a mistake, that is said, and the file of the last start is
+        taken, so that a hall that was up comes up again."""
+        try:
+            found = read(self.course)
+        except NoHall as fault:
+            if not (self.folder / KEPT).exists():
+                raise
+            tell(f"{fault}; until you mend it, the hall goes on by the file of its last start")
+            return self.hall()
+        write_whole(self.folder / KEPT, self.course.read_text(encoding="utf-8"))
+        return found
 
     def write(self) -> None:
         """Makes the folder, which nobody else may read, and notes what it is of."""
@@ -38,6 +57,13 @@ class HallFolder(NamedTuple):
         except FileExistsError:
             pass
         return path.read_text(encoding="utf-8").strip()
+
+
+def leave(folder: pathlib.Path, owner: os.stat_result) -> None:
+    """Leaves what root has made in a hall's folder to the user who runs the hall."""
+    if os.geteuid() == 0 and owner.st_uid != 0:
+        for path in [folder, *folder.rglob("*")]:
+            os.chown(path, owner.st_uid, owner.st_gid, follow_symlinks=False)
 
 
 def folder_of(course: pathlib.Path) -> pathlib.Path:
@@ -60,6 +86,12 @@ def current() -> HallFolder:
     if not folder:
         raise NoHall(f"{VARIABLE} names no hall")
     return at(pathlib.Path(folder))
+
+
+def tell(line: str) -> None:
+    """Says a line to whoever runs the hall. A full disk, which may not take it, ends nothing."""
+    with contextlib.suppress(OSError):
+        print(f"hall: {line}", file=sys.stderr, flush=True)
 
 
 def write_whole(path: pathlib.Path, text: str) -> None:

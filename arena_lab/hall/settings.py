@@ -16,7 +16,6 @@ SECRET_KEY = PLACE.secret(place.KEY)
 DEBUG = False
 ALLOWED_HOSTS = ["localhost", "127.0.0.1", "[::1]", socket.gethostname().lower(), HALL.host, *HALL.names]
 ROOT_URLCONF = "arena_lab.hall.urls"
-WSGI_APPLICATION = "arena_lab.hall.wsgi.application"
 
 INSTALLED_APPS = [
     "arena_lab.hall.teams", "arena_lab.hall.attempts", "arena_lab.hall.handins", "arena_lab.hall.standings",
@@ -26,6 +25,7 @@ INSTALLED_APPS = [
 MIDDLEWARE = [
     "arena_lab.hall.teams.guards.Guards",
     "django.middleware.security.SecurityMiddleware",
+    "whitenoise.middleware.WhiteNoiseMiddleware",
     "django.contrib.sessions.middleware.SessionMiddleware",
     "django.middleware.locale.LocaleMiddleware",
     "django.middleware.common.CommonMiddleware",
@@ -54,6 +54,8 @@ def database_of(said: str) -> Dict[str, Any]:
     found = urllib.parse.urlsplit(said)
     parts = {"USER": found.username, "PASSWORD": found.password, "HOST": found.hostname, "PORT": found.port}
     return {"ENGINE": "django.db.backends.postgresql", "NAME": found.path.lstrip("/"), "CONN_MAX_AGE": 60,
+            # a worker whose machine has gone does not keep the others from the queue
+            "OPTIONS": {"options": "-c idle_in_transaction_session_timeout=10s"},
             **{name: urllib.parse.unquote(str(value)) for name, value in parts.items() if value}}
 
 
@@ -74,6 +76,7 @@ TIME_ZONE = HALL.zone
 
 STATIC_URL = "/static/"
 STATICFILES_DIRS = [HERE / "static"]
+WHITENOISE_USE_FINDERS, WHITENOISE_MAX_AGE = True, 3600
 LOGIN_URL = "/login"
 
 # cookies: not for scripts, not for other sites, and encrypted alone if a server that encrypts stands before the hall
@@ -85,13 +88,12 @@ SECURE_REFERRER_POLICY = "same-origin"
 SECURE_CONTENT_TYPE_NOSNIFF = True
 X_FRAME_OPTIONS = "DENY"
 if HALL.https:
-    SECURE_PROXY_SSL_HEADER = ("HTTP_X_FORWARDED_PROTO", "https")
     # later versions of Django want the scheme too
     CSRF_TRUSTED_ORIGINS = [name if django.VERSION < (4,) else f"https://{name}" for name in (HALL.host, *HALL.names)]
 
-# a form of a stranger has few fields, and files of hand-ins go to the disk
+# a form of the teacher has some fields for each team; strangers send 64 KB at most, and files go to the disk
 DATA_UPLOAD_MAX_MEMORY_SIZE = 256 << 10
-DATA_UPLOAD_MAX_NUMBER_FIELDS = 100
+DATA_UPLOAD_MAX_NUMBER_FIELDS = 5_000
 FILE_UPLOAD_MAX_MEMORY_SIZE = 64 << 10
 
 REST_FRAMEWORK = {

@@ -3,10 +3,12 @@ leaves."""
 import datetime
 import os
 import secrets
+import threading
 from typing import Any, Dict, List, Optional
 
 from django.db import models
 from django.utils import timezone
+from django.utils.translation import gettext_lazy as _
 
 from arena_lab.hall import machine
 
@@ -14,6 +16,9 @@ from arena_lab.hall import machine
 SECONDS = float(os.environ.get("ARENA_HALL_LEASE", "30"))
 LEASE, RENEWED = datetime.timedelta(seconds=SECONDS), SECONDS / 5
 TO_BEGIN = LEASE
+# set once this process is told to end: what it does is given up, and done again by the next
+STOPPED = threading.Event()
+AGAIN = _("the hall was stopped meanwhile: it is done again, a match with other keys")
 
 
 class Work(models.Model):
@@ -81,3 +86,18 @@ def lose_late(kind: Any) -> List[Work]:
     late = models.Q(until__lt=now)
     return [work for work in kind.objects.filter(late, state__in=machine.ACTIVE)
             if step(work, machine.LOSE, "", late)]
+
+
+class WorkerStopped(Exception):
+    """This process is told to end."""
+
+
+def check_stop() -> None:
+    """Raises WorkerStopped if this process is told to end."""
+    if STOPPED.is_set():
+        raise WorkerStopped
+
+
+def give_up(work: Work, holder: str, why: str) -> bool:
+    """Gives up work that this holder has, so that it is done again if it has a run left, and says why."""
+    return step(work, machine.LOSE, "", models.Q(holder=holder), fault=why[:300])

@@ -1,29 +1,30 @@
 """The addresses of the hall."""
+import errno
 import json
 import pathlib
+import sys
 from typing import Any
 
 from django.contrib import admin
-from django.contrib.staticfiles.views import serve
+from django.db import OperationalError
 from django.http import HttpResponse, JsonResponse
 from django.urls import include, path, re_path, register_converter
 from django.urls.converters import IntConverter
+from django.utils.translation import gettext as _
+from django.views.defaults import server_error
 
 from arena_lab.hall.attempts import api as attempts_api
 from arena_lab.hall.attempts import views as attempts
+from arena_lab.hall.attempts.models import Attempt
 from arena_lab.hall.handins import api as handins_api
 from arena_lab.hall.handins import views as handins
+from arena_lab.hall.handins.models import Grading
+from arena_lab.hall.machine import ACTIVE, WAITING
 from arena_lab.hall.standings import views as standings
 from arena_lab.hall.teams import views as teams
+from arena_lab.hall.teams.guards import refusal
 
 OPENAPI = pathlib.Path(__file__).resolve().parent / "openapi.json"
-
-
-def static(request: Any, path: str) -> HttpResponse:
-    """A file of the hall's or of the teacher's pages, which browsers may keep."""
-    response = serve(request, path, insecure=True)
-    response["Cache-Control"] = "max-age=3600"
-    return response
 
 
 def openapi(request: Any) -> JsonResponse:
@@ -40,11 +41,28 @@ class Number(IntConverter):
 register_converter(Number, "number")
 
 
+def health(request: Any) -> JsonResponse:
+    """For whoever watches the hall: how much waits and runs. Without its database it answers 503."""
+    waiting, running = (sum(kind.objects.filter(state__in=states).count() for kind in (Attempt, Grading))
+                        for states in ((WAITING,), ACTIVE))
+    return JsonResponse({"waiting": waiting, "running": running})
+
+
 def icon(request: Any) -> HttpResponse:
     """Browsers ask for an icon; there is none."""
     return HttpResponse(status=204)
 
 
+def fault(request: Any) -> HttpResponse:
+    """What is answered if something ends a request. On a full disk nothing can be written, and the hall goes on once
+    there is room."""
+    found = sys.exc_info()[1]
+    if isinstance(found, OperationalError) or isinstance(found, OSError) and found.errno == errno.ENOSPC:
+        return refusal(503, _("the hall cannot write this now: tell your teacher"))
+    return server_error(request)
+
+
+handler500 = fault
 API = [
     path("openapi.json", openapi),
     path("networks", attempts_api.Networks.as_view()),
@@ -55,12 +73,16 @@ API = [
     path("hand-ins", handins_api.HandIns.as_view()),
     path("hand-ins/<number:number>", handins_api.One.as_view()),
     path("standings", standings.Standings.as_view()),
+    path("contests", standings.Contests.as_view()),
+    path("contests/<number:number>", standings.Standings.as_view()),
 ]
 urlpatterns = [
-    path("", standings.home),
+    path("", standings.page),
     path("favicon.ico", icon),
+    path("health", health),
     path("screen", standings.screen),
-    path("contests/<number:number>", standings.contest),
+    path("contests/<number:number>", standings.page),
+    path("contests/<number:number>/screen", standings.screen),
     path("login", teams.login),
     path("logout", teams.logout),
     path("matches", attempts.listed),
@@ -71,10 +93,12 @@ urlpatterns = [
     path("matches/<number:number>/<number:match>/page", attempts.page),
     path("hand-ins", handins.listed),
     path("hand-ins/take", handins.take),
+    path("hand-ins/<number:number>", handins.one),
+    path("messages", teams.messages),
     re_path(r"^hand-ins/(?P<number>\d{1,9})/result/(?P<path>[\w./-]*)$", handins.result),
     path("teacher/standings.csv", standings.export),
+    path("teacher/contests/<number:number>.csv", standings.export),
     path("teacher/", admin.site.urls),
     path("language/", include("django.conf.urls.i18n")),
     path("api/", include(API)),
-    re_path(r"^static/(?P<path>.*)$", static),
 ]

@@ -1,7 +1,7 @@
 #!/usr/bin/env python3
 """Practises in a hall: asks for a match, starts the team's programs, and says what came of it.
 
-    ARENA_TOKEN=TOKEN python3 practise.py [--rated] [--times N] HALL NETWORK COMMAND ..
+    ARENA_TOKEN=TOKEN python3 practise.py [--times N] HALL NETWORK COMMAND ..
 
 HALL is the hall's address, such as http://127.0.0.1:8000, and NETWORK the name of a network as the hall shows it. The
 command starts one agent. In it {host}, {port} and {key} stand for where the agent connects and by which key it enters,
@@ -14,6 +14,7 @@ The token stands on the team's key sheet. It is taken from the variable ARENA_TO
 the words of commands. It needs nothing but Python.
 """
 import argparse
+import http.client
 import json
 import os
 import pathlib
@@ -26,7 +27,9 @@ import urllib.error
 import urllib.request
 from typing import Any, Dict, List
 
-EVERY = 0.5
+# seconds between two requests, and for which a hall that has answered may be silent, as when it is started again
+EVERY, PATIENCE = 1.5, 300.0
+GOES_ON = ("waiting", "held", "running")
 
 
 class Hall:
@@ -35,6 +38,7 @@ class Hall:
     def __init__(self, address: str, token: str) -> None:
         self._address = address.rstrip("/")
         self._token = token
+        self._answered = -PATIENCE
 
     def ask(self, path: str, body: Any = None) -> Any:
         """What the hall answers. If it is asked too often it says how long to wait."""
@@ -43,29 +47,18 @@ class Hall:
         while True:
             try:
                 asked = urllib.request.Request(f"{self._address}/api{path}", sent, headers)
-                with urllib.request.urlopen(asked) as told:
+                with urllib.request.urlopen(asked, timeout=60) as told:
+                    self._answered = time.monotonic()
                     return json.load(told)
             except urllib.error.HTTPError as fault:
                 wait = fault.headers.get("Retry-After")
                 if wait is None:
                     raise SystemExit(f"practise: {json.load(fault).get('error', fault)}") from None
                 time.sleep(float(wait))
-            except urllib.error.URLError as fault:
-                raise SystemExit(f"practise: {self._address} does not answer: {fault.reason}") from None
-
-    def begun(self, network: str, kind: str) -> Dict[str, Any]:
-        """An attempt whose servers listen."""
-        attempt = self.ask("/matches", {"network": network, "kind": kind})
-        while attempt["state"] in ("waiting", "held", "running") and not attempt["matches"]:
-            time.sleep(EVERY)
-            attempt = self.ask(f"/matches/{attempt['id']}")
-        return dict(attempt)
-
-    def over(self, number: int) -> Dict[str, Any]:
-        """An attempt that is over."""
-        while (attempt := self.ask(f"/matches/{number}"))["state"] in ("waiting", "held", "running"):
-            time.sleep(EVERY)
-        return dict(attempt)
+            except (OSError, http.client.HTTPException) as fault:
+                if time.monotonic() - self._answered > PATIENCE:
+                    raise SystemExit(f"practise: {self._address} does not answer: {fault}") from None
+                time.sleep(EVERY)
 
 
 def words_of(command: List[str], match: Dict[str, Any], facts: Dict[str, Any], folder: pathlib.Path) -> List[List[str]]:
@@ -80,34 +73,39 @@ def words_of(command: List[str], match: Dict[str, Any], facts: Dict[str, Any], f
 
 
 def played(hall: Hall, words: argparse.Namespace) -> Dict[str, Any]:
-    """Plays an attempt to its end."""
-    attempt = hall.begun(words.network, "rated" if words.rated else "practice")
+    """Plays a match to its end. If the hall begins it anew, it has other keys, and the agents are started anew."""
+    attempt, keys = hall.ask("/matches", {"network": words.network}), None
+    agents: "List[subprocess.Popen[bytes]]" = []
     with tempfile.TemporaryDirectory() as name:
-        agents = [subprocess.Popen(line) for match in attempt["matches"]
-                  for line in words_of(words.command, match, attempt["facts"], pathlib.Path(name))]
         try:
-            return hall.over(attempt["id"])
+            while attempt["state"] in GOES_ON:
+                now = [match["keys"] for match in attempt["matches"]]
+                if now and now != keys:
+                    end(agents)
+                    keys, agents = now, [subprocess.Popen(line) for match in attempt["matches"]
+                                         for line in words_of(words.command, match, attempt["facts"],
+                                                              pathlib.Path(name))]
+                time.sleep(EVERY)
+                attempt = hall.ask(f"/matches/{attempt['id']}")
+            return dict(attempt)
         finally:
-            for agent in agents:
-                agent.kill()
-                agent.wait()
+            end(agents)
+
+
+def end(agents: "List[subprocess.Popen[bytes]]") -> None:
+    for agent in agents:
+        agent.kill()
+        agent.wait()
 
 
 def said_of(verdict: Dict[str, Any]) -> str:
     """What came of a match, in words."""
-    trap = "a trap: " if verdict["trap"] else ""
-    return f"{trap}{verdict['outcome']} moves {verdict['moves']} lost {verdict['lost']}"
-
-
-def is_right(verdict: Dict[str, Any]) -> bool:
-    """Whether a match is solved. In a trap there is nothing to solve, and who accuses is deceived."""
-    return bool(verdict["outcome"] == ("silent" if verdict["trap"] else "solved"))
+    return f"{verdict['outcome']} moves {verdict['moves']} lost {verdict['lost']}"
 
 
 def main() -> int:
     parser = argparse.ArgumentParser(description=__doc__, formatter_class=argparse.RawDescriptionHelpFormatter)
-    parser.add_argument("--rated", action="store_true", help="play a rated series, which counts")
-    parser.add_argument("--times", metavar="N", type=int, default=1, help="how many attempts, one after the other (1)")
+    parser.add_argument("--times", metavar="N", type=int, default=1, help="how many matches, one after the other (1)")
     parser.add_argument("hall", metavar="HALL")
     parser.add_argument("network", metavar="NETWORK")
     parser.add_argument("command", metavar="COMMAND", nargs=argparse.REMAINDER)
@@ -122,7 +120,7 @@ def main() -> int:
         attempt = played(hall, words)
         came = ", ".join(map(said_of, attempt["verdicts"]))
         print(f"attempt {attempt['id']} on {attempt['network']}: {came or attempt['state']}", flush=True)
-        solved += bool(came) and all(map(is_right, attempt["verdicts"]))
+        solved += attempt["state"] == "over" and attempt["solved"] == len(attempt["verdicts"])
     return 0 if solved == words.times else 1
 
 

@@ -2,8 +2,8 @@
 
     /usr/bin/python3 -m tools.hostile.killed_halls PROGRAM [--seconds 120] [--seed S] [--workers 2]
 
-Three teams ask for attempts again and again and play them with the sample agents. Meanwhile the web server, the keeper,
-the scheduler, workers and servers of matches are killed by a signal that nobody can catch, one every second or two.
+Three teams ask for attempts again and again and play them with the sample agents. Meanwhile the web server, workers and
+servers of matches are killed by a signal that nobody can catch, one every second or two.
 Then the killing stops. Each attempt must come to an end; what was over when it was first seen so must be the same then;
 each replay must be a match by the rules with the verdict that the hall tells; and no server may be left. The last line
 reads `N passed, M failed`, and the exit status is 1 if one failed.
@@ -26,7 +26,7 @@ from arena_lab.tests.hall import halls
 from arena_lab.tests.hall.halls import Served, play
 
 ENDED = ("over", "lost", "cancelled")
-NAMES = ("web", "keeper", "scheduler", "worker 0", "worker 1")
+NAMES = ("web", "worker 0", "worker 1")
 
 
 class Team:

@@ -2,8 +2,8 @@
 
     /usr/bin/python3 -m tools.play.hall_in_browser PROGRAM [FOLDER]
 
-Logs in by a token, practises, watches the match afterwards, plays a rated series, hands in a program, and looks at the
-standings before and after they freeze, in three languages, on a projector and on a phone. Finds no error in the
+Logs in by a token, practises, watches the match afterwards, hands in a program, and looks at the standings before and
+after they freeze, in three languages, on a projector and on a phone. Finds no error in the
 console. Screenshots go to the folder. `tools/nightly` installs what it needs.
 """
 import datetime
@@ -63,30 +63,25 @@ class Walk:
         self.open("/login")
         self.find("input[name=token]").send_keys(self._tokens[name])
         self.find("form.login button").click()
-        self.until("Your attempts")
+        self.until("Your matches")
 
-    def ask(self, kind: str) -> int:
-        """Asks for an attempt on the first network, and plays it."""
+    def ask(self) -> int:
+        """Asks for a match on the first network, and plays it."""
         self.open("/matches")
-        self.find(f"button[value={kind}]").click()
+        self.find("table.offers button").click()
         WebDriverWait(self._page, SECONDS, ignored_exceptions=[Exception]).until(lambda _: self.find("code.key"))
         number = int(self._page.current_url.rpartition("/")[2])
-        if kind == "practice":
-            self.wants("What your agents were told", "ring of 5")
-            self.shoot("running")
-        self._agents = halls.play(self._hall.attempt(self._tokens["amber"], number)
-                                  if self.is_of("amber", number) else self._hall.attempt(self._tokens["birch"], number))
+        self.wants("What your agents were told", "ring of 5")
+        self.shoot("running")
+        self._agents = halls.play(self._hall.attempt(self._tokens["amber"], number))
         self.until("solved")
         for agent in self._agents:
             agent.wait()
         return number
 
-    def is_of(self, name: str, number: int) -> bool:
-        return self._hall.ask("GET", f"/api/matches/{number}", self._tokens[name]).status == 200
-
     def practise(self) -> None:
         """A match of practice, and its page afterwards."""
-        number = self.ask("practice")
+        number = self.ask()
         self.wants("Black hole: node")
         self.shoot("over")
         page = self._hall.folder / "attempts" / str(number) / "run1" / "match0" / "m0.html"
@@ -113,6 +108,9 @@ class Walk:
         self.until("1 of 1")
         self.shoot("hand-ins")
         self.find("table.hand-ins a").click()
+        self.until("client.py")
+        self.shoot("sources")
+        self.find("main p a").click()
         self.until("solved 1 of 1")
 
     def languages(self) -> None:
@@ -148,29 +146,31 @@ def walk(hall: halls.Served, page: webdriver.Chrome, shots: pathlib.Path) -> Non
     it.shoot("login")
     it.log_in("amber")
     it.practise()
-    it.ask("rated")
+    it.open("/matches")
     it.shoot("attempts")
-    it.open("/")
-    it.wants("120", "<script>alert(1)</script> Łódź", "absent")
-    it.shoot("standings")
-    it.languages()
     with tempfile.TemporaryDirectory() as name:
         it.hand_in(pathlib.Path(name))
-    # the teacher has changed the course's file, and starts the pages anew
+    it.open("/")
+    it.wants("1 of 1", "<script>alert(1)</script> Łódź", "absent")
+    it.shoot("standings")
+    it.languages()
+    # the teacher has changed the course's file, and starts the hall anew
+    hall.stop()
     hall.write(f'freeze = "{datetime.datetime.now(datetime.timezone.utc).isoformat()}"')
-    hall.kill("web")
+    hall.start()
     it.log_in("birch")
-    it.ask("rated")
+    with tempfile.TemporaryDirectory() as name:
+        it.hand_in(pathlib.Path(name))
     it.open("/")
     it.wants("Frozen since", "amber")
-    if it.text().count("2/2") != 1:
+    if it.text().count("1/1") != 1:
         raise SystemExit(f"the freeze hides nothing: {it.text()}")
     it.open("/screen")
     it.wants("Frozen since")
     it.shoot("screen")
     it.teach()
     it.open("/")
-    if it.text().count("2/2") != 2:
+    if it.text().count("1/1") != 2:
         raise SystemExit(f"the teacher does not see what the freeze hides: {it.text()}")
     it.check_console()
 

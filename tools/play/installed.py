@@ -28,7 +28,7 @@ TUTORIAL = (
     (["run", "--agent", RING, "--runs", "20"], 0, "20 schedules: solved 20; failed 0"),
     (["hunt", "--agent", WRONG, "--keep", "small"], 1, "schedules were tried: the team fails"),
     (["replay", "small"], 0, "the replay is the same, byte for byte: small/match0.jsonl"),
-    (["explore", "--network", "ring:4", "--agent", RING], 0, "every schedule solves (a theorem about programs"),
+    (["explore", "--network", "ring:4", "--agent", RING], 0, "every schedule that the lab tried solves, by"),
     (["explore", "--agent", RING, "--draws", "100"], 0, "drawn schedules, "),
     (["sweep", "first.toml", "--out", "first"], 0, "40 runs on "),
 )

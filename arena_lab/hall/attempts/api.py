@@ -7,14 +7,13 @@ from rest_framework.response import Response
 from rest_framework.views import APIView
 
 from arena_lab.hall.attempts import asking, shown, views
-from arena_lab.hall.attempts.models import PRACTICE, Attempt, facts
+from arena_lab.hall.attempts.models import Attempt, facts
 
 
 class AttemptRequest(serializers.Serializer):
     """What a script asks for."""
 
     network = serializers.CharField(max_length=60)
-    kind = serializers.CharField(max_length=10, default=PRACTICE)
 
 
 class Refusal(exceptions.APIException):
@@ -29,8 +28,8 @@ class Networks(APIView):
     """What a team may ask for."""
 
     def get(self, request: Any) -> Response:
-        return Response([{"name": it.net.name, "open": it.is_open, "rated_left": it.rated_left, "map": it.net.has_map,
-                          **facts(it.net.name)} for it in asking.offers(request.user)])
+        return Response([{"name": it.net.name, "open": it.is_open, "map": it.net.has_map, **facts(it.net.name)}
+                         for it in asking.offers()])
 
 
 class Attempts(APIView):
@@ -43,14 +42,14 @@ class Attempts(APIView):
         wanted = AttemptRequest(data=request.data)
         wanted.is_valid(raise_exception=True)
         try:
-            made = asking.ask(request.user, **wanted.validated_data)
+            made = asking.ask(request.user, wanted.validated_data["network"])
         except asking.RequestRefused as fault:
             raise Refusal(fault) from None
         return Response(shown.attempt(made), status=201, headers={"Location": f"/api/matches/{made.pk}"})
 
 
 def own(team: Any, number: int) -> Attempt:
-    found = Attempt.objects.filter(pk=number, team=team).select_related("team", "contest").first()
+    found = Attempt.objects.filter(pk=number, team=team).select_related("team").first()
     if found is None:
         raise Http404
     return found

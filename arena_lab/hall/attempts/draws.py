@@ -1,15 +1,12 @@
-"""What is drawn for a match: its black hole, its home base, the labels of its ports, its keys, and which matches of a
-series are traps. Each attempt has its own, by the operating system's source of secrets, so no attempt tells anything of
-another. Labels are shuffled by Python's generator, from a seed of 128 bits that is used for nothing else. Of a match
-that goes on only its files say whether it is a trap."""
+"""What is drawn for a match: its black hole, its home base, the labels of its ports and its keys. Each attempt has its
+own, by the operating system's source of secrets, so no attempt tells anything of another. Labels are shuffled by
+Python's generator, from a seed of 128 bits that is used for nothing else."""
 import pathlib
 import secrets
-import tomllib
-from typing import Any, Dict, NamedTuple, Optional, Sequence, Set
+from typing import Any, Dict, NamedTuple, Optional
 
 from arena_lab.hall.course import DRAWN, Net
 from arena_lab.hall.place import write_whole
-from arena_lab.pages.contest_pages import is_trap_in
 from arena_lab.rules import networks
 from arena_lab.rules.delays import ODDS, SCALES, Delays
 from arena_lab.rules.fixtures import Fixture, tournament_text
@@ -25,30 +22,17 @@ class Draw(NamedTuple):
     map: Optional[Dict[str, Any]]
 
 
-def drawn(net: Net, team: str, is_trap: bool = False) -> Draw:
-    """Draws a match of a team. A trap has no black hole: nobody arrives at one node more than there would be black
-    holes, so a team that has visited all other nodes still cannot know any."""
+def drawn(net: Net, team: str) -> Draw:
+    """Draws a match of a team."""
     chance = secrets.SystemRandom()
     nodes = net.network.nodes
     network = networks.shuffled(net.network, secrets.randbits(128)) if net.labels == DRAWN else net.network
     home = chance.randrange(nodes)
-    closed = sorted(chance.sample([node for node in range(nodes) if node != home], net.holes + is_trap))
+    holes = sorted(chance.sample([node for node in range(nodes) if node != home], net.holes))
     keys = [f"{team}-{secrets.token_urlsafe(12)}" for _ in range(net.agents)]
-    setup = Setup(nodes, network.links, home, [] if is_trap else closed, net.agents, net.quota, net.board)
-    held = networks.places_into(network.links, closed) if is_trap else []
+    setup = Setup(nodes, network.links, home, holes, net.agents, net.quota, net.board)
     known = {"nodes": nodes, "links": [list(link) for link in network.links], "home": home} if net.has_map else None
-    return Draw(Fixture(team, setup, keys, held), known)
-
-
-def traps_among(numbers: Sequence[int], count: int) -> Set[int]:
-    """Which of these matches of a series are traps: each choice is as likely as any other."""
-    return set(secrets.SystemRandom().sample(numbers, min(count, len(numbers))))
-
-
-def is_trap(folder: pathlib.Path) -> bool:
-    """Whether the match of a folder is a trap."""
-    match, = tomllib.loads((folder / TOURNAMENT).read_text(encoding="utf-8"))["match"]
-    return is_trap_in(match)
+    return Draw(Fixture(team, setup, keys), known)
 
 
 def write(draw: Draw, folder: pathlib.Path) -> None:

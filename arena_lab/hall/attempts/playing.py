@@ -1,61 +1,52 @@
-"""Plays an attempt: a worker starts the server of each match, and notes what came of it once all are closed.
+"""Plays an attempt: a worker starts the server of its match, and notes what came of it once it is closed.
 
-Nothing of a match is noted in the database before the attempt is over, but where its server listens and its keys. If
-the worker is killed its servers end with it. The attempt is then played again: matches whose replays are whole keep
-them, and the others are drawn anew, with other black holes and keys.
+Nothing of a match is noted in the database before it is over, but where its server listens and its keys. If the worker
+is killed its server ends with it. The attempt is then played again, with another black hole and other keys, unless the
+replay was whole already.
 """
 import contextlib
 import os
 import pathlib
 import shutil
-import sys
 import time
-from typing import Dict, Iterator, List, NamedTuple
 
 from django.conf import settings
-from django.db import OperationalError, connection, models, transaction
+from django.db import OperationalError, connection, transaction
 
 from arena_lab.hall import machine
 from arena_lab.hall.attempts import draws, servers
-from arena_lab.hall.attempts.endings import TrapMatch
 from arena_lab.hall.attempts.models import ABSENT, Attempt, Match, Pages
 from arena_lab.hall.attempts.servers import NoServer, Server, Times
-from arena_lab.hall.steps import LEASE, RENEWED, step
+from arena_lab.hall.place import tell
+from arena_lab.hall.steps import AGAIN, LEASE, RENEWED, WorkerStopped, check_stop, give_up, step
 from arena_lab.pages import page
 from arena_lab.rules.engines import judged
 from arena_lab.support.faults import Fault
 
 # of a worker on another machine than the pages: by which name teams reach it
 HOST = "ARENA_HALL_HOST"
-# seconds between two looks at servers
+# seconds between two looks at the server
 LOOK = 0.2
-PART = "m0.jsonl.part"
 
 
 class JobLost(Exception):
     """The work is not this worker's any more: it was given up, or another has it."""
 
 
-class Served(NamedTuple):
-    """A match whose server goes on."""
-
-    number: int
-    draw: draws.Draw
-    server: Server
-
-
 def play(number: int, holder: str) -> None:
     """Plays the attempt of this number, if this holder holds it."""
-    attempt = Attempt.objects.filter(pk=number).select_related("team", "contest").first()
+    attempt = Attempt.objects.filter(pk=number).select_related("team").first()
     if attempt is None or not step(attempt, machine.BEGIN, holder):
         return
     try:
         Playing(attempt, holder).play()
     except JobLost:
         pass
+    except WorkerStopped:
+        give_up(attempt, holder, str(AGAIN))
     except NoServer as fault:
         # another try may find another port, or a machine that has room
-        step(attempt, machine.LOSE, "", models.Q(holder=holder), fault=str(fault)[:300])
+        give_up(attempt, holder, str(fault))
     except (Fault, OSError) as fault:
         step(attempt, machine.FAIL, holder, fault=told_of(fault, attempt))
 
@@ -64,7 +55,7 @@ def told_of(fault: Exception, work: object) -> str:
     """What a team is told of a fault: those of the machine, which name files, stand in the worker's log."""
     if isinstance(fault, Fault):
         return str(fault)[:300]
-    print(f"hall: {type(work).__name__} {work}: {fault}", file=sys.stderr, flush=True)
+    tell(f"{type(work).__name__} {work}: {fault}")
     return "the machine has a fault: tell your teacher"
 
 
@@ -74,88 +65,55 @@ class Playing:
     def __init__(self, attempt: Attempt, holder: str) -> None:
         self._attempt = attempt
         self._holder = holder
-        self._folder = attempt.folder / f"run{attempt.runs}"
+        self._folder = attempt.folder / f"run{attempt.runs}" / "match0"
         self._net = settings.HALL.nets.get(attempt.network)
+        hall = settings.HALL
+        self._times = Times(hall.turns, hall.pause, hall.gather * 1000)
         self._renewed = time.monotonic()
         self._came = False
 
     def play(self) -> None:
-        """Plays all matches, and notes what came of them."""
+        """Plays the match, unless an earlier run has made its replay whole, and notes what came of it."""
         if self._net is None:
             raise Fault(f"the hall has no network {self._attempt.network} any more")
-        shutil.rmtree(self._folder, ignore_errors=True)
-        self._folder.mkdir(mode=0o700, parents=True)
-        with self._serving(self._planned()) as served:
-            self._tell(served)
-            self._wait(served)
+        if not any(it.replay.exists() for it in self._attempt.matches.all()):
+            shutil.rmtree(self._folder, ignore_errors=True)
+            draw, hall = draws.drawn(self._net, self._attempt.team.name), settings.HALL
+            draws.write(draw, self._folder)
+            server = servers.start(settings.PLACE.program, self._folder, self._times, (hall.address, hall.ports))
+            try:
+                self._wait(server, self._told(draw, server))
+            finally:
+                server.kill()
         self._finish()
 
-    def _times(self) -> Times:
-        hall = settings.HALL
-        turns = self._attempt.minutes * 60_000 // hall.pause
-        return Times(turns, hall.pause, hall.gather * 1000, not self._attempt.traps)
-
-    def _planned(self) -> Dict[int, bool]:
-        """The matches that are to be played, and whether each is a trap. Those whose replays an earlier run has made
-        whole are kept."""
-        kept = {it.number: it for it in self._attempt.matches.all() if it.replay.exists()}
-        left = [number for number in range(self._attempt.series) if number not in kept]
-        count = self._attempt.traps - sum(draws.is_trap(it.prefix.parent) for it in kept.values())
-        traps = draws.traps_among(left, count)
-        return {number: number in traps for number in left}
-
-    @contextlib.contextmanager
-    def _serving(self, planned: Dict[int, bool]) -> Iterator[List[Served]]:
-        """The servers of these matches, which end with the block."""
-        hall, served = settings.HALL, []
-        assert self._net is not None
-        try:
-            for number, is_trap in planned.items():
-                draw = draws.drawn(self._net, self._attempt.team.name, is_trap)
-                folder = self._folder / f"match{number}"
-                draws.write(draw, folder)
-                server = servers.start(settings.PLACE.program, folder, self._times(), (hall.address, hall.ports))
-                served.append(Served(number, draw, server))
-            yield served
-        finally:
-            for it in served:
-                it.server.kill()
-
-    def _tell(self, served: List[Served]) -> None:
-        """Notes where servers listen, so that the team may begin."""
+    def _told(self, draw: draws.Draw, server: Server) -> Match:
+        """Notes where the server listens, so that the team may begin."""
+        told = {"run": self._attempt.runs, "host": os.environ.get(HOST, settings.HALL.host), "port": server.port,
+                "keys": draw.fixture.keys, "map": draw.map}
         with transaction.atomic():
             self._renew()
-            for it in served:
-                told = {"run": self._attempt.runs, "host": os.environ.get(HOST, settings.HALL.host),
-                        "port": it.server.port, "keys": it.draw.fixture.keys, "map": it.draw.map}
-                Match.objects.update_or_create(attempt=self._attempt, number=it.number, defaults=told)
+            match, _ = Match.objects.update_or_create(attempt=self._attempt, number=0, defaults=told)
+        return match
 
-    def _wait(self, left: List[Served]) -> None:
-        """Waits until all servers have ended."""
+    def _wait(self, server: Server, match: Match) -> None:
+        """Waits until the server has ended."""
         began, is_closing = time.monotonic(), False
-        watched = {it.number: TrapMatch(it.draw.fixture, self._folder / f"match{it.number}" / PART) for it in left}
-        while left := [it for it in left if not it.server.has_ended()]:
+        while not server.has_ended():
             time.sleep(LOOK)
+            check_stop()
             if time.monotonic() - self._renewed > RENEWED:
                 self._try_to_renew()
-            is_decided = bool(self._attempt.traps) and all(watched[it.number].is_decided() for it in left)
-            if not is_closing and (is_decided or self._attempt.closing or self._is_late(time.monotonic() - began)):
+            if not is_closing and (self._attempt.closing or self._is_late(time.monotonic() - began, match)):
                 is_closing = True
-                for it in left:
-                    it.server.close()
+                server.close()
 
-    def _is_late(self, seconds: float) -> bool:
-        """Whether matches are to be closed: they take too long, or nobody has come to any of them."""
-        times = self._times()
-        waited = seconds * 1000 > times.gather + 1000
-        return seconds > times.seconds() or waited and not self._has_come()
-
-    def _has_come(self) -> bool:
-        """Whether an agent has entered a match, which is asked until one has."""
-        if not self._came:
-            paths = [path for it in self._attempt.matches.all() for path in (it.part, it.replay) if path.exists()]
-            self._came = any(has_entered(path) for path in paths)
-        return self._came
+    def _is_late(self, seconds: float, match: Match) -> bool:
+        """Whether the match is to be closed: it takes too long, or nobody has come."""
+        waited = seconds * 1000 > self._times.gather + 1000
+        if waited and not self._came:
+            self._came = has_entered(match.part) or has_entered(match.replay)
+        return seconds > self._times.seconds() or waited and not self._came
 
     def _try_to_renew(self) -> None:
         """Renews the lease. A database that does not answer is asked again, as long as the lease holds."""
@@ -174,16 +132,14 @@ class Playing:
         self._renewed = time.monotonic()
 
     def _finish(self) -> None:
-        """Notes the verdicts of all matches, and that their pages are to be made, wholly or not at all."""
+        """Notes the verdict, and that the page is to be made, wholly or not at all."""
         verdicts = {match: judged(settings.PLACE.program, match.replay) for match in self._attempt.matches.all()}
         with transaction.atomic():
             if not step(self._attempt, machine.FINISH, self._holder, size=size_of(self._attempt.folder)):
                 raise JobLost
             for match, verdict in verdicts.items():
                 outcome = verdict.outcome if has_entered(match.replay) else ABSENT
-                is_trap = draws.is_trap(match.prefix.parent)
-                Match.objects.filter(pk=match.pk).update(outcome=outcome, moves=verdict.moves, lost=verdict.lost,
-                                                         is_trap=is_trap)
+                Match.objects.filter(pk=match.pk).update(outcome=outcome, moves=verdict.moves, lost=verdict.lost)
             Pages.objects.get_or_create(attempt=self._attempt)
 
 

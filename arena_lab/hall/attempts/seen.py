@@ -26,14 +26,16 @@ class Agent:
         return {"agent": number, "entered": self.said > 0, "commands": self.said, "lines": list(self.lines)}
 
 
-class Tail:
-    """The events of a replay's part, which grows: what is new is read when it is asked for."""
+class Part:
+    """What agents were told, as the part of a replay has it, which grows: what is new is read when it is asked for."""
 
-    def __init__(self, path: pathlib.Path) -> None:
+    def __init__(self, path: pathlib.Path, agents: int) -> None:
         self._path = path
         self._read, self._rest, self._has_head = 0, b"", False
+        self._agents = [Agent() for _ in range(agents)]
+        self._lock = threading.Lock()
 
-    def new(self) -> List[Dict[str, Any]]:
+    def _new(self) -> List[Dict[str, Any]]:
         """The events that stand there whole and were not read yet; none if the match is closed."""
         try:
             with self._path.open("rb") as file:
@@ -47,18 +49,9 @@ class Tail:
         self._has_head = self._has_head or bool(lines)
         return [json.loads(line) for line in events]
 
-
-class Part:
-    """What agents were told, as the part of a replay has it."""
-
-    def __init__(self, path: pathlib.Path, agents: int) -> None:
-        self._tail = Tail(path)
-        self._agents = [Agent() for _ in range(agents)]
-        self._lock = threading.Lock()
-
     def shown(self) -> List[Dict[str, Any]]:
         with self._lock:
-            for event in self._tail.new():
+            for event in self._new():
                 self.take(event)
             return [agent.shown(number) for number, agent in enumerate(self._agents)]
 

@@ -5,10 +5,10 @@ import pathlib
 import random
 import socket
 import subprocess
-import sys
 from typing import IO, List, NamedTuple, Optional, Sequence, Tuple, cast
 
 from arena_lab.hall.attempts.draws import TOURNAMENT
+from arena_lab.hall.place import tell
 from arena_lab.support.faults import Fault
 from arena_lab.support.waiting import is_ready
 
@@ -24,13 +24,11 @@ class NoServer(Fault):
 
 
 class Times(NamedTuple):
-    """How long a match goes on: its turns, the milliseconds before each, and those it waits for its agents; and whether
-    it is closed earlier, once each agent has ended or is lost."""
+    """How long a match goes on at most: its turns, the milliseconds before each, and those it waits for its agents."""
 
     turns: int
     pause: int
     gather: int
-    is_early: bool = True
 
     def seconds(self) -> float:
         """How long its server goes on at most."""
@@ -73,12 +71,12 @@ def tell_log(folder: pathlib.Path) -> None:
     those of which no agent knows."""
     with contextlib.suppress(OSError, IndexError):
         last = (folder / "log.txt").read_text(encoding="utf-8", errors="replace").splitlines()[-1]
-        print(f"hall: {folder}: {last[:200]}", file=sys.stderr, flush=True)
+        tell(f"{folder}: {last[:200]}")
 
 
-def bound(words: Sequence[object], signal: str = "KILL") -> List[str]:
-    """A command that is ended by this signal with the thread that starts it."""
-    return ["setpriv", "--pdeathsig", signal, *BOUND, str(os.getpid()), *map(str, words)]
+def bound(words: Sequence[object]) -> List[str]:
+    """A command that is killed with the thread that starts it."""
+    return ["setpriv", "--pdeathsig", "KILL", *BOUND, str(os.getpid()), *map(str, words)]
 
 
 def start(program: str, folder: pathlib.Path, times: Times, place: Tuple[str, Tuple[int, int]]) -> Server:
@@ -108,8 +106,7 @@ def started(program: str, folder: pathlib.Path, times: Times, place: Tuple[str, 
     """The server on this port, or nothing if another was faster."""
     address, port = place
     words = [program, "serve", TOURNAMENT, "--address", address, "--port", port, "--replay", "m", "--turns",
-             times.turns, "--pause", times.pause, "--gather", times.gather, "--grace", GRACE, "--log",
-             *(["--early"] if times.is_early else [])]
+             times.turns, "--pause", times.pause, "--gather", times.gather, "--grace", GRACE, "--log", "--early"]
     with (folder / "log.txt").open("wb") as log:
         child = subprocess.Popen(bound(words), cwd=folder, stdin=subprocess.PIPE, stdout=subprocess.PIPE, stderr=log,
                                  env={"PATH": os.environ.get("PATH", "/usr/bin:/bin")})

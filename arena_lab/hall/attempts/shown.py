@@ -2,6 +2,7 @@
 were told, and nothing of black holes and of agents that are lost."""
 from typing import Any, Dict, List, Optional
 
+from django.conf import settings
 from django.utils import timezone
 
 from arena_lab.hall import machine
@@ -14,26 +15,20 @@ PARTS = seen.Parts()
 def attempt(it: Attempt) -> Dict[str, Any]:
     """An attempt with its matches."""
     matches = list(it.matches.all()) if it.state in (machine.RUNNING, machine.OVER) else []
-    shown = [match(found, it) for found in matches if it.is_over or found.run == it.runs or has_ended(found)]
-    return {**brief(it), "facts": facts(it.network), "minutes": it.minutes, "matches": shown}
-
-
-def has_ended(match: Match) -> bool:
-    """Whether a match of an earlier run was closed before that run was lost."""
-    return match.replay.exists()
+    shown = [match(found, it) for found in matches if it.is_over or found.run == it.runs]
+    return {**brief(it), "facts": facts(it.network), "minutes": settings.HALL.minutes, "matches": shown}
 
 
 def brief(it: Attempt) -> Dict[str, Any]:
     """An attempt in a line."""
     verdicts = [verdict(found) for found in it.matches.all()] if it.is_over else []
-    return {"id": it.pk, "network": it.network, "kind": it.kind, "state": it.state, "series": it.series,
-            "traps": it.traps, "asked": time_of(it.asked), "begun": time_of(it.begun), "ended": time_of(it.ended),
-            "fault": it.fault, "solved": sum(found["outcome"] == "solved" for found in verdicts),
-            "verdicts": verdicts}
+    return {"id": it.pk, "network": it.network, "state": it.state, "asked": time_of(it.asked),
+            "begun": time_of(it.begun), "ended": time_of(it.ended), "fault": it.fault,
+            "solved": sum(found["outcome"] == "solved" for found in verdicts), "verdicts": verdicts}
 
 
 def verdict(it: Match) -> Dict[str, Any]:
-    return {"outcome": it.outcome, "moves": it.moves, "lost": it.lost, "trap": it.is_trap}
+    return {"outcome": it.outcome, "moves": it.moves, "lost": it.lost}
 
 
 def match(it: Match, of: Attempt) -> Dict[str, Any]:

@@ -7,17 +7,16 @@ from django.views.decorators.http import require_POST
 
 from arena_lab.hall import machine
 from arena_lab.hall.attempts import asking, shown
-from arena_lab.hall.attempts.models import Attempt, Contest, Match
+from arena_lab.hall.attempts.models import Attempt, Match
 from arena_lab.hall.teams.guards import BOXED
-from arena_lab.hall.teams.views import for_teams
+from arena_lab.hall.teams.views import for_teams, may
 
 
-def own(request: Any, number: int) -> Attempt:
-    """An attempt of the team that asks, or of any team if the teacher does. Another team's is as if there were none."""
-    found = Attempt.objects.filter(pk=number).select_related("team", "contest").first()
-    may_see = found is not None and (request.user.is_staff or request.team is not None
-                                     and found.team_id == request.team.pk)
-    if found is None or not may_see:
+def own(request: Any, number: int, right: str = "attempts.view_attempt") -> Attempt:
+    """An attempt of the team that asks, or of any team if who asks has this right. Another team's is as if there were
+    none."""
+    found = Attempt.objects.filter(pk=number).select_related("team").first()
+    if found is None or not may(request, found.team_id, right):
         raise Http404
     return found
 
@@ -25,8 +24,7 @@ def own(request: Any, number: int) -> Attempt:
 @for_teams
 def listed(request: Any, refusal: str = "", status: int = 200) -> HttpResponse:
     """What a team may ask for, and its attempts."""
-    given = {"offers": asking.offers(request.team), "attempts": shown.attempts(request.team), "refusal": refusal,
-             "contests": Contest.objects.filter(is_made=False).order_by("start")}
+    given = {"offers": asking.offers(), "attempts": shown.attempts(request.team), "refusal": refusal}
     return render(request, "attempts.html", given, status=status)
 
 
@@ -36,7 +34,7 @@ def ask(request: Any) -> HttpResponse:
     if request.method != "POST":
         return redirect("/matches")
     try:
-        made = asking.ask(request.team, request.POST.get("network", ""), request.POST.get("kind", ""))
+        made = asking.ask(request.team, request.POST.get("network", ""))
     except asking.RequestRefused as fault:
         return listed(request, str(fault), fault.status)
     return redirect(f"/matches/{made.pk}")
@@ -53,7 +51,7 @@ def one(request: Any, number: int) -> HttpResponse:
 
 @require_POST
 def close(request: Any, number: int) -> HttpResponse:
-    asking.close(own(request, number))
+    asking.close(own(request, number, "attempts.change_attempt"))
     return redirect(f"/matches/{number}")
 
 

@@ -1,13 +1,15 @@
-"""What the teacher sees and does of hand-ins."""
-from typing import Any
+"""What the teacher sees and does of hand-ins and contests."""
+from typing import Any, Sequence
 
+from django import forms
+from django.conf import settings
 from django.contrib import admin
+from django.utils import timezone
 from django.utils.html import format_html
 from django.utils.translation import gettext_lazy as _
 
 from arena_lab.hall import machine
-from arena_lab.hall.handins.models import Grading
-from arena_lab.hall.teams.models import note
+from arena_lab.hall.handins.models import Contest, Extension, Grading, HandIn
 
 
 @admin.register(Grading)
@@ -16,7 +18,7 @@ class Gradings(admin.ModelAdmin):
 
     list_display = ("pk", "team", "hand_in", "is_secret", "state", "solved", "matches", "moves", "lost", "fault",
                     "link")
-    list_filter = ("state", "is_secret", "hand_in__team")
+    list_filter = ("state", "is_secret", "hand_in__contest", "hand_in__team")
     list_select_related = ("hand_in", "hand_in__team")
     fields = readonly_fields = list_display[1:-1]
     actions = ("again",)
@@ -29,13 +31,59 @@ class Gradings(admin.ModelAdmin):
     def link(self, grading: Grading) -> str:
         return format_html('<a href="/hand-ins/{}/result/">{}</a>', grading.hand_in_id, _("look"))
 
-    @admin.action(description=_("Grade again"))
+    @admin.action(description=_("Grade again"), permissions=["change"])
     def again(self, request: Any, chosen: Any) -> None:
         for grading in chosen.filter(state__in=machine.ENDED):
             hand_in, is_secret = grading.hand_in, grading.is_secret
             grading.delete()
-            Grading.objects.create(hand_in=hand_in, is_secret=is_secret)
-            note(request.user, f"has hand-in {hand_in.pk} of {hand_in.team.name} graded again")
+            made = Grading.objects.create(hand_in=hand_in, is_secret=is_secret)
+            self.log_change(request, made, f"hand-in {hand_in.pk} of {hand_in.team.name} is graded again")
 
     def has_add_permission(self, request: Any) -> bool:
         return False
+
+
+@admin.register(HandIn)
+class HandIns(admin.ModelAdmin):
+    """All hand-ins, newest first, with their sources."""
+
+    list_display = ("pk", "team", "contest", "at", "name", "files", "size", "link")
+    list_filter = ("contest", "team")
+    list_select_related = ("team", "contest")
+    fields = readonly_fields = ("team", "contest", "at", "name", "files", "size", "digest")
+
+    @admin.display(description="")
+    def link(self, hand_in: HandIn) -> str:
+        return format_html('<a href="/hand-ins/{}">{}</a>', hand_in.pk, _("look"))
+
+    def has_add_permission(self, request: Any) -> bool:
+        return False
+
+
+class ContestForm(forms.ModelForm):
+    """The form of a contest, whose networks are chosen."""
+
+    networks = forms.MultipleChoiceField(label=_("networks"), widget=forms.CheckboxSelectMultiple)
+
+    def __init__(self, *given: Any, **named: Any) -> None:
+        super().__init__(*given, **named)
+        if "networks" in self.fields:
+            self.fields["networks"].choices = [(name, name) for name in settings.HALL.nets]
+
+
+@admin.register(Contest)
+class Contests(admin.ModelAdmin):
+    """Contests. What one has begun with stays."""
+
+    form = ContestForm
+    list_display = ("name", "start", "end", "freeze")
+
+    def get_readonly_fields(self, request: Any, contest: Any = None) -> Sequence[str]:
+        return ("networks", "start") if contest is not None and contest.start <= timezone.now() else ()
+
+
+@admin.register(Extension)
+class Extensions(admin.ModelAdmin):
+    """Deadlines of teams."""
+
+    list_display = ("team", "contest", "until")

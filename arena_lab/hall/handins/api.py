@@ -15,6 +15,7 @@ class Sent(serializers.Serializer):
     """What a script hands in."""
 
     file = serializers.FileField(max_length=80, allow_empty_file=True)
+    contest = serializers.IntegerField(default=None, allow_null=True, min_value=1, max_value=999_999_999)
 
 
 class HandIns(APIView):
@@ -28,7 +29,7 @@ class HandIns(APIView):
         sent.is_valid(raise_exception=True)
         file = sent.validated_data["file"]
         try:
-            made = taking.take(request.user, file.name, file)
+            made = taking.take(request.user, file.name, file, sent.validated_data["contest"])
         except RequestRefused as fault:
             raise Refusal(fault) from None
         return Response(taking.shown(made), status=201, headers={"Location": f"/api/hand-ins/{made.pk}"})

@@ -1,11 +1,12 @@
 """Grades a hand-in: `grade` plays it in its cells, as a command of its own, so that nothing of a team's program is in a
 process of the hall.
 
-Each public grading has draws of its own, since a team hands in again and again and must not learn where the black
-holes are. The secret one has the same draws for all teams.
+A grading at once has draws of its own, since a team hands in again and again and must not learn where the black holes
+are. The secret one has the same draws for all teams.
 """
 import contextlib
 import csv
+import datetime
 import hashlib
 import os
 import pathlib
@@ -16,19 +17,23 @@ import time
 from typing import Any, Dict, List
 
 from django.conf import settings
-from django.db import OperationalError, connection, models, transaction
+from django.db import OperationalError, connection, transaction
+from django.utils import timezone
 
 from arena_lab.hall import machine
 from arena_lab.hall.attempts.playing import told_of
 from arena_lab.hall.attempts.servers import bound
 from arena_lab.hall.handins.models import Grading
+from arena_lab.hall.handins.windows import window_of
 from arena_lab.hall.place import SECRET, write_whole
-from arena_lab.hall.steps import LEASE, RENEWED, step
+from arena_lab.hall.steps import AGAIN, LEASE, RENEWED, WorkerStopped, check_stop, give_up, step
 from arena_lab.rules.fixtures import toml_of
 from arena_lab.support.built import TOP
 from arena_lab.support.faults import Fault
 
 LOOK = 0.2
+# for how long it is known how long a team's programs took
+RECENT = datetime.timedelta(days=1)
 COURSE, FILES, OUT, LOG = "course.toml", "files", "out", "log.txt"
 TEAM_PAGE = "team-{team}.html"
 SOLVED = "solved"
@@ -36,48 +41,60 @@ SOLVED = "solved"
 
 def grade(number: int, holder: str) -> None:
     """Grades a hand-in, if this holder holds the work."""
-    work = Grading.objects.filter(pk=number).select_related("hand_in", "hand_in__team").first()
+    work = Grading.objects.filter(pk=number).select_related("hand_in__team", "hand_in__contest").first()
     if work is None or not step(work, machine.BEGIN, holder):
         return
     try:
         prepare(work)
         if ran(work, holder):
             finish(work, holder)
+    except WorkerStopped:
+        give_up(work, holder, str(AGAIN))
     except (Fault, OSError) as fault:
         step(work, machine.FAIL, holder, fault=told_of(fault, work))
 
 
 def prepare(work: Grading) -> None:
     """Writes the file of a course that has this team alone, and the secret of its draws."""
-    given, team = settings.HALL.hand_ins, work.hand_in.team
-    if given is None:
-        raise Fault("the hall takes no hand-ins any more")
+    given, team, window = settings.HALL.hand_ins, work.hand_in.team, window_of(work.hand_in.contest)
+    names = window and (window.secret if work.is_secret else window.public)
+    if not names:
+        raise Fault("the hall takes no hand-ins any more, or has no network of this contest")
     shutil.rmtree(work.folder, ignore_errors=True)
     work.folder.mkdir(mode=0o700, parents=True)
     shutil.copytree(work.hand_in.folder / FILES, work.folder / FILES)
     rows: Dict[str, Any] = {
-        "title": settings.HALL.title, "networks": given.secret if work.is_secret else given.networks,
+        "title": settings.HALL.title, "networks": list(names),
         "holes": given.holes, "schedulers": given.schedulers, "seeds": given.seeds}
     own = {"name": team.name, "agents": given.agents, "files": [FILES], "command": given.command}
     text = "".join(f"{name} = {toml_of(value)}\n" for name, value in rows.items())
     text += "\n[[team]]\n" + "".join(f"{name} = {toml_of(value)}\n" for name, value in own.items())
     write_whole(work.folder / COURSE, text)
-    drawn = settings.PLACE.secret(SECRET) if work.is_secret else f"{settings.PLACE.secret(SECRET)} {work.pk}"
-    write_whole(work.folder / SECRET, hashlib.sha256(drawn.encode()).hexdigest() + "\n")
+    write_whole(work.folder / SECRET, hashlib.sha256(drawn_from(work).encode()).hexdigest() + "\n")
+
+
+def drawn_from(work: Grading) -> str:
+    """Of what the draws of a grading are made."""
+    secret, contest = settings.PLACE.secret(SECRET), work.hand_in.contest_id
+    if not work.is_secret:
+        return f"{secret} {work.pk}"
+    return secret if contest is None else f"{secret} contest {contest}"
 
 
 def ran(work: Grading, holder: str) -> bool:
-    """Runs `grade`; gives whether it has ended and the work is still this holder's."""
+    """Runs `grade`; gives whether it has ended well and the work is still this holder's. It ends with this worker, and
+    its cells with it. One that was killed is run again, once."""
     words = [sys.executable, "-m", "arena_lab", "grade", COURSE, "--out", OUT, "--secret", SECRET, "--workers", "1",
              "--program", settings.PLACE.program]
     variables = {"PATH": os.environ.get("PATH", "/usr/bin:/bin"), "PYTHONPATH": str(TOP), "PYTHONHASHSEED": "0"}
     with (work.folder / LOG).open("wb") as log:
-        child = subprocess.Popen(bound(words, "TERM"), cwd=work.folder, stdin=subprocess.DEVNULL, stdout=log,
+        child = subprocess.Popen(bound(words), cwd=work.folder, stdin=subprocess.DEVNULL, stdout=log,
                                  stderr=log, env=variables)
     renewed = time.monotonic()
     try:
         while child.poll() is None:
             time.sleep(LOOK)
+            check_stop()
             if time.monotonic() - renewed > RENEWED:
                 with contextlib.suppress(OperationalError):
                     if not step(work, machine.RENEW, holder):
@@ -87,12 +104,11 @@ def ran(work: Grading, holder: str) -> bool:
             if time.monotonic() - renewed > LEASE.total_seconds():
                 return False
     finally:
-        # who is ended so ends its cells
-        child.terminate()
-        with contextlib.suppress(subprocess.TimeoutExpired):
-            child.wait(10)
         child.kill()
         child.wait()
+    if child.returncode < 0:
+        give_up(work, holder, f"the grading was killed by signal {-child.returncode}")
+        return False
     if child.returncode != 0:
         raise Fault(f"the hall could not grade: {last_line(work.folder / LOG)}")
     return True
@@ -128,15 +144,18 @@ def rows_of(out: pathlib.Path, team: str) -> List[Dict[str, Any]]:
                 for row in csv.DictReader(file) if row["team"] == team]
 
 
-def due(waiting: "models.QuerySet[Grading]") -> List[Grading]:
-    """The gradings that may begin, fairly: of each team one at a time, and first the teams that were graded least
-    lately."""
+def due(most: int) -> List[Grading]:
+    """The gradings that may begin, up to this number: of each team one at a time, first those of teams whose last
+    grading took the shortest time, so that a program that hangs keeps few waiting, and then the least lately graded."""
+    waiting = Grading.objects.filter(state=machine.WAITING)
     busy = set(Grading.objects.filter(state__in=machine.ACTIVE).values_list("hand_in__team", flat=True))
-    last: Dict[int, Any] = dict(Grading.objects.order_by().exclude(begun=None).values_list("hand_in__team").annotate(
-        last=models.Max("begun")))
+    ended = Grading.objects.exclude(begun=None).exclude(ended=None).order_by("ended")
+    last = {team: (ended - begun, ended) for team, begun, ended in ended.filter(
+        ended__gt=timezone.now() - RECENT).values_list("hand_in__team", "begun", "ended")}
+    never = (datetime.timedelta(0), timezone.now() - RECENT)
     first: Dict[int, Grading] = {}
     for work in waiting.select_related("hand_in").order_by("pk"):
         if work.hand_in.team_id not in busy:
             first.setdefault(work.hand_in.team_id, work)
-    return sorted(first.values(), key=lambda it: (last.get(it.hand_in.team_id) is not None,
-                                                  last.get(it.hand_in.team_id) or it.asked, it.pk))
+    found = sorted(first.values(), key=lambda it: (*last.get(it.hand_in.team_id, never), it.pk))
+    return found[:max(0, most - len(busy))]

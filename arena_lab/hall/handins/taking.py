@@ -3,7 +3,6 @@ import datetime
 import hashlib
 import pathlib
 import shutil
-import sys
 from typing import Any, Dict, List, Optional
 
 from django.conf import settings
@@ -16,18 +15,22 @@ from arena_lab.hall.attempts.asking import RequestRefused, own_bytes
 from arena_lab.hall.attempts.shown import time_of
 from arena_lab.hall.handins import unpacking
 from arena_lab.hall.handins.grading import FILES
-from arena_lab.hall.handins.models import Grading, HandIn
+from arena_lab.hall.handins.models import Contest, Grading, HandIn
+from arena_lab.hall.handins.windows import Window, ends, last_of_teams, window_of, windows
+from arena_lab.hall.place import tell
 from arena_lab.hall.teams.guards import Buckets
-from arena_lab.hall.teams.models import Grant, Team, granted, note, today
+from arena_lab.hall.teams.models import Team, note, today
 
 # how many of a team may wait to be graded, and how often a team may send something in a minute, taken or not
 MOST_WAITING, A_MINUTE = 3, 12
 sent = Buckets(60)
 
 
-def take(team: Team, name: str, file: Any) -> HandIn:
-    """Takes a file that a team hands in, or refuses it."""
-    check(team, file.size)
+def take(team: Team, name: str, file: Any, number: Optional[int] = None) -> HandIn:
+    """Takes a file that a team hands in, for the course or for the contest of a number, or refuses it."""
+    contest = None if number is None else Contest.objects.filter(pk=number).first()
+    window = None if contest is None and number is not None else window_of(contest)
+    check(team, file.size, window)
     if sent.wait(team.name, A_MINUTE):
         raise RequestRefused(429, _("your team has handed in %(count)s times this minute: wait for it to pass") % {
             "count": A_MINUTE})
@@ -40,9 +43,9 @@ def take(team: Team, name: str, file: Any) -> HandIn:
         digest.update(f"{len(path.encode())}:{path}{len(content)}:".encode() + content)
     with transaction.atomic():
         team = Team.objects.select_for_update().get(pk=team.pk)
-        check(team, file.size)
-        made = HandIn.objects.create(team=team, name=name[:80], size=sum(map(len, files.values())), files=len(files),
-                                     digest=digest.hexdigest())
+        check(team, file.size, window)
+        made = HandIn.objects.create(team=team, contest=contest, name=name[:80], size=sum(map(len, files.values())),
+                                     files=len(files), digest=digest.hexdigest())
         write(files, made.folder)
         Grading.objects.create(hand_in=made)
         note(team.name, f"hands in {made.pk}: {made.files} files, {made.size} bytes")
@@ -55,21 +58,25 @@ def write(files: Dict[str, bytes], folder: pathlib.Path) -> None:
         unpacking.write(files, folder / FILES)
     except OSError as fault:
         shutil.rmtree(folder, ignore_errors=True)
-        print(f"hall: {folder}: {fault}", file=sys.stderr, flush=True)
+        tell(f"{folder}: {fault}")
         raise RequestRefused(503, _("the hall cannot write this now: tell your teacher")) from None
 
 
-def check(team: Team, size: int) -> None:
-    """Refuses what is more than a team may hand in now."""
-    given = settings.HALL.hand_ins
-    if given is None:
+def check(team: Team, size: int, window: Optional[Window]) -> None:
+    """Refuses what is more than a team may hand in now. A contest takes any number of hand-ins, the course some a
+    day."""
+    if window is None:
         raise RequestRefused(404, _("nothing is handed in here"))
-    if given.deadline is not None and timezone.now() > given.deadline:
+    if not window.has_begun():
+        raise RequestRefused(403, _("the contest has not begun"))
+    end = window.end_for(team)
+    if end is not None and timezone.now() > end:
         raise RequestRefused(403, _("the deadline has passed"))
     if size > unpacking.MOST_SENT:
         raise RequestRefused(413, _("a hand-in has at most %(count)s MB") % {"count": unpacking.MOST_SENT >> 20})
-    if not left_today(team):
-        raise RequestRefused(429, _("your team has handed in %(count)s times today") % {"count": given.a_day})
+    if window.contest is None and not left_today(team):
+        raise RequestRefused(429, _("your team has handed in %(count)s times today") % {
+            "count": settings.HALL.hand_ins.a_day})
     if Grading.objects.filter(hand_in__team=team, state=machine.WAITING, is_secret=False).count() >= MOST_WAITING:
         raise RequestRefused(429, _("%(count)s hand-ins of your team wait to be graded: wait for one") % {
             "count": MOST_WAITING})
@@ -81,16 +88,17 @@ def check(team: Team, size: int) -> None:
 
 def left_today(team: Team) -> int:
     """How many more hand-ins a team has today."""
-    used = HandIn.objects.filter(team=team, at__gte=today()).count()
-    return max(0, int(settings.HALL.hand_ins.a_day + granted(team, Grant.HAND_IN) - used))
+    used = HandIn.objects.filter(team=team, contest=None, at__gte=today()).count()
+    return max(0, int(settings.HALL.hand_ins.a_day - used))
 
 
 def shown(hand_in: HandIn) -> Dict[str, Any]:
-    """What a team is told of a hand-in. What came of the secret networks is told when the teacher shows it."""
-    public = hand_in.gradings.filter(is_secret=False).first()
-    return {"id": hand_in.pk, "at": time_of(hand_in.at), "name": hand_in.name, "size": hand_in.size,
-            "files": hand_in.files, "sha256": hand_in.digest, "state": public.state if public else "",
-            "fault": public.fault if public else "", "result": result_of(public)}
+    """What a team is told of a hand-in. What came of the secret draw is told when the teacher shows it."""
+    public = next((it for it in hand_in.gradings.all() if not it.is_secret), None)
+    return {"id": hand_in.pk, "contest": hand_in.contest_id, "at": time_of(hand_in.at), "name": hand_in.name,
+            "size": hand_in.size, "files": hand_in.files, "sha256": hand_in.digest,
+            "state": public.state if public else "", "fault": public.fault if public else "",
+            "result": result_of(public)}
 
 
 def result_of(grading: Optional[Grading]) -> Optional[Dict[str, Any]]:
@@ -102,14 +110,14 @@ def result_of(grading: Optional[Grading]) -> Optional[Dict[str, Any]]:
 
 
 def grade_secretly(now: datetime.datetime) -> int:
-    """Asks for the grading of each team's last hand-in on the secret networks, once the deadline has passed; gives how
-    many were asked for."""
-    given = settings.HALL.hand_ins
-    if given is None or not given.secret or given.deadline is None or now <= given.deadline:
-        return 0
-    # without an order of its own the rows of a team are one
-    last = HandIn.objects.order_by().values("team").annotate(last=models.Max("pk")).values_list("last", flat=True)
-    new: List[int] = [pk for pk in last if not Grading.objects.filter(hand_in=pk, is_secret=True).exists()]
+    """Asks for the grading of each team's last hand-in by the secret draw, once the window has ended for that team;
+    gives how many were asked for."""
+    teams = list(Team.objects.all())
+    graded = set(Grading.objects.filter(is_secret=True).values_list("hand_in", flat=True))
+    new: List[int] = []
+    for window in windows():
+        last, until = last_of_teams(window), ends(window, teams)
+        new += [pk for team, pk in last.items() if pk not in graded and (end := until[team]) is not None and now > end]
     for pk in new:
         Grading.objects.get_or_create(hand_in_id=pk, is_secret=True)
     return len(new)

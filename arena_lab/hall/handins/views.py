@@ -1,52 +1,80 @@
 """Pages of hand-ins."""
+import contextlib
 import re
-from typing import Any
+from typing import Any, Dict, List
 
 from django.conf import settings
 from django.http import FileResponse, Http404, HttpResponse
 from django.shortcuts import redirect, render
+from django.utils import timezone
 
 from arena_lab.hall.attempts.asking import RequestRefused
 from arena_lab.hall.attempts.views import sent
 from arena_lab.hall.handins import taking
-from arena_lab.hall.handins.grading import OUT, TEAM_PAGE
+from arena_lab.hall.handins.grading import FILES, OUT, TEAM_PAGE
 from arena_lab.hall.handins.models import HandIn
+from arena_lab.hall.handins.windows import windows
 from arena_lab.hall.teams.guards import BOXED
-from arena_lab.hall.teams.views import for_teams
+from arena_lab.hall.teams.views import for_teams, may
 
+NUMBER = re.compile("[0-9]{1,9}")
 # what of the results of a grading a team may look at: its page, and what that leads to
 KEPT = re.compile(r"failed/[\w-]+/(?:smallest/)?[\w.-]+")
+# bytes of sources that a page has
+MOST_SHOWN = 400_000
 KINDS = {".html": "text/html; charset=utf-8"}
 
 
 @for_teams
 def listed(request: Any, refusal: str = "", status: int = 200) -> HttpResponse:
     """What a team has handed in, and a form for more."""
-    found = [taking.shown(it) for it in HandIn.objects.filter(team=request.team)[:50]]
-    left = taking.left_today(request.team) if settings.HALL.hand_ins else 0
-    return render(request, "hand_ins.html", {"hand_ins": found, "left": left, "refusal": refusal}, status=status)
+    own = HandIn.objects.filter(team=request.team).select_related("contest").prefetch_related("gradings")[:50]
+    open_now = [{"contest": it.contest, "end": end} for it in windows() if it.has_begun()
+                and ((end := it.end_for(request.team)) is None or end >= timezone.now())]
+    given = {"hand_ins": [{**taking.shown(it), "of": it.contest or ""} for it in own], "open": open_now,
+             "left": taking.left_today(request.team) if settings.HALL.hand_ins else 0, "refusal": refusal}
+    return render(request, "hand_ins.html", given, status=status)
 
 
 @for_teams
 def take(request: Any) -> HttpResponse:
     """Takes a hand-in."""
-    file = request.FILES.get("file") if request.method == "POST" else None
-    if file is None:
+    file, contest = request.FILES.get("file"), request.POST.get("contest", "")
+    if request.method != "POST" or file is None:
         return redirect("/hand-ins")
     try:
-        taking.take(request.team, file.name, file)
+        # what is no number is the number of no contest
+        number = int(contest) if NUMBER.fullmatch(contest) else 0
+        taking.take(request.team, file.name, file, number if contest else None)
     except RequestRefused as fault:
         return listed(request, str(fault), fault.status)
     return redirect("/hand-ins")
 
 
 def own(request: Any, number: int) -> HandIn:
-    """A hand-in of the team that asks, or of any if the teacher does."""
+    """A hand-in of the team that asks, or of any if who asks may see gradings."""
     found = HandIn.objects.filter(pk=number).select_related("team").first()
-    may_see = found is not None and (request.user.is_staff or request.team is not None
-                                     and found.team_id == request.team.pk)
-    if found is None or not may_see:
+    if found is None or not may(request, found.team_id, "handins.view_grading"):
         raise Http404
+    return found
+
+
+def one(request: Any, number: int) -> HttpResponse:
+    """A hand-in with its sources, as far as they are texts that a page takes."""
+    hand_in = own(request, number)
+    return render(request, "hand_in.html", {"told": taking.shown(hand_in), "of": hand_in, "files": sources(hand_in)})
+
+
+def sources(hand_in: HandIn) -> List[Dict[str, Any]]:
+    """The files of a hand-in, each with its text."""
+    place, left, found = hand_in.folder / FILES, MOST_SHOWN, []
+    for path in sorted(it for it in place.rglob("*") if it.is_file() and not it.is_symlink()):
+        size, text = path.stat().st_size, None
+        if size <= left:
+            with contextlib.suppress(UnicodeDecodeError):
+                text = path.read_text(encoding="utf-8")
+                left -= size
+        found.append({"name": path.relative_to(place), "size": size, "text": text})
     return found
 
 

@@ -1,16 +1,11 @@
 """What the teacher shows."""
-from typing import Any
-
 from django.contrib import admin
 
 from arena_lab.hall.standings.models import Reveal
-from arena_lab.hall.teams.models import note
 
 
 @admin.register(Reveal)
 class Reveals(admin.ModelAdmin):
-    """Shows what the freeze hides."""
+    """Shows what a freeze hides, or what came of the secret draw."""
 
-    def save_model(self, request: Any, made: Reveal, form: Any, change: bool) -> None:
-        super().save_model(request, made, form, change)
-        note(request.user, "shows what the freeze hid")
+    list_display = ("contest", "what", "at")

@@ -1,97 +1,76 @@
-"""The standings as they are now, or as they were when they were frozen."""
-import datetime
-from typing import Any, Dict, List, NamedTuple, Optional
+"""The table of the course or of a contest, as it is now, or as it was when it was frozen."""
+from typing import Any, Dict, List, NamedTuple
 
-from django.conf import settings
+from django.db import models
 from django.utils import timezone
 
 from arena_lab.hall import machine
-from arena_lab.hall.attempts.models import ABSENT, RATED, Attempt, Contest
 from arena_lab.hall.handins.models import Grading
+from arena_lab.hall.handins.windows import Moment, Window
 from arena_lab.hall.standings import rules
 from arena_lab.hall.standings.models import Reveal
 from arena_lab.hall.teams.models import Team
 
 
 class StandingsTable(NamedTuple):
-    """Standings, the league of programs, and since when they are frozen."""
+    """A table: its networks, a row for each team, whether the matches are those of the secret draw, and since when it
+    is frozen."""
 
     networks: List[str]
     rows: List[Dict[str, Any]]
-    programs: List[Dict[str, Any]]
-    frozen: Optional[datetime.datetime]
-
-    @property
-    def has_traps(self) -> bool:
-        """Whether a series that counts has a trap."""
-        return any(row["traps"] for row in self.rows)
+    is_secret: bool
+    frozen: Moment
 
 
-def frozen_at() -> Optional[datetime.datetime]:
-    """Since when standings are frozen; None if they are not."""
-    freeze = settings.HALL.freeze
-    if freeze is None or timezone.now() < freeze or Reveal.objects.exists():
+def is_shown(window: Window, what: str, since: Moment = None) -> bool:
+    """Whether the teacher has shown something of a window, since a moment if one is named."""
+    found = Reveal.objects.filter(contest=window.contest, what=what)
+    return bool((found if since is None else found.filter(at__gte=since)).exists())
+
+
+def frozen_at(window: Window) -> Moment:
+    """Since when a table is frozen; None if it is not. An unveiling ends the freezes before it, and none after it."""
+    if window.freeze is None or timezone.now() < window.freeze or is_shown(window, Reveal.FREEZE, window.freeze):
         return None
-    return freeze.astimezone(datetime.timezone.utc)
+    return window.freeze
 
 
-def table(for_teacher: bool) -> StandingsTable:
-    """The standings that a team sees, or those that the teacher sees: all teams, and what the freeze hides."""
-    frozen = None if for_teacher else frozen_at()
+def tables(window: Window, for_teacher: bool) -> List[StandingsTable]:
+    """The table that a team sees: that of the secret draw once it is shown, before that the one of what each hand-in
+    came to at once. The teacher sees both, with hidden teams and with what is frozen."""
+    secret = {"hand_in__contest": window.contest, "is_secret": True, "state": machine.OVER}
+    is_shown_to = for_teacher or is_shown(window, Reveal.SECRET)
+    found = [table(window, True, for_teacher)] if is_shown_to and Grading.objects.filter(**secret).exists() else []
+    return found + ([table(window, False, for_teacher)] if for_teacher or not found else [])
+
+
+def table(window: Window, is_secret: bool, for_teacher: bool) -> StandingsTable:
+    """One of the two tables of a window."""
+    frozen = None if for_teacher or is_secret else frozen_at(window)
     teams = Team.objects.all() if for_teacher else Team.objects.filter(hidden=False)
+    names = window.secret if is_secret else window.public
+    found = graded(window, is_secret, frozen)
+    places = rules.league([found[team.pk]._replace(team=team.name) for team in teams if team.pk in found])
     shown = {team.name: str(team) for team in teams}
-    rated = Attempt.objects.filter(kind=RATED)
-    if frozen is not None:
-        rated = rated.filter(ended__lt=frozen)
-    return StandingsTable(list(settings.HALL.nets), ranked(rated, shown, list(settings.HALL.nets)), programs(shown,
-                                                                                                             frozen),
-                 frozen)
+    rows = [{"place": place, "team": it.team, "name": shown.pop(it.team), "absent": False, "solved": it.solved,
+             "matches": it.matches, "moves": it.moves, "lost": it.lost,
+             "cells": [cell(it.networks.get(word)) for word in names]} for place, it in places]
+    last = 1 + len(rows)
+    rows += [{"place": last, "team": team, "name": name, "absent": True, "solved": 0, "matches": 0, "moves": 0,
+              "lost": 0, "cells": [None] * len(names)} for team, name in shown.items()]
+    return StandingsTable(list(names.values()), rows, is_secret, frozen)
 
 
-def of_contest(contest: Contest) -> StandingsTable:
-    """The standings of a contest: its matches alone."""
-    shown = {team.name: str(team) for team in Team.objects.filter(hidden=False)}
-    names = [contest.network]
-    return StandingsTable(names, ranked(Attempt.objects.filter(contest=contest), shown, names), [], None)
+def cell(found: Any) -> Any:
+    """What a team has on a network."""
+    return None if found is None else {"solved": found[0], "matches": found[1]}
 
 
-def ranked(attempts: Any, shown: Dict[str, str], names: List[str]) -> List[Dict[str, Any]]:
-    """The rows of these attempts, best first, with cells for these networks. Teams that are not shown change nothing:
-    the fewest moves are those of the others."""
-    found = rules.standings(series_of(attempts.filter(team__name__in=shown)), list(shown), settings.HALL.rated)
-    return [row_of(row, shown, names) for row in found]
-
-
-def series_of(attempts: Any) -> List[rules.Series]:
-    """The attempts that are over and count, in the order in which they were asked for."""
-    rows = attempts.filter(state=machine.OVER, counts=True).order_by("pk")
-    found = []
-    for attempt in rows.select_related("team").prefetch_related("matches"):
-        matches = list(attempt.matches.all())
-        played = tuple(rules.SeriesMatch(it.is_solved, it.moves, it.lost) for it in matches if not it.is_trap)
-        if played and attempt.network in settings.HALL.nets:
-            came = any(it.outcome != ABSENT for it in matches)
-            found.append(rules.Series(attempt.team.name, attempt.network, played, came,
-                                      sum(it.is_trap for it in matches), sum(it.has_deceived for it in matches)))
-    return found
-
-
-def row_of(row: rules.TeamRow, shown: Dict[str, str], names: List[str]) -> Dict[str, Any]:
-    """A row as pages and REST have it, with a cell for each network."""
-    cells = [row.cells[name]._asdict() if name in row.cells else None for name in names]
-    deceived, traps = (sum(cell[name] for cell in cells if cell) for name in ("deceived", "traps"))
-    return {"place": row.place, "team": row.team, "name": shown[row.team], "points": row.points,
-            "absent": row.is_absent, "deceived": deceived, "traps": traps, "cells": cells}
-
-
-def programs(shown: Dict[str, str], frozen: Optional[datetime.datetime]) -> List[Dict[str, Any]]:
-    """The league of the last programs of teams: on the secret networks, once the teacher has shown them, else on the
-    public ones."""
-    is_secret = Reveal.objects.exists() and Grading.objects.filter(is_secret=True, state=machine.OVER).exists()
-    rows = Grading.objects.filter(is_secret=is_secret, state=machine.OVER).order_by("hand_in")
-    if frozen is not None:
-        rows = rows.filter(ended__lt=frozen)
-    last = {it.hand_in.team.name: it for it in rows.select_related("hand_in__team")}
-    found = rules.league([rules.GradedTeam(name, it.solved, it.matches, it.moves, it.lost) for name, it in last.items()
-                          if name in shown])
-    return [{"place": place, "name": shown[it.team], **it._asdict()} for place, it in found]
+def graded(window: Window, is_secret: bool, before: Moment) -> Dict[int, rules.GradedTeam]:
+    """What came of each team's last hand-in that is graded. A freeze hides what was handed in later."""
+    rows = Grading.objects.filter(hand_in__contest=window.contest, is_secret=is_secret, state=machine.OVER).order_by()
+    if before is not None:
+        rows = rows.filter(hand_in__at__lt=before)
+    last = rows.values("hand_in__team").annotate(last=models.Max("hand_in")).values("last")
+    return {it.hand_in.team_id: rules.GradedTeam("", it.solved, it.matches, it.moves, it.lost, it.networks)
+            for it in rows.filter(hand_in__in=last).select_related("hand_in")}

@@ -1,19 +1,28 @@
 """Pages of the standings, for teams and for the projector."""
 import csv
 import io
-from typing import Any, List
+from typing import Any, List, Optional
 
 from django.conf import settings
 from django.contrib.admin.views.decorators import staff_member_required
-from django.http import HttpResponse
+from django.contrib.auth.decorators import permission_required
+from django.core.cache import cache
+from django.http import Http404, HttpResponse
 from django.shortcuts import get_object_or_404, redirect, render
+from django.utils import timezone
 from rest_framework.permissions import BasePermission
 from rest_framework.response import Response
 from rest_framework.views import APIView
 
-from arena_lab.hall.attempts.models import Contest
 from arena_lab.hall.attempts.shown import time_of
+from arena_lab.hall.handins.models import Contest
+from arena_lab.hall.handins.windows import Window, window_of
 from arena_lab.hall.standings import tables
+
+
+# for how long the tables that teams see are kept
+SECONDS = 2
+SEES_ALL = "handins.view_grading"
 
 
 def may_see(request: Any) -> bool:
@@ -21,44 +30,52 @@ def may_see(request: Any) -> bool:
     return bool(settings.HALL.public or request.team is not None or request.user.is_staff)
 
 
-def home(request: Any) -> HttpResponse:
-    """The standings, or the page on which one logs in."""
+def is_teacher(request: Any) -> bool:
+    """Whether one may see what a freeze hides."""
+    return bool(request.user.is_staff and request.user.has_perm(SEES_ALL))
+
+
+def begun(number: Optional[int]) -> Optional[Window]:
+    """The window of a contest that has begun, or of the course."""
+    return window_of(None if number is None else get_object_or_404(Contest, pk=number, start__lte=timezone.now()))
+
+
+def shown(window: Optional[Window], for_teacher: bool) -> List[tables.StandingsTable]:
+    """The tables of a window. Those of teams are made once in a while, however often they are asked for."""
+    if window is None or for_teacher:
+        return [] if window is None else tables.tables(window, True)
+    name = f"tables-{0 if window.contest is None else window.contest.pk}"
+    found: List[tables.StandingsTable] = cache.get_or_set(name, lambda: tables.tables(window, False), SECONDS)
+    return found
+
+
+def page(request: Any, number: Optional[int] = None) -> HttpResponse:
+    """The standings of the course or of a contest, or the page on which one logs in."""
     if not may_see(request):
         return redirect("/login")
-    contests = Contest.objects.filter(is_made=True)
-    return render(request, "standings.html", {"table": tables.table(request.user.is_staff), "contests": contests})
+    window = begun(number)
+    contests = Contest.objects.filter(start__lte=timezone.now()) if number is None else []
+    return render(request, "standings.html", {
+        "tables": shown(window, is_teacher(request)), "is_teacher": is_teacher(request), "contests": contests,
+        "contest": window and window.contest})
 
 
-def contest(request: Any, number: int) -> HttpResponse:
-    """The standings of a contest that has begun, which may stand on a projector too."""
-    if not may_see(request):
-        return redirect("/login")
-    found = get_object_or_404(Contest, pk=number, is_made=True)
-    name = "screen.html" if "screen" in request.GET else "contest.html"
-    return render(request, name, {"table": tables.of_contest(found), "contest": found})
-
-
-def screen(request: Any) -> HttpResponse:
+def screen(request: Any, number: Optional[int] = None) -> HttpResponse:
     """The standings on a projector. Everybody sees it, so it hides what the freeze hides."""
     if not may_see(request):
         return redirect("/login")
-    return render(request, "screen.html", {"table": tables.table(False)})
-
-
-# what the table for a gradebook has of each network, by the names of a cell
-COLUMNS = {"solved": "solved", "of": "played", "moves": "moves", "lost": "lost"}
+    window = begun(number)
+    return render(request, "screen.html", {"tables": shown(window, False), "contest": window and window.contest})
 
 
 def as_rows(table: tables.StandingsTable) -> List[List[Any]]:
     """The standings as a table of texts."""
-    traps = ["deceived", "traps"] if table.has_traps else []
-    rows: List[List[Any]] = [["place", "team", "name", "points", *traps, *(
-        f"{name}: {what}" for name in table.networks for what in COLUMNS)]]
+    rows: List[List[Any]] = [["place", "team", "name", "solved", "matches", "moves", "lost", *(
+        f"{name}: {what}" for name in table.networks for what in ("solved", "matches"))]]
     for row in table.rows:
-        cells = ["" if cell is None or cell[name] is None else cell[name]
-                 for cell in row["cells"] for name in COLUMNS.values()]
+        cells = [cell[what] if cell else "" for cell in row["cells"] for what in ("solved", "matches")]
         place = "absent" if row["absent"] else row["place"]
-        rows.append([place, row["team"], row["name"], row["points"], *(row[name] for name in traps), *cells])
+        rows.append([place, *(row[name] for name in ("team", "name", "solved", "matches", "moves", "lost")), *cells])
     return rows
 
 
@@ -81,9 +98,13 @@ def attached(text: str, name: str) -> HttpResponse:
 
 
 @staff_member_required
-def export(request: Any) -> HttpResponse:
-    """The standings as the teacher sees them, as a table."""
-    return attached(as_csv(as_rows(tables.table(True))), "standings.csv")
+@permission_required(SEES_ALL, raise_exception=True)
+def export(request: Any, number: Optional[int] = None) -> HttpResponse:
+    """The first table that the teacher sees, for a gradebook."""
+    found = shown(begun(number), True)
+    if not found:
+        raise Http404
+    return attached(as_csv(as_rows(found[0])), "standings.csv")
 
 
 class MaySee(BasePermission):
@@ -94,11 +115,23 @@ class MaySee(BasePermission):
 
 
 class Standings(APIView):
-    """The standings."""
+    """The standings of the course or of a contest."""
+
+    permission_classes = [MaySee]
+
+    def get(self, request: Any, number: Optional[int] = None) -> Response:
+        found = shown(begun(number), False)
+        table = found[0] if found else tables.StandingsTable([], [], False, None)
+        return Response({"networks": table.networks, "teams": table.rows, "secret": table.is_secret,
+                         "frozen": time_of(table.frozen)})
+
+
+class Contests(APIView):
+    """All contests; the networks of one are told once it has begun."""
 
     permission_classes = [MaySee]
 
     def get(self, request: Any) -> Response:
-        table = tables.table(False)
-        return Response({"networks": table.networks, "teams": table.rows, "programs": table.programs,
-                         "frozen": time_of(table.frozen)})
+        now = timezone.now()
+        return Response([{"id": it.pk, "name": it.name, "start": time_of(it.start), "end": time_of(it.end),
+                          "networks": it.networks if it.start <= now else []} for it in Contest.objects.all()])

@@ -3,12 +3,13 @@ from typing import Any, List
 
 from django.conf import settings
 from django.contrib import admin
+from django.contrib.admin.models import LogEntry
 from django.http import HttpResponse
 from django.utils.translation import gettext_lazy as _
 
 from arena_lab.hall.keys import HEAD, new_tokens
 from arena_lab.hall.standings.views import as_csv, attached
-from arena_lab.hall.teams.models import Entry, Grant, Switch, Team, note
+from arena_lab.hall.teams.models import Entry, Message, Switch, Team
 
 admin.site.site_header = admin.site.site_title = settings.HALL.title
 admin.site.index_title = _("Teacher")
@@ -21,29 +22,12 @@ class Teams(admin.ModelAdmin):
     list_display = ("name", "display", "hidden")
     list_editable = ("display", "hidden")
     search_fields = ("name", "display")
-    actions = ("draw_tokens", "grant_hand_in")
+    actions = ("draw_tokens",)
 
-    @admin.action(description=_("New key sheets (earlier tokens end)"))
+    @admin.action(description=_("New key sheets (earlier tokens end)"), permissions=["change"])
     def draw_tokens(self, request: Any, chosen: Any) -> HttpResponse:
         rows: List[List[Any]] = [list(HEAD), *(list(row) for row in new_tokens(list(chosen), request.user))]
         return attached(as_csv(rows), "keys.csv")
-
-    @admin.action(description=_("One more hand-in today"))
-    def grant_hand_in(self, request: Any, chosen: Any) -> None:
-        for team in chosen:
-            Grant.objects.create(team=team, kind=Grant.HAND_IN)
-            note(request.user, f"gives {team.name} one more hand-in")
-
-    def save_model(self, request: Any, made: Team, form: Any, change: bool) -> None:
-        super().save_model(request, made, form, change)
-        note(request.user, f"changes team {made.name}: {', '.join(form.changed_data)}")
-
-
-@admin.register(Grant)
-class Grants(admin.ModelAdmin):
-    """More tries."""
-
-    list_display = ("team", "kind", "network", "at")
 
 
 @admin.register(Switch)
@@ -53,20 +37,21 @@ class Switches(admin.ModelAdmin):
     list_display = ("network", "is_open")
     list_editable = ("is_open",)
 
-    def save_model(self, request: Any, made: Switch, form: Any, change: bool) -> None:
-        super().save_model(request, made, form, change)
-        note(request.user, f"{'opens' if made.is_open else 'closes'} {made.network}")
-
     def has_add_permission(self, request: Any) -> bool:
         return False
 
 
-@admin.register(Entry)
-class Entries(admin.ModelAdmin):
-    """The log, which nobody changes."""
+@admin.register(Message)
+class Messages(admin.ModelAdmin):
+    """Announcements, and questions to be answered."""
 
-    list_display = ("at", "who", "what")
-    search_fields = ("who", "what")
+    list_display = ("at", "team", "__str__", "answer", "is_public")
+    list_filter = ("team", "is_public")
+    list_select_related = ("team",)
+
+
+class Log(admin.ModelAdmin):
+    """A log, which nobody changes."""
 
     def has_add_permission(self, request: Any) -> bool:
         return False
@@ -76,3 +61,20 @@ class Entries(admin.ModelAdmin):
 
     def has_delete_permission(self, request: Any, one: Any = None) -> bool:
         return False
+
+
+@admin.register(Entry)
+class Entries(Log):
+    """What teams have asked for, and what the hall has done."""
+
+    list_display = ("at", "who", "what")
+    search_fields = ("who", "what")
+
+
+@admin.register(LogEntry)
+class Doings(Log):
+    """What teachers and tutors have done on their pages: Django's own log."""
+
+    list_display = ("action_time", "user", "content_type", "__str__")
+    list_filter = ("user", "content_type")
+    list_select_related = ("user", "content_type")

@@ -19,8 +19,11 @@ STRICT = ("default-src 'none'; style-src 'self'; script-src 'self'; img-src 'sel
 # pages that are made of what strangers said have their scripts in them, and may reach nothing, not even cookies
 BOXED = ("sandbox allow-scripts; default-src 'none'; style-src 'unsafe-inline'; script-src 'unsafe-inline'; "
          "base-uri 'none'; form-action 'none'; frame-ancestors 'none'")
-# requests a minute of an address that nobody has logged in from, and tries of tokens and passwords in ten minutes
-STRANGERS, TRIES, TRIES_OF_ADDRESS = 600, 10, 100
+# requests a minute of an address that nobody has logged in from, or of a teacher; and wrong tries of a team's token or
+# of a teacher's password in ten minutes, from one address: others of a class behind it are not kept out
+STRANGERS, TRIES = 600, 10
+# what begins the names of teachers here, and of no team
+STAFF = "@"
 # bytes that are sent with a request: a hand-in, or of who has not logged in a form
 MOST_SENT, MOST_OF_STRANGERS = (8 << 20) + (64 << 10), 64 << 10
 # what is kept in mind at most
@@ -95,11 +98,9 @@ asked, tried, known = Buckets(60), Buckets(600), CredentialCache()
 
 
 def address_of(request: HttpRequest) -> str:
-    """Who asks: the address, as the server before the hall tells it if there is one; it stands last, behind what a
-    stranger says of himself. Of an address of IPv6 that is the network, whose addresses are all one person's."""
+    """Who asks: the address, as waitress has it of the server before the hall if there is one. Of an address of IPv6
+    that is the network, whose addresses are all one person's."""
     found = str(request.META.get("REMOTE_ADDR", ""))
-    if settings.HALL.https:
-        found = str(request.META.get("HTTP_X_FORWARDED_FOR", found)).rpartition(",")[2].strip()
     try:
         address = ipaddress.ip_address(found.partition("%")[0])
     except ValueError:
@@ -126,16 +127,12 @@ def credential_of(request: HttpRequest) -> Optional[str]:
 def must_wait_to_try(request: HttpRequest, name: str) -> float:
     """How many seconds one waits before one may try a token or a password of this name; 0 takes a try. A try that was
     right is given back by `was_right`."""
-    address = address_of(request)
-    wait = tried.wait(f"{address} {name[:40]}", TRIES)
-    return wait or tried.wait(address, TRIES_OF_ADDRESS)
+    return tried.wait(f"{address_of(request)} {name[:40]}", TRIES)
 
 
 def was_right(request: HttpRequest, name: str) -> None:
     """Gives a try back."""
-    address = address_of(request)
-    tried.give(f"{address} {name[:40]}", TRIES)
-    tried.give(address, TRIES_OF_ADDRESS)
+    tried.give(f"{address_of(request)} {name[:40]}", TRIES)
 
 
 class Guards:
@@ -154,8 +151,9 @@ class Guards:
         if request.path.startswith("/static/"):
             return None
         name = known.name(credential_of(request))
-        key, most = (f"team {name}", settings.HALL.limits.requests) if name else (address_of(request), STRANGERS)
-        wait = asked.wait(key, most)
+        is_team = bool(name) and not str(name).startswith(STAFF)
+        most = settings.HALL.limits.requests if is_team else STRANGERS
+        wait = asked.wait(f"known {name}" if name else address_of(request), most)
         if wait:
             return too_many(wait)
         # what comes with a token is read once the token is found right

@@ -58,6 +58,8 @@ class Teams:
             digest = guards.credential_of(request)
             if request.team is not None:
                 guards.known.note(digest, request.team.name)
+            elif request.user.is_staff:
+                guards.known.note(digest, f"{guards.STAFF}{request.user.pk}")
             else:
                 guards.known.forget(digest)
         return self._answer(request)
@@ -111,7 +113,7 @@ class Teachers(ModelBackend):
     """The teacher's password, whose tries are limited."""
 
     def authenticate(self, request: Any, username: Any = None, password: Any = None, **given: Any) -> Any:
-        name = f"teacher {username}"
+        name = f"{guards.STAFF}{username}"
         if request is not None and guards.must_wait_to_try(request, name):
             return None
         user = super().authenticate(request, username=username, password=password, **given)

@@ -1,4 +1,4 @@
-"""Teams, what the teacher grants them, and the hall's log."""
+"""Teams, which networks are open, and the hall's log."""
 import datetime
 import hashlib
 import hmac
@@ -21,7 +21,7 @@ class Team(models.Model):
     """A team. Of its token the hall keeps a digest."""
 
     name = models.CharField(_("name"), max_length=16, unique=True, validators=[RegexValidator(f"^{TEAM.pattern}$")],
-                            help_text=_("1 to 16 characters out of a to z, 0 to 9 and -"))
+                            help_text=_("1 to 16 characters out of a to z, 0 to 9 and -, which does not come first"))
     display = models.CharField(_("display name"), max_length=80, blank=True)
     hidden = models.BooleanField(_("hidden"), default=False, help_text=_("is in no standings that teams see"))
     digest = models.CharField(max_length=64, blank=True, editable=False)
@@ -55,22 +55,27 @@ def digest_of(token: str) -> str:
 def team_of(token: str) -> Optional[Team]:
     """The team of a token, or nothing. How long the answer takes does not depend on how much of it is right."""
     name = token.partition(DOT)[0]
-    team = Team.objects.filter(name=name).first() if TEAM.fullmatch(name) else None
+    team = Team.objects.filter(name=name).first() if TEAM.fullmatch(name.lstrip("-")) else None
     is_right = hmac.compare_digest(team.digest if team else "", digest_of(token))
     return team if is_right else None
 
 
-class Grant(models.Model):
-    """One more try that the teacher gives a team today: a rated attempt on a network, or a hand-in."""
+class Message(models.Model):
+    """An announcement to all teams, or a question of one of them with its answer."""
 
-    RATED, HAND_IN = "rated", "hand-in"
-    team = models.ForeignKey(Team, models.CASCADE)
-    kind = models.CharField(max_length=10, choices=[(RATED, _("rated attempt")), (HAND_IN, _("hand-in"))])
-    network = models.CharField(_("network"), max_length=60, blank=True, help_text=_("of a rated attempt"))
-    at = models.DateTimeField(default=timezone.now)
+    team = models.ForeignKey(Team, models.CASCADE, null=True, blank=True, help_text=_("empty for an announcement"))
+    at = models.DateTimeField(default=timezone.now, editable=False)
+    text = models.TextField(_("text"), max_length=2_000)
+    answer = models.TextField(_("answer"), max_length=2_000, blank=True)
+    is_public = models.BooleanField(_("for all"), default=False, help_text=_(
+        "all teams see the question once it has an answer"))
 
     class Meta:
-        verbose_name, verbose_name_plural = _("one more try"), _("more tries")
+        verbose_name, verbose_name_plural = _("message"), _("messages")
+        ordering = ["-pk"]
+
+    def __str__(self) -> str:
+        return str(self.text)[:60]
 
 
 class Entry(models.Model):
@@ -102,11 +107,6 @@ class Switch(models.Model):
 def note(who: object, what: str) -> None:
     """Writes a line of the log."""
     Entry.objects.create(who=str(who)[:40], what=what[:300])
-
-
-def granted(team: Team, kind: str, network: str = "") -> int:
-    """How many more tries a team has today."""
-    return int(Grant.objects.filter(team=team, kind=kind, network=network, at__gte=today()).count())
 
 
 def today() -> datetime.datetime:

@@ -2,6 +2,7 @@
 from typing import Any, Callable
 
 from django import forms
+from django.db.models import Q
 from django.http import HttpResponse
 from django.shortcuts import redirect, render
 from django.utils.translation import gettext_lazy as _
@@ -9,6 +10,10 @@ from django.views.decorators.debug import sensitive_post_parameters
 from django.views.decorators.http import require_POST
 
 from arena_lab.hall.teams import logins
+from arena_lab.hall.teams.models import Message
+
+# how many questions of a team may wait for an answer
+MOST_WAITING = 5
 
 
 class Token(forms.Form):
@@ -49,3 +54,34 @@ def for_teams(view: Callable[..., HttpResponse]) -> Callable[..., HttpResponse]:
     def shown(request: Any, *words: Any, **given: Any) -> HttpResponse:
         return view(request, *words, **given) if request.team else redirect("/login")
     return shown
+
+
+class Question(forms.ModelForm):
+    """The form of a question."""
+
+    class Meta:
+        model, fields = Message, ["text"]
+        labels = {"text": _("Your question")}
+        widgets = {"text": forms.Textarea(attrs={"rows": 4})}
+
+
+@for_teams
+def messages(request: Any) -> HttpResponse:
+    """Announcements, questions and answers, and a form for a question of the team that asks."""
+    form, status = Question(request.POST or None), 200
+    if request.method == "POST":
+        waiting = Message.objects.filter(team=request.team, answer="").count()
+        if waiting < MOST_WAITING and form.is_valid():
+            Message.objects.create(team=request.team, text=form.cleaned_data["text"])
+            return redirect("/messages")
+        status = 400 if waiting < MOST_WAITING else 429
+        if status == 429:
+            form.add_error("text", _("your questions wait for answers: wait for one"))
+    found = Message.objects.filter(Q(team=None) | Q(team=request.team) | Q(is_public=True) & ~Q(answer=""))
+    return render(request, "messages.html", {"messages": found[:100], "form": form}, status=status)
+
+
+def may(request: Any, team: int, right: str) -> bool:
+    """Whether the team of this number asks, or a teacher or tutor who has a right."""
+    return bool(request.user.is_staff and request.user.has_perm(right)
+                or request.team is not None and request.team.pk == team)

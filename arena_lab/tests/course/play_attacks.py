@@ -672,7 +672,7 @@ class Saying(Course):
         said = "\\x1b]0;it\\x07\\x9b31m\\u202e\\x00; agent 1: forged\\r\\u2028\ufffd"
         self.assertEqual(rows["evil"][0]["faults"], [f"agent 0: has ended with status 3 before it connected: {said}"])
         page = (self.folder / "out" / "team-evil.html").read_text(encoding="utf-8")
-        self.assertEqual(page.count("<li>agent"), 1)
+        self.assertEqual((page.count("<li>agent 0: has ended"), page.count("<li>agent 1")), (1, 0))
         for char in "\x1b\x9b\u202e\u2028\x00":
             self.assertNotIn(char, page)
 

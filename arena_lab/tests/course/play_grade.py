@@ -142,6 +142,7 @@ class Grading(InFolder):
         for how, fault in FAULTS.items():
             with self.subTest(how):
                 self.assertIn(fault, rows[how][0]["fault"])
+        self.assertIn("<li>nobody accused</li>", (self.folder / "out" / "team-absent.html").read_text())
         table = (self.folder / "out" / league.TABLE).read_text().splitlines()
         self.assertRegex(table[1], "^1,right,1,1,[0-9]+,[01],1$")
 

@@ -33,9 +33,11 @@ class Escapes(Folder):
 
     def test_each_fault_has_a_line(self) -> None:
         faults = ["agent 0: has ended with status 1: \"x\"; agent 1: forged, \\r", "agent 1: has connected twice"]
+        told = ["nobody accused", "agent 1 still stood at node 3"]
         pages = league.pages(self.course().grid, [row(0, "a", 9, "silent", *faults)], {
-            0: Failure(0, 5, False, "", False)}, "it")
-        self.assertEqual(pages["team-a.html"].count("<li>agent"), 2)
+            0: Failure(0, 5, False, "", False, told=told)}, "it")
+        self.assertEqual(pages["team-a.html"].count("<li>agent"), 3)
+        self.assertIn("<li>nobody accused</li>", pages["team-a.html"])
 
     def test_equal_failures_are_one_card(self) -> None:
         hung, other = "agent 0: has sent no line for 20 s", "agent 1: has connected twice"

@@ -19,6 +19,7 @@ from arena_lab.hall import keys  # noqa: E402
 from arena_lab.hall.attempts import seen, shown  # noqa: E402
 from arena_lab.hall.attempts.models import Attempt, Match  # noqa: E402
 from arena_lab.hall.handins import taking  # noqa: E402
+from arena_lab.hall.handins.models import Grading, HandIn  # noqa: E402
 from arena_lab.hall.teams import guards  # noqa: E402
 from arena_lab.hall.teams.models import Team  # noqa: E402
 
@@ -61,7 +62,7 @@ class Hall(TestCase):
 
     def running(self, match: Any, name: str = "amber") -> Attempt:
         """An attempt whose match goes on like this one."""
-        made = Attempt.objects.create(team=self.team(name), network="ring of 5", kind="practice", runs=1,
+        made = Attempt.objects.create(team=self.team(name), network="ring of 5", runs=1,
                                       state=machine.RUNNING, holder="one", begun=timezone.now())
         found = Match.objects.create(attempt=made, number=0, run=1, host="127.0.0.1", port=4100, keys=["ka", "kb"])
         found.part.parent.mkdir(parents=True)
@@ -71,7 +72,7 @@ class Hall(TestCase):
     def write(self, found: Match, match: Any) -> None:
         found.part.write_text("".join(spelled(line) + "\n" for line in [match.head(), *match.log]))
 
-    def over(self, match: Any, name: str = "amber", kind: str = "practice") -> Attempt:
+    def over(self, match: Any, name: str = "amber") -> Attempt:
         """An attempt that is over."""
         made = self.running(match, name)
         match.close()
@@ -79,8 +80,17 @@ class Hall(TestCase):
         found.replay.write_text(match.replay())
         found.page.write_text("<script>watch()</script>")
         Match.objects.filter(pk=found.pk).update(outcome="solved", moves=7, lost=1)
-        Attempt.objects.filter(pk=made.pk).update(state=machine.OVER, ended=timezone.now(), holder="", kind=kind)
+        Attempt.objects.filter(pk=made.pk).update(state=machine.OVER, ended=timezone.now(), holder="")
         return Attempt.objects.get(pk=made.pk)
+
+
+def graded(name: str, solved: int = 1, moves: int = 7, is_secret: bool = False, contest: Any = None) -> Any:
+    """A grading of a hand-in that is over: how many of two matches on the ring it solved."""
+    word = "ring:6" if is_secret else "ring:5"
+    team = Team.objects.get(name=name)
+    made = HandIn.objects.create(team=team, contest=contest, name="a", size=1, files=1, digest="")
+    return Grading.objects.create(hand_in=made, is_secret=is_secret, state=machine.OVER, solved=solved, matches=2,
+                                  moves=moves, ended=timezone.now(), networks={word: [solved, 2]})
 
 
 def played(hole: int = 3) -> Any:

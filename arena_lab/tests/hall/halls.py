@@ -47,10 +47,6 @@ name = "torus with a map"
 network = "torus:3x3"
 map = true
 
-[rated]
-series = 2
-a_day = 2
-
 [limits]
 requests = 2000
 matches = 30
@@ -66,8 +62,6 @@ seeds = 1
 SECONDS = 180.0
 # seconds after which a worker that is silent is taken for gone
 LEASE = "4"
-# what gunicorn says when it begins
-BOOTING = "Booting worker"
 _place: List[HallFolder] = []
 
 
@@ -87,6 +81,9 @@ def begun() -> HallFolder:
         from django.test.utils import setup_test_environment
         call_command("migrate", verbosity=0, interactive=False)
         setup_test_environment()
+        # tests change what tables have, and look at once; and each client of a test would list all files
+        settings.CACHES = {"default": {"BACKEND": "django.core.cache.backends.dummy.DummyCache"}}
+        settings.WHITENOISE_AUTOREFRESH = True
         settings.PASSWORD_HASHERS = ["django.contrib.auth.hashers.MD5PasswordHasher"]
         from arena_lab.hall import keys
         keys.sync(made.hall())
@@ -107,14 +104,14 @@ class Told:
 class Served:
     """A hall that is served, with its processes."""
 
-    def __init__(self, folder: pathlib.Path, more: str = "", minutes: int = 1, workers: int = 1,
-                 cluster: str = "") -> None:
+    def __init__(self, folder: pathlib.Path, more: str = "", minutes: int = 1, workers: int = 1) -> None:
         self.port = free_port()
         self._minutes = minutes
         self.course = folder / "trial.toml"
         self.write(more)
         self.folder = folder / "trial.hall"
-        self._workers = ["--cluster", cluster] if cluster else ["--workers", str(workers)]
+        self._workers = ["--workers", str(workers)]
+        self._said = folder / "said.txt"
         self.lease = LEASE
         self.child: Optional["subprocess.Popen[str]"] = None
 
@@ -127,10 +124,10 @@ class Served:
         return [sys.executable, "-m", "arena_lab", "hall", *map(str, words)]
 
     def start(self) -> None:
-        self.child = subprocess.Popen(
-            [*self.words(self.course), "--program", program(), "--port", str(self.port), *self._workers], cwd=TOP,
-            stdout=subprocess.DEVNULL, stderr=subprocess.DEVNULL, text=True,
-            env={**os.environ, "ARENA_HALL_LEASE": self.lease})
+        with self._said.open("a") as said:
+            self.child = subprocess.Popen(
+                [*self.words(self.course), "--program", program(), "--port", str(self.port), *self._workers], cwd=TOP,
+                stdout=subprocess.DEVNULL, stderr=said, text=True, env={**os.environ, "ARENA_HALL_LEASE": self.lease})
         self.wait(self.answers, "the hall answers")
 
     def stop(self) -> None:
@@ -157,8 +154,7 @@ class Served:
 
     def faults(self) -> str:
         """What the processes have said of faults."""
-        return "\n".join(f"{path.name}: {path.read_text(errors='replace')[-1500:]}" for path in
-                         sorted(self.folder.glob("*.err")))
+        return self._said.read_text(errors="replace")[-3000:]
 
     def ask(self, how: str, path: str, token: str = "", body: Any = None) -> Told:
         connection = http.client.HTTPConnection("127.0.0.1", self.port, timeout=SECONDS)
@@ -175,9 +171,9 @@ class Served:
         with (self.folder / "keys.csv").open(encoding="utf-8", newline="") as file:
             return {row["team"]: row["token"] for row in csv.DictReader(file)}
 
-    def asked(self, token: str, network: str = "ring of 5", kind: str = "practice") -> int:
+    def asked(self, token: str, network: str = "ring of 5") -> int:
         """Asks for an attempt; gives its number."""
-        told = self.ask("POST", "/api/matches", token, {"network": network, "kind": kind})
+        told = self.ask("POST", "/api/matches", token, {"network": network})
         if told.status != 201:
             raise AssertionError(told.body)
         return int(told.json()["id"])
@@ -204,22 +200,21 @@ class Served:
         return dict(self.wait(found, f"attempt {number} is over"))
 
     def processes(self) -> Dict[str, int]:
-        """The numbers of the hall's processes by their names."""
-        lines = (self.folder / "processes").read_text().splitlines()
-        return {name: int(number) for number, _, name in (line.partition(" ") for line in lines)}
+        """The numbers of the hall's processes by their names: `web`, `worker 0` and so on."""
+        found = {}
+        for path in pathlib.Path("/proc").glob("[0-9]*"):
+            with contextlib.suppress(OSError):
+                words = (path / "cmdline").read_bytes().decode(errors="replace").split("\0")
+                if words[1:4] == ["-m", "arena_lab.hall.entry", str(self.folder)]:
+                    found[" ".join(words[4:6]) if words[4] == "worker" else words[4]] = int(path.name)
+        return found
 
     def kill(self, name: str) -> None:
         """Kills a process of the hall, as the system does where memory is short, and waits for the next."""
-        before, began = self.processes()[name], self.log(name).count(BOOTING)
+        before = self.processes()[name]
         os.kill(before, signal.SIGKILL)
         self.wait(lambda: self.processes().get(name) not in (None, before), f"{name} is started again")
-        if name == "web":
-            # what is left of the first one may answer for a moment
-            self.wait(lambda: self.log(name).count(BOOTING) > began, "it is up")
         self.wait(self.answers, "the hall answers again")
-
-    def log(self, name: str) -> str:
-        return (self.folder / f"{name.replace(' ', '-')}.err").read_text(errors="replace")
 
     def servers(self, attempt: Any = "") -> List[int]:
         """The numbers of all servers of matches of this hall, or of an attempt, that go on."""

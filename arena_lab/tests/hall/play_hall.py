@@ -4,10 +4,12 @@ import contextlib
 import json
 import os
 import pathlib
+import shutil
 import signal
 import socket
 import sqlite3
 import subprocess
+import sys
 import tarfile
 import time
 import unittest
@@ -83,20 +85,6 @@ class Matches(Halls):
         page = self.hall.folder / "attempts" / str(number) / "run1" / "match0" / "m0.html"
         self.hall.wait(page.exists, "the page is made")
 
-    def test_a_rated_series_and_its_place(self) -> None:
-        token = self.tokens["birch"]
-        number = self.hall.asked(token, kind="rated")
-        told = self.hall.begins(token, number)
-        self.assertEqual(len({it["port"] for it in told["matches"]}), 2)
-        self.ended(play(told))
-        told = self.hall.over(token, number)
-        self.assertEqual([it["outcome"] for it in told["verdicts"]], ["solved"] * 2)
-        rows = self.hall.ask("GET", "/api/standings", token).json()["teams"]
-        self.assertEqual((rows[0]["team"], rows[0]["place"], rows[0]["points"]), ("birch", 1, 120.0))
-        # each match has draws of its own
-        keys = {key for it in told["matches"] for key in it["keys"]}
-        self.assertEqual(len(keys), 4)
-
     def test_a_team_with_a_map_is_told_the_map_and_no_black_hole(self) -> None:
         token = self.tokens["cedar"]
         number = self.hall.asked(token, "torus with a map")
@@ -106,7 +94,7 @@ class Matches(Halls):
         self.assertEqual(said(told["host"], told["port"], [{"do": "enter", "key": "ka"}]), [{"no": "key"}])
         self.hall.ask("POST", f"/api/matches/{number}/close", token)
         self.assertEqual(self.hall.over(token, number)["verdicts"],
-                         [{"outcome": "absent", "moves": 0, "lost": 0, "trap": False}])
+                         [{"outcome": "absent", "moves": 0, "lost": 0}])
 
     def test_a_match_whose_program_was_killed_is_played_again(self) -> None:
         token = self.tokens["amber"]
@@ -151,6 +139,26 @@ class HandIns(Halls):
         number = self.hand_in(token, b"print('hello')")
         self.assertEqual(self.graded(token, number)["solved"], 0)
 
+    def test_a_grading_whose_processes_are_killed_is_run_again_and_none_is_left(self) -> None:
+        token = self.tokens["birch"]
+        for name in ("a grading", "worker 0"):
+            with self.subTest(name):
+                number = self.hand_in(token, b"import time; time.sleep(1000)")
+                place = self.hall.folder / "hand-ins" / str(number)
+                self.hall.wait(lambda: within(place), "it is graded")
+                before = within(place)
+                os.kill(before[0] if name == "a grading" else self.hall.processes()[name], signal.SIGKILL)
+                self.hall.wait(lambda: not set(before) & set(within(place)), "all that was killed has ended", 20)
+                told = self.hall.wait(lambda: within(place), "it is graded again")
+                self.hall.stop()
+                self.assertFalse(any(map(alive, told)))
+                self.hall.start()
+                self.hall.wait(lambda: self.state(token, number) != "running", "it is given up")
+                self.assertEqual(self.state(token, number), "lost")
+
+    def state(self, token: str, number: int) -> str:
+        return str(self.hall.ask("GET", f"/api/hand-ins/{number}", token).json()["state"])
+
     def hand_in(self, token: str, sent: bytes) -> int:
         edge = "edge"
         body = (f"--{edge}\r\nContent-Disposition: form-data; name=\"file\"; filename=\"a.zip\"\r\n\r\n".encode() + sent
@@ -173,7 +181,7 @@ class Processes(Halls):
         first = self.hall.asked(token)
         self.ended(play(self.hall.begins(token, first)))
         before = self.hall.over(token, first)
-        for name, is_anew in (("web", False), ("keeper", False), ("worker 0", True), ("scheduler", True)):
+        for name, is_anew in (("web", False), ("worker 0", True)):
             with self.subTest(name):
                 number = self.hall.asked(token)
                 told = self.hall.begins(token, number)
@@ -190,18 +198,35 @@ class Processes(Halls):
                 self.assertFalse(self.hall.is_left(number))
         self.assertEqual(halls.came(self.hall.over(token, first)), halls.came(before))
 
-    def test_an_attempt_that_is_lost_twice_does_not_count(self) -> None:
+    def test_a_match_that_is_lost_twice_is_given_up(self) -> None:
         token = self.tokens["birch"]
-        number = self.hall.asked(token, "torus with a map", "rated")
+        number = self.hall.asked(token, "torus with a map")
         keys: Any = None
         for _ in range(2):
             told = self.hall.begins(token, number, keys)
             keys = [it["keys"] for it in told["matches"]]
             self.hall.kill("worker 0")
         self.assertEqual(self.hall.over(token, number)["state"], "lost")
-        left = {it["name"]: it["rated_left"] for it in self.hall.ask("GET", "/api/networks", token).json()}
-        self.assertEqual(left["torus with a map"], 2)
         self.assertFalse(self.hall.is_left(number))
+
+    def test_a_script_goes_on_when_the_hall_is_stopped_and_started_again(self) -> None:
+        """A stop gives matches back: they are played again, with other keys."""
+        agents, address = str(TOP / "examples" / "agents" / "ring.py"), f"http://127.0.0.1:{self.hall.port}"
+        script = subprocess.Popen(
+            [sys.executable, str(TOP / "examples" / "hall" / "practise.py"), address, "ring of 5", "/bin/sleep", "60"],
+            env={**os.environ, "ARENA_TOKEN": self.tokens["birch"]}, stdout=subprocess.PIPE, text=True)
+        self.ended([script])
+        number = self.hall.wait(lambda: [it["id"] for it in self.hall.ask(
+            "GET", "/api/matches", self.tokens["birch"]).json() if it["state"] == "running"], "the script plays")[0]
+        keys = [it["keys"] for it in self.hall.begins(self.tokens["birch"], number)["matches"]]
+        self.hall.stop()
+        self.assertEqual(self.hall.servers(), [])
+        self.hall.start()
+        told = self.hall.begins(self.tokens["birch"], number, keys)
+        self.ended([subprocess.Popen([sys.executable, agents, it["host"], str(it["port"]), key, "5"])
+                    for it in told["matches"] for key in it["keys"]])
+        self.assertEqual(self.hall.over(self.tokens["birch"], number)["solved"], 1)
+        self.assertIn(f"attempt {number} on ring of 5: solved", script.communicate(timeout=halls.SECONDS)[0])
 
     def test_the_whole_hall_is_killed_and_started_again(self) -> None:
         token = self.tokens["cedar"]
@@ -217,6 +242,20 @@ class Processes(Halls):
         told = self.hall.begins(token, number, keys)
         self.ended(play(told))
         self.assertEqual(self.hall.over(token, number)["solved"], 1)
+
+
+def within(place: pathlib.Path) -> List[int]:
+    """The processes of a grading: `grade` and all below it, itself first."""
+    parents: Dict[int, int] = {}
+    found: List[int] = []
+    for path in pathlib.Path("/proc").glob("[0-9]*"):
+        with contextlib.suppress(OSError):
+            parents[int(path.name)] = int((path / "stat").read_text().rpartition(")")[2].split()[1])
+            if b"\0grade\0" in (path / "cmdline").read_bytes() and os.readlink(path / "cwd").startswith(str(place)):
+                found.append(int(path.name))
+    for number in found:
+        found += [child for child, parent in parents.items() if parent == number]
+    return list(filter(alive, found))
 
 
 def alive(number: int) -> bool:
@@ -247,29 +286,59 @@ class Commands(Halls):
             self.assertEqual(database.execute("SELECT count(*) FROM teams_team").fetchone(), (3,))
         self.assertTrue((place / "trial.hall" / "key.txt").exists())
 
-    def test_a_contest_begins_for_all_teams(self) -> None:
-        self.assertIn("teams see their keys then", self.ran("contest", self.hall.course, "--network", "ring of 5",
-                                                           "--minutes", "1"))
-        found = self.hall.wait(lambda: self.contests(), "the contest has begun")
-        self.assertEqual(len(found), 3)
-        for name, number in found.items():
-            self.hall.begins(self.tokens[name], number)
-        for name, number in found.items():
-            self.hall.ask("POST", f"/api/matches/{number}/close", self.tokens[name])
-        for name, number in found.items():
-            self.assertEqual(self.hall.over(self.tokens[name], number)["verdicts"][0]["outcome"], "absent")
+    def test_a_hall_that_was_killed_is_restored_as_it_stood(self) -> None:
+        """What came after the archive is put aside, with the hand-ins whose folders would be in the way."""
+        archive, token = self.hall.folder.parent / "before.tar.gz", self.tokens["cedar"]
+        other = self.hall.folder.parent / "other"
+        self.ran("backup", self.hall.course, archive)
+        self.assertIn("is served already", self.ran("restore", self.hall.course, archive, status=2))
+        before = self.hall.ask("GET", "/api/matches", token).json()
+        for _ in range(20):
+            number = self.hall.asked(token)
+            self.hall.ask("POST", f"/api/matches/{number}/close", token)
+            self.hall.over(token, number)
+        assert self.hall.child is not None
+        os.kill(self.hall.child.pid, signal.SIGKILL)
+        self.hall.child.wait()
+        self.hall.wait(lambda: not self.hall.processes(), "all processes have ended", 20)
+        broken = self.hall.folder.parent / "broken.tar.gz"
+        broken.write_bytes(archive.read_bytes()[:-2000])
+        self.assertIn("no hall can be restored", self.ran("restore", self.hall.course, broken, status=2))
+        said = self.ran("restore", self.hall.course, archive)
+        self.assertIn("what was there before is in", said)
+        self.assertEqual(len(list(self.hall.folder.parent.glob("trial.hall.*/hall.sqlite3"))), 1)
+        self.hall.start()
+        self.assertEqual(self.hall.ask("GET", "/api/matches", token).json(), before)
+        # on another machine there is no file of the course yet
+        other.mkdir()
+        self.ran("restore", other / "trial.toml", archive)
+        self.assertEqual((other / "trial.toml").read_bytes(), self.hall.course.read_bytes())
+        self.assertTrue((other / "trial.hall" / "hall.sqlite3").exists())
+        shutil.rmtree(other)
 
-    def contests(self) -> Dict[str, int]:
-        found = {}
-        for name, token in self.tokens.items():
-            for it in self.hall.ask("GET", "/api/matches", token).json():
-                if it["kind"] == "contest":
-                    found[name] = it["id"]
-        return found if len(found) == len(self.tokens) else {}
+    def test_a_mistake_in_the_file_of_the_course_keeps_the_hall_as_it_was(self) -> None:
+        good = self.hall.course.read_text()
+        self.addCleanup(self.hall.course.write_text, good)
+        self.hall.course.write_text(good + "\n[[team]\n")
+        self.hall.kill("web")
+        self.assertEqual(self.hall.ask("GET", "/api/networks", self.tokens["amber"]).status, 200)
+        self.hall.stop()
+        self.hall.start()
+        self.assertIn("trial.toml: it is no TOML", self.hall.faults())
+        self.assertEqual(self.hall.ask("GET", "/api/networks", self.tokens["amber"]).status, 200)
+
+    def test_a_contest_is_planned(self) -> None:
+        said = self.ran("contest", self.hall.course, "--name", "finale", "--networks", "ring of 5", "--minutes", "1")
+        self.assertIn(", finale: from ", said)
+        told = self.hall.ask("GET", "/api/contests", self.tokens["amber"]).json()
+        self.assertEqual([(it["name"], it["networks"]) for it in told], [("finale", ["ring of 5"])])
+        for words, wanted in ((("--networks", "ring of 6"), "name networks of the course: ring of 5, torus with a map"),
+                              (("--networks", "ring of 5", "--start", "2020-01-01 12:00"), "the start has passed")):
+            self.assertIn(wanted, self.ran("contest", self.hall.course, *words, status=2))
 
     def test_faults_are_lines(self) -> None:
         self.assertIn("is served already", self.ran(self.hall.course, "--program", halls.program(), status=2))
-        self.assertIn("name a network of the course", self.ran("contest", self.hall.course, status=2))
+        self.assertIn("name networks of the course", self.ran("contest", self.hall.course, status=2))
         self.assertIn("there is no such file", self.ran("serve", "nowhere.toml", status=2))
         new = self.hall.folder.parent / "new.toml"
         self.assertIn("wrote", self.ran("new", new))
@@ -306,20 +375,13 @@ class Commands(Halls):
                 self.assertEqual(self.hall.ask("GET", "/api/networks", self.tokens["amber"]).status, 200)
             self.assertLess(time.monotonic() - began, 9)
 
-    def test_two_processes_alone_answer_the_network(self) -> None:
-        """The web server, and the parts of the cluster, which ask for a certificate."""
+    def test_one_process_alone_answers_the_network(self) -> None:
+        """The web server, and no worker."""
         numbers = set(self.hall.processes().values())
         said = subprocess.run(["ss", "-Hltnp"], capture_output=True, text=True).stdout if have("ss") else ""
         for line in said.splitlines():
             if any(f"pid={number}," in line for number in numbers):
-                port = int(line.split()[3].rpartition(":")[2])
-                with socket.create_connection(("127.0.0.1", port), 5) as connection:
-                    connection.sendall(b"GET / HTTP/1.0\r\n\r\n")
-                    answer = b""
-                    with contextlib.suppress(ConnectionError):
-                        answer = connection.recv(1000)
-                if port != self.hall.port:
-                    self.assertNotIn(b" 200 ", answer)
+                self.assertEqual(int(line.split()[3].rpartition(":")[2]), self.hall.port)
 
 
 def have(name: str) -> bool:

@@ -5,10 +5,9 @@
 - a token or session that was replaced: its flood spent the team's requests
 - zips with 180,000 entries, or what is refused, without end: seconds of the web server for each
 - a long replay's page again and again: it was read anew for each request
-- the points of others: they showed that a hidden team's moves were the fewest
 - a fault of the disk: it named paths of the hall's folder
 
-In other tests: traps told from matches by when their servers end (play_hall_traps.py); tokens tried from all addresses
+In other tests: tokens tried from all addresses
 of a network of IPv6, another team's match or replay, the black hole before the close by page, REST, size, header and
 error (play_hall_pages.py, play_hall_rest.py); X_Forwarded_For through Caddy, and many requests at once through nginx
 (play_hall_nginx.py); paths, SQL, HTML, formulas, requests of other sites, links and bombs in zips (test_hall.py,
@@ -24,14 +23,15 @@ from unittest import mock
 
 from arena_lab.hall import machine
 from arena_lab.hall.attempts import seen
-from arena_lab.tests.hall.hall_pages import PLACE, Hall, played
+from arena_lab.tests.hall.hall_pages import PLACE, Hall, graded, played
 from arena_lab.tests.hall.test_hall import zipped
 
 from django.conf import settings
 from django.core.files.uploadedfile import SimpleUploadedFile
+from django.db import OperationalError
 from django.test import Client
 
-from arena_lab.hall.attempts.models import Attempt, Match
+from arena_lab.hall.attempts.models import Attempt
 from arena_lab.hall.handins import taking
 from arena_lab.hall.handins.models import Grading, HandIn
 from arena_lab.hall.teams import guards
@@ -127,21 +127,34 @@ class Looks(Hall):
         self.assertEqual(read.call_count, 1)
         self.assertEqual(found[0]["matches"][0]["after"]["holes"], [3])
 
-    def test_a_hidden_team_is_not_seen_by_the_points_of_others(self) -> None:
-        self.over(played(), kind="rated")
-        other = self.over(played(), "birch", "rated")
-        Match.objects.filter(attempt=other).update(moves=1)
+    def test_a_hidden_team_is_not_seen_by_the_places_of_others(self) -> None:
+        graded("amber", moves=9)
+        graded("birch", moves=1)
         before = self.rest("get", "/api/standings").json()["teams"]
-        self.assertLess({row["team"]: row["points"] for row in before}["amber"], 120.0)
+        self.assertEqual([(row["team"], row["place"]) for row in before][:2], [("birch", 1), ("amber", 2)])
         Team.objects.filter(name="birch").update(hidden=True)
         after = self.rest("get", "/api/standings").json()["teams"]
-        self.assertEqual([(row["team"], row["points"]) for row in after][0], ("amber", 120.0))
+        self.assertEqual([(row["team"], row["place"]) for row in after][0], ("amber", 1))
+
+    def test_a_full_disk_is_told(self) -> None:
+        """Whatever is asked is answered by a sentence, which names no path of the hall."""
+        full = OperationalError("database or disk is full"), OSError(28, "No space left on device", str(PLACE.folder))
+        for fault in full:
+            client = Client(raise_request_exception=False)
+            with mock.patch("arena_lab.hall.teams.logins.tried", side_effect=fault):
+                told = client.post("/login", {"token": self.tokens["amber"]})
+            self.assertEqual(told.status_code, 503)
+            self.assertIn("cannot write this now", told.json()["error"])
+            token = {"HTTP_AUTHORIZATION": f"Bearer {self.tokens['amber']}"}
+            with mock.patch("arena_lab.hall.attempts.asking.ask", side_effect=fault):
+                told = client.post("/api/matches", {"network": "ring of 5"}, "application/json", **token)
+            self.assertEqual((told.status_code, list(told.json())), (503, ["error"]))
 
     def test_a_fault_of_the_machine_tells_no_path(self) -> None:
         """A team is told that an attempt was lost; where its files are, the log says."""
         from arena_lab.hall.attempts import playing
         from arena_lab.hall.steps import claimed
-        made = Attempt.objects.create(team=self.team("amber"), network="ring of 5", kind="practice")
+        made = Attempt.objects.create(team=self.team("amber"), network="ring of 5")
         with mock.patch.object(playing.Playing, "play", side_effect=OSError(28, "No space left", str(PLACE.folder))):
             playing.play(made.pk, str(claimed(made)))
         told = self.rest("get", f"/api/matches/{made.pk}").json()

@@ -1,21 +1,18 @@
 """The pages of a hall, as a team, another team and a stranger ask for them."""
 import re
-import shutil
 import unittest
-from typing import Any, List
+from typing import List
 from unittest import mock
 
-from arena_lab.hall import machine
 from arena_lab.tests.hall.hall_pages import PASSWORD, PLACE, Hall, played
 
 from django.conf import settings
 from django.test import Client, RequestFactory
-from django.utils import timezone
 
-from arena_lab.hall.attempts import draws, shown
-from arena_lab.hall.attempts.models import Attempt, Match
+from arena_lab.hall.attempts import shown
+from arena_lab.hall.attempts.models import Attempt
 from arena_lab.hall.teams import guards
-from arena_lab.hall.teams.models import Entry, Grant, Switch, Team
+from arena_lab.hall.teams.models import Entry, Switch, Team
 
 
 class Logins(Hall):
@@ -34,23 +31,34 @@ class Logins(Hall):
         self.assertEqual(client.post("/login", {"token": self.tokens["amber"]}).status_code, 429)
         self.assertEqual(client.post("/login", {"token": self.tokens["birch"]}).status_code, 302)
 
-    def test_tries_by_rest_and_by_made_up_names_are_limited_too(self) -> None:
+    def test_one_who_tries_tokens_keeps_no_other_of_the_class_out(self) -> None:
+        """All of it comes from one address, as from a lecture hall."""
         answers = [Client().get("/api/matches", HTTP_AUTHORIZATION=f"Bearer x{number}.y").status_code
-                   for number in range(guards.TRIES_OF_ADDRESS + 5)]
-        self.assertEqual((answers[0], answers[-1]), (401, 429))
+                   for number in range(130)]
+        answers += [Client().get("/api/matches", HTTP_AUTHORIZATION="Bearer amber.y").status_code for _ in range(15)]
+        self.assertEqual((answers[0], answers[129], answers[-1]), (401, 401, 429))
+        self.assertEqual(Client().post("/login", {"token": self.tokens["birch"]}).status_code, 302)
+        self.assertEqual(self.rest("get", "/api/matches", "cedar").status_code, 200)
+        told = Client().post("/teacher/login/", {"username": "teacher", "password": PASSWORD, "next": "/teacher/"})
+        self.assertEqual(told.status_code, 302)
+
+    def test_a_teacher_who_is_logged_in_is_no_stranger(self) -> None:
+        teacher = self.teacher()
+        self.assertEqual(teacher.get("/").status_code, 200)
+        with mock.patch.object(guards, "STRANGERS", 20):
+            self.assertIn(429, [Client().get("/login").status_code for _ in range(40)])
+            self.assertEqual([teacher.get("/").status_code for _ in range(9)], [200] * 9)
 
     def test_who_asks_is_an_address_or_a_network_of_the_sixth_version(self) -> None:
         """An address has many spellings, and whoever has one of IPv6 has all of its network."""
-        with mock.patch.object(settings, "HALL", settings.HALL._replace(https=True)):
-            for said, wanted in (("192.0.2.7", "192.0.2.7"), ("10.0.0.1, 192.0.2.7", "192.0.2.7"),
-                                 ("::ffff:192.0.2.7", "192.0.2.7"), ("2001:db8::7", "2001:db8::/64"),
-                                 ("2001:db8::8:7", "2001:db8::/64"), ("2001:db8:0:0:1:2:3:4", "2001:db8::/64"),
-                                 ("2001:db8:0:1::7", "2001:db8:0:1::/64"), ("unknown", "unknown"), ("", "")):
-                request = RequestFactory().get("/", HTTP_X_FORWARDED_FOR=said)
-                with self.subTest(said):
-                    self.assertEqual(guards.address_of(request), wanted)
-        request = RequestFactory().get("/", HTTP_X_FORWARDED_FOR="192.0.2.7", REMOTE_ADDR="127.0.0.1")
-        self.assertEqual(guards.address_of(request), "127.0.0.1")
+        for said, wanted in (("192.0.2.7", "192.0.2.7"), ("::ffff:192.0.2.7", "192.0.2.7"),
+                             ("2001:db8::7", "2001:db8::/64"), ("2001:db8::8:7", "2001:db8::/64"),
+                             ("2001:db8:0:0:1:2:3:4", "2001:db8::/64"), ("2001:db8:0:1::7", "2001:db8:0:1::/64"),
+                             ("unknown", "unknown"), ("", "")):
+            # what a stranger says of himself is not read: waitress has it of the server before the hall
+            request = RequestFactory().get("/", HTTP_X_FORWARDED_FOR="10.0.0.1", REMOTE_ADDR=said)
+            with self.subTest(said):
+                self.assertEqual(guards.address_of(request), wanted)
 
     def test_the_password_is_limited_too(self) -> None:
         for _ in range(guards.TRIES):
@@ -61,7 +69,7 @@ class Logins(Hall):
 
     def test_tokens_are_kept_as_digests_and_stand_in_no_log(self) -> None:
         client = self.client_of("amber")
-        client.post("/matches/ask", {"network": "ring of 5", "kind": "practice"})
+        client.post("/matches/ask", {"network": "ring of 5"})
         secret = self.tokens["amber"].partition(".")[2]
         for model in (Team, Entry, Attempt):
             for row in model.objects.values():
@@ -106,12 +114,12 @@ class Forgeries(Hall):
         for path in ("/matches/ask", "/matches/1/close", "/hand-ins/take", "/logout", "/language/setlang/",
                      "/api/matches", "/api/matches/1/close", "/api/hand-ins"):
             with self.subTest(path):
-                self.assertEqual(client.post(path, {"network": "ring of 5", "kind": "practice"}).status_code, 403)
+                self.assertEqual(client.post(path, {"network": "ring of 5"}).status_code, 403)
         self.assertEqual(Attempt.objects.count(), 0)
 
     def test_nothing_changes_by_get(self) -> None:
         client, attempt = self.client_of("amber"), self.running(played())
-        for path in ("/matches/ask?network=ring of 5&kind=practice", f"/matches/{attempt.pk}/close", "/logout",
+        for path in ("/matches/ask?network=ring of 5", f"/matches/{attempt.pk}/close", "/logout",
                      "/hand-ins/take", f"/api/matches/{attempt.pk}/close"):
             self.assertIn(client.get(path).status_code, (302, 405))
         self.assertEqual((Attempt.objects.count(), Attempt.objects.get().closing), (1, False))
@@ -133,7 +141,7 @@ class Attempts(Hall):
         made = self.rest("post", "/api/matches", body={"network": "ring of 5"})
         self.assertEqual((made.status_code, made.json()["state"]), (201, "waiting"))
         self.assertEqual(made["Location"], f"/api/matches/{made.json()['id']}")
-        for body, status in (({"network": "none"}, 404), ({"network": "ring of 5", "kind": "contest"}, 400), ({}, 400),
+        for body, status in (({"network": "none"}, 404), ({}, 400),
                              ({"network": ["x"]}, 400), ([], 400), ({"network": "x" * 70}, 400),
                              ({"network": "' OR 1=1; DROP TABLE teams_team; --"}, 404)):
             with self.subTest(body):
@@ -147,30 +155,6 @@ class Attempts(Hall):
         # another team is not kept from its own
         self.assertEqual(self.rest("post", "/api/matches", "birch", {"network": "ring of 5"}).status_code, 201)
 
-    def test_rated_attempts_a_day_and_one_at_a_time(self) -> None:
-        def ask() -> int:
-            told = self.rest("post", "/api/matches", body={"network": "ring of 5", "kind": "rated"})
-            return int(told.status_code)
-        self.assertEqual([ask(), ask()], [201, 429])
-        Attempt.objects.update(state=machine.OVER, begun=timezone.now())
-        self.assertEqual(ask(), 201)
-        Attempt.objects.update(state=machine.OVER, begun=timezone.now())
-        self.assertEqual(ask(), 429)
-        # one that the hall has lost does not count, and the teacher may give one more
-        Attempt.objects.filter(pk=Attempt.objects.first().pk).update(state=machine.LOST)
-        self.assertEqual(ask(), 201)
-        Attempt.objects.filter(state=machine.WAITING).update(state=machine.OVER, begun=timezone.now())
-        self.assertEqual(ask(), 429)
-        Grant.objects.create(team=self.team("amber"), kind=Grant.RATED, network="ring of 5")
-        self.assertEqual(ask(), 201)
-
-    def test_a_rated_attempt_that_is_closed_while_it_runs_is_used_up(self) -> None:
-        Attempt.objects.create(team=self.team("amber"), network="ring of 5", kind="rated", state=machine.CANCELLED)
-        offers = self.rest("get", "/api/networks").json()
-        self.assertEqual(offers[0]["rated_left"], 2)
-        Attempt.objects.update(begun=timezone.now())
-        self.assertEqual(self.rest("get", "/api/networks").json()[0]["rated_left"], 1)
-
     def test_closed_networks(self) -> None:
         Switch.objects.filter(network="ring of 5").update(is_open=False)
         self.assertEqual(self.rest("post", "/api/matches", body={"network": "ring of 5"}).status_code, 404)
@@ -182,10 +166,10 @@ class Attempts(Hall):
         self.assertEqual(self.rest("post", "/api/matches", body={"network": "ring of 5"}).status_code, 201)
         old.refresh_from_db()
         self.assertEqual((old.size, old.folder.exists(), old.matches.get().outcome), (0, False, "solved"))
-        rated = self.over(played(), kind="rated")
-        Attempt.objects.filter(pk=rated.pk).update(size=300 << 20)
+        running = self.running(played())
+        Attempt.objects.filter(pk=running.pk).update(size=300 << 20)
         told = self.rest("post", "/api/matches", body={"network": "ring of 5"})
-        self.assertEqual((told.status_code, rated.folder.exists()), (429, True))
+        self.assertEqual((told.status_code, running.folder.exists()), (429, True))
 
     def test_bodies_that_are_too_large_or_too_deep(self) -> None:
         for length, name, status in ((9 << 20, "amber", 413), (100 << 10, "", 413), (100 << 10, "amber", 400)):
@@ -200,7 +184,9 @@ class Attempts(Hall):
 
     def test_floods_are_refused_and_slow_no_other_team(self) -> None:
         hall = settings.HALL._replace(limits=settings.HALL.limits._replace(requests=30))
-        with mock.patch.object(settings, "HALL", hall):
+        # no time passes, in which one has more requests
+        clock = mock.patch.object(guards, "time", mock.Mock(monotonic=lambda: 1_000.0))
+        with clock, mock.patch.object(settings, "HALL", hall):
             answers = [self.rest("get", "/api/matches").status_code for _ in range(60)]
             self.assertEqual((answers[0], answers[-1]), (200, 429))
             told = self.rest("get", "/api/matches")
@@ -208,21 +194,6 @@ class Attempts(Hall):
             self.assertEqual(self.rest("get", "/api/matches", "birch").status_code, 200)
             # a new session of the same team has no new requests
             self.assertEqual(self.rest("get", "/api/matches").status_code, 429)
-
-
-class Headed:
-    """The lines of a match below the head of another."""
-
-    def __init__(self, setup: Any, match: Any) -> None:
-        self.log = match.log
-        self.head = type(match)(setup).head
-
-
-def write_draw(found: Match, is_trap: bool) -> None:
-    """Draws the files of a match."""
-    folder = found.prefix.parent
-    shutil.rmtree(folder)
-    draws.write(draws.drawn(settings.HALL.nets["ring of 5"], "amber", is_trap), folder)
 
 
 class Isolation(Hall):
@@ -267,49 +238,6 @@ class Isolation(Hall):
             self.assertNotIn(word, text)
         told = self.rest("get", f"/api/matches/{attempt.pk}").json()
         self.assertEqual((told["matches"][0]["after"], told["matches"][0]["verdict"], told["solved"]), (None, None, 0))
-
-    def test_a_series_tells_nothing_before_all_its_matches_are_closed(self) -> None:
-        attempt = self.running(played())
-        Attempt.objects.filter(pk=attempt.pk).update(series=2, kind="rated")
-        first = attempt.matches.get()
-        other = Match.objects.create(attempt=attempt, number=1, run=1, host="h", port=2, keys=["kc", "kd"])
-        other.part.parent.mkdir(parents=True)
-        ended = played()
-        ended.close()
-        other.replay.write_text(ended.replay())
-        told = self.rest("get", f"/api/matches/{attempt.pk}").json()
-        self.assertEqual([it["verdict"] for it in told["matches"]], [None, None])
-        self.assertEqual(self.rest("get", f"/api/matches/{attempt.pk}/replays/1").status_code, 404)
-        self.assertEqual(first.attempt_id, attempt.pk)
-
-    def test_no_answer_tells_which_match_of_a_series_is_a_trap(self) -> None:
-        """The same lines in the part of a match and of a trap, whose heads and files differ; and afterwards the trap is
-        told, with what came of it."""
-        attempt = self.running(played())
-        Attempt.objects.filter(pk=attempt.pk).update(series=1, traps=1, kind="rated")
-        found = attempt.matches.get()
-        told = []
-        for is_trap in (False, True):
-            shown.PARTS = type(shown.PARTS)()
-            write_draw(found, is_trap)
-            match = played()
-            self.write(found, Headed(match.setup._replace(holes=[] if is_trap else [3]), match))
-            told.append(self.answers(Attempt.objects.get(pk=attempt.pk)))
-        self.assertEqual(told[0], told[1])
-        self.assertEqual(self.rest("get", f"/api/matches/{attempt.pk}").json()["traps"], 1)
-        self.assertFalse(found.is_trap)
-        Match.objects.filter(pk=found.pk).update(is_trap=True, outcome="wrong")
-        Match.objects.create(attempt=attempt, number=1, run=1, host="h", port=2, keys=["kc"], outcome="solved")
-        Attempt.objects.filter(pk=attempt.pk).update(state=machine.OVER, ended=timezone.now(), holder="", series=2)
-        after = self.rest("get", f"/api/matches/{attempt.pk}").json()
-        self.assertEqual([it["trap"] for it in after["verdicts"]], [True, False])
-        self.assertContains(self.client_of("amber").get("/matches"), "a trap: wrong")
-        row = self.rest("get", "/api/standings").json()["teams"][0]
-        self.assertEqual((row["team"], row["points"], row["deceived"], row["traps"]), ("amber", 100.0, 1, 1))
-        self.assertContains(self.client_of("birch").get("/"), "1 of 1")
-        table = self.teacher().get("/teacher/standings.csv").content.decode().splitlines()
-        self.assertTrue(table[0].startswith("place,team,name,points,deceived,traps,ring of 5: solved"))
-        self.assertTrue(table[1].startswith("1,amber,amber,100.0,1,1,1,1,0.0,0,"))
 
     def test_another_teams_match_is_as_if_there_were_none(self) -> None:
         for attempt in (self.running(played()), self.over(played())):

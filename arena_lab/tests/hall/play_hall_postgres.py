@@ -1,9 +1,8 @@
-"""A hall over PostgreSQL, whose workers belong to a scheduler of Dask of their own, and are killed."""
+"""A hall over PostgreSQL, for which another machine works too, and whose workers are killed."""
 import os
 import pathlib
 import shutil
 import subprocess
-import sys
 import tempfile
 import unittest
 from typing import Any, Dict, Iterator, List
@@ -41,30 +40,20 @@ class Postgres(unittest.TestCase):
         subprocess.run(["runuser", "-u", "postgres", "--", *program], check=True, stdout=subprocess.DEVNULL,
                        stdin=subprocess.DEVNULL, cwd="/")
 
-    def begun(self, module: str, until: str, *words: str) -> Any:
-        """A part of a cluster, which says this once it has begun; gives it and its last word then."""
-        variables = {**os.environ, "PYTHONPATH": str(halls.TOP), "ARENA_HALL_LEASE": halls.LEASE,
-                     "ARENA_HALL_HOST": "localhost"}
-        child = subprocess.Popen([sys.executable, "-m", f"distributed.cli.{module}", *words, "--host", "127.0.0.1",
-                                  "--no-dashboard"], cwd=self.folder, stderr=subprocess.PIPE, text=True, env=variables)
-        for clean in (child.stderr.close, child.wait, child.kill):
+    def machine(self, hall: Served) -> Any:
+        """Another machine, which works for the hall."""
+        variables = {**os.environ, "ARENA_HALL_LEASE": halls.LEASE, "ARENA_HALL_HOST": "localhost"}
+        child = subprocess.Popen(hall.words("worker", hall.course), cwd=halls.TOP, stdin=subprocess.DEVNULL,
+                                 env=variables)
+        for clean in (child.wait, child.terminate):
             self.addCleanup(clean)
-        for line in child.stderr:
-            if until in line:
-                return child, line.split()[-1]
-        raise AssertionError(f"{module} has ended")
-
-    def workers(self, address: str) -> List[Any]:
-        """Two workers of a scheduler."""
-        return [self.begun("dask_worker", "Registered to:", address, "--no-nanny", "--nthreads", "20")[0]
-                for _ in range(2)]
+        return child
 
     def test_matches_go_on_whoever_is_killed(self) -> None:
         database = f'database = "postgresql://hall@127.0.0.1:{self.port}/hall"'
-        _, cluster = self.begun("dask_scheduler", "Scheduler at:", "--port", "0")
-        workers = self.workers(cluster)
-        with halls.served(database, cluster=cluster) as hall:
+        with halls.served(database, workers=0) as hall:
             tokens = hall.tokens()
+            others = [self.machine(hall), self.machine(hall)]
             first = hall.asked(tokens["amber"])
             self.ended(play(hall.begins(tokens["amber"], first)))
             before = hall.over(tokens["amber"], first)
@@ -72,10 +61,9 @@ class Postgres(unittest.TestCase):
             numbers = {name: hall.asked(token) for name, token in tokens.items()}
             for name, number in numbers.items():
                 hall.begins(tokens[name], number)
-            hall.kill("keeper")
-            for worker in workers:
-                worker.kill()
-            self.workers(cluster)
+            for other in others:
+                other.kill()
+            self.machine(hall)
             for told in self.again(hall, numbers):
                 self.ended(play(told))
             for name, number in numbers.items():
@@ -86,7 +74,16 @@ class Postgres(unittest.TestCase):
             path = f"{PROGRAMS[-1]}:{os.environ['PATH']}"
             subprocess.run(hall.words("backup", hall.course, archive), check=True, cwd=halls.TOP,
                            stdout=subprocess.DEVNULL, env={**os.environ, "PATH": path})
-            self.assertTrue(archive.exists())
+            number = hall.asked(tokens["cedar"])
+            hall.ask("POST", f"/api/matches/{number}/close", tokens["cedar"])
+            hall.over(tokens["cedar"], number)
+            hall.stop()
+            subprocess.run(hall.words("restore", hall.course, archive), check=True, cwd=halls.TOP,
+                           stdout=subprocess.DEVNULL, env={**os.environ, "PATH": path})
+            hall.start()
+            self.assertEqual(hall.ask("GET", f"/api/matches/{number}", tokens["cedar"]).status, 404)
+            self.assertEqual(halls.came(hall.over(tokens["amber"], first)), halls.came(before))
+            self.assertEqual(len(list(hall.folder.parent.glob("trial.hall.*/hall.sql"))), 1)
 
     def again(self, hall: Served, numbers: Dict[str, int]) -> Iterator[Dict[str, Any]]:
         """The attempts once their second runs have begun."""

@@ -12,13 +12,14 @@ from arena_lab.tests.hall import halls
 
 halls.begun()
 
+from django.core.management import call_command  # noqa: E402
 from django.db import models  # noqa: E402
 from django.test import TestCase  # noqa: E402
 from django.utils import timezone  # noqa: E402
 
-from arena_lab.hall import keeper  # noqa: E402
+from arena_lab.hall import worker  # noqa: E402
 from arena_lab.hall.attempts import asking, playing  # noqa: E402
-from arena_lab.hall.attempts.models import CONTEST, Attempt, Contest  # noqa: E402
+from arena_lab.hall.attempts.models import Attempt  # noqa: E402
 from arena_lab.hall.handins import grading  # noqa: E402
 from arena_lab.hall.handins.models import Grading, HandIn  # noqa: E402
 from arena_lab.hall.steps import claimed, lose_late, step  # noqa: E402
@@ -30,7 +31,7 @@ def of(team: str) -> Any:
 
 
 def attempt(team: str = "amber", **given: Any) -> Any:
-    return Attempt.objects.create(team=of(team), network="ring of 5", **{"kind": "practice", **given})
+    return Attempt.objects.create(team=of(team), network="ring of 5", **given)
 
 
 class Steps(TestCase):
@@ -51,7 +52,7 @@ class Steps(TestCase):
                     count += 1
         self.assertGreater(count, 300)
 
-    def test_one_of_two_keepers_claims(self) -> None:
+    def test_one_of_two_workers_claims(self) -> None:
         one, other = attempt(), None
         other = Attempt.objects.get(pk=one.pk)
         self.assertTrue(claimed(one))
@@ -80,53 +81,48 @@ class Steps(TestCase):
         self.assertEqual((work.state, work.runs), (HELD, 0))
 
     def test_a_network_that_is_gone_is_told(self) -> None:
-        work = Attempt.objects.create(team=of("amber"), network="gone", kind="practice")
+        work = Attempt.objects.create(team=of("amber"), network="gone")
         playing.play(work.pk, str(claimed(work)))
         work.refresh_from_db()
         self.assertEqual(work.state, LOST)
         self.assertIn("no network gone any more", work.fault)
 
 
+class Tables(TestCase):
+    def test_migrations_make_the_tables_that_the_hall_has(self) -> None:
+        names = ("teams", "attempts", "handins", "standings")
+        call_command("makemigrations", *names, check_changes=True, dry_run=True, verbosity=0)
+
+
 class Queues(TestCase):
     def test_a_team_with_many_attempts_waits_for_others(self) -> None:
         many = [attempt() for _ in range(5)]
         one, two = attempt("birch"), attempt("cedar")
-        order = [work.pk for _, work in keeper.due_attempts(64, 100)]
+        order = [work.pk for work in worker.due_attempts(64)]
         self.assertEqual(order[:3], [many[0].pk, one.pk, two.pk])
-        self.assertEqual(len(keeper.due_attempts(2, 100)), 2)
+        self.assertEqual(len(worker.due_attempts(2)), 2)
 
-    def test_a_series_takes_as_many_ports_as_it_has_matches(self) -> None:
-        step(attempt(series=3, kind="rated"), CLAIM, "one")
-        attempt("birch", series=3, kind="rated")
-        self.assertEqual([len(keeper.due_attempts(most, 100)) for most in (5, 6)], [0, 1])
-
-    def test_a_contest_comes_first_and_is_made_once(self) -> None:
-        attempt()
-        Team.objects.update(digest="x")
-        contest = Contest.objects.create(network="ring of 5", start=timezone.now(), minutes=3)
-        self.assertEqual([asking.make_contest(contest), asking.make_contest(contest)], [3, 0])
-        self.assertEqual(len(keeper.due_attempts(1, 2)), 2)
-        due = keeper.due_attempts(1, 3)
-        self.assertEqual([work.kind for _, work in due], [CONTEST] * 3)
-        self.assertEqual(due[0][1].minutes, 3)
-
-    def test_a_contest_does_not_begin_early(self) -> None:
-        later = timezone.now() + datetime.timedelta(minutes=1)
-        contest = Contest.objects.create(network="ring of 5", start=later, minutes=3)
-        self.assertEqual(asking.make_contest(contest), 0)
+    def test_as_many_matches_run_as_the_course_says(self) -> None:
+        step(attempt(), CLAIM, "one")
+        attempt("birch")
+        self.assertEqual([len(worker.due_attempts(most)) for most in (0, 1, 2)], [0, 0, 1])
 
     def test_hand_ins_are_graded_one_of_a_team_at_a_time(self) -> None:
         def handed(team: str) -> Any:
             made = HandIn.objects.create(team=of(team), name="a", size=1, files=1, digest="")
             return Grading.objects.create(hand_in=made)
         first, second, other = handed("amber"), handed("amber"), handed("birch")
-        waiting = Grading.objects.filter(state=WAITING)
-        self.assertEqual([it.pk for it in grading.due(waiting)], [first.pk, other.pk])
+        self.assertEqual([it.pk for it in grading.due(9)], [first.pk, other.pk])
+        self.assertEqual([it.pk for it in grading.due(1)], [first.pk])
         Grading.objects.filter(pk=first.pk).update(state=RUNNING, begun=timezone.now())
-        self.assertEqual([it.pk for it in grading.due(waiting)], [other.pk])
-        Grading.objects.filter(pk=first.pk).update(state=machine.OVER)
-        # birch was never graded yet
-        self.assertEqual([it.pk for it in grading.due(waiting)], [other.pk, second.pk])
+        self.assertEqual([[it.pk for it in grading.due(most)] for most in (1, 2)], [[], [other.pk]])
+        Grading.objects.filter(pk=first.pk).update(state=machine.OVER, ended=timezone.now())
+        # birch was never graded yet, and what hangs waits for what does not
+        self.assertEqual([it.pk for it in grading.due(9)], [other.pk, second.pk])
+        past = timezone.now() - datetime.timedelta(minutes=3)
+        Grading.objects.create(hand_in=other.hand_in, is_secret=True, state=machine.OVER, begun=past,
+                               ended=timezone.now())
+        self.assertEqual([it.pk for it in grading.due(9)], [second.pk, other.pk])
 
     def test_taking_back_what_waits_and_closing_what_runs(self) -> None:
         work = attempt()

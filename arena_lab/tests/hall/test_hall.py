@@ -1,5 +1,5 @@
-"""What of a hall needs no Django: the table of its machine, the rules of its standings, what is unpacked, and what a
-team sees of a match that goes on."""
+"""What of a hall needs no Django: the table of its machine, its file, the rules of its standings, what is unpacked, and
+what a team sees of a match that goes on."""
 import io
 import itertools
 import json
@@ -13,18 +13,21 @@ from typing import Any, Dict, List, Optional, Set, Tuple
 from arena_lab.hall import machine
 from arena_lab.hall.attempts.draws import TOURNAMENT, drawn, write
 from arena_lab.hall.attempts.seen import Part, ended
-from arena_lab.hall.course import BEST, DRAWN, FIXED, LAST, MEAN, WORST, Net, Rated
+from arena_lab.hall.course import DRAWN, FIXED, Net, hall_of
 from arena_lab.hall.handins import unpacking
 from arena_lab.hall.handins.unpacking import NoHandIn, files_of
 from arena_lab.hall.machine import (ACTIVE, BEGIN, CANCEL, CANCELLED, CLAIM, ENDED, EVENTS, FAIL, FINISH, HELD, LOSE,
                                     LOST,
                               MOST_RUNS, OVER, RENEW, RUNNING, STATES, WAITING, JobState, after)
-from arena_lab.hall.standings.rules import GradedTeam, SeriesMatch, Series, league, standings
+from arena_lab.hall.standings.rules import GradedTeam, league
 from arena_lab.rules.model import Match, Setup, spelled
 from arena_lab.rules.networks import ring
+from arena_lab.sweep.grid import NoSweep
+from arena_lab.tests.needing import needs
 
-RATED = Rated(2, 3, BEST, MEAN, 100, 20)
-# what a keeper, two workers and a team do, each in this order
+COURSE = 'title = "x"\n[[network]]\nname = "it"\nnetwork = "ring:5"\n'
+HAND_INS = '[hand_ins]\ncommand = "python3 agent.py {host} {port} {key}"\nnetworks = ["ring:5"]\n'
+# what claims and loses work, two workers and a team do, each in this order
 PROCESSES = (
     ((CLAIM, "one"), (LOSE, ""), (CLAIM, "two"), (LOSE, ""), (CLAIM, "one"), (LOSE, "")),
     ((BEGIN, "one"), (RENEW, "one"), (FINISH, "one"), (FAIL, "one")),
@@ -85,9 +88,9 @@ class Machines(unittest.TestCase):
             if made is not None and made.state == OVER:
                 self.assertEqual((work.state, event), (RUNNING, FINISH))
 
-    def test_all_orders_of_a_keeper_two_workers_and_a_team_with_crashes(self) -> None:
+    def test_all_orders_of_claims_two_workers_and_a_team_with_crashes(self) -> None:
         """Each process does its steps in order, and may stop before any of them. In each order the work is over at most
-        once, by a holder that had it then, and however it stands the keeper brings it to an end."""
+        once, by a holder that had it then, and however it stands claims and losses bring it to an end."""
         seen: Set[Tuple[Tuple[int, ...], JobState, int]] = set()
         waiting: List[Tuple[Tuple[int, ...], JobState, int]] = [((0,) * len(PROCESSES), JobState(), 0)]
         while waiting:
@@ -115,8 +118,30 @@ class Machines(unittest.TestCase):
         self.assertEqual(after(JobState(RUNNING, 2, "one"), LOSE), JobState(LOST, 2, ""))
 
 
-def series(team: str, network: str, *matches: Tuple[bool, int], came: bool = True) -> Series:
-    return Series(team, network, tuple(SeriesMatch(solved, moves, 1) for solved, moves in matches), came)
+@needs("networkx")
+class Courses(unittest.TestCase):
+    """The file of a course."""
+
+    def read(self, text: str) -> Any:
+        return hall_of(text, pathlib.Path("/course.toml"))
+
+    def test_rated_series_of_an_earlier_file_are_passed_over_and_told(self) -> None:
+        self.assertEqual(self.read(COURSE).notes, [])
+        notes = self.read(COURSE + "[rated]\nseries = 3\ntraps = 1\n").notes
+        self.assertEqual(len(notes), 1)
+        self.assertIn("[rated] is passed over", notes[0])
+
+    def test_a_name_that_begins_with_a_hyphen_is_refused(self) -> None:
+        """A program for tables would take such a team's token for a formula."""
+        self.assertEqual([it.name for it in self.read(COURSE + '[[team]]\nname = "a-b"\n').teams], ["a-b"])
+        with self.assertRaisesRegex(NoSweep, "which does not come first"):
+            self.read(COURSE + '[[team]]\nname = "-a"\n')
+
+    def test_hand_ins_without_a_deadline_are_told(self) -> None:
+        self.assertIn("has no deadline", self.read(COURSE + HAND_INS).notes[0])
+        given = self.read(COURSE + HAND_INS + 'deadline = "2099-01-01 12:00"\n')
+        # by the secret draw programs play on the same networks, unless others are named
+        self.assertEqual((given.notes, given.hand_ins.secret), ([], ["ring:5"]))
 
 
 class Draws(unittest.TestCase):
@@ -125,7 +150,7 @@ class Draws(unittest.TestCase):
     def test_what_is_drawn_for_one_attempt_tells_nothing_of_another(self) -> None:
         """Of many draws each node is the black hole, each is the home base, and no key, no labels and no seed come
         twice."""
-        net = Net("ring", ring(6), 2, 1, 100, 40, DRAWN, True)
+        net = Net("ring", "ring:6", ring(6), 2, 1, 100, 40, DRAWN, True)
         found = [drawn(net, "amber") for _ in range(200)]
         setups = [it.fixture.setup for it in found]
         self.assertEqual({it.home for it in setups}, set(range(6)))
@@ -139,14 +164,14 @@ class Draws(unittest.TestCase):
                                       "home": it.fixture.setup.home})
 
     def test_fixed_labels_and_no_map(self) -> None:
-        net = Net("ring", ring(6), 2, 1, 100, 40, FIXED, False)
+        net = Net("ring", "ring:6", ring(6), 2, 1, 100, 40, FIXED, False)
         self.assertEqual([(it.fixture.setup.links, it.map) for it in (drawn(net, "a"), drawn(net, "a"))],
                          [(ring(6).links, None)] * 2)
 
     def test_files_of_a_match_are_the_halls_alone(self) -> None:
         with tempfile.TemporaryDirectory() as name:
             folder = pathlib.Path(name) / "match0"
-            net = Net("ring", ring(6), 2, 1, 100, 40, DRAWN, False)
+            net = Net("ring", "ring:6", ring(6), 2, 1, 100, 40, DRAWN, False)
             seeds = set()
             for number in range(3):
                 write(drawn(net, "amber"), folder / str(number))
@@ -160,39 +185,11 @@ class Draws(unittest.TestCase):
 class Rules(unittest.TestCase):
     """Who stands before whom."""
 
-    def places(self, found: List[Series], teams: List[str], rule: Rated = RATED) -> List[Tuple[int, str, float]]:
-        return [(row.place, row.team, row.points) for row in standings(found, teams, rule)]
-
-    def test_points_for_what_is_solved_and_then_for_few_moves(self) -> None:
-        found = [series("a", "r", (True, 20), (True, 40)), series("b", "r", (True, 10), (True, 20)),
-                 series("c", "r", (True, 5), (False, 9))]
-        self.assertEqual(self.places(found, ["a", "b", "c"]), [(1, "b", 120.0), (2, "a", 110.0), (3, "c", 50.0)])
-
-    def test_equal_teams_share_a_place_and_who_never_came_stands_last(self) -> None:
-        found = [series("a", "r", (False, 1), (False, 0)), series("b", "r", (False, 3), (False, 3)),
-                 series("c", "r", (False, 0), (False, 0), came=False)]
-        rows = standings(found, ["c", "d", "a", "b"], RATED)
-        self.assertEqual([(row.place, row.team, row.is_absent) for row in rows],
-                         [(1, "a", False), (1, "b", False), (3, "c", True), (3, "d", True)])
-
-    def test_the_best_or_the_last_series_counts(self) -> None:
-        found = [series("a", "r", (True, 9), (True, 9)), series("a", "r", (False, 9), (True, 9))]
-        self.assertEqual(self.places(found, ["a"])[0][2], 120.0)
-        self.assertEqual(self.places(found, ["a"], RATED._replace(counts=LAST))[0][2], 50.0)
-
-    def test_the_worst_match_may_decide(self) -> None:
-        worst = RATED._replace(by=WORST)
-        found = [series("a", "r", (True, 1), (False, 1)), series("b", "r", (True, 30), (True, 10))]
-        self.assertEqual(self.places(found, ["a", "b"], worst), [(1, "b", 120.0), (2, "a", 0.0)])
-
-    def test_a_team_without_a_match_on_a_network_has_no_cell_there(self) -> None:
-        rows = standings([series("a", "r", (True, 0))], ["a"], RATED)
-        self.assertEqual((rows[0].cells["r"].solved, rows[0].cells["r"].played, rows[0].points), (1, 1, 120.0))
-        self.assertNotIn("t", rows[0].cells)
-
     def test_programs_are_ranked_as_in_a_league(self) -> None:
-        found = [GradedTeam("a", 1, 2, 5, 1), GradedTeam("b", 2, 2, 9, 1), GradedTeam("c", 1, 2, 5, 1)]
-        self.assertEqual([(place, it.team) for place, it in league(found)], [(1, "b"), (2, "a"), (2, "c")])
+        found = [GradedTeam("a", 1, 2, 5, 1, {}), GradedTeam("b", 2, 2, 9, 1, {}), GradedTeam("c", 1, 2, 5, 1, {}),
+                 GradedTeam("d", 1, 2, 5, 0, {}), GradedTeam("e", 1, 2, 4, 9, {})]
+        self.assertEqual([(place, it.team) for place, it in league(found)],
+                         [(1, "b"), (2, "e"), (3, "d"), (4, "a"), (4, "c")])
 
 
 def zipped(files: Dict[str, bytes], **links: str) -> bytes:

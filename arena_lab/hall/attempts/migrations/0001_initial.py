@@ -17,9 +17,7 @@ class Migration(migrations.Migration):
         migrations.CreateModel(
             name='Attempt',
             fields=[
-                ('id', models.BigAutoField(
-                    auto_created=True, primary_key=True, serialize=False, verbose_name='ID'
-                )),
+                ('id', models.BigAutoField(auto_created=True, primary_key=True, serialize=False, verbose_name='ID')),
                 ('state', models.CharField(db_index=True, default='waiting', max_length=10)),
                 ('runs', models.PositiveSmallIntegerField(default=0)),
                 ('holder', models.CharField(blank=True, default='', max_length=40)),
@@ -47,9 +45,7 @@ class Migration(migrations.Migration):
         migrations.CreateModel(
             name='Contest',
             fields=[
-                ('id', models.BigAutoField(
-                    auto_created=True, primary_key=True, serialize=False, verbose_name='ID'
-                )),
+                ('id', models.BigAutoField(auto_created=True, primary_key=True, serialize=False, verbose_name='ID')),
                 ('network', models.CharField(max_length=60, verbose_name='network')),
                 ('start', models.DateTimeField(verbose_name='start')),
                 ('minutes', models.PositiveSmallIntegerField(default=45, verbose_name='minutes')),
@@ -64,9 +60,7 @@ class Migration(migrations.Migration):
         migrations.CreateModel(
             name='Pages',
             fields=[
-                ('id', models.BigAutoField(
-                    auto_created=True, primary_key=True, serialize=False, verbose_name='ID'
-                )),
+                ('id', models.BigAutoField(auto_created=True, primary_key=True, serialize=False, verbose_name='ID')),
                 ('state', models.CharField(db_index=True, default='waiting', max_length=10)),
                 ('runs', models.PositiveSmallIntegerField(default=0)),
                 ('holder', models.CharField(blank=True, default='', max_length=40)),
@@ -98,9 +92,7 @@ class Migration(migrations.Migration):
         migrations.CreateModel(
             name='Match',
             fields=[
-                ('id', models.BigAutoField(
-                    auto_created=True, primary_key=True, serialize=False, verbose_name='ID'
-                )),
+                ('id', models.BigAutoField(auto_created=True, primary_key=True, serialize=False, verbose_name='ID')),
                 ('number', models.PositiveSmallIntegerField()),
                 ('run', models.PositiveSmallIntegerField()),
                 ('host', models.CharField(max_length=255)),

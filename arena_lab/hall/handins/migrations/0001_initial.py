@@ -17,9 +17,7 @@ class Migration(migrations.Migration):
         migrations.CreateModel(
             name='HandIn',
             fields=[
-                ('id', models.BigAutoField(
-                    auto_created=True, primary_key=True, serialize=False, verbose_name='ID'
-                )),
+                ('id', models.BigAutoField(auto_created=True, primary_key=True, serialize=False, verbose_name='ID')),
                 ('at', models.DateTimeField(default=django.utils.timezone.now)),
                 ('name', models.CharField(max_length=80)),
                 ('size', models.PositiveIntegerField()),
@@ -38,9 +36,7 @@ class Migration(migrations.Migration):
         migrations.CreateModel(
             name='Grading',
             fields=[
-                ('id', models.BigAutoField(
-                    auto_created=True, primary_key=True, serialize=False, verbose_name='ID'
-                )),
+                ('id', models.BigAutoField(auto_created=True, primary_key=True, serialize=False, verbose_name='ID')),
                 ('state', models.CharField(db_index=True, default='waiting', max_length=10)),
                 ('runs', models.PositiveSmallIntegerField(default=0)),
                 ('holder', models.CharField(blank=True, default='', max_length=40)),

@@ -15,9 +15,7 @@ class Migration(migrations.Migration):
         migrations.CreateModel(
             name='Reveal',
             fields=[
-                ('id', models.BigAutoField(
-                    auto_created=True, primary_key=True, serialize=False, verbose_name='ID'
-                )),
+                ('id', models.BigAutoField(auto_created=True, primary_key=True, serialize=False, verbose_name='ID')),
                 ('at', models.DateTimeField(default=django.utils.timezone.now)),
             ],
             options={

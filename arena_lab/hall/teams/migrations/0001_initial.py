@@ -17,9 +17,7 @@ class Migration(migrations.Migration):
         migrations.CreateModel(
             name='Entry',
             fields=[
-                ('id', models.BigAutoField(
-                    auto_created=True, primary_key=True, serialize=False, verbose_name='ID'
-                )),
+                ('id', models.BigAutoField(auto_created=True, primary_key=True, serialize=False, verbose_name='ID')),
                 ('at', models.DateTimeField(db_index=True, default=django.utils.timezone.now)),
                 ('who', models.CharField(max_length=40)),
                 ('what', models.CharField(max_length=300)),
@@ -33,9 +31,7 @@ class Migration(migrations.Migration):
         migrations.CreateModel(
             name='Switch',
             fields=[
-                ('id', models.BigAutoField(
-                    auto_created=True, primary_key=True, serialize=False, verbose_name='ID'
-                )),
+                ('id', models.BigAutoField(auto_created=True, primary_key=True, serialize=False, verbose_name='ID')),
                 ('network', models.CharField(max_length=60, unique=True, verbose_name='network')),
                 ('is_open', models.BooleanField(default=True, verbose_name='open')),
             ],
@@ -48,9 +44,7 @@ class Migration(migrations.Migration):
         migrations.CreateModel(
             name='Team',
             fields=[
-                ('id', models.BigAutoField(
-                    auto_created=True, primary_key=True, serialize=False, verbose_name='ID'
-                )),
+                ('id', models.BigAutoField(auto_created=True, primary_key=True, serialize=False, verbose_name='ID')),
                 ('name', models.CharField(
                     help_text='1 to 16 characters out of a to z, 0 to 9 and -', max_length=16, unique=True,
                     validators=[django.core.validators.RegexValidator('^[a-z0-9-]{1,16}$')],
@@ -72,12 +66,8 @@ class Migration(migrations.Migration):
         migrations.CreateModel(
             name='Grant',
             fields=[
-                ('id', models.BigAutoField(
-                    auto_created=True, primary_key=True, serialize=False, verbose_name='ID'
-                )),
-                ('kind', models.CharField(
-                    choices=[('rated', 'rated attempt'), ('hand-in', 'hand-in')], max_length=10
-                )),
+                ('id', models.BigAutoField(auto_created=True, primary_key=True, serialize=False, verbose_name='ID')),
+                ('kind', models.CharField(choices=[('rated', 'rated attempt'), ('hand-in', 'hand-in')], max_length=10)),
                 ('network', models.CharField(
                     blank=True, help_text='of a rated attempt', max_length=60, verbose_name='network'
                 )),
