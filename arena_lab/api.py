@@ -18,9 +18,9 @@ all of a team of `count`; a list names each. A scheduler is a name, or a functio
 (choices, state). `engine` is "model" for the Python model, of which nothing is proved, "program" for the program that
 `./arena-lab` takes, or the path of a program.
 
-    proof = lab.explore("ring:3..8", "examples/agents/ring.py {nodes}", engine="program")
-    proof.solves, proof.most_moves          # a theorem about agents that are functions of what they are told
-    proof.frame()                           # a row for each network and black hole: a frame of pandas, or a list
+    found = lab.explore("ring:3..6", "examples/agents/ring.py {nodes}", engine="program")
+    found.solves, found.most_moves          # of every schedule that the lab tried
+    found.frame()                           # a row for each network and black hole: a frame of pandas, or a list
 """
 import contextlib
 import importlib
@@ -48,8 +48,8 @@ from arena_lab.search.proving import CHECKED, FOUND, Proving, MatchResult, choic
 from arena_lab.support.built import NoProgram
 from arena_lab.support.progress import bar
 
-__all__ = ["SCHEDULERS", "Exploration", "Game", "HuntResult", "Network", "Proof", "Record", "Row", "SampleRequest",
-           "client", "engine_name", "explore", "game", "hunt", "play", "program"]
+__all__ = ["SCHEDULERS", "Exploration", "Game", "HuntResult", "Network", "Record", "Row", "SampleRequest",
+           "SearchResult", "client", "engine_name", "explore", "game", "hunt", "play", "program"]
 
 # what is found of a match that was tried as a whole
 WHOLE = (SOLVES, COMES, *FOUND)
@@ -160,7 +160,7 @@ class Exploration(NamedTuple):
         return f"<p>{self}</p>{self.worst._repr_html_() if self.worst else ''}"
 
 
-class Proof(NamedTuple):
+class SearchResult(NamedTuple):
     """What the program found of all schedules of some matches, or of those that it drew: a row for each match, what was
     checked of how agents are taken for machines, and the match that fails, if one does. A match that was not tried as a
     whole has no `found`."""
@@ -180,7 +180,7 @@ class Proof(NamedTuple):
 
     @property
     def solves(self) -> bool:
-        """Whether it is proved of these matches that no schedule fails. Nothing is proved of schedules not drawn."""
+        """Whether every schedule of these matches was tried, and none fails."""
         return all(row["found"] == SOLVES for row in self.rows)
 
     @property
@@ -210,7 +210,7 @@ class Proof(NamedTuple):
             said = "stopped before all were visited; no schedule failed until then"
         else:
             what = "no drawn schedule fails, which says nothing of the others" if self.is_drawn else \
-                "every schedule solves: a theorem about agents that are functions of what they are told"
+                "every schedule that the lab tried solves"
             said = f"{what}; most moves {self.most_moves}, most agents lost {self.most_lost}; {self.checked}"
         return f"{self.states} states in {self.seconds:.1f} s: {said}"
 
@@ -228,16 +228,16 @@ def pandas_or_none() -> Any:
 
 def explore(network: Union[NetworkLike, Sequence[NetworkLike]], agents: Union[AgentLike, Sequence[AgentLike]], *,
             states: Optional[int] = None, engine: str = MODEL, draws: Optional[SampleRequest] = None,
-            check: int = CHECKED, **more: Any) -> Union[Exploration, Proof]:
+            check: int = CHECKED, **more: Any) -> Union[Exploration, SearchResult]:
     """Tries every schedule on a network, or on several: a list, or a range of sizes such as "ring:3..8". Each node but
-    the home base is the black hole unless something that destroys is named. The program proves what it finds, up to the
-    first match that fails; with `draws` it draws schedules instead. The engine "model" searches without a proof. Of
-    `check` drawn schedules the agents play on each network, what they do is compared with what they answered. `states`
+    the home base is the black hole unless something that destroys is named. The program tries them, up to the first
+    match that fails; with `draws` it draws schedules instead. The engine "model" searches without it. Of `check` drawn
+    schedules the agents play on each network, what they do is compared with what they answered. `states`
     are the most of a match to visit: as many as take half of the memory that is left, unless you name a number."""
     all_asked, path = [game(one, agents, **more) for one in networks_in(network)], path_of(engine)
     if path is not None:
         most = exploring.MOST_STATES if draws is not None else fitting(OF_PROGRAM)
-        return proved(all_asked, path, SearchOptions(states or most, draws, check))
+        return by_program(all_asked, path, SearchOptions(states or most, draws, check))
     if draws is not None:
         raise ValueError("draws need a program: name it by engine, or hunt")
     with bar(None, "state") as shown:
@@ -267,7 +267,7 @@ class SearchOptions(NamedTuple):
     check: int
 
 
-def proved(games: Sequence[Game], path: str, wanted: SearchOptions) -> Proof:
+def by_program(games: Sequence[Game], path: str, wanted: SearchOptions) -> SearchResult:
     """What the program finds of the schedules of games, up to the first match that fails or is not tried as a whole."""
     def one(machines: Machines, fixture: Fixture, shown: Any) -> MatchResult:
         return MatchResult(fixture, program_search.asked(path, fixture, machines, wanted.states, shown.update,
@@ -279,10 +279,10 @@ def proved(games: Sequence[Game], path: str, wanted: SearchOptions) -> Proof:
             rows += [row_of(given, tried) for tried in proving.tried(one, shown)]
         counted, last = counted.more(proving.checks.counted()), proving.tries[-1]
         if last.has_failed():
-            return Proof(rows, str(counted), failure(given, last, path), wanted.draws is not None)
+            return SearchResult(rows, str(counted), failure(given, last, path), wanted.draws is not None)
         if not last.is_whole():
             break
-    return Proof(rows, str(counted), None, wanted.draws is not None)
+    return SearchResult(rows, str(counted), None, wanted.draws is not None)
 
 
 def failure(given: Game, tried: MatchResult, path: str) -> Record:

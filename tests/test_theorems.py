@@ -2,13 +2,12 @@
 which a file can meet the premises."""
 import re
 import unittest
-from typing import Callable, Dict, Iterator, List, NamedTuple
+from typing import Dict, Iterator, List, NamedTuple
 
 from tests import TOP
 
 THEOREMS = TOP / "docs" / "THEOREMS.md"
 SPECS = "crates/{}/specs/{}.antt"
-MAX_QUOTA = 65_535
 # where functions, clauses and definitions are, and how they begin there
 NAMED_IN = ("crates/*/src/**/*.rt", "crates/*/specs/**/*.antt")
 NAMES = (r"\bfn (\w+)", r"\bensures (\w+) \{", r"^ *(?:abbrev )?pub (?:record |data )?(\w+)", r"^abbrev pub (\w+)",
@@ -43,8 +42,19 @@ DISPLAYED = [
     Theorem("one_alone_fails", "bhs_protocols", "Alone", "OneAloneFailsOnNetworks"),
     Theorem("accusations_come_last", "bhs_protocols", "LastWord", "AccusationsComeLast"),
     Theorem("a_loss_is_needed", "bhs_protocols", "Losses", "EachBlackHoleDestroys"),
+    Theorem("solvers_find", "bhs_protocols", "LastWord", "SolversFind"),
+    Theorem("two_must_move", "bhs_bounds", "Bound", "TwoMustMove"),
+    Theorem("two_must_move", "bhs_bounds", "Bound", "TwoMustMoveMore"),
+    Theorem("two_must_move", "bhs_bounds", "Bound", "TwoMustMoveOnAllRings"),
+    Theorem("two_must_move", "bhs_bounds", "Bound", "TwoMustMoveAtRest"),
+    Theorem("the_halves_are_within_two", "bhs_bounds", "Bound", "EveryTeamMoves"),
+    Theorem("the_halves_are_within_two", "bhs_bounds", "Bound", "EveryTeamMovesMore"),
+    Theorem("the_halves_are_within_two", "bhs_bounds", "Bound", "HalvesSolveWithinTwice"),
+    Theorem("no_team_solves_two_sizes", "bhs_protocols", "Sizes", "NoTeamFindsOnTwoSizes"),
     Theorem("no_team_solves_two_sizes", "bhs_protocols", "Sizes", "NoTeamSolvesTwoSizes"),
+    Theorem("many_agents_are_needed", "bhs_unmapped", "Unmapped", "ManyAgentsAreNeededToFind"),
     Theorem("many_agents_are_needed", "bhs_unmapped", "Unmapped", "ManyAgentsAreNeeded"),
+    Theorem("no_team_passes_a_cut", "bhs_mapped", "Cuts", "NoTeamLooksBehindACut"),
     Theorem("no_team_passes_a_cut", "bhs_mapped", "Cuts", "NoTeamPassesACut"),
 ]
 # what a premise looks like, and a word that its sentence, or the head of its section, must have
@@ -64,9 +74,14 @@ PREMISES: Dict[str, str] = {
     r"Twins .*": "equal except for what destroys",
     r"SlowInstead .*": "those links are held for good",
     r"IsSetOn .*": "each ring",
+    r"IsRing .*": "ring",
+    r"world\.agents ≡ 2": "two agents",
+    r"Finds .*": "find the black hole whichever other node it is",
+    r"fibonacci k \+ 2 ≤ n": "f_k at most n - 2",
+    r"SolvesWithin .*": "solve a ring with every black hole within",
     r"IsSetAt .*": "whichever other node is the black hole",
     r"4 ≤ (setup|world)\.board": "whiteboards of at least 4 bytes",
-    r"most_turns .* ≤ (setup|world)\.quota": "quota of at least T",
+    r"most_commands .* ≤ (setup|world)\.quota": "quota of at least H",
     r"\(nodes_of net - 2\) .* ≤ setup\.quota": "quota of at least C",
     r"3 ≤ setup\.quota": "quota of at least 3",
     r"nodes_of net ≡ 3": "three nodes",
@@ -78,16 +93,18 @@ PREMISES: Dict[str, str] = {
     r"hole < .*|hole ≢ .*": "black hole",
     r"IsAtRest .*": "comes to rest",
     r"SolvesEverywhere .*": "solves with every black hole",
-    r"agent < world\.agents|\(findings .*accused agent ≡ Some link": "before it accuses",
+    r"Finds \(?world.*": "finds each black hole",
+    r"SomeoneHasAccused .*": "before it accuses",
     r"node < .*|node ≢ .*": "all other nodes",
     r"3 ≤ world\.net\.nodes": "three nodes or more",
-    r"3 ≤ n": "n at least 3",
-    r"SolvesSize n .*": "rings of n",
-    r"SolvesSize \(n \+ 1\) .*": "of n + 1 nodes",
+    r"3 ≤ (n|size)": "at least 3",
+    r"n ≢ size": "two different sizes",
+    r"(Finds|Solves)Size n .*": "rings, of m",
+    r"(Finds|Solves)Size size .*": "of n nodes",
     r"3 ≤ degree": "d be from 3",
     r"2 \* degree \+ 2 ≤ MAX_NODES": "to 2,047",
     r"terms\.agents ≤ degree": "d agents or fewer",
-    r"SolvesNetworks .*": "all networks of a file with 2 d + 2 nodes and greatest degree d",
+    r"(FindsOn|Solves)Networks .*": "all networks of a file with 2 d + 2 nodes and greatest degree d",
     r"IsPortLabelled net": "simple graph with port labels",
     r"setup\.home < nodes_of net|setup\.home ≢ cut": "any other home base",
     r"IsCutIn net cut": "without which some two others are not joined",
@@ -159,20 +176,18 @@ def rounds(left: int) -> int:
     return (left - 1).bit_length()
 
 
-def most_turns(nodes: int) -> int:
-    """The quota that the search by halves asks for (`most_turns` of `bhs_protocols`)."""
-    ways = sum(2 * (nodes - 2 - (1 << division)) for division in range(rounds(nodes // 2)))
-    return 2 * (3 * (nodes - 2) + 1 + ways) + 2 * (nodes - 2) + 2 * rounds(nodes // 2) + 4
+def most_moves(nodes: int) -> int:
+    """The moves that the search by halves makes at most (`most_moves` of `bhs_protocols`)."""
+    return 2 * (nodes - 2) * rounds(nodes - 1) + nodes + 1 - (1 << rounds(nodes - 1))
 
 
-def shuttle_quota(nodes: int) -> int:
-    """The quota that the shuttle, and the search with a map, ask for."""
-    return (nodes - 2) * (nodes - 1) + 2 * nodes
-
-
-def largest(quota_of: Callable[[int], int]) -> int:
-    """The largest size up to which a file's quota is enough."""
-    return next(nodes for nodes in range(3, 4097) if quota_of(nodes + 1) > MAX_QUOTA)
+def least_moves(nodes: int) -> int:
+    """The moves that every two agents must make (`more_moves` of `bhs_bounds`), with the best k."""
+    found, one, other = [], 1, 2
+    while one <= nodes - 2:
+        found.append(len(found) * nodes + 3 * (nodes - 2 - one) + 4 - other)
+        one, other = other, one + other
+    return max(found)
 
 
 class Theorems(unittest.TestCase):
@@ -193,13 +208,21 @@ class Theorems(unittest.TestCase):
         self.assertGreater(len(named), 80)
         self.assertEqual(sorted(name for name in named if name.rpartition("::")[2] not in there), [])
 
+    def test_the_table_of_moves_has_the_bounds(self) -> None:
+        rows = re.findall(r"^\| ([\d,]+) \| ([\d,]+) \| ([\d,]+) \|$",
+                          (TOP / "docs/PROTOCOLS.md").read_text(encoding="utf-8"), re.MULTILINE)
+        found = [[int(it.replace(",", "")) for it in row] for row in rows]
+        self.assertGreater(len(found), 3)
+        self.assertEqual(found, [[nodes, least_moves(nodes), most_moves(nodes)] for nodes, _, _ in found])
+
     def test_the_sizes_are_those_up_to_which_a_file_has_the_quota(self) -> None:
-        self.assertEqual([most_turns(nodes) for nodes in (3, 8)], [14, 94])
-        halves, shuttle = f"{largest(most_turns):,} nodes", f"{largest(shuttle_quota):,} nodes"
+        law = (TOP / SPECS.format("bhs_protocols", "Quotas")).read_text(encoding="utf-8")
+        sizes = [f"{int(nodes):,} nodes" for nodes in re.findall(r"\(n ≤ (\d+) →", law)]
+        self.assertEqual(len(sizes), 2)
         for page in ("README.md", "docs/THEOREMS.md", "docs/PROTOCOLS.md"):
             text = re.sub(r"\s+", " ", (TOP / page).read_text(encoding="utf-8"))
             with self.subTest(page):
-                self.assertTrue(halves in text and shuttle in text, f"it does not say: {halves}, {shuttle}")
+                self.assertEqual([size for size in sizes if size not in text], [])
 
 
 if __name__ == "__main__":

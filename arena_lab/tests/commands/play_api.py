@@ -158,14 +158,14 @@ class Api(InFolder):
         with self.assertRaisesRegex(ValueError, "look for failure, moves or lost"):
             lab.hunt("ring:5", RING.words, "time")
 
-    def test_the_program_proves(self) -> None:
+    def test_the_program_tries_every_schedule(self) -> None:
         proof = lab.explore("ring:5", RING.words, engine=program())
         self.assertTrue(proof.solves and proof.is_whole and not proof.fails)
         self.assertEqual((proof.most_moves, proof.most_lost), (14, 1))
         self.assertEqual([row["holes"] for row in proof.rows], [[1], [2], [3], [4]])
         model = lab.explore("ring:5", RING.words)
         self.assertNotEqual(proof.states, model.states)
-        self.assertIn("every schedule solves: a theorem about agents that are functions", str(proof))
+        self.assertIn("every schedule that the lab tried solves; ", str(proof))
         self.assertIn("checked, and all agree", str(proof))
         wrong = lab.explore("ring:3", counter, holes=[2], engine=program())
         self.assertTrue(wrong.fails and not wrong.solves)
@@ -173,7 +173,7 @@ class Api(InFolder):
         few = lab.explore("ring:6", RING.words, states=10, engine=program())
         self.assertFalse(few.is_whole or few.solves or few.fails)
 
-    def test_several_networks_are_proved_in_one_call(self) -> None:
+    def test_several_networks_are_tried_in_one_call(self) -> None:
         proof = lab.explore(["ring:3..4", networkx.cycle_graph(3)], RING.words, engine=program())
         self.assertTrue(proof.solves)
         self.assertEqual([row["nodes"] for row in proof.rows], [3, 3, 4, 4, 4, 3, 3])
@@ -186,7 +186,7 @@ class Api(InFolder):
         self.assertEqual({row["network"] for row in wrong.rows}, {"ring:4"})
 
     def test_rows_are_a_frame_if_there_is_pandas(self) -> None:
-        proof = lab.Proof([{"network": "ring:3", "moves": 4}], "", None, False)
+        proof = lab.SearchResult([{"network": "ring:3", "moves": 4}], "", None, False)
         with mock.patch.dict(sys.modules, pandas=None):
             self.assertEqual(proof.frame(), proof.rows)
         pandas = mock.Mock()
