@@ -1,6 +1,7 @@
 """Runs the benchmarks and writes their figures to bench/FIGURES.md.
 
-    python3 -m bench.figures [--only NAME ..] [--program PATH] [--other PATH] [--benchmark PATH] [--out FILE]
+    python3 -m bench.figures [--only NAME ..] [--program PATH] [--other PATH] [--peer PATH] [--benchmark PATH]
+        [--out FILE]
 
 Each benchmark has a section of the page: the commit, day, build and machine, the command, and the figures. A run
 replaces the sections of the benchmarks that it ran and leaves the others as they are. The table at the head of the page
@@ -8,9 +9,9 @@ is made of the sections; a section of another name is left out. Standard error t
 exit status is 1 if one failed.
 
 Without --only all of them run, which takes about two hours, half of it for the gate. `steps`, `submit` and `stages`
-need the proved program bhs_bench, and `compare` a build that --other names. The others, except `gate`, run on the
-proved arena if it is built, else on a build without a proof, and the page says on which. Nothing else should run on the
-machine meanwhile.
+need the proved program bhs_bench, and `compare` a build that --other names; `instructions` counts those of --other and
+--peer too. The others, except `gate`, run on the proved arena if it is built, else on a build without a proof, and the
+page says on which. Nothing else should run on the machine meanwhile.
 """
 import argparse
 import datetime
@@ -25,6 +26,7 @@ import textwrap
 import time
 from typing import Callable, Dict, Iterable, List, NamedTuple, Optional, Sequence, Tuple
 
+from bench import instructions
 from experiments import spin
 from arena_lab.support import built
 
@@ -55,6 +57,7 @@ class Setting(NamedTuple):
     benchmark: pathlib.Path
     place: str  # commit and day
     machine: str
+    peer: Optional[pathlib.Path] = None
 
     @property
     def build(self) -> str:
@@ -188,6 +191,10 @@ def lines_text(printed: str) -> str:
     return "".join(f"- {line}\n" for line in printed.splitlines())
 
 
+INSTRUCTIONS_NOTE = """\
+Millions of instructions, as Valgrind's callgrind counts them, and the program divided by the other one. `moves` and
+`texts` are the longest replays of version 1.
+"""
 EXPLORE_NOTE = """\
 Two agents, and each black hole in turn. "Whole" is the time of the lab, which plays the agents in Python and answers
 the program's questions, together with the program. The other columns are the program alone, which reads the same
@@ -254,6 +261,11 @@ def without_benchmark(setting: Setting) -> str:
     return "" if setting.benchmark.exists() else f"{setting.benchmark} is not built"
 
 
+def instructions_words(setting: Setting) -> List[str]:
+    programs = [str(path) for path in (setting.program, setting.other) if path]
+    return of_python("bench.instructions", *programs, *(["--peer", str(setting.peer)] if setting.peer else []))
+
+
 def without_other(setting: Setting) -> str:
     return "" if setting.other else "name another build by --other"
 
@@ -272,6 +284,8 @@ BENCHMARKS: Dict[str, Benchmark] = {
     "compare": Benchmark("Speed beside another build",
                          lambda at: of_python("bench.compare", str(at.program), str(at.other)), compare_text,
                          without_other),
+    "instructions": Benchmark("Instructions", instructions_words, noted_text(INSTRUCTIONS_NOTE),
+                              lambda at: "" if instructions.has_valgrind() else "valgrind is not installed"),
     "replays": Benchmark("Replays", lambda at: of_python("bench.replays", str(at.program)), replays_text),
     "serve": Benchmark("The server's speed", lambda at: of_python("bench.serve"), serve_text),
     "lab": Benchmark("The lab", lambda at: of_debians("arena_lab", "speed", "--program", str(at.program)), lab_text),
@@ -378,6 +392,8 @@ def asked(words: Sequence[str]) -> argparse.Namespace:
     parser.add_argument("--only", metavar="NAME", choices=list(BENCHMARKS), action="append", help="run this benchmark")
     parser.add_argument("--program", metavar="PATH", type=pathlib.Path, help="the arena that is measured")
     parser.add_argument("--other", metavar="PATH", type=pathlib.Path, help="the build beside which `compare` measures")
+    parser.add_argument("--peer", metavar="PATH", type=pathlib.Path,
+                        help="a plain program with the same commands, for `instructions`")
     parser.add_argument("--benchmark", metavar="PATH", type=pathlib.Path, default=BENCHMARK,
                         help="the program bhs_bench")
     parser.add_argument("--out", metavar="FILE", type=pathlib.Path, default=PAGE, help="the page to write")
@@ -387,7 +403,8 @@ def asked(words: Sequence[str]) -> argparse.Namespace:
 def main(words: Sequence[str]) -> int:
     given = asked(words)
     program = (given.program or built.any_program()).resolve()
-    setting = Setting(program, given.other and given.other.resolve(), given.benchmark.resolve(), place(), machine())
+    setting = Setting(program, given.other and given.other.resolve(), given.benchmark.resolve(), place(), machine(),
+                      given.peer and given.peer.resolve())
     status = 0
     for name in given.only or BENCHMARKS:
         missing = BENCHMARKS[name].needs(setting)

@@ -27,9 +27,9 @@ RUNS = 5
 SEED = 20_261_122
 
 
-def script(length: int) -> Tuple[str, int]:
-    """A script of at most this many bytes, and its number of lines: every connection enters, and then commands and
-    draws come by chance."""
+def script(length: int, matches: int = MATCHES) -> Tuple[str, int]:
+    """A script of at most this many bytes for this many matches, and its number of lines: every connection enters, and
+    then commands and draws come by chance."""
     chance = random.Random(SEED)
     lines = []
     size = 0
@@ -43,7 +43,7 @@ def script(length: int) -> Tuple[str, int]:
         return True
 
     for conn in range(CONNECTIONS):
-        add('%d {"do":"enter","key":"%s"}' % (conn, key(conn % MATCHES, conn // MATCHES)))
+        add('%d {"do":"enter","key":"%s"}' % (conn, key(conn % matches, conn // matches)))
     commands = [
         lambda: '{"do":"look"}',
         lambda: '{"do":"depart","port":%d}' % chance.randrange(4),
@@ -51,7 +51,7 @@ def script(length: int) -> Tuple[str, int]:
     ]
     while True:
         if chance.random() < 0.5:
-            line = "draw %d %d" % (chance.randrange(MATCHES), chance.randrange(2**32))
+            line = "draw %d %d" % (chance.randrange(matches), chance.randrange(2**32))
         else:
             line = "%d %s" % (chance.randrange(CONNECTIONS), chance.choice(commands)())
         if not add(line):

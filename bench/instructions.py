@@ -1,0 +1,178 @@
+"""Counts the instructions that programs run on the same inputs. Other work on the machine does not change them.
+
+    tools/build               # proves and builds the program, if that is not done yet
+    python3 -m bench.instructions [PROGRAM [OTHER]] [--peer PATH] [--small]
+
+Makes inputs by a seeded generator, of version 1, so that older builds and a peer take them too:
+
+- a script of 16 matches of 16 agents: some 30,000 commands and draws by chance;
+- a complete network of 256 nodes;
+- moves: the replay with the most events that version 1 allows, 32,033, of 16 agents that walk by chance;
+- texts: the replay of 16 agents that look at a whiteboard of 1,024 bytes, not all ASCII.
+
+Valgrind's callgrind counts the instructions of `rehearse` on the script, of `check` on the network, and of `judge`,
+`explain` and `twin` on both replays. A row has the millions of PROGRAM; those of OTHER, an older build, if one is
+named; those of the peer, a plain program with the same commands, if --peer names one; and PROGRAM divided by each. With
+--small the script is a tenth as long, the network has 64 nodes, and an agent has a tenth of the commands. It needs
+Debian's package valgrind, under which a build without a proof does not run.
+"""
+import argparse
+import pathlib
+import random
+import re
+import shlex
+import shutil
+import subprocess
+import sys
+import tempfile
+from typing import Callable, Iterator, List, NamedTuple, Sequence
+
+from arena_lab.rules.model import AWAY, Match, Object, Setup, spelled
+from bench import compare, rehearse
+from bench.inputs import MAX_QUOTA, MAX_SCRIPT, torus, torus_links, tournament
+
+TOP = pathlib.Path(__file__).resolve().parent.parent
+PROGRAM = TOP / "crates" / "bhs_main" / "out" / "bhs_main"
+VALGRIND = "valgrind"
+COUNTED = re.compile(r"^==\d+== Collected : (\d+)$", re.MULTILINE)
+SEED = 20_261_128
+MATCHES = AGENTS = 16
+SIDE, BOARD = 8, 1024
+# the black hole of the replays, and that of their twins; nobody goes to either
+HOLE, TWIN = SIDE * SIDE - 2, SIDE * SIDE - 1
+EXPLAINED = 3
+TEXT = "x" * 1000 + "é" * 12
+
+Play = Callable[[Match, int], None]
+
+
+class Size(NamedTuple):
+    """How large the inputs are: the bytes of the script, the nodes of the network, and the commands of an agent."""
+    script: int
+    nodes: int
+    commands: int
+
+
+WHOLE, SMALL = Size(MAX_SCRIPT * 3 // 4, 256, MAX_QUOTA), Size(MAX_SCRIPT * 3 // 40, 64, MAX_QUOTA // 10)
+
+
+class Work(NamedTuple):
+    """What is counted: the words of a run, and its standard input."""
+    title: str
+    words: List[str]
+    source: str = "empty"
+
+
+def entered() -> Match:
+    """A match on a torus that all agents have entered."""
+    match = Match(Setup(SIDE * SIDE, torus_links(SIDE, SIDE), 0, [HOLE], AGENTS, MAX_QUOTA, BOARD, []))
+    for agent in range(AGENTS):
+        match.tell(agent, {"do": "enter"})
+    return match
+
+
+def moves(match: Match, commands: int) -> None:
+    """In each round all agents depart, and arrive in an order of their own."""
+    chance = random.Random(SEED)
+    for _ in range(commands):
+        for agent in range(AGENTS):
+            far = match.far[match.agents[agent].node]
+            ports = [port for port in far if far[port][0] not in (HOLE, TWIN)]
+            match.tell(agent, {"do": "depart", "port": chance.choice(ports)})
+        for agent in chance.sample(range(AGENTS), AGENTS):
+            match.deliver(agent)
+
+
+def texts(match: Match, commands: int) -> None:
+    """One agent writes, and then all look; of 50 commands one is a write that comes too late."""
+    chance = random.Random(SEED)
+    match.tell(0, {"do": "write", "expect": "", "put": TEXT})
+    for number in range(commands - 1):
+        for agent in range(AGENTS):
+            late = {"do": "write", "expect": str(number), "put": TEXT[:100]}
+            match.tell(agent, late if chance.random() < 0.02 else {"do": "look"})
+
+
+def replay(play: Play, commands: int) -> Iterator[str]:
+    """The lines of a replay of version 1, in which all agents leave at last."""
+    match = entered()
+    play(match, commands)
+    assert not any(agent.standing == AWAY for agent in match.agents)
+    for agent in range(AGENTS):
+        match.tell(agent, {"do": "leave"})
+    match.close()
+    head = {name: value for name, value in match.head().items() if name not in ("dark", "holes")}
+    lines: List[Object] = [{**head, "replay": 1, "hole": HOLE}, *match.log, {"end": len(match.log)}]
+    return (spelled(line) + "\n" for line in lines)
+
+
+def written(folder: pathlib.Path, size: Size) -> List[Work]:
+    """Writes the inputs, and gives what is counted on them."""
+    script, lines = rehearse.script(size.script, MATCHES)
+    files = {
+        "script": script, "torus.toml": torus(SIDE, SIDE),
+        "t.toml": tournament("torus.toml", MATCHES, AGENTS, BOARD, 1),
+        "complete.toml": compare.complete(size.nodes), "c.toml": tournament("complete.toml", 1, 1, BOARD, 1),
+        "moves": "".join(replay(moves, size.commands)), "texts": "".join(replay(texts, size.commands)), "empty": "",
+    }
+    for name, text in files.items():
+        (folder / name).write_text(text)
+    return [Work(f"`rehearse`, {lines:,} lines", ["rehearse", "t.toml"], "script"),
+            Work(f"`check`, {size.nodes} nodes", ["check", "c.toml"]),
+            *(Work(f"`{words[0]}`, {name}", [words[0], name, *words[1:]]) for name in ("moves", "texts")
+              for words in (["judge"], ["explain", str(EXPLAINED)], ["twin", str(TWIN)]))]
+
+
+def has_valgrind() -> bool:
+    return shutil.which(VALGRIND) is not None
+
+
+def counted(program: str, work: Work, folder: pathlib.Path) -> int:
+    """How many instructions a run takes."""
+    words = [VALGRIND, "--tool=callgrind", "--callgrind-out-file=/dev/null", program, *work.words]
+    with open(folder / work.source, "rb") as given:
+        ran = subprocess.run(words, stdin=given, stdout=subprocess.DEVNULL, stderr=subprocess.PIPE, cwd=folder,
+                             text=True)
+    found = COUNTED.search(ran.stderr)
+    if ran.returncode != 0 or not found:
+        raise SystemExit(f"{shlex.join(words)}: status {ran.returncode}\n{ran.stderr}")
+    return int(found[1])
+
+
+def row(work: Work, counts: Sequence[int]) -> str:
+    """A row of the table: the count of the program, and of each other program the count and the ratio."""
+    others = [cell for other in counts[1:] for cell in (f"{other / 1e6:,.1f}", f"{counts[0] / other:.2f}")]
+    return f"| {' | '.join([work.title, f'{counts[0] / 1e6:,.1f}', *others])} |"
+
+
+def given_words(words: Sequence[str]) -> argparse.Namespace:
+    parser = argparse.ArgumentParser(prog="python3 -m bench.instructions", description=__doc__,
+                                     formatter_class=argparse.RawDescriptionHelpFormatter)
+    parser.add_argument("program", nargs="?", type=pathlib.Path, default=PROGRAM, help="a built program")
+    parser.add_argument("other", nargs="?", type=pathlib.Path, help="an older build of it")
+    parser.add_argument("--peer", type=pathlib.Path, metavar="PATH", help="a plain program with the same commands")
+    parser.add_argument("--small", action="store_true", help="on inputs of a tenth of the size")
+    return parser.parse_args(words)
+
+
+def main(words: Sequence[str]) -> int:
+    given = given_words(words)
+    named = {"program": given.program, "other": given.other, "peer": given.peer}
+    programs = {name: str(path.resolve()) for name, path in named.items() if path}
+    for program in programs.values():
+        if not pathlib.Path(program).exists():
+            raise SystemExit(f"there is no program {program}: tools/build builds it")
+    if not has_valgrind():
+        raise SystemExit("valgrind is missing: install Debian's package valgrind")
+    head = ["millions of instructions", *(cell for name in programs for cell in (name, "ratio"))]
+    head.remove("ratio")
+    print(f"| {' | '.join(head)} |\n|{' --- |' * len(head)}", flush=True)
+    with tempfile.TemporaryDirectory() as name:
+        folder = pathlib.Path(name)
+        for work in written(folder, SMALL if given.small else WHOLE):
+            print(row(work, [counted(program, work, folder) for program in programs.values()]), flush=True)
+    return 0
+
+
+if __name__ == "__main__":
+    sys.exit(main(sys.argv[1:]))

@@ -1,0 +1,79 @@
+"""The inputs on which instructions are counted, and how they are counted."""
+import contextlib
+import io
+import json
+import pathlib
+import tempfile
+import unittest
+import unittest.mock
+
+from arena_lab.rules.model import judge, played
+from bench import instructions
+
+
+class Inputs(unittest.TestCase):
+    def plays(self, play: instructions.Play, events: int, verdict: str) -> None:
+        """A replay of version 1 has the events of its match, and a node that nobody reaches."""
+        head, *lines = instructions.replay(play, 3)
+        values = json.loads(head)
+        self.assertEqual((values.pop("replay"), len(lines)), (1, events + 1))
+        second = json.dumps({**values, "replay": 2, "dark": [], "holes": [values.pop("hole")]})
+        match = played("".join([second + "\n", *lines]))
+        self.assertEqual(match.replay().split("\n")[1:], "".join(lines).split("\n"))
+        self.assertEqual(str(judge(match)), verdict)
+        self.assertNotIn(instructions.TWIN, match.reached)
+
+    def test_replays(self) -> None:
+        self.plays(instructions.moves, 16 + 3 * 2 * 16 + 16 + 1, "silent moves 48 lost 0")
+        self.plays(instructions.texts, 16 + 1 + 2 * 16 + 16 + 1, "silent moves 0 lost 0")
+
+    def test_small_inputs(self) -> None:
+        with tempfile.TemporaryDirectory() as name:
+            folder = pathlib.Path(name)
+            works = instructions.written(folder, instructions.SMALL)
+            self.assertEqual(len({work.title for work in works}), 8)
+            for work in works:
+                self.assertTrue((folder / work.source).exists() and (folder / work.words[1]).exists())
+            self.assertGreater((folder / "script").read_text().count("\n"), 3000)
+
+
+class Counts(unittest.TestCase):
+    def setUp(self) -> None:
+        self.folder = pathlib.Path(self.enterContext(tempfile.TemporaryDirectory()))
+
+    def made(self, name: str, text: str) -> str:
+        """A script in the place of a program."""
+        made = self.folder / name
+        made.write_text(f"#!/bin/sh\n{text}\n")
+        made.chmod(0o700)
+        return str(made)
+
+    def printed(self, said: str) -> str:
+        """What is printed of two programs, with this script in the place of valgrind."""
+        told = io.StringIO()
+        programs = [self.made("one", "exit"), "--peer", self.made("two", "exit")]
+        valgrind = self.made("valgrind", said)
+        with unittest.mock.patch.object(instructions, "VALGRIND", valgrind), contextlib.redirect_stdout(told):
+            instructions.main([*programs, "--small"])
+        return told.getvalue()
+
+    def test_a_table_has_the_counts_and_ratios(self) -> None:
+        counts = "case $3 in *two) count=1000000;; *) count=2500000;; esac"
+        lines = self.printed(f"{counts}; echo ==7== Collected : $count >&2").split("\n")
+        self.assertEqual(lines[:2], ["| millions of instructions | program | peer | ratio |",
+                                     "| --- | --- | --- | --- |"])
+        self.assertEqual(lines[-2], "| `twin`, texts | 2.5 | 1.0 | 2.50 |")
+
+    def test_a_program_that_fails_ends_it(self) -> None:
+        for said in ("exit 6", "echo nothing"):
+            with self.assertRaisesRegex(SystemExit, "rehearse t.toml: status"):
+                self.printed(said)
+
+    def test_without_valgrind_it_says_what_to_install(self) -> None:
+        with unittest.mock.patch.object(instructions, "VALGRIND", "no-such-command"):
+            with self.assertRaisesRegex(SystemExit, "valgrind is missing"):
+                instructions.main([self.made("one", "exit")])
+
+
+if __name__ == "__main__":
+    unittest.main()
