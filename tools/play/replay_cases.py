@@ -1,6 +1,10 @@
 """Cases of many and of long replays: more than one digit in their numbers, more words than a shell's line has, and more
 bytes than a program reads at once. And cases of texts that would control a terminal."""
+import concurrent.futures
 import json
+import os
+import tty
+from typing import List, Sequence
 
 from tools.play.program_cases import MATCH, SEED, TABLE_HEAD, TRIANGLE, case, writes
 from tools.play.program_rows import Stage, Wrong, expect
@@ -71,8 +75,8 @@ def controls(character: str) -> bool:
     return any(first <= ord(character) <= last for first, last in CONTROLS)
 
 
-@case("a causal past has no character that controls a terminal, and is the same JSON as the replay")
-def explained_controls(stage: Stage) -> None:
+def replay_of_controls(stage: Stage) -> List[str]:
+    """The event lines of a replay m0.jsonl whose agent writes each of these characters, the close left out."""
     cup = SEED + MATCH.format(network="tri.toml", key="k").replace("quota = 10", "quota = 1000")
     codes = [code for first, last in CONTROLS for code in range(first - 1, last + 2) if code >= 0]
     texts = ["", *(f"{chr(code)}b" for code in codes)]
@@ -81,18 +85,56 @@ def explained_controls(stage: Stage) -> None:
         said.append("0 " + json.dumps({"do": "write", "expect": expect_, "put": put}))
     rehearsed(stage, cup, "\n".join([*said, f"0 {LOOK}", "close 0"]) + "\n")
     lines = (stage.folder / "m0.jsonl").read_text().split("\n")[1:-3]
-    printed = stage.run(["explain", "m0.jsonl", "0"]).printed.decode()
-    shown = printed.split("\n")[:-1]
+    if not any(map(controls, "".join(lines))) or len(lines) != len(texts) + 1:
+        raise Wrong("the replay lacks such a character, so this shows nothing")
+    return lines
+
+
+def shown_on_terminal(stage: Stage, words: Sequence[str]) -> bytes:
+    """What a terminal gets of the program."""
+    reader, terminal = os.openpty()
+    # so line feeds stay line feeds
+    tty.setraw(terminal)
+    with concurrent.futures.ThreadPoolExecutor(1) as pool:
+        taken = pool.submit(all_of_terminal, reader)
+        try:
+            stage.run(words, stdout=terminal)
+        finally:
+            os.close(terminal)
+            shown = taken.result()
+            os.close(reader)
+    return shown
+
+
+def all_of_terminal(reader: int) -> bytes:
+    """What programs write to a terminal, until none has it open: reading fails then."""
+    taken = b""
+    while True:
+        try:
+            taken += os.read(reader, LONG)
+        except OSError:
+            return taken
+
+
+@case("a program that reads a causal past gets the lines of the replay, byte for byte")
+def explained_exactly(stage: Stage) -> None:
+    lines = replay_of_controls(stage)
+    expect(stage.run(["explain", "m0.jsonl", "0"]),
+           "".join(f"{place} {line}\n" for place, line in enumerate(lines)).encode())
+
+
+@case("on a terminal a causal past has no character that controls it, and is the same JSON as the replay")
+def explained_controls(stage: Stage) -> None:
+    lines = replay_of_controls(stage)
+    shown = shown_on_terminal(stage, ["explain", "m0.jsonl", "0"]).decode().split("\n")[:-1]
     for line in shown:
         if any(map(controls, line)):
             raise Wrong(f"{line!r} has a character that controls a terminal")
     parts = [line.split(" ", 1) for line in shown]
-    if [int(place) for place, _ in parts] != list(range(len(lines))) or len(lines) != len(texts) + 1:
+    if [int(place) for place, _ in parts] != list(range(len(lines))):
         raise Wrong(f"the places of {len(parts)} lines of {len(lines)} are {[place for place, _ in parts]}")
     if [json.loads(line) for _, line in parts] != [json.loads(line) for line in lines]:
         raise Wrong("the lines are not the JSON of the replay")
-    if not any(map(controls, "".join(lines))):
-        raise Wrong("the replay has no such character, so this shows nothing")
     for (_, line), own in zip(parts, lines):
         if not any(map(controls, own)) and line != own:
             raise Wrong(f"{line!r} is not {own!r}, which controls no terminal")

@@ -20,6 +20,7 @@ use Rattle.bhs_orders.specs.declared.reporting.faults.Fault.TheVariants.{NoMatch
 use Rattle.bhs_orders.specs.declared.reporting.faults.Fault.TheVariants.{Exploring, Appeal}
 use Rattle.bhs_orders.specs.declared.reporting.appeal_faults.AppealFault.TheVariants as appeals
 use Rattle.bhs_orders.specs.declared.reporting.statuses.TheConstants.{DONE, NO_MEMORY}
+use Rattle.bhs_orders.specs.declared.results.explaining.OutputKind.{OutputKind}
 use Rattle.bhs_orders.specs.Fault.{of_twin, status}
 use Rattle.bhs_standings.specs.declared.rows.Row.{Row}
 use Rattle.bhs_command_line.specs.declared.orders.TableEntry.{TableEntry}
@@ -105,10 +106,10 @@ module _ {O : Type 0} (Printing : List ℕ → O → O → ℕ → Type 0) (IsRe
   untwinned (twins.Reached place) (inr told) is = told_none (twins.Reached place) told is
 
 -- the line of the next place, and those of the others
-pub next_line : (play : Play) (places : List ℕ) (index d : ℕ) → index < length places
-    → lines_at play (drop index places) ≡ line_at play (get_or places index d)
-    ++ lines_at play (drop (index + 1) places)
-next_line play places index d within = ap (lines_at play) (drop_more places index d within)
+pub next_line : (kind : OutputKind) (play : Play) (places : List ℕ) (index d : ℕ) → index < length places
+    → lines_at kind play (drop index places) ≡ line_at kind play (get_or places index d)
+    ++ lines_at kind play (drop (index + 1) places)
+next_line kind play places index d within = ap (lines_at kind play) (drop_more places index d within)
 
 -- one row more
 pushed : {T E : Type 0} (r : Result T E) → is_err r ≡ false → is_ok r ≡ true

@@ -19,6 +19,8 @@ use Rattle.bhs_view.specs.declared.twins.TwinFault.{TwinFault}
 use Rattle.bhs_command_line.specs.declared.orders.TableEntry.{TableEntry}
 use Rattle.bhs_orders.specs.Fault.{status}
 use Rattle.bhs_orders.specs.declared.reporting.faults.Fault.TheVariants.{Twin}
+use Rattle.bhs_orders.specs.declared.results.explaining.OutputKind.{OutputKind}
+use Rattle.bhs_orders.specs.declared.results.explaining.OutputKind.TheVariants.{Plain, Terminal}
 
 -- some text is the replay of this match
 abbrev pub IsReplayed : Play → Type 0
@@ -63,29 +65,34 @@ pub record IsTable (entries : List TableEntry) (text : List ℕ) : Type 0 where
 
 -- ---- the causal past of an agent
 
--- the line of a place: its number and its line of the replay, with the characters that control a terminal spelled;
--- nothing past the end of the log
-abbrev pub line_of : (log : List Kept) → (place : ℕ) → Option Kept → List ℕ
-line_of log place None = []
-line_of log place (Some one) =
-    decimal place ++ (codes " " ++ (visible (event_line one.event (read_if log one.mark)) ++ codes "\n"))
+-- a line as an output of this kind gets it: a terminal with the characters that control it spelled, others as it is
+abbrev pub displayed : OutputKind → (line : List ℕ) → List ℕ
+displayed Terminal line = visible line
+displayed Plain line = line
 
-abbrev pub line_at : Play → (place : ℕ) → List ℕ
-line_at play place = line_of play.log place (slice_get play.log place)
+-- the line of a place: its number and its line of the replay; nothing past the end of the log
+abbrev pub line_of : OutputKind → (log : List Kept) → (place : ℕ) → Option Kept → List ℕ
+line_of kind log place None = []
+line_of kind log place (Some one) =
+    decimal place ++ (codes " " ++ (displayed kind (event_line one.event (read_if log one.mark)) ++ codes "\n"))
 
-abbrev pub lines_at : Play → (places : List ℕ) → List ℕ
-lines_at play [] = []
-lines_at play (place ∷ places) = line_at play place ++ lines_at play places
+abbrev pub line_at : OutputKind → Play → (place : ℕ) → List ℕ
+line_at kind play place = line_of kind play.log place (slice_get play.log place)
+
+abbrev pub lines_at : OutputKind → Play → (places : List ℕ) → List ℕ
+lines_at kind play [] = []
+lines_at kind play (place ∷ places) = line_at kind play place ++ lines_at kind play places
 
 -- the lines of the places of the agent's causal past, in their order
-abbrev pub past_of : Play → (agent : ℕ) → List ℕ
-past_of play agent = lines_at play (places_of (cut agent (footprints (world_in play) (events_of play.log))))
+abbrev pub past_of : OutputKind → Play → (agent : ℕ) → List ℕ
+past_of kind play agent =
+    lines_at kind play (places_of (cut agent (footprints (world_in play) (events_of play.log))))
 
--- the text is the past of this agent in a match that some text is the replay of
-pub record IsPast (agent : ℕ) (text : List ℕ) : Type 0 where
+-- the text is the past of this agent, for this kind of output, in a match that some text is the replay of
+pub record IsPast (kind : OutputKind) (agent : ℕ) (text : List ℕ) : Type 0 where
   pub play : Play
   pub replayed : IsReplayed play
-  pub said : text ≡ past_of play agent
+  pub said : text ≡ past_of kind play agent
 
 -- ---- the twin
 

@@ -31,7 +31,7 @@ pub use reporting::statuses::{
 };
 pub use results::appealing::print_appealed_verdict;
 pub use results::contests::print_contest_table;
-pub use results::explaining::print_past;
+pub use results::explaining::{OutputKind, print_past};
 pub use results::judging::{print_verdict, verdict_line};
 pub use results::recovering::recover_matches;
 pub use results::tabling::print_table;

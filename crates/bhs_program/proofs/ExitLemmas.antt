@@ -194,7 +194,7 @@ module _ {P I O : Type 0} (files : P → List ℕ → WriteAnswer → P → Type
   of_deed (order.Appeal replay appeal) appealed = of_appeal takes flushes output output' code _ appealed.1
   of_deed (order.Table entries) table = of_text takes flushes output output' code _ table.1
   of_deed (order.ContestTable name prefix) table = of_contest_table takes flushes output output' code table.1
-  of_deed (order.Explain replay agent) past = of_many takes flushes output output' code _ past.1
+  of_deed (order.Explain replay agent) past = of_many takes flushes output output' code _ past.1.printed
   of_deed (order.Twin replay node) twin = elim twin.1 [
     | inl report ↦ of_many takes flushes output output' code _ report
     | inr none ↦ inr (inr (Twin none.fault, none.coded))

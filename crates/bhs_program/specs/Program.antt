@@ -16,12 +16,19 @@ use Rattle.bhs_orders.specs.Recovery.{RecoversContest}
 use Rattle.bhs_orders.specs.Reports.{IsJudgement, IsTable, IsPast, IsTwinReplay, HasNoTwin}
 use Rattle.bhs_orders.specs.Showing.{Prints, PrintsByLine, Reports}
 use Rattle.bhs_orders.specs.Summary.{IsSummary}
+use Rattle.bhs_orders.specs.declared.results.explaining.OutputKind.{OutputKind}
 use Rattle.bhs_orders.specs.declared.reporting.statuses.TheConstants.{DONE, FAILING, NO_MEMORY, REFUSED_WORDS}
 use Rattle.bhs_program.specs.Contests.{Serves}
 
 -- an exit status of the program: all was done, the words are refused, a schedule fails, or a fault came
 abbrev pub IsStatus : ℕ → Type 0
 IsStatus code = (code ≡ DONE) ⊎ (((code ≡ REFUSED_WORDS) ⊎ (code ≡ FAILING)) ⊎ IsOfFault code)
+
+-- The past of an agent is printed, for a kind of output. No contract can say of which kind standard output is.
+pub record Explains {O : Type 0} (takes : O → List ℕ → WriteAnswer → O → Type 0) (flushes : O → Bool → O → Type 0)
+    (agent : ℕ) (output output' : O) (code : ℕ) : Type 0 where
+  pub kind : OutputKind
+  pub printed : Reports (PrintsByLine takes flushes) (IsPast kind agent) output output' code
 
 -- the calls of the files that are written, of the input and of the output
 module _ {P I O : Type 0} (files : P → List ℕ → WriteAnswer → P → Type 0) (gives : I → Chunk → I → Type 0)
@@ -48,7 +55,7 @@ module _ {P I O : Type 0} (files : P → List ℕ → WriteAnswer → P → Type
   Does (order.ContestTable name prefix) input input' output output' code =
       (input' ≡ input) × TablesContest takes flushes output output' code
   Does (order.Explain replay agent) input input' output output' code =
-      (input' ≡ input) × TellsByLine (IsPast agent) output output' code
+      (input' ≡ input) × Explains takes flushes agent output output' code
   Does (order.Twin replay node) input input' output output' code =
       (input' ≡ input) × (TellsByLine (IsTwinReplay node) output output' code ⊎ HasNoTwin node output output' code)
   Does (order.Recover part) input input' output output' code =

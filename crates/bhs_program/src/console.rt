@@ -1,12 +1,13 @@
-//! Standard input, on which an operator may ask for something while a contest goes on.
+//! Standard input, on which an operator may ask for something while a contest goes on, and what standard output is.
 
 ghost use Rattle.std.specs.Prelude.{[]};
 ghost use Rattle.bhs_program.specs.Hearing.{IsHeardIn};
 
+use bhs_orders::OutputKind;
 use libc::net::{POLLIN, POLLNVAL, poll};
 use libc::types::pollfd;
 use libc::{STDIN_FILENO, getpgrp, isatty, tcgetpgrp};
-use std::io::{ErrorKind, Read};
+use std::io::{ErrorKind, IsTerminal, Read};
 use std::thread;
 use std::time::Duration;
 
@@ -21,7 +22,7 @@ pub enum ConsoleInput {
     End,
 }
 
-/// The standard input of a machine. A thread that outlives its caller can have a copy.
+/// The standard input and output of a machine. A thread that outlives its caller can have a copy.
 pub trait Console {
     /// Whether there is a standard input. To be asked before anything is opened that stays open, since that may get the
     /// number of a standard input that was closed.
@@ -30,6 +31,9 @@ pub trait Console {
     /// Waits for standard input for at most this many milliseconds, and takes what came into `room`.
     fn hear(&self, room: &mut [u8], longest: u16) -> ConsoleInput
         ensures { IsHeardIn room.new result };
+
+    /// What standard output is.
+    fn output_kind(&self) -> OutputKind;
 }
 
 impl Console for HostRuntime {
@@ -51,6 +55,14 @@ impl Console for HostRuntime {
             Ok(0) => ConsoleInput::End,
             Ok(count) => ConsoleInput::Bytes(count),
             Err(error) => after(error.kind()),
+        }
+    }
+
+    fn output_kind(&self) -> OutputKind {
+        if self.stdout().is_terminal() {
+            OutputKind::Terminal
+        } else {
+            OutputKind::Plain
         }
     }
 }

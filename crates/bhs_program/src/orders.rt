@@ -89,7 +89,8 @@ fn obey<
             errors,
         ),
         Order::Explain { replay, agent } => {
-            print_past(alloc, rt, replay.as_str(), agent, writer, errors)
+            let kind = rt.output_kind();
+            print_past(alloc, rt, replay.as_str(), agent, kind, writer, errors)
         }
         Order::Twin { replay, node } => {
             print_twin(alloc, rt, replay.as_str(), node, writer, errors)

@@ -13,7 +13,8 @@ Reads a replay, and prints each event of the match that the agent could know of,
 as `PLACE LINE`: the event's place in the match, from 0, and its line of the
 replay. These are the agent's own events, what it read on whiteboards, what those
 who wrote there had seen, and so on. Played alone, they get the same answers. If
-no agent has this number, nothing is printed.";
+no agent has this number, nothing is printed. On a terminal, characters that
+would control it are spelled, as in `\\u001b`.";
 
 const EXAMPLE: &str = "\
 Example:

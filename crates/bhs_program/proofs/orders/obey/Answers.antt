@@ -30,7 +30,8 @@ pub returns-in-ContestTable : goal.returns-in-ContestTable
 returns-in-ContestTable g c = rw c.in-ContestTable.is (does (refl, c.print_contest_table.ensures))
 
 pub returns-in-Explain : goal.returns-in-Explain
-returns-in-Explain g c = rw c.in-Explain.is (does (refl, c.print_past.ensures))
+returns-in-Explain g c =
+    rw c.in-Explain.is (does (refl, record { kind = c.output_kind-kind.result; printed = c.print_past.ensures }))
 
 pub returns-in-Twin : goal.returns-in-Twin
 returns-in-Twin g c = rw c.in-Twin.is (does (refl, c.print_twin.ensures))

@@ -14,15 +14,15 @@ returns-in_err-line-clause-err g c =
 
 pub returns-in_err-send-clause-err : goal.returns-in_err-send-clause-err
 returns-in_err-send-clause-err g c =
-    let here = rw (next_line c.args.sealed.now c.args.places.now c.loop-place.place-index 0 c.loop-place-test.true) at
-    c.loop-place.invariant in
+    let here = rw (next_line c.args.kind c.args.sealed.now c.args.places.now c.loop-place.place-index 0
+    c.loop-place-test.true) at c.loop-place.invariant in
     let stopped = rw (c.as_bytes.ensures.value, c.in_ok-line.ensures) at c.in_err-send.ensures.err in
     fault_is c.from_residual-in_err-send.result Write _ c.from_residual-in_err-send.ensures.1
     (stopped_at g.W.Output.takes _ _ _ _ _ _ Write here stopped)
 
 pub loop-place-preserved : goal.loop-place-preserved
 loop-place-preserved g c =
-    let here = rw (next_line c.args.sealed.now c.args.places.now c.loop-place.place-index 0 c.loop-place-test.true) at
-    c.loop-place.invariant in
+    let here = rw (next_line c.args.kind c.args.sealed.now c.args.places.now c.loop-place.place-index 0
+    c.loop-place-test.true) at c.loop-place.invariant in
     let printed = rw (c.as_bytes.ensures.value, c.in_ok-line.ensures) at c.in_ok-send.ensures.ok in
     sent_more g.W.Output.takes _ _ _ _ _ _ here printed

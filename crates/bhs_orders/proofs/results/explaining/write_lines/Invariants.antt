@@ -5,5 +5,5 @@ use Rattle.bhs_orders.proofs.results.explaining.write_lines.Given as goal
 
 abbrev pub invariant-loop-place : goal.invariant-loop-place
 invariant-loop-place g l =
-    IsSentUpTo g.W.Output.takes l.fn.writer l.writer (lines_at l.sealed l.places)
-    (lines_at l.sealed (drop l.place-index l.places))
+    IsSentUpTo g.W.Output.takes l.fn.writer l.writer (lines_at l.kind l.sealed l.places)
+    (lines_at l.kind l.sealed (drop l.place-index l.places))
