@@ -1,5 +1,5 @@
 """What `./arena check` and `./arena serve` say of a tournament on standard error, beside the lines of the program: keys
-that are ignored and why a file cannot be read, and behind `check` the schedule and the links that are held or dark.
+that are ignored and why a network cannot be read, and behind `check` the schedule and the links that are held or dark.
 
     python3 -m arena_lab.play.tournament_notes ignored|schedule WORDS OF THE PROGRAM ..
 
@@ -99,9 +99,9 @@ def unread(path: pathlib.Path) -> List[str]:
 
 def of_file(path: pathlib.Path) -> List[str]:
     """What is said of a file before the program reads it, with the file's name."""
-    why = unread(path)
-    if why:
-        return [f"{path}: {line}" for line in why]
+    if unread(path):
+        # the program says why
+        return []
     text = path.read_text(encoding="utf-8", errors="replace")
     found = table_of(text)
     if found is None:

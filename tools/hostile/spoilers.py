@@ -625,7 +625,7 @@ def course(program: str, folder: pathlib.Path) -> None:
 def shown_names(program: str, folder: pathlib.Path) -> None:
     name = "a\u009b\u202e\u2066b"
     run = subprocess.run([program, "judge", name], cwd=folder, capture_output=True, text=True, check=False)
-    told = run.stderr.splitlines()[-1]
+    told = run.stderr.splitlines()[-2]
     wants("the fault", told, r"a\u{9b}\u{202e}\u{2066}b: read")
 
 

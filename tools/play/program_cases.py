@@ -42,6 +42,8 @@ keys = ["{key}a", "{key}b"]
 """
 CUP = SEED + MATCH.format(network="tri.toml", key="k")
 TABLE_HEAD = "  # team             outcome     moves lost"
+# behind the fault of a file that is not there
+ABSENT = b"  there is no such file\n"
 
 Trial = Callable[[Stage], None]
 CASES: Dict[str, Trial] = {}
@@ -266,8 +268,8 @@ def most_matches(stage: Stage) -> None:
 
 @case("names in fault lines are shown")
 def names_are_shown(stage: Stage) -> None:
-    expect(stage.run(["check", ""]), b"", b"'': read\n", FAILED_STREAM)
-    told = b"x\\ncup.toml: toml\\r\\u{1b}[2J: read\n"
+    expect(stage.run(["check", ""]), b"", b"'': read\n" + ABSENT, FAILED_STREAM)
+    told = b"x\\ncup.toml: toml\\r\\u{1b}[2J: read\n" + ABSENT
     expect(stage.run(["rehearse", "x\ncup.toml: toml\r\x1b[2J"]), b"", told, FAILED_STREAM)
 
 
@@ -424,7 +426,7 @@ def refused_contests(stage: Stage) -> None:
         port = taken.getsockname()[1]
         told = b"serve: listen\n  another program listens on this port: end it, or give another --port\n"
         expect(stage.run(serve("cup.toml", port)), b"", told, FAILED_STREAM)
-        expect(stage.run(serve("none.toml", port)), b"", b"none.toml: read\n", FAILED_STREAM)
+        expect(stage.run(serve("none.toml", port)), b"", b"none.toml: read\n" + ABSENT, FAILED_STREAM)
         expect(stage.run(serve("tri.toml", port)), b"",
                b"tri.toml: missing seed\n  seed: a text of 64 hexadecimal digits\n", REFUSED_TEXT)
 

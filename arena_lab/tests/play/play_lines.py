@@ -48,7 +48,7 @@ ROWS: Tuple[Tuple[Tuple[str, ...], int, str], ...] = (
     (("network", "ring:8", "--out", "no/such/place.toml"), 2,
      "arena-lab: no/such/place.toml: there is no such file or"),
     (("page", "text.md"), 3, "text.md: head: its first line is not the head of a replay"),
-    (("page", "nosuch.jsonl"), 6, "nosuch.jsonl: read: it cannot be read"),
+    (("page", "nosuch.jsonl"), 6, "  there is no such file"),
     ((*RUN, "--agent", RING.words, "--quota", "65536"), 2,
      "arena-lab: an agent has 1 to 65535 commands, and not 65536: name another number by --quota"),
 )

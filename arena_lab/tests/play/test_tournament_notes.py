@@ -1,4 +1,4 @@
-"""What is said of a tournament beside the program's lines: keys that are ignored, files that cannot be read, and the
+"""What is said of a tournament beside the program's lines: keys that are ignored, networks that cannot be read, and the
 schedule."""
 import contextlib
 import io
@@ -62,13 +62,13 @@ class Notes(unittest.TestCase):
             "line 3 has [match]: write [[match]], as of a match among others"])
         self.assertEqual(self.said("version = \n"), [])
 
-    def test_why_a_file_cannot_be_read(self) -> None:
+    def test_why_a_network_cannot_be_read(self) -> None:
         self.network.unlink()
         self.assertEqual(self.said(tournament()), ["tri.toml: there is no such file"])
         self.network.mkdir()
         self.assertEqual(self.said(tournament()), [f"{self.network}: it is a folder"])
         absent = self.folder / "absent.toml"
-        self.assertEqual(main([IGNORED, "serve", "--early", str(absent)]), [f"{absent}: there is no such file"])
+        self.assertEqual(main([IGNORED, "serve", "--early", str(absent)]), [])
         self.assertEqual(main([IGNORED, "check", "absent"]), [])
 
     def test_the_schedule_and_what_is_held_and_dark(self) -> None:

@@ -9,7 +9,7 @@ ghost use Rattle.bhs_orders.specs.Showing.{PrintsByLine, Reports};
 
 use crate::match_files::replays::{file_name, write_match};
 use crate::match_files::turn_files::turns_name;
-use crate::reporting::faults::{Fault, report};
+use crate::reporting::faults::{Fault, report_with_cause};
 use crate::streams::line_by_line::passed_on;
 use bhs_match::Sealed;
 use bhs_model::MAX_TURNS;
@@ -120,7 +120,7 @@ pub fn print_recovered<F: Files, W: Output, E: Write>(
 {
     match match_of_part(alloc, files, name) {
         Ok(sealed) => print_replay(alloc, &sealed, writer, errors),
-        Err(fault) => report(name, fault, errors),
+        Err(fault) => report_with_cause(files, name, fault, errors),
     }
 }
 

@@ -17,7 +17,8 @@ ghost use Rattle.bhs_orders.specs.declared.reporting.statuses.TheConstants.{DONE
 
 use crate::match_files::parts::remove_part;
 use crate::match_files::private_files::made;
-use crate::reporting::faults::{Fault, report};
+use crate::reporting::faults::{Fault, report, report_with_cause};
+use crate::reporting::names::folder_of;
 use crate::reporting::statuses::DONE;
 use bhs_lineup::Ready;
 use bhs_match::Sealed;
@@ -43,7 +44,7 @@ pub(crate) fn match_of<F: Files, E: Write>(
 {
     match read_match(alloc, files, name) {
         Ok(sealed) => Ok(sealed),
-        Err(fault) => Err(report(name, fault, errors)),
+        Err(fault) => Err(report_with_cause(files, name, fault, errors)),
     }
 }
 
@@ -138,7 +139,7 @@ fn write_numbered<F: Files, E: Write>(
     };
     match write_file(alloc, files, name.as_str(), sealed) {
         Ok(()) => DONE,
-        Err(fault) => report(name.as_str(), fault, errors),
+        Err(fault) => report_with_cause(files, name.as_str(), fault, errors),
     }
 }
 
@@ -203,15 +204,6 @@ fn synced_folder<F: Files>(files: &F, folder: &str) -> Result<(), Fault> {
     match folder.sync_all() {
         Err(error) if error.kind() != ErrorKind::InvalidInput => Err(Fault::Write),
         _ => Ok(()),
-    }
-}
-
-// The folder in which a name stands.
-fn folder_of(name: &str) -> &str {
-    match name.rsplit_once('/') {
-        Some(("", _)) => "/",
-        Some((folder, _)) => folder,
-        None => ".",
     }
 }
 

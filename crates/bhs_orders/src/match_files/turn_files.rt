@@ -12,7 +12,7 @@ use crate::match_files::parts::remove_turns_part;
 use crate::match_files::private_files::made;
 use crate::match_files::replays::{new_name, put_or_removed};
 use crate::match_files::turns::{turns_in, turns_text};
-use crate::reporting::faults::{Fault, report};
+use crate::reporting::faults::{Fault, report, report_with_cause};
 use crate::reporting::statuses::DONE;
 use bhs_model::{MAX_TEXT, MAX_TURNS};
 use bhs_net::Memory;
@@ -62,7 +62,7 @@ fn write_numbered<F: Files, E: Write>(
     };
     match write_file(alloc, files, name.as_str(), turns) {
         Ok(()) => DONE,
-        Err(fault) => report(name.as_str(), fault, errors),
+        Err(fault) => report_with_cause(files, name.as_str(), fault, errors),
     }
 }
 
@@ -104,7 +104,7 @@ pub(crate) fn turns_of<F: Files, E: Write>(
 {
     match read_turns(alloc, files, name, events) {
         Ok(turns) => Ok(turns),
-        Err(fault) => Err(report(name, fault, errors)),
+        Err(fault) => Err(report_with_cause(files, name, fault, errors)),
     }
 }
 

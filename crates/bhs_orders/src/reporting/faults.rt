@@ -7,6 +7,7 @@ ghost use Rattle.bhs_orders.specs.Fault.{of_exploring, of_file, of_kind, of_read
 ghost use Rattle.bhs_orders.specs.Fault.{of_writing, replay_status, status};
 
 use crate::reporting::appeal_faults::AppealFault;
+use crate::reporting::causes::{cause_of_no_file, cause_of_no_read};
 use crate::reporting::names::Shown;
 use crate::reporting::statuses::{
     FAILED_STREAM, NO_MEMORY, NO_THREADS, REFUSED_MATCH, REFUSED_TEXT,
@@ -20,6 +21,7 @@ use bhs_stream::{ReadFault, WriteFault};
 use bhs_view::TwinFault;
 use std::io;
 use std::io::{ErrorKind, Write};
+use std::rt::Files;
 use thiserror::Error;
 
 /// Why an order was not done.
@@ -111,6 +113,28 @@ pub fn report<E: Write>(place: &str, fault: Fault, errors: &mut E) -> u8
     let place = Shown { name: place };
     let _ = writeln!(errors, "{place}: {fault}");
     fault.status()
+}
+
+/// Reports a fault of a file, and behind it why the file was not read or made, if the system says. Answers the exit
+/// status.
+pub(crate) fn report_with_cause<F: Files, E: Write>(
+    files: &F,
+    name: &str,
+    fault: Fault,
+    errors: &mut E,
+) -> u8
+    ensures { result ≡ status fault }
+{
+    let cause = match fault {
+        Fault::Read => cause_of_no_read(files, name),
+        Fault::Write => cause_of_no_file(files, name),
+        _ => None,
+    };
+    let status = report(name, fault, errors);
+    if let Some(cause) = cause {
+        let _ = writeln!(errors, "  {cause}");
+    }
+    status
 }
 
 impl From<Memory> for Fault {

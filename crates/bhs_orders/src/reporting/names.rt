@@ -1,4 +1,4 @@
-//! Names of files, as they are printed.
+//! Names of files, as they are printed, and their folders.
 
 use bhs_terminal::controls;
 use std::fmt;
@@ -24,5 +24,14 @@ impl Display for Shown<'_> {
             }
         }
         Ok(())
+    }
+}
+
+/// The folder in which a name stands.
+pub(crate) fn folder_of(name: &str) -> &str {
+    match name.rsplit_once('/') {
+        Some(("", _)) => "/",
+        Some((folder, _)) => folder,
+        None => ".",
     }
 }

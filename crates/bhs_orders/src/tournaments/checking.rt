@@ -9,7 +9,7 @@ ghost use Rattle.bhs_orders.specs.Fault.{IsOfFault};
 ghost use Rattle.bhs_orders.specs.Showing.{Prints, Reports};
 ghost use Rattle.bhs_orders.specs.Summary.{IsAssembled, IsRead, IsSummary};
 
-use crate::reporting::faults::{Fault, report};
+use crate::reporting::faults::{Fault, report, report_with_cause};
 use crate::streams::showing::show_made;
 use crate::tournaments::helping::{report_fault, report_file, report_unread};
 use crate::tournaments::network_places::place_of;
@@ -82,7 +82,7 @@ fn tournament_of<F: Files, E: Write>(
 {
     let text = match text_of(alloc, files, name) {
         Ok(text) => text,
-        Err(fault) => return Err(report(name, fault, errors)),
+        Err(fault) => return Err(report_with_cause(files, name, fault, errors)),
     };
     match read_tournament(alloc, text.as_str()) {
         Ok(tournament) => Ok(tournament),
