@@ -1,0 +1,4 @@
+pub mod Files
+pub mod Opcodes
+pub mod Types
+pub mod Values

@@ -1,134 +1,209 @@
 //! The bytes of a file, read one after another.
 
+ghost use Rattle.std.specs.Prelude.{◌+◌, ◌<◌, ◌^◌, ◌↔◌, length, IsTrue};
+
 use crate::faults::FaultKind;
 
-/// The bytes of a file, up to the end of the part that is read, and how far they are read.
+/// The bytes of a file that are left of the part that is read.
 #[derive(Drop)]
 pub(crate) struct Bytes<'b> {
-    all: &'b [u8],
-    at: usize,
-    end: usize,
-    /// Where what is read now begins. A fault names it.
+    left: &'b [u8],
+    /// How many bytes stand behind the part.
+    behind: usize,
+    /// How many bytes of the file were left when what is read now began. A fault names it.
     pub(crate) start: usize,
+    ghost in_file: { behind + length left.now < 2 ^ 64 },
 }
 
 impl<'b> Bytes<'b> {
-    pub(crate) fn new(all: &'b [u8]) -> Bytes<'b> {
+    ghost use Rattle.std.specs.Prelude.{◌≡◌, ◌≤◌, ◌-◌, [], drop, take, IfOk, OnOk};
+    ghost use Rattle.bhs_wasm_read.specs.Values as specs;
+    ghost use Rattle.bhs_wasm_read.specs.Values.{Gives, GivesAs, SamePlace};
+
+    pub(crate) fn new(file: &'b [u8]) -> Bytes<'b>
+        ensures left { result.left.now ≡ file.now }
+        ensures behind { result.behind ≡ 0 }
+        ensures start { result.start ≡ length file.now }
+    {
         Bytes {
-            all,
-            at: 0,
-            end: all.len(),
-            start: 0,
+            left: file,
+            behind: 0,
+            start: file.len(),
         }
     }
 
     /// How many bytes are left of the part.
-    pub(crate) fn left(&self) -> usize {
-        self.end.saturating_sub(self.at)
+    pub(crate) fn left(&self) -> usize
+        ensures { result ≡ length self.now.left.now }
+    {
+        self.left.len()
     }
 
     /// Begins to read something that a fault can name.
-    pub(crate) fn begin(&mut self) {
-        self.start = self.at;
+    pub(crate) fn begin(&mut self)
+        ensures left { self.new.left.now ≡ self.old.left.now }
+        ensures behind { self.new.behind ≡ self.old.behind }
+        ensures start { self.new.start ≡ self.old.behind + length self.old.left.now }
+    {
+        self.start = self.behind + self.left.len();
     }
 
-    /// Begins to read a part of this length, and answers the end of the part around it.
-    pub(crate) fn enter(&mut self, length: u32) -> Result<usize, FaultKind> {
-        if length as usize > self.left() {
-            return Err(FaultKind::End);
+    /// Begins to read a part of so many bytes, and answers what is left of the part around it.
+    pub(crate) fn enter(&mut self, count: u32) -> Result<&'b [u8], FaultKind>
+        ensures read { GivesAs (λ rest. rest.now) (specs.part self.old.left.now count) result self.new.left.now }
+        ensures behind { IfOk result (λ rest. self.new.behind ≡ self.old.behind + length rest.now) }
+        ensures start { self.new.start ≡ self.old.start }
+    {
+        match self.left.split_at_checked(count as usize) {
+            Some((part, rest)) => {
+                self.left = part;
+                self.behind += rest.len();
+                Ok(rest)
+            }
+            None => Err(FaultKind::End),
         }
-        let end = self.end;
-        self.end = self.at.saturating_add(length as usize);
-        Ok(end)
     }
 
-    /// Has read a part, and goes on with the part around it, which ends there.
-    pub(crate) fn leave(&mut self, end: usize) -> Result<(), FaultKind> {
-        if self.left() > 0 {
+    /// Has read a part, and goes on with the part around it, of which this is left.
+    pub(crate) fn leave(&mut self, rest: &'b [u8]) -> Result<(), FaultKind>
+        ensures read { Gives (specs.rest_behind self.old.left.now rest.now) result self.new.left.now }
+        ensures behind { OnOk result (self.new.behind ≡ self.old.behind - length rest.now) }
+        ensures start { self.new.start ≡ self.old.start }
+    {
+        if !self.left.is_empty() {
             return Err(FaultKind::Section);
         }
-        self.end = end;
+        self.left = rest;
+        self.behind = self.behind.saturating_sub(rest.len());
         Ok(())
     }
 
     /// Passes over what is left of the part.
-    pub(crate) fn skip(&mut self) {
-        self.at = self.end;
+    pub(crate) fn skip(&mut self)
+        ensures left { self.new.left.now ≡ [] }
+        ensures place { SamePlace self.old self.new }
+    {
+        self.left = &self.left[self.left.len()..];
     }
 
     /// The next byte, which is not read.
-    pub(crate) fn next(&self) -> Result<u8, FaultKind> {
-        if self.left() == 0 {
-            return Err(FaultKind::End);
-        }
-        self.all.get(self.at).copied().ok_or(FaultKind::End)
+    pub(crate) fn next(&self) -> Result<u8, FaultKind>
+        ensures { Gives (specs.next self.now.left.now) result self.now.left.now }
+    {
+        self.left.first().copied().ok_or(FaultKind::End)
     }
 
-    pub(crate) fn byte(&mut self) -> Result<u8, FaultKind> {
-        let byte = self.next()?;
-        self.at = self.at.saturating_add(1);
-        Ok(byte)
+    /// The next byte.
+    pub(crate) fn byte(&mut self) -> Result<u8, FaultKind>
+        ensures read { Gives (specs.byte self.old.left.now) result self.new.left.now }
+        ensures place { SamePlace self.old self.new }
+    {
+        match self.left.split_first() {
+            Some((byte, rest)) => {
+                self.left = rest;
+                Ok(*byte)
+            }
+            None => Err(FaultKind::End),
+        }
     }
 
     /// The next bytes.
-    pub(crate) fn take(&mut self, count: u32) -> Result<&'b [u8], FaultKind> {
-        if count as usize > self.left() {
-            return Err(FaultKind::End);
-        }
-        let end = self.at.saturating_add(count as usize);
-        match self.all.get(self.at..end) {
-            Some(taken) => {
-                self.at = end;
+    pub(crate) fn take(&mut self, count: u32) -> Result<&'b [u8], FaultKind>
+        ensures read { GivesAs (λ taken. taken.now) (specs.bytes self.old.left.now count) result self.new.left.now }
+        ensures place { SamePlace self.old self.new }
+    {
+        match self.left.split_at_checked(count as usize) {
+            Some((taken, rest)) => {
+                self.left = rest;
                 Ok(taken)
             }
             None => Err(FaultKind::End),
         }
     }
 
-    // A LEB128 number of this many bits.
-    fn number(&mut self, bits: u32, is_signed: bool) -> Result<u64, FaultKind> {
-        let mut value = 0u64;
-        let mut shift = 0u32;
-        for _ in 0..10u32 {
-            let byte = self.byte()?;
-            value |= u64::from(byte % 128).wrapping_shl(shift);
-            let left = bits.saturating_sub(shift);
-            shift = shift.wrapping_add(7);
-            if byte < 128 {
-                if left < 7 && !is_last(byte, left, is_signed) {
-                    return Err(FaultKind::Number);
-                }
-                if is_signed && byte >= 64 && shift < 64 {
-                    value |= u64::MAX.wrapping_shl(shift);
-                }
-                return Ok(value);
-            }
-            if left <= 7 {
-                return Err(FaultKind::Number);
-            }
+    // An unsigned number of at most this many bits, in LEB128.
+    #[tactic(auto, unfolding(crate::specs::Values::unsigned))]
+    fn unsigned(&mut self, bits: u32) -> Result<u32, FaultKind>
+        requires { bits ≤ 32 }
+        ensures read { Gives (specs.unsigned self.old.left.now bits) result self.new.left.now }
+        ensures fits { IfOk result (λ value. value < 2 ^ bits) }
+        ensures fewer { OnOk result (length self.new.left.now ≤ length self.old.left.now) }
+        ensures place { SamePlace self.old self.new }
+    {
+        let byte = self.byte()?;
+        if byte < 128 {
+            return if is_below(byte, bits) {
+                Ok(u32::from(byte))
+            } else {
+                Err(FaultKind::Number)
+            };
         }
-        Err(FaultKind::Number)
+        if bits <= 7 {
+            return Err(FaultKind::Number);
+        }
+        let higher = self.unsigned(bits - 7)?;
+        Ok(higher * 128 + u32::from(byte - 128))
     }
 
-    pub(crate) fn u32(&mut self) -> Result<u32, FaultKind> {
-        match u32::try_from(self.number(32, false)?) {
-            Ok(value) => Ok(value),
-            Err(_) => Err(FaultKind::Number),
+    // A signed number of at most this many bits, in LEB128, as an unsigned one with the same bits.
+    #[tactic(auto, unfolding(crate::specs::Values::signed))]
+    fn signed(&mut self, bits: u32) -> Result<u64, FaultKind>
+        requires some { 0 < bits }
+        requires few { bits ≤ 64 }
+        ensures read { Gives (specs.signed self.old.left.now bits) result self.new.left.now }
+        ensures place { SamePlace self.old self.new }
+    {
+        let byte = self.byte()?;
+        if byte < 64 {
+            return if is_below(byte, bits - 1) {
+                Ok(u64::from(byte))
+            } else {
+                Err(FaultKind::Number)
+            };
         }
+        if byte < 128 {
+            return if is_below(127 - byte, bits - 1) {
+                Ok(u64::MAX - u64::from(127 - byte))
+            } else {
+                Err(FaultKind::Number)
+            };
+        }
+        if bits <= 7 {
+            return Err(FaultKind::Number);
+        }
+        let higher = self.signed(bits - 7)?;
+        Ok(higher.wrapping_mul(128).wrapping_add(u64::from(byte - 128)))
+    }
+
+    pub(crate) fn u32(&mut self) -> Result<u32, FaultKind>
+        ensures read { Gives (specs.u32 self.old.left.now) result self.new.left.now }
+        ensures fewer { OnOk result (length self.new.left.now ≤ length self.old.left.now) }
+        ensures place { SamePlace self.old self.new }
+    {
+        self.unsigned(32)
     }
 
     /// A signed number of 32 bits, as an unsigned one with the same bits.
-    pub(crate) fn s32(&mut self) -> Result<u64, FaultKind> {
-        Ok(self.number(32, true)? % 0x1_0000_0000)
+    pub(crate) fn s32(&mut self) -> Result<u64, FaultKind>
+        ensures read { Gives (specs.s32 self.old.left.now) result self.new.left.now }
+        ensures place { SamePlace self.old self.new }
+    {
+        Ok(self.signed(32)? % 0x1_0000_0000)
     }
 
     /// A signed number of 64 bits, as an unsigned one with the same bits.
-    pub(crate) fn s64(&mut self) -> Result<u64, FaultKind> {
-        self.number(64, true)
+    pub(crate) fn s64(&mut self) -> Result<u64, FaultKind>
+        ensures read { Gives (specs.s64 self.old.left.now) result self.new.left.now }
+        ensures place { SamePlace self.old self.new }
+    {
+        self.signed(64)
     }
 
     /// A name, in UTF-8.
-    pub(crate) fn name(&mut self) -> Result<&'b str, FaultKind> {
+    pub(crate) fn name(&mut self) -> Result<&'b str, FaultKind>
+        ensures read { GivesAs (λ name. name.now) (specs.name self.old.left.now) result self.new.left.now }
+        ensures place { SamePlace self.old self.new }
+    {
         let count = self.u32()?;
         match str::from_utf8(self.take(count)?) {
             Ok(name) => Ok(name),
@@ -137,13 +212,10 @@ impl<'b> Bytes<'b> {
     }
 }
 
-// Whether the last byte of a number has only this many bits, and then copies of the sign.
-fn is_last(byte: u8, bits: u32, is_signed: bool) -> bool {
-    let sign_bit = if is_signed {
-        bits.saturating_sub(1)
-    } else {
-        bits
-    };
-    let front = byte.wrapping_shr(sign_bit);
-    front == 0 || is_signed && front == 127u8.wrapping_shr(sign_bit)
+// Whether a number has at most this many bits.
+fn is_below(number: u8, bits: u32) -> bool
+    requires { bits < 64 }
+    ensures { IsTrue result ↔ (number < 2 ^ bits) }
+{
+    u64::from(number) < 1 << bits
 }

@@ -1,5 +1,8 @@
 //! The types of a module, of its functions and of the functions of the host.
 
+ghost use Rattle.std.specs.Prelude.{◌≡◌};
+ghost use Rattle.bhs_wasm_read.specs.Types as specs;
+
 use crate::bytes::Bytes;
 use crate::faults::FaultKind;
 use crate::opcodes::ValueType;
@@ -57,7 +60,9 @@ fn value_types(alloc: Global, bytes: &mut Bytes<'_>) -> Result<Vec<ValueType>, F
 }
 
 /// The type of values that a byte is.
-pub(crate) fn value_type(byte: u8) -> Result<ValueType, FaultKind> {
+pub(crate) fn value_type(byte: u8) -> Result<ValueType, FaultKind>
+    ensures { result ≡ specs.value_type byte }
+{
     match byte {
         0x7f => Ok(ValueType::I32),
         0x7e => Ok(ValueType::I64),
@@ -67,7 +72,9 @@ pub(crate) fn value_type(byte: u8) -> Result<ValueType, FaultKind> {
 }
 
 /// How many parameters a function of the host has. They and the result are integers of 32 bits.
-pub(crate) fn parameters_of(function: HostFunction) -> u32 {
+pub(crate) fn parameters_of(function: HostFunction) -> u32
+    ensures { result ≡ specs.arity function }
+{
     match function {
         HostFunction::Write => 4,
         HostFunction::Board => 2,
@@ -77,7 +84,9 @@ pub(crate) fn parameters_of(function: HostFunction) -> u32 {
 }
 
 /// The function of the host that has this name.
-pub(crate) fn host_function_of(name: &str) -> Option<HostFunction> {
+pub(crate) fn host_function_of(name: &str) -> Option<HostFunction>
+    ensures { result ≡ specs.host_function name.now }
+{
     match name {
         "enter" => Some(HostFunction::Enter),
         "look" => Some(HostFunction::Look),

@@ -1,5 +1,10 @@
 //! Modules, section by section.
 
+ghost use Rattle.std.specs.Prelude.{◌≡◌, ◌<◌, ◌≤◌, true, false, drop, length};
+ghost use Rattle.std.specs.Prelude.{IsOk, IsErrAnd, IfOk, IfErr, OnOk, OnErr};
+ghost use Rattle.bhs_wasm_read.specs.Files as specs;
+ghost use Rattle.bhs_wasm_read.specs.Files.{AreInOrder, has_head};
+
 use crate::bytes::Bytes;
 use crate::faults::{FaultKind, ModuleFault};
 use crate::sections::Sections;
@@ -7,15 +12,29 @@ use bhs_wasm::Module;
 use std::alloc::Global;
 
 /// The module that a file is. A file that is none is refused, and so is one that agents cannot be.
-pub fn module_of(alloc: Global, file: &[u8]) -> Result<Module, ModuleFault> {
-    let mut bytes = Bytes::new(file);
+pub fn module_of(alloc: Global, file: &[u8]) -> Result<Module, ModuleFault>
+    // A module has the head, and behind it sections in their order.
+    ensures head { IsOk result → has_head file.now ≡ true }
+    ensures sections { IsOk result → AreInOrder (drop 8 file.now) }
+    // A file that lacks the head is refused for that, and a fault is in the file.
+    ensures lacks_head { has_head file.now ≡ false → IsErrAnd result (λ fault. fault.kind ≡ FaultKind.Head) }
+    ensures within { IfErr result (λ fault. fault.at ≤ length file.now) }
+{
+    if !file.starts_with(b"\0asm\x01\0\0\0".as_slice()) {
+        return Err(ModuleFault {
+            kind: FaultKind::Head,
+            at: 0,
+            import: String::new(alloc),
+        });
+    }
+    let mut bytes = Bytes::new(&file[8..]);
     let mut sections = Sections::new(alloc);
     match read(&mut bytes, &mut sections) {
         Ok(()) => {}
         Err(kind) => {
             return Err(ModuleFault {
                 kind,
-                at: bytes.start,
+                at: file.len().saturating_sub(bytes.start),
                 import: sections.import,
             });
         }
@@ -30,37 +49,46 @@ pub fn module_of(alloc: Global, file: &[u8]) -> Result<Module, ModuleFault> {
     }
 }
 
-fn read(bytes: &mut Bytes<'_>, sections: &mut Sections) -> Result<(), FaultKind> {
-    if bytes.left() < 8 || bytes.take(8)? != b"\0asm\x01\0\0\0".as_slice() {
-        return Err(FaultKind::Head);
-    }
+fn read(bytes: &mut Bytes<'_>, sections: &mut Sections) -> Result<(), FaultKind>
+    ensures { OnOk result (AreInOrder bytes.old.left.now) }
+{
     let mut last = 0;
-    for _ in 0..bytes.left() {
-        if bytes.left() == 0 {
-            break;
-        }
+    while bytes.left() > 0 {
         bytes.begin();
-        let number = bytes.byte()?;
-        let length = bytes.u32()?;
-        let end = bytes.enter(length)?;
-        if number == 0 {
-            let _name = bytes.name()?;
-            bytes.skip();
-        } else {
-            let rank = rank_of(number)?;
-            if rank <= last {
-                return Err(FaultKind::Section);
-            }
-            last = rank;
-            sections.section(number, bytes)?;
-        }
-        bytes.leave(end)?;
+        last = read_section(last, bytes, sections)?;
     }
     Ok(())
 }
 
+// Reads a section behind those up to a rank, and answers the rank up to which there are sections then.
+fn read_section(last: u8, bytes: &mut Bytes<'_>, sections: &mut Sections) -> Result<u8, FaultKind>
+    ensures read { IfOk result (λ own. specs.section last bytes.old.left.now ≡ Ok (own, bytes.new.left.now)) }
+    ensures shorter { OnOk result (length bytes.new.left.now < length bytes.old.left.now) }
+{
+    let number = bytes.byte()?;
+    let count = bytes.u32()?;
+    let rest = bytes.enter(count)?;
+    if number == 0 {
+        let _name = bytes.name()?;
+        bytes.skip();
+        bytes.leave(rest)?;
+        return Ok(last);
+    }
+    let own = rank_of(number)?;
+    if own <= last {
+        return Err(FaultKind::Section);
+    }
+    sections.section(number, bytes)?;
+    bytes.leave(rest)?;
+    Ok(own)
+}
+
 // The place of a section in the order of sections. The number of data segments stands before the code.
-fn rank_of(number: u8) -> Result<u8, FaultKind> {
+fn rank_of(number: u8) -> Result<u8, FaultKind>
+    ensures ok { IfOk result (λ own. specs.rank number ≡ Some own) }
+    ensures err { IfErr result (λ kind. kind ≡ FaultKind.Section) }
+    ensures none { OnErr result (specs.rank number ≡ None) }
+{
     match number {
         1..=9 => Ok(number),
         12 => Ok(10),

@@ -1,5 +1,8 @@
 //! What the sections of a module say.
 
+ghost use Rattle.bhs_wasm_read.specs.Types as specs;
+ghost use Rattle.bhs_wasm_read.specs.Values.{Gives};
+
 use crate::blocks::{Body, Context, number_of};
 use crate::bytes::Bytes;
 use crate::faults::FaultKind;
@@ -241,7 +244,7 @@ impl Sections {
 
     fn add_body(&mut self, k: u32, bytes: &mut Bytes<'_>) -> Result<(), FaultKind> {
         let length = bytes.u32()?;
-        let end = bytes.enter(length)?;
+        let rest = bytes.enter(length)?;
         let Some(own) = self.functions.get(k as usize).copied() else {
             return Err(FaultKind::Index);
         };
@@ -272,7 +275,7 @@ impl Sections {
             has_table: self.has_table,
         };
         Body::read(context, own, locals, bytes, &mut self.module.code)?;
-        bytes.leave(end)
+        bytes.leave(rest)
     }
 
     fn add_data(&mut self, bytes: &mut Bytes<'_>) -> Result<(), FaultKind> {
@@ -322,7 +325,9 @@ fn read_locals(bytes: &mut Bytes<'_>, locals: &mut Vec<ValueType>) -> Result<(),
 }
 
 // A constant of this type, and the end behind it.
-fn constant(bytes: &mut Bytes<'_>, wanted: ValueType) -> Result<u64, FaultKind> {
+fn constant(bytes: &mut Bytes<'_>, wanted: ValueType) -> Result<u64, FaultKind>
+    ensures { Gives (specs.constant wanted bytes.old.left.now) result bytes.new.left.now }
+{
     let opcode = bytes.byte()?;
     let (value, own) = match opcode {
         0x41 => (bytes.s32()?, ValueType::I32),
@@ -337,7 +342,9 @@ fn constant(bytes: &mut Bytes<'_>, wanted: ValueType) -> Result<u64, FaultKind> 
 }
 
 // The limits of a table or of a memory.
-fn limits(bytes: &mut Bytes<'_>) -> Result<(u32, Option<u32>), FaultKind> {
+fn limits(bytes: &mut Bytes<'_>) -> Result<(u32, Option<u32>), FaultKind>
+    ensures { Gives (specs.limits bytes.old.left.now) result bytes.new.left.now }
+{
     let flags = bytes.byte()?;
     let least = bytes.u32()?;
     match flags {

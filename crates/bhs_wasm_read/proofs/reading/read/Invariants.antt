@@ -1,0 +1,11 @@
+use Rattle.std.proofs.Common.{◌≡◌, ℕ, true, length}
+use Rattle.bhs_wasm_read.specs.Files.{AreInOrder, are_sections}
+use Rattle.bhs_wasm_read.proofs.reading.read.Given as goal
+
+-- With sections behind those that are read there are sections in order from the beginning.
+abbrev pub invariant-loop-bytes : goal.invariant-loop-bytes
+invariant-loop-bytes l =
+    (count : ℕ) → are_sections count l.last l.bytes.left.now ≡ true → AreInOrder l.fn.bytes.left.now
+
+abbrev pub decreases-loop-bytes : goal.decreases-loop-bytes
+decreases-loop-bytes l = length l.bytes.left.now

@@ -1,0 +1,87 @@
+-- How bytes, numbers and names are read of the bytes that are left of a part of a file: the grammar of values in the
+-- binary format.
+use Rattle.std.specs.Prelude.{ℕ, ◌+◌, ◌-◌, ◌*◌, ◌%◌, ◌^◌, ◌≡◌, nat_lt, nat_le, List, [], ◌∷◌, length, take, drop}
+use Rattle.std.specs.Prelude.{Result, Ok, Err, if◌then◌else◌}
+use Rattle.std.specs.Str.{is_utf8}
+use Rattle.bhs_wasm_read.specs.declared.bytes.Bytes.{Bytes}
+use Rattle.bhs_wasm_read.specs.declared.faults.FaultKind.{FaultKind}
+use Rattle.bhs_wasm_read.specs.declared.faults.FaultKind.TheVariants as faults
+
+-- a value and the bytes that are left behind it, or what is wrong
+abbrev pub Read : Type 0 → Type 0
+Read A = Result (A × List ℕ) FaultKind
+
+-- A function returned what reading gives, its value seen by `view`, and left what reading leaves.
+abbrev pub GivesAs : {A B : Type 0} → (A → B) → Read B → Result A FaultKind → (left : List ℕ) → Type 0
+GivesAs view read (Ok value) left = read ≡ Ok (view value, left)
+GivesAs view read (Err fault) left = read ≡ Err fault
+
+abbrev pub Gives : {A : Type 0} → Read A → Result A FaultKind → (left : List ℕ) → Type 0
+Gives read result left = GivesAs (λ value. value) read result left
+
+-- The part around it and the place that a fault names stay.
+pub record SamePlace (old new : Bytes) : Type 0 where
+  pub behind : new.behind ≡ old.behind
+  pub start : new.start ≡ old.start
+
+-- what is read next, and then something that depends on it
+abbrev pub then_read : {A B : Type 0} → Read A → (A → List ℕ → Read B) → Read B
+then_read (Ok x) next = next x.0 x.1
+then_read (Err fault) next = Err fault
+
+abbrev pub byte : List ℕ → Read ℕ
+byte [] = Err faults.End
+byte (b ∷ rest) = Ok (b, rest)
+
+-- so many bytes
+abbrev pub bytes : List ℕ → (count : ℕ) → Read (List ℕ)
+bytes left count = if nat_lt (length left) count then Err faults.End else Ok (take count left, drop count left)
+
+-- the next byte, which is not read
+abbrev pub next : List ℕ → Read ℕ
+next left = then_read (byte left) (λ b rest. Ok (b, left))
+
+-- a part of so many bytes is what is left, and the value is what stands behind it
+abbrev pub part : List ℕ → (count : ℕ) → Read (List ℕ)
+part left count = then_read (bytes left count) (λ taken rest. Ok (rest, taken))
+
+-- A part is read to its end, and its rest is what is left.
+abbrev pub rest_behind : (left rest : List ℕ) → Read (Unit {0})
+rest_behind [] rest = Ok (tt, rest)
+rest_behind (b ∷ left) rest = Err faults.Section
+
+-- An unsigned number of so many bits, in LEB128. A byte below 2^7 is the last, and is below 2^bits. Any other has the
+-- lowest seven bits, and behind it stands a number of seven bits less.
+unfoldable pub unsigned : List ℕ → (bits : ℕ) → Read ℕ
+unsigned [] bits = Err faults.End
+unsigned (b ∷ rest) bits =
+    if nat_lt b (2 ^ 7) then (if nat_lt b (2 ^ bits) then Ok (b, rest) else Err faults.Number)
+    else if nat_lt 7 bits then then_read (unsigned rest (bits - 7)) (λ n left. Ok (2 ^ 7 * n + (b - 2 ^ 7), left))
+    else Err faults.Number
+
+-- A signed number of so many bits, in LEB128, modulo 2^64. The last byte b is a number from 0 on, or the negative
+-- number b - 2^7, and is not below -2^(bits-1), and below 2^(bits-1).
+unfoldable pub signed : List ℕ → (bits : ℕ) → Read ℕ
+signed [] bits = Err faults.End
+signed (b ∷ rest) bits =
+    if nat_lt b (2 ^ 6) then (if nat_lt b (2 ^ (bits - 1)) then Ok (b, rest) else Err faults.Number)
+    else if nat_lt b (2 ^ 7) then
+    (if nat_le (2 ^ 7) (b + 2 ^ (bits - 1)) then Ok (2 ^ 64 - (2 ^ 7 - b), rest) else Err faults.Number)
+    else if nat_lt 7 bits then
+    then_read (signed rest (bits - 7)) (λ n left. Ok ((2 ^ 7 * n + (b - 2 ^ 7)) % 2 ^ 64, left))
+    else Err faults.Number
+
+abbrev pub u32 : List ℕ → Read ℕ
+u32 left = unsigned left 32
+
+-- the same bits as an unsigned number
+abbrev pub s32 : List ℕ → Read ℕ
+s32 left = then_read (signed left 32) (λ n rest. Ok (n % 2 ^ 32, rest))
+
+abbrev pub s64 : List ℕ → Read ℕ
+s64 left = signed left 64
+
+-- a name: how many bytes it has, and the bytes, in UTF-8
+abbrev pub name : List ℕ → Read (List ℕ)
+name left = then_read (u32 left) (λ count behind. then_read (bytes behind count) (λ text rest.
+    if is_utf8 text then Ok (text, rest) else Err faults.Name))
