@@ -38,6 +38,7 @@ PART, WHOLE_OF_PART = "examples/first0.jsonl.part", "examples/first0.jsonl"
 CONTEST = ["examples/appeal.toml", "--replay", "examples/appeal"]
 OF_CONTEST = ["examples/appeal0.jsonl", "examples/appeal0.jsonl.part"]
 TRIES = ["explore", "examples/version1.toml", "0", "--max-states", "10000000", "--spurious-wakeups", "2"]
+MODULE = "examples/agents/wasm/ring.wasm"
 DRAWS = ["--draws", "20", "--seed", "5", "--scheduler", "slow-agents", "--objective", "moves"]
 # each order of the program with each of its options, but `serve`, for which the tools have runs of their own:
 # tests/test_commands.py compares
@@ -60,6 +61,7 @@ COMMANDS = [
     Command("contest recover", ["recover", *CONTEST], "", "examples/appeal.toml", beside=OF_CONTEST),
     Command("explore", TRIES, "examples/triangle.answers", "examples/version1.toml", "host"),
     Command("draw", [*TRIES, *DRAWS], "examples/triangle.answers", "examples/version1.toml", "host"),
+    Command("module", [*TRIES, "--module", f"{MODULE}:3"], "", "examples/version1.toml", beside=[MODULE]),
 ]
 SERVED = "serve"
 

@@ -1,4 +1,4 @@
--- The stages of the adversary: both borders are held, so many nodes are new, and so many moves were made.
+-- The stages of the adversary. In each of them both borders are held. A stage counts the new nodes and the moves made.
 use Rattle.std.proofs.Common.{ℕ, zero, suc, ◌+◌, ◌-◌, ◌*◌, ◌<◌, ◌≤◌, ◌≡◌, false, sym, ◌∙◌, subst, inl, inr, arith}
 use Rattle.bhs_model.specs.Worlds.{World}
 use Rattle.bhs_model.specs.Draws.{Held}

@@ -1,3 +1,4 @@
+mod CommaLemmas
 mod WordLemmas
 mod AnswerLemmas
 mod NumberLemmas

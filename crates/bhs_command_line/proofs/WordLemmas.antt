@@ -12,15 +12,16 @@ use Rattle.clap.specs.declared.error.kind.ErrorKind.TheVariants.{DisplayHelp, Di
 use Rattle.clap.specs.declared.error.kind.ErrorKind.TheVariants.{DisplayVersion}
 use Rattle.clap.proofs.OnLiterals.{clap_on_literals}
 use Rattle.bhs_command_line.specs.Arguments.{number_in}
-use Rattle.bhs_command_line.specs.Exploring.{drawing_in, explore, plain_exploration_in}
+use Rattle.bhs_command_line.specs.Exploring.{drawing_in, explore, module_in, plain_exploration_in}
 use Rattle.bhs_command_line.specs.CommandLine.{AskAfter, AsksHelp, AsksVersion, Says, appeal_of, arena, check}
-use Rattle.bhs_command_line.specs.CommandLine.{command_in, entries_in, explain, faults, is_dashed, judge, judging_of}
-use Rattle.bhs_command_line.specs.CommandLine.{order_by, recover, rehearse, table, twin}
+use Rattle.bhs_command_line.specs.CommandLine.{command_in, entries_in, explain, exploring_of, faults, is_dashed, judge}
+use Rattle.bhs_command_line.specs.CommandLine.{judging_of, order_by, recover, rehearse, table, twin}
 use Rattle.bhs_command_line.specs.declared.orders.Order.{Order}
 use Rattle.bhs_command_line.specs.declared.orders.Order.TheVariants.{Check, Explain, Explore, Judge, Recover, Rehearse}
 use Rattle.bhs_command_line.specs.declared.orders.Order.TheVariants.{RehearseInteractively, Serve, Table, Twin}
-use Rattle.bhs_command_line.specs.declared.orders.Order.TheVariants.{ContestTable, RecoverContest}
+use Rattle.bhs_command_line.specs.declared.orders.Order.TheVariants.{ContestTable, ExploreModule, RecoverContest}
 use Rattle.bhs_command_line.specs.declared.orders.Order.TheVariants as order
+use Rattle.bhs_command_line.specs.declared.orders.AgentModule.{AgentModule}
 use Rattle.bhs_command_line.specs.declared.orders.TableEntry.{TableEntry}
 use Rattle.bhs_command_line.specs.declared.orders.Exploration.{Exploration}
 use Rattle.bhs_command_line.specs.declared.orders.Hosting.{Hosting}
@@ -321,6 +322,20 @@ explore_found tournament word e f =
     (reads_more (read_plain (leaf_of explore) _ 1 idle tournament e refl)
     (reads_more (read_plain (leaf_of explore) _ 2 idle word f refl) (reads_none (leaf_of explore) _))) refl refl
 
+module_explore_found : (tournament word spelled : Text) → is_dashed tournament ≡ false → is_dashed word ≡ false
+    → is_dashed spelled ≡ false
+    → (faults (codes "explore" ∷ tournament ∷ word ∷ codes "--module" ∷ spelled ∷ []) ≡ [])
+    × (option_and_then order_by (command_in (codes "explore" ∷ tournament ∷ word ∷ codes "--module" ∷ spelled ∷ []))
+    ≡ exploring_of tournament (Some spelled) (plain_exploration_in word))
+unfolding clap_on_literals drawing_in
+module_explore_found tournament word spelled e f h =
+    order_read explore_enters (tournament ∷ word ∷ codes "--module" ∷ spelled ∷ []) _ _
+    (reads_more (read_plain (leaf_of explore) _ 1 idle tournament e refl)
+    (reads_more (read_plain (leaf_of explore) _ 2 idle word f refl)
+    (reads_more (record { faultless = refl; goes = refl })
+    (reads_more (read_plain (leaf_of explore) _ 3 (option (codes "module")) spelled h refl)
+    (reads_none (leaf_of explore) _))))) refl refl
+
 here : (words given : List Text) (order : Order) → words ≡ given → Gives given order → Gives words order
 here words given order is gives = subst (λ (ws : List Text). Gives ws order) (sym is) gives
 
@@ -363,6 +378,14 @@ says_gives words (Twin replay node) (word, plain, also, says, is) =
 says_gives words (Explore tournament exploration) (word, plain, also, says, is) =
     let found = explore_found tournament word plain also in
     here words _ _ is (found.0, found.1 ∙ ap (λ (o : Option Exploration). option_map (Explore tournament) o) says)
+says_gives words (ExploreModule tournament agent_module exploration)
+    (word, spelled, plain, also, third, says, reads, is) =
+    let found = module_explore_found tournament word spelled plain also third in
+    here words _ _ is (
+      found.0,
+      found.1 ∙ ap (exploring_of tournament (Some spelled)) says
+          ∙ ap (option_map (λ (m : AgentModule). ExploreModule tournament m exploration)) reads,
+    )
 says_gives words (Serve tournament hosting) (port, sessions, turns, pause, plain, also, says, is) =
     let found = serve_found tournament port sessions turns pause hosting.prefix plain also
     (hosting_plain port sessions turns pause hosting.prefix hosting says) in

@@ -1,15 +1,19 @@
 -- What the words of `explore` say: its options with their ranges and defaults, and the exploration that they give.
-use Rattle.std.specs.Prelude.{ℕ, List, [], ◌∷◌, Option, Some, None, codes, if◌then◌else◌, option_map}
+use Rattle.std.specs.Prelude.{ℕ, zero, suc, ◌==◌, nat_lt, Bool, List, [], ◌∷◌, length, Option, Some, None, codes}
+use Rattle.std.specs.Prelude.{if◌then◌else◌, option_map}
+use Rattle.std.specs.List.{before_first, after_first, position_or_len}
 use Rattle.std.specs.Str.{bytes_eq}
 use Rattle.clap.specs.Words.{Row, Shape, Text, first_of}
 use Rattle.bhs_command_line.specs.Arguments.{NumberOption, behind, command, may_have, must_have, number_in, number_of}
 use Rattle.bhs_command_line.specs.Arguments.{number_within, numbered, text_in}
+use Rattle.bhs_command_line.specs.declared.orders.AgentModule.{AgentModule}
 use Rattle.bhs_command_line.specs.declared.orders.Drawing.{Drawing}
 use Rattle.bhs_command_line.specs.declared.orders.Exploration.{Exploration}
 use Rattle.bhs_command_line.specs.declared.orders.Objective.{Objective}
 use Rattle.bhs_command_line.specs.declared.orders.Objective.TheVariants as hunts
 use Rattle.bhs_command_line.specs.declared.orders.Scheduler.{Scheduler}
 use Rattle.bhs_command_line.specs.declared.orders.Scheduler.TheVariants as schedulers
+use Rattle.bhs_command_line.specs.declared.orders.TheConstants.{MAX_ARGUMENTS}
 
 -- at most how many states are visited
 abbrev pub states_option : NumberOption
@@ -21,10 +25,51 @@ wakeups_option = record { name = codes "spurious-wakeups"; least = 0; most = 655
 
 abbrev pub explore : Shape
 explore = command (codes "explore") (must_have (codes "tournament") ∷ must_have (codes "match")
-    ∷ numbered states_option ∷ numbered wakeups_option
+    ∷ behind (codes "module") (may_have (codes "module")) ∷ numbered states_option ∷ numbered wakeups_option
     ∷ behind (codes "draws") (may_have (codes "draws")) ∷ behind (codes "seed") (may_have (codes "seed"))
     ∷ behind (codes "scheduler") (may_have (codes "scheduler"))
     ∷ behind (codes "objective") (may_have (codes "objective")) ∷ [])
+
+-- ---- modules
+
+-- the characters `:` and `,`
+abbrev pub is_colon : ℕ → Bool
+is_colon byte = byte == 58
+
+abbrev pub is_comma : ℕ → Bool
+is_comma byte = byte == 44
+
+-- the text has such a character
+abbrev pub has : (ℕ → Bool) → Text → Bool
+has is text = nat_lt (position_or_len is text) (length text)
+
+-- an argument of a module
+abbrev pub argument_in : Text → Option ℕ
+argument_in = number_within 0 4294967295
+
+-- an argument, and others behind it, if all are there
+abbrev pub before_arguments : Option ℕ → Option (List ℕ) → Option (List ℕ)
+before_arguments (Some argument) (Some arguments) = Some (argument ∷ arguments)
+before_arguments _ _ = None
+
+-- one number or more, at most this many, with commas between them
+unfoldable pub arguments_within : (most : ℕ) → Text → Option (List ℕ)
+arguments_within zero word = None
+arguments_within (suc most) word =
+    if has is_comma word
+    then before_arguments (argument_in (before_first is_comma word))
+    (arguments_within most (after_first is_comma word))
+    else option_map (λ argument. argument ∷ []) (argument_in word)
+
+-- the module that a word FILE[:N,..] says; it is split at its first `:`
+abbrev pub module_in : Text → Option AgentModule
+module_in word =
+    if has is_colon word
+    then option_map (λ arguments. record { file = before_first is_colon word; arguments = arguments })
+    (arguments_within MAX_ARGUMENTS (after_first is_colon word))
+    else Some (record { file = word; arguments = [] })
+
+-- ---- what is drawn
 
 -- whose turn it is in a drawn schedule, by its name
 abbrev pub scheduler_in : Text → Option Scheduler

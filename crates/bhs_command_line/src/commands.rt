@@ -61,6 +61,8 @@ pub(crate) enum Takes {
     Objective,
     /// A team and its replay.
     TableEntry,
+    /// A module's file and its arguments.
+    Module,
 }
 
 /// The commands, in the order of the help.

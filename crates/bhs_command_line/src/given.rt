@@ -4,7 +4,7 @@ ghost use Rattle.std.specs.Prelude.{◌≡◌, ◌<◌, ◌^◌, IfOk, Some, opt
 ghost use Rattle.bhs_command_line.specs.Arguments.{is_given, number_in, number_within, text_in, texts_in};
 ghost use Rattle.bhs_command_line.specs.Serving.{hosting_by};
 ghost use Rattle.bhs_command_line.specs.Exploring.{drawing_by, drawing_in, drawing_of, exploration_by, hunt_in};
-ghost use Rattle.bhs_command_line.specs.Exploring.{hunted_in, scheduler_in, scheduler_by, seed_in};
+ghost use Rattle.bhs_command_line.specs.Exploring.{hunted_in, module_in, scheduler_in, scheduler_by, seed_in};
 ghost use Rattle.bhs_command_line.specs.CommandLine.{appeal_of, contest_table_by, entries_in, is_one_word, judging_by};
 ghost use Rattle.bhs_command_line.specs.CommandLine.{judging_of, order_by, recovery_by, rehearsal_of, tabling_by};
 ghost use Rattle.bhs_command_line.specs.Told.{most_of, number_by, row_number};
@@ -15,7 +15,7 @@ use crate::commands::{
     twin,
 };
 use crate::orders::{Appeal, Drawing, Entries, Exploration, Hosting, Objective, Order, Scheduler};
-use crate::words::{entries_in, number_within, text};
+use crate::words::{entries_in, module_in, number_within, text};
 use bhs_text::Text;
 use clap::ArgMatches;
 use std::alloc::{AllocError, Global};
@@ -212,9 +212,33 @@ fn twin_given(alloc: Global, words: &ArgMatches<'_>) -> Result<Option<Order>, Al
 fn exploring_given(alloc: Global, words: &ArgMatches<'_>) -> Result<Option<Order>, AllocError>
     ensures { IfOk result (λ order. order ≡ order_by (codes "explore", rows_of (found_of words.now))) }
 {
-    match exploration_given(alloc, words)? {
-        Some(exploration) => Ok(Some(Order::Explore {
-            tournament: text_given(alloc, words, &TOURNAMENT)?,
+    let Some(exploration) = exploration_given(alloc, words)? else {
+        return Ok(None);
+    };
+    let tournament = text_given(alloc, words, &TOURNAMENT)?;
+    match text_if_any(alloc, words, &explore::MODULE)? {
+        Some(word) => module_exploring(alloc, tournament, word.as_str(), exploration),
+        None => Ok(Some(Order::Explore {
+            tournament,
+            exploration,
+        })),
+    }
+}
+
+// The order to explore with the module that a word says.
+fn module_exploring(
+    alloc: Global,
+    tournament: Text,
+    word: &str,
+    exploration: Exploration,
+) -> Result<Option<Order>, AllocError>
+    ensures { IfOk result (λ order. order ≡ option_map
+        (λ agent_module. Order.ExploreModule tournament agent_module exploration) (module_in word.now)) }
+{
+    match module_in(alloc, word)? {
+        Some(agent_module) => Ok(Some(Order::ExploreModule {
+            tournament,
+            agent_module,
             exploration,
         })),
         None => Ok(None),

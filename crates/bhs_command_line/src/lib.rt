@@ -21,8 +21,8 @@ use clap::Error;
 use clap::error::ErrorKind;
 use given::order_given;
 pub use orders::{
-    Appeal, Drawing, Entries, Exploration, Hosting, MAX_SESSIONS, Objective, Order, Scheduler,
-    TableEntry,
+    AgentModule, Appeal, Drawing, Entries, Exploration, Hosting, MAX_ARGUMENTS, MAX_SESSIONS,
+    ModuleArguments, Objective, Order, Scheduler, TableEntry,
 };
 use std::alloc::{AllocError, Global};
 use std::convert::AsStr;

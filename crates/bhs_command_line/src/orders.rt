@@ -67,6 +67,12 @@ pub enum Order {
         tournament: Text,
         exploration: Exploration,
     },
+    /// The same, but the agents run a module.
+    ExploreModule {
+        tournament: Text,
+        agent_module: AgentModule,
+        exploration: Exploration,
+    },
     /// Serves the tournament of this file to agents that connect.
     Serve {
         tournament: Text,
@@ -159,6 +165,48 @@ pub struct Exploration {
     pub wakeups: u16,
     /// The schedules that are drawn; None if all are tried.
     pub drawing: Option<Drawing>,
+}
+
+/// The most arguments of a module.
+pub const MAX_ARGUMENTS: u32 = 16;
+
+/// The module that all agents of a match run.
+#[derive(Drop)]
+pub struct AgentModule {
+    /// The module's file.
+    pub file: Text,
+    pub arguments: ModuleArguments,
+}
+
+/// The arguments of a module, at most `MAX_ARGUMENTS`. Contracts see them as a list.
+#[derive(Drop)]
+pub struct ModuleArguments {
+    all: Vec<u32>,
+}
+
+impl Model for ModuleArguments {
+    ghost use Rattle.std.specs.Prelude.{List, ℕ};
+
+    ghost Value = { List ℕ };
+
+    ghost view = { λ arguments. arguments.all.items };
+}
+
+impl ModuleArguments {
+    /// The arguments, in the order of the word.
+    pub fn all(&self) -> &[u32]
+        ensures { result.now ≡ self.now }
+    {
+        &self.all
+    }
+}
+
+impl From<Vec<u32>> for ModuleArguments {
+    ghost from_gives = { λ all arguments. arguments ≡ all.items };
+
+    fn from(all: Vec<u32>) -> ModuleArguments {
+        ModuleArguments { all }
+    }
 }
 
 /// A team of a table, with the name of the replay of its match.

@@ -2,7 +2,8 @@
 
 use crate::commands::{Argument, COMMANDS, Need, Takes, explore, judge, table};
 use crate::given::{hunt_in, number_by, scheduler_in};
-use crate::words::entry_in;
+use crate::orders::MAX_ARGUMENTS;
+use crate::words::{entry_in, module_in};
 use clap::ArgMatches;
 use std::alloc::{AllocError, Global};
 
@@ -44,9 +45,16 @@ fn apart(name: &str, words: &ArgMatches<'_>) -> Option<&'static str> {
     match name {
         "judge" if !is_whole_appeal(words) => Some(judge::TOGETHER),
         "table" if is_there(words, &table::PREFIX) => Some(table::ONE_WORD),
-        "explore" if !is_there(words, &explore::DRAWS) => Some(explore::NEED_DRAWS),
+        "explore" if lacks_draws(words) => Some(explore::NEED_DRAWS),
         _ => None,
     }
+}
+
+fn lacks_draws(words: &ArgMatches<'_>) -> bool {
+    !is_there(words, &explore::DRAWS)
+        && (is_there(words, &explore::SEED)
+            || is_there(words, &explore::SCHEDULER)
+            || is_there(words, &explore::OBJECTIVE))
 }
 
 fn is_whole_appeal(words: &ArgMatches<'_>) -> bool {
@@ -89,6 +97,7 @@ fn is_fit(alloc: Global, takes: Takes, word: &str) -> Result<bool, AllocError> {
         Takes::Scheduler => Ok(scheduler_in(word).is_some()),
         Takes::Objective => Ok(hunt_in(word).is_some()),
         Takes::TableEntry => Ok(entry_in(alloc, word)?.is_some()),
+        Takes::Module => Ok(module_in(alloc, word)?.is_some()),
     }
 }
 
@@ -127,5 +136,10 @@ fn wanted(alloc: Global, takes: Takes) -> Result<String, AllocError> {
             alloc,
             "a team is 1 to 16 of a to z, 0 to 9 and -, and = follows it",
         ),
+        Takes::Module => {
+            format!(in alloc;
+                "behind : are at most {MAX_ARGUMENTS} numbers from 0 to 4294967295, with commas between them"
+            )
+        }
     }
 }

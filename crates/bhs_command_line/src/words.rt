@@ -1,12 +1,13 @@
 //! What a word of a command says beyond its text.
 
-ghost use Rattle.std.specs.Prelude.{◌≡◌, IfOk, map};
+ghost use Rattle.std.specs.Prelude.{◌≡◌, IfOk, map, option_map};
 ghost use Rattle.std.specs.Char.{is_ascii_digit};
 ghost use Rattle.std.specs.List.{list_all};
 ghost use Rattle.bhs_command_line.specs.Arguments.{number_within};
 ghost use Rattle.bhs_command_line.specs.CommandLine.{entries_in, entry_in};
+ghost use Rattle.bhs_command_line.specs.Exploring.{arguments_within, module_in};
 
-use crate::orders::{Entries, TableEntry};
+use crate::orders::{AgentModule, Entries, MAX_ARGUMENTS, ModuleArguments, TableEntry};
 use bhs_text::{Text, is_team};
 use std::alloc::{AllocError, Global};
 
@@ -59,6 +60,49 @@ pub(crate) fn entries_in(alloc: Global, words: &[&str]) -> Result<Option<Entries
         }
     }
     Ok(Some(Entries::from(entries)))
+}
+
+/// The module and its arguments that a word `FILE[:N,..]` says; None if it says none.
+pub(crate) fn module_in(alloc: Global, word: &str) -> Result<Option<AgentModule>, AllocError>
+    ensures { IfOk result (λ agent_module. agent_module ≡ module_in word.now) }
+{
+    let Some((file, numbers)) = word.split_once(':') else {
+        return Ok(Some(AgentModule {
+            file: text(alloc, word)?,
+            arguments: ModuleArguments::from(Vec::new(alloc)),
+        }));
+    };
+    match arguments_within(alloc, MAX_ARGUMENTS, numbers)? {
+        Some(arguments) => Ok(Some(AgentModule {
+            file: text(alloc, file)?,
+            arguments: ModuleArguments::from(arguments),
+        })),
+        None => Ok(None),
+    }
+}
+
+// At most `most` numbers with commas between them, and one at least.
+#[tactic(auto, using(crate::proofs::CommaLemmas::more), unfolding(crate::specs::Exploring::arguments_within))]
+fn arguments_within(alloc: Global, most: u32, word: &str) -> Result<Option<Vec<u32>>, AllocError>
+    ensures { IfOk result (λ numbers. option_map (λ all. all.items) numbers ≡ arguments_within most word.now) }
+{
+    if most == 0 {
+        return Ok(None);
+    }
+    let Some((first, others)) = word.split_once(',') else {
+        return match number_within(0, u32::MAX, word) {
+            Some(number) => Ok(Some(Vec::from_slice(alloc, &[number])?)),
+            None => Ok(None),
+        };
+    };
+    let Some(number) = number_within(0, u32::MAX, first) else {
+        return Ok(None);
+    };
+    let Some(mut numbers) = arguments_within(alloc, most - 1, others)? else {
+        return Ok(None);
+    };
+    numbers.insert(0, number)?;
+    Ok(Some(numbers))
 }
 
 /// A copy of a text.

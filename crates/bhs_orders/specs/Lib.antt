@@ -21,3 +21,4 @@ pub mod ContestTables
 pub mod Recovery
 pub mod LineStates
 pub mod HostAnswers
+pub mod ModuleExploration

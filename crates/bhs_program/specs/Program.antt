@@ -9,6 +9,7 @@ use Rattle.bhs_orders.specs.Appeals.{Appeals}
 use Rattle.bhs_orders.specs.ContestTables.{TablesContest}
 use Rattle.bhs_orders.specs.Discoveries.{Explores}
 use Rattle.bhs_orders.specs.Fault.{IsOfFault}
+use Rattle.bhs_orders.specs.ModuleExploration.{ExploresModule}
 use Rattle.bhs_orders.specs.RehearsedTournaments.{RehearsesEither, Rests}
 use Rattle.bhs_orders.specs.InteractiveTournaments.{InteractsEither}
 use Rattle.bhs_orders.specs.Parts.{IsRecovered}
@@ -64,6 +65,8 @@ module _ {P I O : Type 0} (files : P → List ℕ → WriteAnswer → P → Type
       (input' ≡ input) × RecoversContest files takes flushes output output' code
   Does (order.Explore name exploration) input input' output output' code =
       Explores takes flushes exploration input input' output output' code
+  Does (order.ExploreModule name agent_module exploration) input input' output output' code =
+      (input' ≡ input) × ExploresModule takes flushes agent_module.arguments exploration output output' code
   Does (order.Serve name hosting) input input' output output' code =
       (input' ≡ input) × Serves files takes flushes hosting.port output output' code
 

@@ -10,8 +10,8 @@ use crate::recovering::recover_named;
 use crate::serving::serve_named;
 use bhs_command_line::{Order, Parsed, order_of};
 use bhs_orders::{
-    Fault, REFUSED_WORDS, check, explore_named, print_appealed_verdict, print_contest_table,
-    print_past, print_recovered, print_table, print_twin, print_verdict,
+    Fault, REFUSED_WORDS, check, explore_module_named, explore_named, print_appealed_verdict,
+    print_contest_table, print_past, print_recovered, print_table, print_twin, print_verdict,
     rehearse_interactively_named, rehearse_named, report, show_text,
 };
 use bhs_stream::{Input, Output, send};
@@ -108,6 +108,19 @@ fn obey<
             tournament,
             exploration,
         } => explore_named(alloc, rt, tournament, exploration, reader, writer, errors),
+        Order::ExploreModule {
+            tournament,
+            agent_module,
+            exploration,
+        } => explore_module_named(
+            alloc,
+            rt,
+            tournament,
+            agent_module,
+            exploration,
+            writer,
+            errors,
+        ),
         Order::Serve {
             tournament,
             hosting,

@@ -20,18 +20,22 @@ use Rattle.bhs_wasm.specs.declared.interpreters.Progress.TheVariants as progress
 use Rattle.bhs_wasm.specs.declared.interpreters.Interpreter.{Interpreter}
 use Rattle.bhs_wasm.specs.Integers.{unary, binary}
 
--- The whole state of an instance: the number of the next instruction; where the locals of its function begin on the
--- stack; the frames of the callers; locals and operands, the top of the stack last; globals; the first bytes of the
--- memory, all others being zero; how many pages the memory has; the ports of the node, the port of arrival and the text
--- of the whiteboard, as the last reply says; and the arguments.
+-- the whole state of an instance
 pub record State : Type 0 where
+  -- the number of the next instruction
   pub program_counter : ℕ
+  -- where the locals of its function begin on the stack
   pub base : ℕ
+  -- of the callers
   pub frames : List Frame
+  -- locals and operands, the top last
   pub stack : List ℕ
   pub globals : List ℕ
+  -- the first bytes of the memory; all others are zero
   pub memory : List ℕ
+  -- how many pages the memory has
   pub pages : ℕ
+  -- what the last reply says: the ports of the node, the port of arrival and the text of the whiteboard
   pub ports : ℕ
   pub came : ℕ
   pub board : List ℕ

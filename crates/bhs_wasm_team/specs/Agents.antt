@@ -23,8 +23,8 @@ pub record AgentMemory : Type 0 where
   pub state : State
 
 -- the memory of an agent that does nothing more
-abbrev pub still : Status → AgentMemory
-still status = record {
+abbrev pub halted : Status → AgentMemory
+halted status = record {
   status = status;
   state = record {
     program_counter = 0;
@@ -104,20 +104,20 @@ parameters_of function = 0
 -- ---- the memories of an agent
 
 abbrev pub waiting : HostFunction → State → Option Step → AgentMemory
-waiting function state None = still statuses.Failed
+waiting function state None = halted statuses.Failed
 waiting function state (Some step) = record { status = statuses.Waits function; state = state }
 
 -- when its instance does not continue
 abbrev pub settled : StepResult → AgentMemory
 settled (Waits function state) = waiting function (forgotten state) (said function (forgotten state))
-settled Ends = still statuses.Ended
-settled Traps = still statuses.Failed
-settled (Continues state) = still statuses.Failed
+settled Ends = halted statuses.Ended
+settled Traps = halted statuses.Failed
+settled (Continues state) = halted statuses.Failed
 
 -- when its instance runs to the next command
 abbrev pub resumed : Module → (fuel : ℕ) → StepResult → AgentMemory
 resumed program fuel (Continues state) = settled (run program fuel state)
-resumed program fuel outcome = still statuses.Failed
+resumed program fuel outcome = halted statuses.Failed
 
 -- at the start
 abbrev pub start : Module → (arguments : List ℕ) → (fuel : ℕ) → AgentMemory
@@ -163,8 +163,8 @@ after_at program fuel (statuses.Waits function) state observation =
     if is_depart function && is_gone observation then record { status = statuses.Travels; state = forgotten state }
     else goes_on program fuel (parameters_of function) observation state
 after_at program fuel statuses.Travels state observation = goes_on program fuel 1 observation state
-after_at program fuel statuses.Ended state observation = still statuses.Ended
-after_at program fuel statuses.Failed state observation = still statuses.Failed
+after_at program fuel statuses.Ended state observation = halted statuses.Ended
+after_at program fuel statuses.Failed state observation = halted statuses.Failed
 
 abbrev pub after : Module → (fuel : ℕ) → AgentMemory → Observation → AgentMemory
 after program fuel agent_memory observation = after_at program fuel agent_memory.status agent_memory.state observation

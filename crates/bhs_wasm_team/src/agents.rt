@@ -53,24 +53,24 @@ impl Agents {
     }
 
     // Answers for an agent that does nothing more.
-    fn still(&mut self, status: Status, step: Step) -> Result<TeamAnswer, AllocError>
-        ensures { step ≡ specs.does (specs.still status) → IfOk result (λ answer.
-            Tells self.old self.new (specs.still status) answer.memory answer.step) }
+    fn halted(&mut self, status: Status, step: Step) -> Result<TeamAnswer, AllocError>
+        ensures { step ≡ specs.does (specs.halted status) → IfOk result (λ answer.
+            Tells self.old self.new (specs.halted status) answer.memory answer.step) }
     {
-        let memory = self.table.number(Saved::still(self.alloc, status))?;
+        let memory = self.table.number(Saved::halted(self.alloc, status))?;
         Ok(TeamAnswer { memory, step })
     }
 
     // Answers for an agent that fails, and notes how the first one did.
     fn fail(&mut self, cause: FailureCause) -> Result<TeamAnswer, AllocError>
         ensures { IfOk result (λ answer.
-            Tells self.old self.new (specs.still Status.Failed) answer.memory answer.step) }
+            Tells self.old self.new (specs.halted Status.Failed) answer.memory answer.step) }
     {
         if self.failure.is_none() {
             let function = function_at(&self.program, self.interpreter.program_counter);
             self.failure = Some(ModuleFailure { cause, function });
         }
-        self.still(Status::Failed, Step::Fails)
+        self.halted(Status::Failed, Step::Fails)
     }
 
     // Answers for an agent that has called a command.
@@ -97,7 +97,7 @@ impl Agents {
     {
         match self.interpreter.run(&self.program, self.fuel)? {
             Progress::Waits(function) => self.waits(function),
-            Progress::Ends => self.still(Status::Ended, Step::Stops),
+            Progress::Ends => self.halted(Status::Ended, Step::Stops),
             Progress::Continues | Progress::Traps => {
                 let cause = if self.interpreter.is_out_of_fuel {
                     FailureCause::Fuel
@@ -152,8 +152,8 @@ impl Agents {
             (state_of self.old.interpreter) (item_with latest shown.now)) answer.memory answer.step) }
     {
         match status {
-            Status::Ended => self.still(Status::Ended, Step::Stops),
-            Status::Failed => self.still(Status::Failed, Step::Fails),
+            Status::Ended => self.halted(Status::Ended, Step::Stops),
+            Status::Failed => self.halted(Status::Failed, Step::Fails),
             Status::Travels => self.goes_on(1, latest, shown),
             Status::Waits(function) => {
                 if is_depart(function) && is_gone(latest) {

@@ -9,7 +9,7 @@ mod saving;
 mod saying;
 
 pub use agents::Agents;
-pub use exploring::explore_module;
+pub use exploring::{draw_module, explore_module};
 pub use failures::{FailureCause, ModuleFailure};
 pub use laws::{modules_answer, modules_solve};
 pub use saving::{MemoryTable, Saved, Status};

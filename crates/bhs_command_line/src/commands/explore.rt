@@ -7,7 +7,7 @@ pub(crate) const COMMAND: Subcommand = Subcommand {
     name: "explore",
     help: HELP,
     arguments: &[
-        TOURNAMENT, GAME, STATES, WAKEUPS, DRAWS, SEED, SCHEDULER, OBJECTIVE,
+        TOURNAMENT, GAME, MODULE, STATES, WAKEUPS, DRAWS, SEED, SCHEDULER, OBJECTIVE,
     ],
 };
 
@@ -21,6 +21,15 @@ pub(crate) const GAME: Argument = Argument {
         most: 65_535,
     },
     help: "The match's number, from 0",
+};
+
+pub(crate) const MODULE: Argument = Argument {
+    id: "module",
+    option: Some("module"),
+    name: "FILE[:N,..]",
+    need: Need::Optional,
+    takes: Takes::Module,
+    help: "Each agent runs this WebAssembly module, with these numbers as its arguments; no host is asked",
 };
 
 pub(crate) const STATES: Argument = Argument {

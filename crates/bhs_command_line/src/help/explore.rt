@@ -3,14 +3,23 @@
 use crate::help::Help;
 
 pub(crate) const HELP: Help = Help {
-    about: "Tries every schedule of a match whose agents a host plays",
+    about: "Tries every schedule of a match whose agents run a module, or are played by a host",
     at_length: AT_LENGTH,
     example: EXAMPLE,
 };
 
 const AT_LENGTH: &str = "\
 Tries every schedule of match MATCH of the tournament, and says whether each one
-solves it. The agents are played by a host at the other end of standard input and
+solves it.
+
+With --module FILE each agent runs the WebAssembly module of this file. A module
+imports nothing but functions of `arena`, and exports `run`; in a clone
+examples/agents/wasm/arena.h declares them for C. Numbers behind a colon are its
+arguments: ring.wasm:8. Agents fail whose module traps, or that execute more than
+10,000,000 instructions from one command to the next. Standard error tells now
+and then how far a long search is.
+
+Without it the agents are played by a host at the other end of standard input and
 output, as `arena-lab explore` is one. An agent must be deterministic: what
 it does next is a function of what its program holds. The host gives each thing
 that a program may hold a number, its memory, counted from 0 in the order in
@@ -89,8 +98,18 @@ With --draws these are `fails`, `breaks` or `exceeds`, or
       in one line: how many of the schedules are solved and fail, their turns,
       and how many come to M moves, or lose L agents
 
-What is found is proved of all agents that do as was answered; the last line is
-not. The program cannot know whether the agents of the host do.
+With --module comes one more line, in which how an agent failed may be missing:
+
+  {\"module\":SHA256,\"arguments\":[N,..],\"failure\":F,\"function\":N}
+      Which file the module has; and how the first agent that failed did, in the
+      function of this number: it executed too many instructions (fuel), it
+      trapped (trap), or it called a command with a port or a text that is none
+      (command)
+
+What is found is proved of all agents that do as was answered, and of agents that
+run the module that was read; that a file is read rightly is tested. What is
+counted, and how an agent failed, is not proved. The program cannot know whether
+the agents of a host do as it answered.
 
 Example: on the triangle of `arena check --help` an agent that stops at once:
 

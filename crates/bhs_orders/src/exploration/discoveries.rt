@@ -219,8 +219,8 @@ fn agents(alloc: Global, agents: &[u16]) -> Result<String, Memory>
     Ok(text)
 }
 
-// Numbers as a list of JSON.
-fn numbers(alloc: Global, numbers: &[u32]) -> Result<String, Memory>
+/// Numbers as a list of JSON.
+pub(crate) fn numbers(alloc: Global, numbers: &[u32]) -> Result<String, Memory>
     ensures { IfOk result (λ text. string_bytes text ≡ list_text numbers.now) }
 {
     let mut text = String::from_str(alloc, "[")?;

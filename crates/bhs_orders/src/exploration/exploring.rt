@@ -9,6 +9,7 @@ ghost use Rattle.bhs_orders.specs.Discoveries.{found_in, is_drawn};
 use crate::exploration::discoveries::{Discovery, found_of, status_of, text_of};
 use crate::exploration::hosts::Host;
 use crate::exploration::links::held_links;
+use crate::exploration::worlds::world_of;
 use crate::reporting::faults::{Fault, report};
 use crate::tournaments::checking::lineup_of;
 use bhs_command_line::{Drawing, Exploration, Objective, Scheduler};
@@ -16,7 +17,6 @@ use bhs_explore::{ExploreFault, Explored, Explorer, SampleRequest};
 use bhs_lineup::Ready;
 use bhs_model::Text;
 use bhs_stream::{Input, Output, finish, send};
-use bhs_world::World;
 use std::alloc::Global;
 use std::io::Write;
 use std::rt::Files;
@@ -95,11 +95,7 @@ fn discovered<R: Input, W: Output>(
     ensures { IfOk result (IsFound ready.now exploration) }
 {
     let held = held_links(alloc, ready)?;
-    let net = ready.game.net().try_clone(alloc)?;
-    // The match was set up so, so only memory may be lacking.
-    let Ok(world) = World::new(alloc, net, ready.game.setup().try_clone()?) else {
-        return Err(Fault::Memory);
-    };
+    let world = world_of(alloc, ready)?;
     let mut host = Host::new(alloc, reader, writer);
     let mut explorer = match Explorer::new(alloc, world, held, exploration.wakeups, &mut host) {
         Ok(explorer) => explorer,
@@ -155,8 +151,8 @@ fn tried<R: Input, W: Output>(
     explorer.explore(host, states)
 }
 
-// The schedules to draw, each of at most this many turns.
-fn draws_of(drawing: Drawing, turns: u32) -> SampleRequest {
+/// The schedules to draw, each of at most this many turns.
+pub(crate) fn draws_of(drawing: Drawing, turns: u32) -> SampleRequest {
     let scheduler = match drawing.scheduler {
         Scheduler::Fair => bhs_explore::Scheduler::Fair,
         Scheduler::LastDeparted => bhs_explore::Scheduler::LastDeparted,

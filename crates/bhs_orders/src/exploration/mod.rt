@@ -1,6 +1,9 @@
-//! Searches of all schedules of a match, and of schedules that are drawn, in which a host plays the agents.
+//! Searches of all schedules of a match, and of schedules that are drawn, in which a host plays the agents or
+//! they run a module.
 
 pub(crate) mod discoveries;
 pub(crate) mod exploring;
 pub(crate) mod hosts;
 pub(crate) mod links;
+pub(crate) mod modules;
+pub(crate) mod worlds;

@@ -1,0 +1,156 @@
+"""Cases of `arena explore --module`: a search that solves, files that are refused, agents that fail, files with changed
+bytes, and each instruction on integers as node's own WebAssembly has it."""
+import hashlib
+import pathlib
+import random
+import shutil
+import subprocess
+import unittest
+from typing import Dict, List
+
+from tools.play.program_cases import CUP, TOP, TRIANGLE, case, writes
+from tools.play.program_rows import DONE, REFUSED_TEXT, Stage, Wrong, expect
+from tools.play.wasm_modules import Call, Function, checks, constant, in_memory, module, numeric, told_by_node
+from tools.play.wasm_modules import I32
+
+FAILING = 1
+RING = TOP / "examples" / "agents" / "wasm" / "ring.wasm"
+# how many changed files are explored
+CHANGED = 200
+DATA = bytes(range(7, 256, 5))
+CALL, DROP, END = b"\x10", b"\x1a", b"\x0b"
+STATES = '{"states":%d,"memories":%d,"stances":%d,"boards":1}\n'
+
+
+def explores(stage: Stage, agent: bytes, printed: str, status: int, failure: str = "", arguments: str = "") -> None:
+    """Agents that run this module on a triangle come to this, and the module is named by its digest."""
+    writes(stage, tri=TRIANGLE, cup=CUP)
+    (stage.folder / "agent.wasm").write_bytes(agent)
+    digest = hashlib.sha256(agent).hexdigest()
+    line = f'{{"module":"{digest}","arguments":[{arguments}]{failure}}}\n'
+    word = f"agent.wasm:{arguments}" if arguments else "agent.wasm"
+    expect(stage.run(["explore", "cup.toml", "0", "--module", word], b""), (printed + line).encode(), b"", status)
+
+
+def refuses(stage: Stage, agent: bytes, fault: str) -> None:
+    """A file is refused in one line."""
+    writes(stage, tri=TRIANGLE, cup=CUP)
+    (stage.folder / "agent.wasm").write_bytes(agent)
+    expect(stage.run(["explore", "cup.toml", "0", "--module", "agent.wasm"], b""), b"",
+           f"agent.wasm: {fault}\n".encode(), REFUSED_TEXT)
+
+
+def running(body: bytes, *imports: str) -> bytes:
+    """A module whose function `run` has these instructions."""
+    return module([Function([], [], body, "run")], imports)
+
+
+SILENT = '{"found":"fails","outcome":"silent","moves":0,"lost":0,"schedule":[]}\n' + STATES % (1, 1, 1)
+BREAKS = '{"found":"breaks","agent":0,"failure":"program","schedule":[]}\n' + STATES % (1, 1, 1)
+
+
+@case("a module solves a ring under every schedule")
+def solved(stage: Stage) -> None:
+    shutil.copy(TOP / "examples" / "ring8.toml", stage.folder / "ring8.toml")
+    writes(stage, cup=CUP.replace("tri.toml", "ring8.toml").replace("quota = 10", "quota = 100")
+           .replace("board = 8", "board = 48").replace("holes = [2]", "holes = [5]"))
+    (stage.folder / "ring.wasm").write_bytes(RING.read_bytes())
+    ran = stage.run(["explore", "cup.toml", "0", "--module", "ring.wasm:8"], b"")
+    lines = ran.printed.decode().splitlines()
+    digest = hashlib.sha256(RING.read_bytes()).hexdigest()
+    if ran.status != DONE or not lines[0].startswith('{"found":"solves","moves":'):
+        raise Wrong(f"{ran.status}: {lines} {ran.told!r}")
+    if lines[2:] != [f'{{"module":"{digest}","arguments":[8]}}']:
+        raise Wrong(f"the last lines are {lines[2:]}")
+
+
+@case("the sample module is what clang makes of its source, as far as searches tell")
+def compiled(stage: Stage) -> None:
+    if shutil.which("clang") is None or shutil.which("wasm-ld") is None:
+        raise unittest.SkipTest("clang or lld is not installed")
+    agent = stage.folder / "agent.wasm"
+    subprocess.run(["clang", "--target=wasm32", "-O2", "-nostdlib", "-Wl,--no-entry,--stack-first,-z,stack-size=1024",
+                    "-o", agent, RING.with_suffix(".c")], check=True)
+    writes(stage, tri=TRIANGLE, cup=CUP.replace("quota = 10", "quota = 100").replace("board = 8", "board = 48"))
+    found = [stage.run(["explore", "cup.toml", "0", "--module", f"{file}:3"], b"").printed.splitlines()[0]
+             for file in (agent, RING)]
+    if found[0] != found[1] or not found[0].startswith(b'{"found":"solves","moves":4,'):
+        raise Wrong(f"found {found}")
+
+
+@case("a module that ends at once is silent")
+def ends(stage: Stage) -> None:
+    explores(stage, running(b""), SILENT, FAILING)
+    explores(stage, running(b""), SILENT, FAILING, arguments="0,4294967295")
+
+
+@case("agents that fail are told of by cause and function")
+def fails(stage: Stage) -> None:
+    for cause, agent, function in (
+            ("trap", running(b"\x00"), 0), ("trap", running(b"\x00", "look"), 1),
+            ("fuel", running(b"\x03\x40\x0c\x00" + END), 0),
+            ("command", running(constant(I32, 65_536) + CALL + b"\x00" + DROP, "depart"), 1)):
+        explores(stage, agent, BREAKS, FAILING, f',"failure":"{cause}","function":{function}')
+
+
+@case("a file that is no module of agents is refused by what is wrong and where")
+def refused(stage: Stage) -> None:
+    for agent, fault in (
+            (b"", "head at byte 0"), (b"\0asm\2\0\0\0", "head at byte 0"),
+            (running(b"\x43\0\0\0\0" + DROP), "float at byte 40"),
+            (running(constant(I32, 1)), "type at byte 42"),
+            (running(b"\x0c\x01"), "index at byte 40"),
+            (running(CALL + b"\x07"), "index at byte 40"),
+            (running(b"", "look", "puts"), "import arena.puts at byte 38"),
+            (module([Function([], [], b"", "run")], ["look"], "env"), "import env.look at byte 21"),
+            (module([Function([], [], b"")]), "run at byte 38")):
+        refuses(stage, agent, fault)
+
+
+@case("files with changed bytes are explored or refused")
+def changed(stage: Stage) -> None:
+    for seed in range(CHANGED):
+        if not is_harmless(stage, RING, seed):
+            raise Wrong(f"seed {seed}")
+
+
+def is_harmless(stage: Stage, file: pathlib.Path, seed: int) -> bool:
+    """Whether a file whose bytes are changed by a seed is explored, or refused in a line."""
+    writes(stage, tri=TRIANGLE, cup=CUP)
+    draw, whole = random.Random(seed), file.read_bytes()
+    agent = bytearray(whole)
+    for _ in range(draw.randrange(1, 4)):
+        agent[draw.randrange(len(agent))] = draw.randrange(256)
+    (stage.folder / "agent.wasm").write_bytes(agent[:draw.randrange(len(agent))] if seed % 5 == 0 else agent)
+    ran = stage.run(["explore", "cup.toml", "0", "--max-states", "2000", "--module", "agent.wasm:3"], b"")
+    return ran.status in (DONE, FAILING, REFUSED_TEXT) and bool(ran.printed or ran.told)
+
+
+@case("each instruction on integers has the results that node's WebAssembly has")
+def as_node_has(stage: Stage) -> None:
+    if shutil.which("node") is None:
+        raise unittest.SkipTest("node is not installed")
+    for functions, reaches in ((numeric(), False), (in_memory(), True)):
+        data = DATA if reaches else b""
+        calls = told_by_node(stage.folder / "values.wasm", functions, reaches, data)
+        explores(stage, checks(functions, calls, data), SILENT, FAILING)
+        for call in first_traps(calls):
+            explores(stage, alone(functions[call.function], call, data), BREAKS, FAILING,
+                     ',"failure":"trap","function":0')
+        wrong = calls[0]._replace(result=(calls[0].result or 0) ^ 1)
+        explores(stage, checks(functions, [wrong], data), BREAKS, FAILING, ',"failure":"trap","function":1')
+
+
+def first_traps(calls: List[Call]) -> List[Call]:
+    """Of each function the first call that traps."""
+    found: Dict[str, Call] = {}
+    for call in calls:
+        if call.result is None:
+            found.setdefault(call.function, call)
+    return list(found.values())
+
+
+def alone(function: Function, call: Call, data: bytes) -> bytes:
+    """A module that makes one call."""
+    push = b"".join(constant(of, number) for of, number in zip(function.parameters, call.operands))
+    return module([function, Function([], [], push + CALL + b"\x00" + DROP, "run")], data=data)
