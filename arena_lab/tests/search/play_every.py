@@ -31,38 +31,52 @@ for states in (262144, 524288):
 print('{"found":"solves"}')
 print('{"states":600000}')
 '''
-# how many drawn machines are compared
-DRAWN = 60
+# how many drawn ends, and drawn machines, are compared
+ENDS, MACHINES = 60, 20
 ODD = FAULTY + '''
 import hashlib
-from client import Spent
 
 
-def polls(agent, key):
-    agent.enter(key)
-    while True:
-        agent.look()
+def polls(memory, reply):
+    return memory, {"do": "leave" if "no" in reply else "look"}
 
 
-def enters_again(agent, key):
-    agent.enter(key)
-    while True:
-        agent._lines.send('{"do":"enter","key":"' + key + '"}')
-        agent._lines.receive()
+def is_refused(memory, reply):
+    return memory, {"do": "depart", "port": 9}
+
+
+def enters_again(memory, reply):
+    return memory, {"do": "enter", "key": "k0"}
 
 
 def counts(agent, key):
+    # six commands after it has entered, of which the last one is right
     agent.enter(key)
-    looks = 0
-    while True:
-        looks += 1
+    for _ in range(4):
         agent.look()
+    agent.depart(0)
+    agent.accuse(0)
 
 
 def knows(agent, key):
     agent.enter(key)
     agent.depart(0)
     agent.accuse(0)
+
+
+def writes_first(agent, key):
+    agent.write(agent.enter(key).board, "here")
+    agent.depart(0)
+    agent.accuse(0)
+
+
+def gives_up(agent, key, sleep):
+    # after four wakings without news it accuses its own port to the safe node
+    here, wakings = agent.enter(key), 0
+    while not here.board and wakings < 4:
+        sleep(1)
+        here, wakings = agent.look(), wakings + 1
+    agent.leave() if here.board else agent.accuse(0)
 
 
 def knows_and_raises(agent, key):
@@ -140,27 +154,27 @@ def drawn(*words):
     return int.from_bytes(hashlib.blake2b(repr(words).encode(), digest_size=4).digest(), "big")
 
 
-def machine(agent, key, seed, size, sleep):
+def machine(memory, reply, seed, size):
     # what it does next is a function of a small number and of what it saw last
-    state, saw = 0, tuple(agent.enter(key))
-    while True:
-        what = drawn(seed, state, saw) % 16
-        state = drawn(seed, state, saw, "next") % size
-        try:
-            if what < 5:
-                saw = tuple(agent.depart(what % 2))
-            elif what < 8:
-                saw = tuple(agent.write(saw[-1] if what < 7 else "", str(what)))
-            elif what < 10:
-                saw = tuple(agent.look())
-            elif what < 12:
-                sleep(1)
-            elif what < 15:
-                return agent.accuse(what % 2)
-            else:
-                return agent.leave()
-        except Spent:
-            return agent.leave()
+    if "no" in reply:
+        return memory, {"do": "leave"}
+    state, saw, put = memory or (0, (), "")
+    if reply["ok"] != "woke":
+        saw = reply["ok"], reply.get("from"), reply.get("board", put)
+    what = drawn(seed, state, saw) % 16
+    state = drawn(seed, state, saw, "next") % size
+    command = command_of(what, saw[-1])
+    return (state, saw, command.get("put", "")), command
+
+
+def command_of(what, board):
+    if what < 5:
+        return {"do": "depart", "port": what % 2}
+    if what < 8:
+        return {"do": "write", "expect": board if what < 7 else "", "put": str(what)}
+    if what < 12:
+        return {"do": "look" if what < 10 else "sleep"}
+    return {"do": "accuse", "port": what % 2} if what < 15 else {"do": "leave"}
 '''
 # an agent of its own: it enters, departs by port 0 and accuses port 0, and declares where it is
 OWN = '''
@@ -185,7 +199,7 @@ class Exploring(InExplore):
         return ["--agent", f"{self.folder}/odd.py:{name}"]
 
     def test_the_most_moves_on_rings(self) -> None:
-        for nodes, moves in {3: 4, 4: 9, 5: 14, 6: 23}.items():
+        for nodes, moves in {3: 4, 5: 14}.items():
             with self.subTest(nodes=nodes):
                 status = self.command("--network", f"ring:{nodes}", "--agent", RING.words, "--check", 2)
                 self.assertEqual(status, 0, self.said)
@@ -229,17 +243,14 @@ class Exploring(InExplore):
                 self.assertIn(f"a schedule goes on for ever, {fair}", self.said)
 
     def test_an_agent_that_polls_spends_its_quota(self) -> None:
-        for name in ("polls", "refused"):
+        for name in ("polls", "is_refused"):
             with self.subTest(name):
                 status = self.command("--network", "ring:3", "--hole", 1, "--quota", 4, *self.odd(name))
                 self.assertEqual(status, 1, self.said)
-                self.assertIn("agent 0 may use 5 commands: the Python model's search takes over", self.said)
+                self.assertRegex(self.said, "agent [01] may use 5 commands: the Python model's search takes over")
 
     def test_agents_that_give_up_after_more_naps_are_told_of(self) -> None:
-        hasty = (FOLDER / "counts_naps.py").read_text(encoding="utf-8").replace("NAPS = 3", "NAPS = 4")
-        (self.folder / "counts_four_naps.py").write_text(hasty, encoding="utf-8")
-        agent = f"{self.folder}/counts_four_naps.py {{nodes}} {{links}}"
-        match = ["--network", "ring:3", "--agents", 3, "--agent", agent]
+        match = ["--network", "ring:3", "--hole", 2, *self.odd("writes_first"), *self.odd("gives_up")]
         for naps in (0, 2):
             with self.subTest(naps=naps):
                 self.assertEqual(self.command(*match, "--spurious-wakeups", naps), 0, self.said)
@@ -278,7 +289,7 @@ class Exploring(InExplore):
                 self.assertIn(f"agent 0: {fault}", self.said)
 
     def test_a_quota_that_does_not_suffice(self) -> None:
-        status = self.command("--network", "ring:3", "--hole", 1, "--quota", 5, *self.odd("counts"))
+        status = self.command("--network", "ring:3", "--hole", 2, "--quota", 5, *self.odd("counts"))
         self.assertEqual(status, 1, self.said)
         self.assertIn("agent 0 may use 6 commands: the Python model's search takes over", self.said)
 
@@ -355,7 +366,7 @@ class Exploring(InExplore):
     def test_drawn_ends_are_failures_of_both(self) -> None:
         """One agent solves the match, and the other comes to an end that is drawn."""
         kinds: Dict[str, int] = {}
-        for seed in range(DRAWN):
+        for seed in range(ENDS):
             naps = str(seed % 3)
             game, fixture = self.game("--network", "ring:3", "--hole", "2", "--spurious-wakeups", naps,
                                       *self.odd("knows"),
@@ -374,10 +385,10 @@ class Exploring(InExplore):
 
     def test_drawn_machines_come_to_what_the_model_comes_to(self) -> None:
         kinds: Dict[str, int] = {}
-        for seed in range(DRAWN):
+        for seed in range(MACHINES):
             kind = self.compared(seed)
             kinds[kind] = kinds.get(kind, 0) + 1
-        self.assertLessEqual({"fails"}, set(kinds), kinds)
+        self.assertLessEqual({"fails", "solves", "exceeds"}, set(kinds), kinds)
 
     def compared(self, seed: int) -> str:
         """Compares both searches of a drawn match; gives what the program found."""
