@@ -7,13 +7,12 @@ and `most_moves` of `bhs_protocols`, each divided by the number of nodes n, over
 every schedule that docs/EXPERIMENTS.md has of halves (`ring.py`) and of thirds (`ring3.py`). Needs python3-matplotlib.
 """
 import argparse
-import itertools
 import pathlib
 import re
 import sys
 from typing import Any, Dict, Optional, Sequence
 
-from arena_lab.search.adversary import least_moves, rounds
+from arena_lab.search.ring_bounds import least_moves, more_moves, most_moves
 from arena_lab.sweep.report import new_figure, svg_of
 
 TOP = pathlib.Path(__file__).resolve().parents[1]
@@ -23,23 +22,6 @@ FIRST, LAST = 3, 256
 # a row of explored networks: the ring, the team, its states, and the most moves
 ROW = r"^\| ring:(\d+) \| 2, `{}` \| \d+ \| (\d+) \|"
 AGENTS = {"ring.py": ("halves, every schedule tried", "o"), "ring3.py": ("thirds, every schedule tried", "^")}
-
-
-def more_moves(nodes: int) -> int:
-    """The most that the second bound from below gives on a ring of n nodes: k n + 3 (n - 2 - f_k) + 4 - f_(k+1) moves
-    for some k with f_k at most n - 2, where f_0, f_1, f_2, .. are 1, 2, 3, 5, 8, .. ."""
-    found, this, following = [], 1, 2
-    for k in itertools.count():
-        if this > nodes - 2:
-            return max(found, default=0)
-        found.append(k * nodes + 3 * (nodes - 2 - this) + 4 - following)
-        this, following = following, this + following
-    raise AssertionError
-
-
-def most_moves(nodes: int) -> int:
-    """The moves that the search by halves makes at most on a ring of n nodes: 2 (n - 2) R + n + 1 - 2^R."""
-    return 2 * (nodes - 2) * rounds(nodes) + nodes + 1 - 2 ** rounds(nodes)
 
 
 def explored(agent: str) -> Dict[int, int]:

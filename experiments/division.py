@@ -28,6 +28,7 @@ import numpy as np
 
 from experiments.turns import Run, played
 from arena_lab.play.agent_files import AGENTS, loaded
+from arena_lab.search.ring_bounds import most_moves
 
 ring3 = loaded(AGENTS / "ring3.py")
 
@@ -158,16 +159,6 @@ class Table:
         return runs, sum(count for agent, count in runs if agent == RIGHT)
 
 
-def of_ring(nodes: int) -> int:
-    """The most moves of the search by halves, as docs/EXPERIMENTS.md counts them: three for each node that is safe, one
-    of the agent that is lost, and the walks of divisions at which 2, 3, 5, 9, .. nodes are left."""
-    moves, left = 3 * (nodes - 2) + 1, 2
-    while left <= nodes // 2:
-        moves += 2 * (nodes - 1 - left)
-        left = 2 * left - 1
-    return moves
-
-
 def bound(nodes: int) -> float:
     return 3 * nodes * math.log(nodes, 3)
 
@@ -176,7 +167,8 @@ def table(sizes: List[int]) -> None:
     """Prints what the searches come to on rings of these sizes."""
     print("n | best division | ring3.py | ring.py | 3 n log3 n | best / bound | ring3 / bound | ring3 / ring")
     for nodes in sizes:
-        best, thirds, halves, most = Table(nodes).moves(), Table(nodes, of_ring3).moves(), of_ring(nodes), bound(nodes)
+        best, thirds = Table(nodes).moves(), Table(nodes, of_ring3).moves()
+        halves, most = most_moves(nodes), bound(nodes)
         print(f"{nodes} | {best} | {thirds} | {halves} | {most:.1f} | {best / most:.3f} | {thirds / most:.3f} | "
               f"{thirds / halves:.3f}", flush=True)
 

@@ -33,12 +33,13 @@ import time
 import tomllib
 from typing import Callable, Dict, List, Mapping, NamedTuple, Sequence, Tuple
 
-from experiments.division import Table, bound, of_ring, of_ring3, ring3
+from experiments.division import Table, bound, of_ring3, ring3
 from experiments.turns import played
 from arena_lab.sweep import grid, report, tables
 from arena_lab.__main__ import main as lab
 from arena_lab.commands.words import add_engine, add_workers, program_of
 from arena_lab.rules.engines import name_of
+from arena_lab.search.ring_bounds import most_moves
 from arena_lab.support.built import TOP
 
 EXPERIMENTS = TOP / "experiments"
@@ -196,7 +197,7 @@ def thirds(asked: Asked) -> Made:
 
 
 def thirds_row(nodes: int, drawn: Mapping[Tuple[str, str], str], hunted: Mapping[Tuple[str, str], str]) -> Cells:
-    network, halves, counted = f"ring:{nodes}", of_ring(nodes), Table(nodes, of_ring3)
+    network, halves, counted = f"ring:{nodes}", most_moves(nodes), Table(nodes, of_ring3)
     attained = played(ring3.search, nodes, counted.runs()[0]).moves
     cells = [[drawn.get((network, name), "–"), hunted.get((network, name), "–"), str(moves)]
              for name, moves in (("halves", halves), ("thirds", counted.moves()))]

@@ -3,7 +3,8 @@ import pathlib
 import re
 import unittest
 
-from bench.ring_bounds import AGENTS, explored, least_moves, more_moves, most_moves
+from arena_lab.search.ring_bounds import least_moves, more_moves, most_moves
+from bench.ring_bounds import AGENTS, explored
 
 PROTOCOLS = pathlib.Path(__file__).resolve().parents[1] / "docs" / "PROTOCOLS.md"
 
@@ -13,6 +14,10 @@ class Bounds(unittest.TestCase):
         rows = re.findall(r"^\| ([\d,]+) \| ([\d,]+) \| ([\d,]+) \|$", PROTOCOLS.read_text(encoding="utf-8"), re.M)
         found = [tuple(int(number.replace(",", "")) for number in row) for row in rows]
         self.assertEqual(found, [(n, more_moves(n), most_moves(n)) for n in (8, 16, 64, 256, 1024)])
+
+    def test_halves_on_small_rings(self) -> None:
+        self.assertEqual([most_moves(nodes) for nodes in (3, 4, 5, 6, 7, 8, 9, 16, 27, 32, 64)],
+                         [4, 9, 14, 23, 30, 37, 44, 113, 246, 301, 745])
 
     def test_what_was_explored_lies_between_the_bounds(self) -> None:
         for agent in AGENTS:

@@ -171,25 +171,6 @@ def clauses() -> Iterator[str]:
             yield from re.findall(r"`([\w:]+)`", cells[column])
 
 
-def rounds(left: int) -> int:
-    """How often `left` nodes are halved until one is left."""
-    return (left - 1).bit_length()
-
-
-def most_moves(nodes: int) -> int:
-    """The moves that the search by halves makes at most (`most_moves` of `bhs_protocols`)."""
-    return 2 * (nodes - 2) * rounds(nodes - 1) + nodes + 1 - (1 << rounds(nodes - 1))
-
-
-def least_moves(nodes: int) -> int:
-    """The moves that every two agents must make (`more_moves` of `bhs_bounds`), with the best k."""
-    found, one, other = [], 1, 2
-    while one <= nodes - 2:
-        found.append(len(found) * nodes + 3 * (nodes - 2 - one) + 4 - other)
-        one, other = other, one + other
-    return max(found)
-
-
 class Theorems(unittest.TestCase):
     def test_each_premise_has_its_words(self) -> None:
         for theorem in DISPLAYED:
@@ -207,13 +188,6 @@ class Theorems(unittest.TestCase):
         named = {name for name in clauses() if not re.fullmatch(r"bhs_\w+", name)}
         self.assertGreater(len(named), 80)
         self.assertEqual(sorted(name for name in named if name.rpartition("::")[2] not in there), [])
-
-    def test_the_table_of_moves_has_the_bounds(self) -> None:
-        rows = re.findall(r"^\| ([\d,]+) \| ([\d,]+) \| ([\d,]+) \|$",
-                          (TOP / "docs/PROTOCOLS.md").read_text(encoding="utf-8"), re.MULTILINE)
-        found = [[int(it.replace(",", "")) for it in row] for row in rows]
-        self.assertGreater(len(found), 3)
-        self.assertEqual(found, [[nodes, least_moves(nodes), most_moves(nodes)] for nodes, _, _ in found])
 
     def test_the_sizes_are_those_up_to_which_a_file_has_the_quota(self) -> None:
         law = (TOP / SPECS.format("bhs_protocols", "Quotas")).read_text(encoding="utf-8")

@@ -19,7 +19,8 @@ from typing import Optional
 
 from arena_lab.commands.words import add_engine, add_match, game_of, program_of
 from arena_lab.play import kept_matches
-from arena_lab.search.adversary import Adversary, Arcs, Fails, Phase, least_moves
+from arena_lab.search.adversary import Adversary, Arcs, Fails, Phase
+from arena_lab.search.ring_bounds import least_moves
 
 
 def add_words(parser: argparse.ArgumentParser) -> None:

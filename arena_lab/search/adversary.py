@@ -14,6 +14,7 @@ from arena_lab.play.teams import Game, Together
 from arena_lab.rules.fixtures import Fixture
 from arena_lab.rules.model import AWAY, GONE, PRESENT, Match
 from arena_lab.rules.rehearsal import Rehearsal
+from arena_lab.search.ring_bounds import rounds
 from arena_lab.support.faults import Fault
 
 # after how many turns an agent alone is taken to go on for ever
@@ -25,19 +26,9 @@ class NotARing(Fault):
     """The adversary plays two agents on a ring."""
 
 
-def rounds(nodes: int) -> int:
-    """The least R with 2^R >= n - 1, on a ring of n nodes."""
-    return (nodes - 2).bit_length()
-
-
-def least_moves(nodes: int) -> int:
-    """The moves that every two agents must make on a ring of n nodes (`least_moves` of `bhs_bounds`)."""
-    return rounds(nodes) * (nodes - 2) + 1
-
-
 def steps_of(new: int) -> int:
     """How many of the new nodes the adversary lets an agent explore in a phase."""
-    power = 1 << (new - 1).bit_length() - 1
+    power = 1 << rounds(new) - 1
     return power // 2 if new == power + 1 else new - 1 - power
 
 

@@ -14,6 +14,7 @@ from arena_lab.rules.model import Setup, Verdict
 from arena_lab.rules.networks import Network, flipped_ring, ring
 from arena_lab.rules.rehearsal import Rehearsal
 from arena_lab.search.explore import explored
+from arena_lab.search.ring_bounds import most_moves, rounds
 from arena_lab.tests.playing import program
 
 # the sizes of the rings that are drawn
@@ -29,15 +30,9 @@ class Bounds(NamedTuple):
     commands: int
 
 
-def rounds(left: int) -> int:
-    """The least number of times that one is doubled to come to this number or more."""
-    return (left - 1).bit_length()
-
-
 def halves(nodes: int) -> Bounds:
-    """`most_moves` and `most_commands` of crates/bhs_protocols/specs/Halving.antt, the first in closed form."""
-    times = rounds(nodes - 1)
-    moves = 2 * (nodes - 2) * times + nodes + 1 - 2 ** times
+    """`most_moves` and `most_commands` of crates/bhs_protocols/specs/Halving.antt."""
+    moves = most_moves(nodes)
     return Bounds(moves, moves + 2 * (nodes - 2) + 2 * rounds(nodes // 2) + 2)
 
 

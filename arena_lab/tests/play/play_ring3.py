@@ -4,7 +4,7 @@ import unittest
 from types import SimpleNamespace
 
 from experiments import adversary, turns
-from experiments.division import Table, of_ring, of_ring3, ring3
+from experiments.division import Table, of_ring3, ring3
 from arena_lab.play import schedulers
 from arena_lab.play.agent_files import AGENTS
 from arena_lab.play.teams import INSIDE, AgentWords
@@ -70,10 +70,6 @@ class Counting(unittest.TestCase):
                 runs, right = Table(nodes, of_ring3).runs()
                 found = turns.played(ring3.search, nodes, runs)
                 self.assertEqual((found.moves, found.hole), (most_moves(nodes), right + 1))
-
-    def test_halves(self) -> None:
-        self.assertEqual([of_ring(nodes) for nodes in (3, 4, 5, 6, 7, 8, 9, 16, 27, 32, 64)],
-                         [4, 9, 14, 23, 30, 37, 44, 113, 246, 301, 745])
 
 
 if __name__ == "__main__":

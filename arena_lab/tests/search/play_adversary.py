@@ -8,7 +8,8 @@ from typing import List, Tuple
 from arena_lab.__main__ import main
 from arena_lab.play.teams import INSIDE, AgentWords, Game
 from arena_lab.rules.networks import Network, complete, flipped_ring, ring
-from arena_lab.search.adversary import Adversary, Fails, NotARing, Phase, least_moves, steps_of
+from arena_lab.search.adversary import Adversary, Fails, NotARing, Phase, steps_of
+from arena_lab.search.ring_bounds import least_moves
 from arena_lab.tests.playing import AGENTS, RING, InFolder
 
 RING3 = AgentWords(INSIDE, f"{AGENTS / 'ring3.py'} {{nodes}}")

@@ -1,5 +1,5 @@
-"""`explore` says of agents that go by more than they are told: accidents of one process, chance, clocks, and libraries
-that they share. Outside each of them fails, always or now and then."""
+"""`explore` fails agents that rely on an accident of one process, on chance, on a clock or on a shared library: each of
+them fails outside, always or now and then. Of other agents it says what they read besides replies."""
 import pathlib
 import subprocess
 import sys
@@ -16,7 +16,7 @@ def search(agent, key):
     agent.depart(1)
     agent.accuse(1 if {is_right} else 0)
 '''
-# agents that do something else now and then when they are told the same: lines, what they do first, and when they are
+# agents that now and then do something else after the same replies: their lines, what they do first, and when they are
 # right
 ACCIDENTS = {
     "the order of a set": ("", "agent.write('', ' '.join({'left', 'right', 'up', 'down'}))", "True"),
@@ -27,7 +27,7 @@ ACCIDENTS = {
     "the time": ("from datetime import datetime", "pass", "datetime.now().microsecond % 10"),
     "what all programs share": ("import string", "string.zz = getattr(string, 'zz', 0) + 1", "string.zz % 7"),
 }
-# agents that may do what they did, and of which it is said by what they go
+# agents that are always right, by what the verdict says that they read or reach
 READ = {
     "draw by chance": ("import random", "pass", "random.random() < 2"),
     "read a clock": ("import time", "pass", "time.monotonic() > 0"),
@@ -94,8 +94,8 @@ class Apart(InExplore):
 
     def test_what_a_program_of_the_lab_finds_does_not_hang_on_its_start(self) -> None:
         """The lab's own command fixes the order of sets; a script that uses `arena_lab.api` has any."""
-        (self.folder / "agent.py").write_text(AGENT.format(
-            lines="", first="agent.write('', ' '.join({'left', 'right', 'up', 'down'}))", is_right="True"))
+        lines, first, is_right = ACCIDENTS["the order of a set"]
+        (self.folder / "agent.py").write_text(AGENT.format(lines=lines, first=first, is_right=is_right))
         text = ("import sys, arena_lab.api as lab\n"
                 f"print(lab.explore('ring:3', {str(self.folder / 'agent.py')!r}, count=1, holes=[1], "
                 f"engine={program()!r}).solves)")

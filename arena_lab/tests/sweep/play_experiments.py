@@ -6,8 +6,9 @@ import unittest
 from typing import Dict, List
 
 from experiments import make
-from experiments.division import Table, bound, of_ring, of_ring3
+from experiments.division import Table, bound, of_ring3
 from arena_lab.rules.engines import TOP
+from arena_lab.search.ring_bounds import most_moves
 from arena_lab.sweep import grid, report, sweeping, tables
 from arena_lab.sweep.sweeping import SweepJob
 from arena_lab.tests.playing import program
@@ -77,20 +78,20 @@ class Experiments(unittest.TestCase):
 
     def test_the_count_agrees_with_what_was_explored_hunted_and_drawn(self) -> None:
         explored = {int(row[0].partition(":")[2]): int(row[3]) for row in table("explored") if "`ring.py`" in row[1]}
-        self.assertEqual(explored, {nodes: of_ring(nodes) for nodes in make.RINGS_EXPLORED})
+        self.assertEqual(explored, {nodes: most_moves(nodes) for nodes in make.RINGS_EXPLORED})
         for row in table("rings"):
             nodes = int(row[0].partition(":")[2])
             with self.subTest(nodes=nodes):
-                self.assertEqual([int(row[5]), int(row[7])], [of_ring(nodes)] * 2)
+                self.assertEqual([int(row[5]), int(row[7])], [most_moves(nodes)] * 2)
         hunted = hunted_in(rows_by_network("rings"))
-        self.assertEqual(hunted, {f"ring:{nodes}": of_ring(nodes) for nodes in (4, 8, 16, 32, 64)})
+        self.assertEqual(hunted, {f"ring:{nodes}": most_moves(nodes) for nodes in (4, 8, 16, 32, 64)})
 
     def test_the_search_by_thirds_stays_within_its_count(self) -> None:
         rows = table("thirds")
         self.assertEqual([row[0] for row in rows], [f"ring:{nodes}" for nodes in make.SIZES])
         for row in rows:
             nodes = int(row[0].partition(":")[2])
-            halves, thirds = of_ring(nodes), Table(nodes, of_ring3).moves()
+            halves, thirds = most_moves(nodes), Table(nodes, of_ring3).moves()
             with self.subTest(nodes=nodes):
                 self.assertEqual((row[3], row[6]), (str(halves), str(thirds)))
                 shares = [f"{thirds / bound(nodes):.2f}", f"{thirds / halves:.2f}"]
