@@ -17,6 +17,8 @@ from arena_lab.rules.rehearsal import Rehearsal
 
 AGENTS = TOP / "examples" / "agents"
 RING = AgentWords(INSIDE, f"{AGENTS / 'ring.py'} {{nodes}}")
+# the same search, written as a step
+RING_STEP = AgentWords(INSIDE, f"{AGENTS / 'ring_step.py'} {{nodes}}")
 MAP = AgentWords(INSIDE, f"{AGENTS / 'map.py'} {{nodes}} {{links}}")
 KNOWN_MAP = AgentWords(INSIDE, str(AGENTS / "known_map.py"))
 

@@ -1,4 +1,4 @@
-"""The model checker SPIN finds the most moves of all schedules that `./arena-lab explore` proves, and finds a mistake.
+"""The model checker SPIN finds the same most moves of all schedules as `./arena-lab explore`, and finds a mistake.
 
 The models in experiments/models were written by hand and share nothing with the program and the lab.
 """
@@ -9,17 +9,14 @@ import arena_lab.api
 from bench import explore
 from bench import spin as bench_spin
 from experiments import spin
-from arena_lab.play.agent_files import AGENTS
-from arena_lab.tests.playing import program
-
-RING = f"{AGENTS / 'ring.py'} {{nodes}}"
+from arena_lab.tests.playing import RING_STEP, program
 
 
 @unittest.skipUnless(spin.HAS_SPIN, "Debian's spin is not installed, or there is no C compiler")
 class TestSpin(unittest.TestCase):
-    def test_spin_finds_the_moves_that_are_proved(self) -> None:
+    def test_spin_finds_the_same_most_moves(self) -> None:
         for nodes in range(3, 10):
-            proof = arena_lab.api.explore(f"ring:{nodes}", RING, engine=program(), check=0)
+            proof = arena_lab.api.explore(f"ring:{nodes}", RING_STEP.words, engine=program(), check=0)
             self.assertTrue(proof.solves)
             for model in (spin.NATURAL, spin.MERGED):
                 with self.subTest(nodes=nodes, model=model.name):

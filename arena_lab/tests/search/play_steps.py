@@ -6,11 +6,10 @@ from unittest import main as run_tests
 
 from arena_lab import api as lab
 from arena_lab.play import schedulers
-from arena_lab.play.teams import INSIDE, OUTSIDE, AgentWords
-from arena_lab.tests.playing import AGENTS, RING, played, program, ring_fixture
+from arena_lab.play.teams import OUTSIDE, AgentWords
+from arena_lab.tests.playing import AGENTS, RING, RING_STEP, played, program, ring_fixture
 from arena_lab.tests.search.exploring import InExplore
 
-STEP = AgentWords(INSIDE, f"{AGENTS / 'ring_step.py'} {{nodes}}")
 SOLVED = "every schedule that the lab tried solves, by memories of Python steps"
 # steps on the ring of 3, whose black hole is node 1
 STEPS = '''
@@ -90,17 +89,18 @@ class Steps(InExplore):
             fixture = ring_fixture(nodes, chance.randrange(1, nodes), chance)
             maker = chance.choice(list(schedulers.NAMED.values()))
             with self.subTest(seed):
-                self.assertEqual(played(fixture, STEP, seed, maker).replay, played(fixture, RING, seed, maker).replay)
+                one, other = (played(fixture, agent, seed, maker) for agent in (RING_STEP, RING))
+                self.assertEqual(one.replay, other.replay)
 
     def test_it_plays_outside(self) -> None:
         fixture = ring_fixture(5, 2, random.Random(0))
         outside = AgentWords(OUTSIDE, f"/usr/bin/python3 {AGENTS / 'ring_step.py'} {{host}} {{port}} {{key}} {{nodes}}")
-        self.assertEqual(played(fixture, outside, 3).replay, played(fixture, STEP, 3).replay)
+        self.assertEqual(played(fixture, outside, 3).replay, played(fixture, RING_STEP, 3).replay)
 
     def test_every_schedule_of_rings(self) -> None:
         for nodes, moves, states in ((3, 4, 44), (4, 9, 143), (6, 23, 704)):
             with self.subTest(nodes):
-                self.assertEqual(self.command("--network", f"ring:{nodes}", "--agent", STEP.words), 0, self.said)
+                self.assertEqual(self.command("--network", f"ring:{nodes}", "--agent", RING_STEP.words), 0, self.said)
                 self.assertIn(SOLVED, self.said)
                 self.assertIn(f"most moves {moves}, most agents lost 1, most turns ", self.said)
                 self.assertIn(f"\n{states} states in ", self.said)
@@ -125,20 +125,20 @@ class Steps(InExplore):
         self.assertIn("agent 0: has computed for 0.2 s", self.said)
 
     def test_beside_a_program(self) -> None:
-        status = self.command("--network", "ring:4", "--agent", STEP.words, "--agent", RING.words, "--check", 5)
+        status = self.command("--network", "ring:4", "--agent", RING_STEP.words, "--agent", RING.words, "--check", 5)
         self.assertEqual(status, 0, self.said)
         self.assertIn("by memories of Python steps and histories of Python programs", self.said)
 
     def test_by_workers_and_drawn(self) -> None:
-        status = self.command("--network", "ring:4", "--agent", STEP.words, "--workers", 2)
-        self.assertEqual(status, 0, self.said)
+        words = ["--agent", RING_STEP.words, "--network"]
+        self.assertEqual(self.command(*words, "ring:4", "--workers", 2), 0, self.said)
         self.assertIn("\n143 states in ", self.said)
-        status = self.command("--network", "ring:6", "--hole", 3, "--agent", STEP.words, "--draws", 50, "--check", 2)
+        status = self.command(*words, "ring:6", "--hole", 3, "--draws", 50, "--check", 2)
         self.assertEqual(status, 0, self.said)
         self.assertIn("50 drawn schedules", self.said)
 
     def test_who_has_too_many_states_hears_of_steps(self) -> None:
-        for words, is_told in ((RING.words, True), (STEP.words, False)):
+        for words, is_told in ((RING.words, True), (RING_STEP.words, False)):
             self.assertEqual(self.command("--network", "ring:5", "--max-states", 20, "--agent", words), 130)
             self.assertEqual("an agent that is written as a step has fewer states" in self.said, is_told)
 
