@@ -13,14 +13,14 @@ A network is a name, as `--network` takes it, a networkx graph, or a `Network`. 
         here = agent.enter(key)
         ..
 
-Its parameters behind the agent and its key may be `nodes`, `links`, `home`, `network` and `sleep`. One agent stands for
-all of a team of `count`; a list names each. A scheduler is a name, or a function of the seed that gives a function of
-(choices, state). `engine` is "model" for the Python model, of which nothing is proved, "program" for the program that
-`./arena-lab` takes, or the path of a program.
+Behind the agent and its key the function may have the parameters `nodes`, `links`, `home`, `network` and `sleep`. If
+one agent is named, all `count` agents of the team are alike; a list names each of them. A scheduler is a name, or a
+function of the seed that gives a function of (choices, state). `engine` is "model" for the Python model, which is not
+verified, "program" for the program that `./arena-lab` takes, or the path of a program.
 
-    found = lab.explore("ring:3..6", "examples/agents/ring.py {nodes}", engine="program")
-    found.solves, found.most_moves          # of every schedule that the lab tried
-    found.frame()                           # a row for each network and black hole: a frame of pandas, or a list
+    found = lab.explore("ring:3..6", "examples/agents/ring_step.py {nodes}", engine="program")
+    found.solves, found.most_moves          # under every schedule that the lab tried
+    found.frame()                           # a frame of pandas, or a list: a row for each network and black hole
 """
 import contextlib
 import importlib

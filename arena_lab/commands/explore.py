@@ -2,60 +2,64 @@
 
     ./arena-lab explore --network ring:6 --agent "examples/agents/ring.py {nodes}"
 
-With several networks, such as --network ring:3..8 or more than one --network, a table says in the end what each came
-to; the first that does not end well ends it.
+You may name several networks, such as --network ring:3..8, or --network more than once. Then a table follows with a
+row for each network. The command stops at the first network on which a schedule fails.
 
 If you name neither a black hole nor a dark link, each node but the home base is the black hole in turn. The command
 says how many states there are and the most moves of all schedules. It stops at the first schedule that fails, and
 writes that one to a folder. The exit status is 1 if a schedule fails.
 
-The program tries the schedules (`arena explore`), and the lab answers what the agents do. An agent is explored by its
-history, that is by all that it was told: two states are one if each agent has the same history in both. So a network
-has many more states for a program that could do with a small memory. Such an agent is better written as a step, that is
-a function step(memory, reply) which gives its new memory and its next command; it is explored by that memory, which is
-a plain value (examples/agents/ring_step.py, and `take_steps` in client.py beside it). A program of its own (--command)
-may have a member "memory" in its lines, by which it declares its memory; that, with its key, must be all on which it
-goes on.
+The program tries the schedules (`arena explore`), and the lab plays the agents. The state of an agent is its history:
+all replies that it has had. So a network has many states, even if the agent needs little memory. An agent has fewer
+states if you write it as a step, a function step(memory, reply) which gives its new memory and its next command: then
+its state is its memory, a plain value (examples/agents/ring_step.py, and `take_steps` in client.py beside it). A
+program of its own (--command) may declare its memory, by a member "memory" in its lines. It must then depend on that
+memory and its key alone.
 
-What is found was tried, and is no theorem about the agents: they may do something else another time. So it is checked
-that they do the same, and the line of the verdict says how often. The agents play 20 drawn schedules (--check N: N),
-and must do what they had answered. Other processes, each with another order of sets, tell agents inside the lab what
-they were told here, alone. On small matches the Python model's search must find the same. Where two histories come to
-one declared memory, the second agent is played on beside the first for some steps. If every schedule solves, the agents
-of one match are repeated alone as `run --repeat` does it, and a warning tells if one says something else. With --check
-0 nothing is checked. The line also says if agents draw by chance without a seed, read a clock, know their process or
-where objects lie, share installed packages, or reach files and programs: they may do something else then.
+The result holds for the replies that the agents had, and is no theorem about the agents: they may act otherwise another
+time. So the command checks them, and the last line counts the checks:
 
-A schedule also fails if an agent raises or breaks a rule under it, also once it has ended or when it is told that the
-match is over, and if it sleeps where nothing happens any more. The Python model's search takes over if an agent may use
-more commands than its quota, and --search model asks for it. It plays agents inside the lab, takes a step that meets
-nobody at once, and writes the schedule with the most moves if none fails.
+- The agents play 20 drawn schedules (--check N: N), and must act as before.
+- Other processes, each with another order of sets, play agents inside the lab alone, by the same replies.
+- On small matches the Python model's search must find the same.
+- If two histories lead to one declared memory, the second agent is played beside the first for some steps.
+- If every schedule solves, the agents of one match are repeated alone, as by `run --repeat`, and a warning names a
+  difference.
 
-Where a network has too many states, --draws N draws N schedules of each match instead: a hundred thousand runs take the
-program seconds once it was answered what the agents do. The command says how many of them solve, and the least, mean,
-median and most moves. --scheduler NAME says whose turn it is: each agent that can move is as likely (fair), agents go
-as far
-as they can (last-departed), one waits for all others (starved), or some agents or links are slow (slow-agents,
-slow-links). --objective moves begins every second schedule as the worst so far began, to find one with more moves, and
---objective lost one with more agents lost. The first schedule that fails is kept, or the worst. Nothing is known of
-schedules that were not drawn.
+--check 0 leaves these out. The last line also says if agents draw by chance without a seed, read a clock, know their
+process or where objects lie, share installed packages, or reach files and programs.
+
+A schedule also fails if an agent raises an exception or breaks a rule, even after its end or the end of the match, and
+if an agent sleeps for ever. If an agent may use more commands than its quota, the Python model's search takes over;
+--search model asks for it. It plays agents inside the lab, and writes the schedule with the most moves if none fails.
+
+If a network has too many states, use --draws N, which draws N schedules of each match. The program plays a hundred
+thousand of them in seconds, once it knows what the agents do. The command says how many solve, and the least, mean,
+median and most moves. It keeps the first schedule that fails, or else the worst, and says nothing of other schedules.
+--scheduler NAME says how schedules are drawn:
+
+    fair            every choice is as likely as any other
+    last-departed   agents go as far as they can
+    starved         one agent waits for all others
+    slow-agents     some agents are slow
+    slow-links      some links are slow
+
+With --objective moves every second schedule begins as the worst so far began, to find one with more moves; --objective
+lost seeks more lost agents.
 
     ./arena-lab explore --network ring:32 --agent "examples/agents/ring_step.py {nodes}" --draws 100000 \
         --objective moves
 
-A sleeper wakes once after each change of the whiteboard in front of it, and --spurious-wakeups times more: a team that
-waits by
-counting, as for a timeout, fails once another agent is slower than it counts. What is found says nothing of agents that
-nap more often. A warning tells if some agent still sleeps after that many naps, and might do something else after one
-more.
+A sleeper wakes once after each change of the whiteboard in front of it, and --spurious-wakeups times more. So a team
+that waits by counting fails if another agent is slower than the count. The result says nothing of agents that wake more
+often. A warning follows if an agent still sleeps then, and its next step after one more wake-up was not tried.
 
-With --workers N the matches of a network are tried N at a time, each by a process, and with --cluster by the workers of
-a Dask scheduler, as `sweep` has it. What is found is the same; each process asks the agents anew.
+--workers N tries N matches of a network at a time, each in a process, and --cluster uses the workers of a Dask
+scheduler, as `sweep` does. The result is the same.
 
-With --out FOLDER each match all of whose schedules solve it gets a row in `matches.csv`, and `moves.svg` shows the most
+With --out FOLDER each match that every schedule solves gets a row in `matches.csv`, and `moves.svg` shows the most
 moves of each network over its nodes, beside each --bound. If you interrupt the command, run it again: it goes on behind
-the last row. `made.json` has the SHA-256 of all that rows depend on, as that of a sweep, and if one of them is another,
-the command refuses to go on.
+the last row. `made.json` has the SHA-256 of all that rows depend on; if one has changed, the command refuses to go on.
 
     ./arena-lab explore --network ring:3..16 --agent "examples/agents/ring_step.py {nodes}" --workers 4 \
         --out out/rings --bound "2 n log2 n"

@@ -1,15 +1,14 @@
-"""Serves a hall: a place that stays up for a term, where teams practise, hand in programs, and are ranked by these.
+"""Serves a hall, which stays up for a term: teams practise there, and hand in programs, by which they are ranked.
 
     ./arena-lab hall new COURSE.toml              writes the file of a course, to be changed
     ./arena-lab hall COURSE.toml                  serves its hall on http://127.0.0.1:8000/
     ./arena-lab hall keys COURSE.toml             draws tokens for teams that have none, and writes their key sheets
     ./arena-lab hall password COURSE.toml         sets the teacher's password, which it asks for or draws
     ./arena-lab hall contest COURSE.toml --networks NAME .. --start 18:00 --minutes 90 --freeze 19:00
-                                                  plans a contest: programs are handed in then, on these networks
+                                                  plans a contest in which teams hand in programs for these networks
     ./arena-lab hall worker COURSE.toml           plays and grades for a hall that another machine serves
     ./arena-lab hall backup COURSE.toml FILE      writes all that the hall has into an archive, while it is served
-    ./arena-lab hall restore COURSE.toml FILE     puts the hall of an archive in the place of this one, which is put
-                                                  aside
+    ./arena-lab hall restore COURSE.toml FILE     puts the present hall aside, and an archive's hall in its place
 
 A team logs in by the token of its key sheet, or sends it with each request as a script. To practise it asks for a match
 on a network of the course, gets a host, a port and keys, and connects its agents from its own machine. Each match has a

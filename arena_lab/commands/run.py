@@ -7,10 +7,10 @@ The command says what the matches came to. It names the seed of the shortest mat
 the match with the most moves. With --keep it writes that match to a folder: its schedule, the script for `arena
 rehearse`, its replay and a page.
 
-With --repeat each agent of a match is started again when the match is over, alone and by another key, and is told what
-it was told. It must say what it said, or the team fails, and a line says at which command. A course counts a match only
-if it repeats so (`./arena-lab grade`): a program may use what it is told and the number in ARENA_SEED, and nothing
-else.
+With --repeat each agent of a match is started again after the match, alone and with another key, and gets the same
+replies. It must send the same commands, or the team fails, and a line names the first command that differs. A course
+counts a match only if it repeats so (`./arena-lab grade`): a program may use its replies and the number in ARENA_SEED,
+and nothing else.
 
 --workers spreads the matches over processes; the rows are the same. With --json each match is a line of JSON on
 standard output, and what they came to is said on standard error:
@@ -48,7 +48,7 @@ class Tally:
         self.failed = 0
         # how many failed though the network was solved, since an agent did
         self.beside = 0
-        # what is worth most: the shortest match in which the team failed, or else the one with the most moves
+        # the shortest match in which the team failed, or else the match with the most moves
         self.best: Optional[Row] = None
 
     def add(self, row: Row) -> None:
@@ -117,7 +117,7 @@ def count(rows: Iterable[Row], tally: Tally, printed: Optional[TextIO]) -> None:
 
 
 def report(tally: Tally, best: Row, keep: Optional[pathlib.Path], out: TextIO) -> None:
-    """Says what the matches came to, and what the one that is worth most is."""
+    """Prints the outcomes of the matches, and the match that is worth most."""
     counts = ", ".join(f"{outcome} {count}" for outcome, count in tally.outcomes.most_common())
     played = sum(tally.outcomes.values())
     told = "the shortest that failed" if tally.failed else "the most moves"

@@ -3,11 +3,10 @@
     ./arena-lab serve T [--port N] [--sessions S] [--turns K] [--pause MS] [--replay P]
         [--grace MS] [--gather MS] [--early]
 
-takes the words of `arena serve`, with its defaults, and does what it does: it listens on 127.0.0.1, prints `listening
-N`, serves up to S sessions on the matches of tournament T, takes K turns by the tournament's schedule with MS
-milliseconds between, closes the matches, ends as the arena does, writes the replays to P0.jsonl, P1.jsonl and so on,
-and prints a table. Each turn delivers the agent that it would deliver in the arena. It is not the arena: nothing of
-it is proved, it judges no contest and it writes no parts.
+It takes the words of `arena serve`, with the same defaults, and listens on 127.0.0.1. It prints `listening N`, and
+serves up to S sessions on the matches of tournament T. It takes K turns by the tournament's schedule, MS milliseconds
+apart, and closes the matches. Then it writes the replays to P0.jsonl, P1.jsonl and so on, and prints a table. Each turn
+delivers the agent that the arena would deliver. Nothing of it is proved, it judges no contest and it writes no parts.
 """
 import argparse
 import pathlib

@@ -65,16 +65,18 @@ class LeagueRow(NamedTuple):
 
 
 class Failure(NamedTuple):
-    """A failed match: its number, how many choices its schedule has, if it was played, whether a smallest schedule was
-    found, what is said of that, whether there are pages to watch, the files of what its programs wrote to standard
-    error, and what came of it as a referee tells it."""
+    """A failed match."""
 
     number: int
+    # the length of its schedule, if it was played
     choices: Optional[int]
     has_smallest: bool
+    # about the smallest schedule
     said: str
     has_pages: bool
+    # files of what its programs wrote to standard error
     errors: Sequence[str] = ()
+    # the referee's lines
     told: Sequence[str] = ()
 
 

@@ -1,4 +1,4 @@
-"""A hall's file: the teams of a course, the networks on which they practise, and how their programs are graded.
+"""A hall's file has the teams of a course, the networks on which they practise, and how their programs are graded.
 
     title = "Black hole search, autumn term"
     host = "arena.example.org"
@@ -25,10 +25,21 @@
     public        true if everybody may see the standings, and not only who has logged in (false)
     freeze        the time from which on the standings do not change for teams, such as "2026-12-18 18:00"
 
-Each [[team]] has a `name`, of 1 to 16 characters out of a to z, 0 to 9 and - (not first), and may have a `display` name
-of any script. Each [[network]] has a `name` and a `network`, as --network takes it, and may have `agents`, a number or
-"degree" for one more than the greatest degree (2), `holes` (1), `quota` (1000), `board` (4096), `labels`, "drawn" for
-each match or "fixed" ("drawn"), and `map`, true if teams get the network and the home base (false).
+Each [[team]] has these keys:
+
+    name          1 to 16 characters out of a to z, 0 to 9 and -; the first one is no -
+    display       a name of any script for pages (the name)
+
+Each [[network]] has these keys:
+
+    name          what teams call it
+    network       the network, as --network takes it
+    agents        how many agents a team has, or "degree" for one more than the greatest degree (2)
+    holes         how many black holes there are (1)
+    quota         how many commands an agent may use (1000)
+    board         how many bytes a whiteboard holds (4096)
+    labels        "drawn" if each match numbers the ports anew, or "fixed" ("drawn")
+    map           true if teams get the network and the home base (false)
 
     [limits]
     at_once       how many matches of a team wait or run at a time (2)

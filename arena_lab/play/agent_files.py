@@ -43,7 +43,7 @@ GIVEN = ("sleep", "network", "home")
 PLAIN = (inspect.Parameter.POSITIONAL_ONLY, inspect.Parameter.POSITIONAL_OR_KEYWORD)
 
 Sleep = Callable[[float], None]
-# plays one agent: by what sends and receives lines, the agent's key, and what it waits by
+# plays one agent. It gets an object that sends and receives lines, the agent's key, and a function to wait
 Script = Callable[[Any, str, Sleep], None]
 
 
@@ -238,9 +238,9 @@ def client_module() -> ModuleType:
 
 
 def with_own_variables(function: Callable[..., None], drawing: ModuleType) -> Callable[..., None]:
-    """A function whose variables are its own, those of its notebook or file and those of functions around it, and those
-    of the functions that it calls out of there: what it assigns to them nobody else sees. It draws by this module
-    `random`. A list or another object that a variable has is shared."""
+    """The function with copies of its variables: globals of its notebook or file, variables of functions around it, and
+    those of the functions there that it calls. Nobody else sees what it assigns to them, but an object such as a list
+    is shared. It draws by this module `random`."""
     if not isinstance(function, FunctionType):
         return function
     own = Own(function.__globals__)
@@ -297,7 +297,7 @@ def source_digest(function: Callable[..., None]) -> str:
 
 def digests(words: Sequence[str], is_inside: bool = True, more: Sequence[str] = ()) -> Dict[str, str]:
     """The SHA-256 of each file that the words name, and of all that these import, so that a schedule says for which
-    agents it was made. What plays inside the lab may import what the lab can; a program outside, what is beside it.
+    agents it was made. An agent inside the lab may import what the lab can, and a program outside what lies beside it.
     `more` are names of modules that are imported too."""
     folders = [str(AGENTS)] if is_inside else []
     named = [word.partition(":")[0] for line in words for word in line.split()]

@@ -1,6 +1,6 @@
-"""Notes of programs inside the lab what they reach outside of them: files that they write, the environment, threads,
-other programs; whether they go by chance, a clock or the number of their process; and which files they read. Python
-tells an audit hook of most; the functions of the library that read the rest are wrapped.
+"""Notes what programs inside the lab reach outside of them, such as files that they write, the environment, threads and
+other programs; whether they read chance, a clock or the number of their process; and which files they read. An audit
+hook of Python's reports most of this, and functions of the library are wrapped for the rest.
 """
 import contextlib
 import functools
@@ -27,7 +27,7 @@ REACHES = {"os.putenv": "sets a variable of the environment", "os.unsetenv": "se
            "os.system": "starts a program", "os.fork": "starts a program", "os.posix_spawn": "starts a program",
            "os.kill": "sends a signal", "sqlite3.connect": "opens a database", "socket.__new__": "opens a socket",
            "ctypes.dlopen": "loads a library", "mmap.__new__": "maps a file"}
-# what functions of the library read that is another thing another time
+# functions of the library that give something else another time
 CLOCKS = [f"{name}{unit}" for name in ("time", "monotonic", "perf_counter", "process_time", "thread_time")
           for unit in ("", "_ns")]
 CHANCE, CLOCK, PROCESS, IDENTITY = "draw by chance", "read a clock", "know their process", "know where objects lie"
@@ -43,8 +43,8 @@ IS_WATCHED: List[bool] = []
 
 
 class Notes:
-    """What a program has reached outside, or nothing, and what it has read: files, modules, and what is another thing
-    another time."""
+    """What a program has reached outside, or None, and what it has read: files, modules, and what differs from one time
+    to the next, such as clocks."""
 
     def __init__(self) -> None:
         self.reaches: Optional[str] = None
@@ -99,7 +99,7 @@ def watch() -> None:
 
 
 def note_read(what: str) -> None:
-    """Notes that the program which runs now reads what is another thing another time."""
+    """Notes that the running program reads this, which differs from one time to the next."""
     if not IS_WATCHED:
         return
     thread = needed("greenlet").getcurrent()

@@ -74,7 +74,7 @@ def write_find(folder: pathlib.Path, schedule: Schedule, played: PlayedMatch, pr
 
 
 def write_refused(path: pathlib.Path, played: PlayedMatch) -> None:
-    """Writes what is said of lines that were refused, if some were."""
+    """Writes the lines about refusals, if there are any."""
     if played.refused:
         path.write_text("".join(f"{it}\n" for it in played.refused), encoding="utf-8")
 

@@ -1,6 +1,6 @@
 """Modules that one agent inside the lab has for itself, as a program outside has: its file, what it imports that is
-neither Python's nor installed, wherever it stands, and `random` and `datetime`. They stand in their places while the
-agent runs, and those of the lab stand there else.
+neither Python's nor installed, wherever it lies, and `random` and `datetime`. They are in `sys.modules` while the agent
+runs, and the lab's modules at other times.
 """
 import datetime
 import operator

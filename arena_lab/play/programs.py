@@ -3,7 +3,7 @@
 The lab starts each program by its command line with host, port and key. The program connects over loopback and plays as
 in a contest. It has a port of its own, so the lab knows whose each connection is. The lab takes a step once each
 program has sent a line, waits for its arrival, or has ended, however long that takes, up to a limit. So a seed gives
-the same match on every run and every machine, as long as each program is a function of what it is told. A program that
+the same match on every run and every machine, as long as each program is a function of its replies. A program that
 breaks the rules ends its own play, and a line names it.
 
 What a program has sent counts, also if it ends before it is answered, as for `arena serve`.

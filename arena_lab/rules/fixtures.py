@@ -16,8 +16,8 @@ OWN_TEAM = "lab"
 
 
 class Fixture(NamedTuple):
-    """A match to be played: whose it is, its setup, the key of each agent, the links over which nobody arrives, each as
-    (node, port) of the departure, and how often an agent may wake again though nothing has changed in front of it."""
+    """A match to be played. `held` are the links over which nobody arrives, each as (node, port) of the departure. An
+    agent may wake `naps` times more though nothing has changed in front of it."""
 
     team: str
     setup: Setup

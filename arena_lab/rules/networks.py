@@ -1,21 +1,22 @@
 """Networks by name, by a seed, or out of a file.
 
-    ring:N          a ring of N nodes: port 0 leads to the next node, port 1 to the one before
-    hypercube:D     2^D nodes: port I leads to the node whose number differs in bit I
-    complete:N      N nodes, each joined to all others: port P of node V leads to node V + P + 1, round and round
-    torus:RxC       R rows and C columns: ports 0 to 3 lead east, west, south and north
-    grid:RxC        R rows and C columns: ports lead east, west, south and north, as far as there is a node
-    wheel:N         a hub, node 0, and a ring of N nodes around it: port P of the hub leads to node P + 1, whose ports
-                    0 and 1 lead on and back around, and port 2 to the hub
-    petersen:NxK    the generalized Petersen graph of 2N nodes, petersen:5x2 for Petersen's: ports 0 and 1 lead on and
-                    back by one place among nodes 0 to N - 1, by K among the others, and port 2 from ring to ring
-    ccc:D           the cube-connected cycles of D 2^D nodes: node D W + I stands at place I of the cycle W; port 0
-                    leads on along the cycle, port 1 back, and port 2 to the cycle whose number differs in bit I
-    random:SEED     3 to 24 nodes with 2 to 6 ports each, drawn by the seed; ports are numbered by chance
+    ring:N          A ring of N nodes. Port 0 leads to the next node, port 1 to the node before.
+    hypercube:D     2^D nodes. Port I leads to the node whose number differs in bit I.
+    complete:N      N nodes, each joined to all others. Port P of node V leads to node V + P + 1, modulo N.
+    torus:RxC       R rows and C columns. Ports 0 to 3 lead east, west, south and north.
+    grid:RxC        The same without the links around. A node at the edge has fewer ports, in the same order.
+    wheel:N         A hub, node 0, and a ring of N nodes around it. Port P of the hub leads to node P + 1. A node of the
+                    ring has ports 0 and 1 to its neighbours, and port 2 to the hub.
+    petersen:NxK    The generalized Petersen graph of 2N nodes; petersen:5x2 is Petersen's. Nodes 0 to N - 1 are a ring,
+                    whose ports 0 and 1 lead on and back. Ports 0 and 1 of the others lead on and back by K places. Port
+                    2 joins node V to node N + V.
+    ccc:D           The cube-connected cycles of D 2^D nodes. Node D W + I stands at place I of the cycle W. Its ports 0
+                    and 1 lead on and back along the cycle, and port 2 to the cycle whose number differs in bit I.
+    random:SEED     3 to 24 nodes with 2 to 6 ports each, drawn by the seed. Ports are numbered by chance.
     random:N:degK:seedS
-                    N nodes with K ports each, drawn by the seed S; ports are numbered by chance
-    FILE            a network file, as `arena check` reads it
-    FILE.graphml    a graph in GraphML: nodes in their order, and the ports of a node in the order of its links
+                    N nodes with K ports each, drawn by the seed S. Ports are numbered by chance.
+    FILE            A network file, as `arena check` reads it.
+    FILE.graphml    A graph in GraphML. Its nodes keep their order, and a node's ports have the order of its links.
 """
 import collections
 import pathlib

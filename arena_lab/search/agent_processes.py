@@ -1,4 +1,4 @@
-"""The programs of agents, each by itself: how they begin, and what they do next once they are told something."""
+"""The programs of agents, each by itself: how they begin, and their next step after a reply or a wake-up."""
 import collections
 from typing import Any, Deque, Dict, List, NamedTuple, Optional, Sequence, Tuple
 
@@ -13,7 +13,7 @@ from arena_lab.rules.model import LAST, OVER as TOLD_OVER, command_of, denial, s
 from arena_lab.search.history_tree import EARLY, NoFunction
 
 SAYS, SLEEP, STOP, FAIL, LEAVE = "says", "sleeps", "stops", "fails", b'{"do":"leave"}'
-# what an agent is told last, and that after which it sees nothing
+# the last replies to an agent, and the replies after which it sees nothing
 ENDS = {spelled(reply) for reply in LAST}
 OVER = spelled(TOLD_OVER)
 BLIND = ENDS | {DEPARTED}
@@ -104,8 +104,7 @@ class AgentProcesses:
         return one
 
     def tell_all(self, one: AgentProcess, all_news: Sequence[str]) -> None:
-        """Tells a program what is told on a way that was gone before. One inside the lab takes most of it in one turn:
-        see `Player.receive`."""
+        """Takes a program along noted news. One inside the lab takes most of them in one turn: see `Player.receive`."""
         ahead = collections.deque(all_news)
         while ahead:
             self.tell(one, ahead.popleft(), ahead)
@@ -128,7 +127,7 @@ class AgentProcesses:
             raise NoFunction(EARLY.format(player.number))
 
     def _heard(self, one: AgentProcess, news: str, ahead: Optional[Deque[str]]) -> str:
-        """Has a program hear a line or wake; gives what it was told last."""
+        """Has a program hear a line or wake; gives the last news that it took."""
         player, before = one.player, tuple(ahead or ())
         if isinstance(player, Player):
             player.latest, player.ahead = news, ahead

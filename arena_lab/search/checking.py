@@ -1,5 +1,6 @@
-"""How `explore` checks that agents are the machines for which the lab takes them: drawn schedules that the agents play,
-on small matches the Python model's search, and the merges of memories that programs declare."""
+"""How `explore` checks that agents are machines, which always answer a history alike. The agents play drawn schedules,
+other processes play histories again, the Python model searches small matches too, and merges of declared memories are
+followed."""
 from typing import Any, FrozenSet, List, NamedTuple, Optional, Protocol
 
 from arena_lab.play.teams import INSIDE, AgentWords
@@ -17,17 +18,20 @@ SECONDS, STATES = 1.0, 20_000
 
 
 class Counted(NamedTuple):
-    """What was checked of matches, and agreed: how many merges of declared memories of how many, drawn schedules,
-    histories that agents were told in other processes, and matches that the Python model searched, of how many; and
-    what agents were seen to go by but what they are told. `str` says it."""
+    """What was checked of matches, and agreed. `str` says it."""
 
+    # merges of declared memories, and how many of them there were
     checked: int = 0
     merged: int = 0
+    # drawn schedules that the agents played
     schedules: int = 0
+    # matches that the Python model searched too, and how many there were
     searched: int = 0
     matches: int = 0
     is_wanted: bool = True
+    # histories that agents played again in other processes
     apart: int = 0
+    # what agents read or reach besides replies
     seen: FrozenSet[str] = frozenset()
 
     def more(self, other: "Counted") -> "Counted":

@@ -4,8 +4,8 @@
 that is written as a step is asked (arena_lab/search/step_machines.py), and its memory is the value that it gives.
 Another one is played up to there, and its memory is its history: the agent's number and all that has happened to it. A
 program that has ended or failed does nothing more, so all its histories are one memory then. A program of its own may
-declare another memory, by a member `memory` of the line that it sends; whenever two histories of it come to one memory,
-the second is played on beside the first for some steps, and a difference is told: see `MergeChecks`.
+declare its memory, by a member `memory` of the line that it sends. When two of its histories lead to one memory,
+`MergeChecks` plays the second on beside the first for some steps, and reports a difference.
 """
 import collections
 import hashlib
@@ -169,7 +169,7 @@ class Machines:
         return spelled(here) if here else None
 
     def seen(self) -> FrozenSet[str]:
-        """What the programs inside the lab were seen to go by but what they are told, as one says it of them."""
+        """What the programs inside the lab read or reach besides replies: each ends a sentence about them."""
         found, notes = set(self._processes.notes.reads), self._processes.notes
         packages = sorted(name[len(PACKAGE):] for name in digests_of(self._inside()) if name.startswith(PACKAGE))
         if packages:
@@ -230,7 +230,7 @@ class Machines:
         return one
 
     def _nearest(self, memory: int) -> Tuple[AgentProcess, List[str]]:
-        """A program, and what it is to be told to come to a memory: one that is left before it, or that begins. As a
+        """A program before a memory, and the news that lead it there. The program was left on the way, or begins; as a
         check one of many begins."""
         self._replayed += 1
         if self._replayed % FROM_START:

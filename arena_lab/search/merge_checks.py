@@ -1,6 +1,5 @@
-"""Merges of declared memories are checked. When a program comes to a memory to which another one has come before, the
-two are taken for one from then on. `MergeChecks` keeps the second, tells it what the first is told, and compares what
-both do then, for some steps."""
+"""Checks merges of declared memories. When a second program reaches a memory, the search takes both programs for one.
+`MergeChecks` keeps the second, gives it the same news as the first, and compares their next steps."""
 from typing import Any, Dict, List, NamedTuple
 
 from arena_lab.search.history_tree import NoFunction
@@ -55,7 +54,7 @@ class MergeChecks:
         return self.checked < self._merges or self.merged % ONE_OF == 0
 
     def answered(self, memory: int, news: str, after: int) -> None:
-        """Tells those who wait at a memory what the first was told there."""
+        """Gives the programs that wait at a memory the news that the first one had there."""
         waiting = self._waiting.pop(memory, None)
         if waiting:
             self._count -= len(waiting)
@@ -63,7 +62,7 @@ class MergeChecks:
                 self._step(memory, second, news, after)
 
     def _go_on(self, memory: int, second: MergedProgram) -> None:
-        """Goes on by what was answered, or waits until something is."""
+        """Takes the next noted news, or waits for some."""
         if not second.steps or second.one.is_over():
             self._machines.leave(memory, second.one)
             return
@@ -75,8 +74,8 @@ class MergeChecks:
             self._step(memory, second, *told)
 
     def _step(self, memory: int, second: MergedProgram, news: str, after: int) -> None:
-        """Tells the second what the first was told at a memory, and compares what it does then, and after its last step
-        its memory."""
+        """Gives the second program the news that the first had at a memory, and compares the next steps, and after the
+        last step the memories."""
         machines, one = self._machines, second.one
         machines.tell(one, news)
         self.compared += 1

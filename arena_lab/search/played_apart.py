@@ -1,6 +1,5 @@
-"""Agents are told once more what they were told, by another process: alone, with another order of sets, other places in
-memory, and nothing that another agent has kept. What an agent does by an accident of one process it does otherwise
-there."""
+"""Plays histories again in other processes, for each agent alone. There the order of sets and the places in memory
+differ, and no other agent has kept anything. So an agent that depends on an accident of one process differs there."""
 import contextlib
 import itertools
 import os
@@ -17,7 +16,7 @@ from arena_lab.search.machines import Machines
 from arena_lab.search.step_machines import StepMachine
 from arena_lab.support.built import TOP
 
-# how many histories a process tells agents, each as often as that makes up
+# how many histories a process plays, some of them more than once if there are fewer
 HISTORIES = 50
 # in how many other processes the agents of a game are played at least
 PROCESSES = 4
@@ -25,7 +24,7 @@ NOBODY = AgentWords(OUTSIDE, "nobody")
 
 
 class History(NamedTuple):
-    """What one agent is told, and what it did at the start and after each."""
+    """The news of one agent, and its steps: at the start and after each of them."""
 
     agent: int
     news: List[str]

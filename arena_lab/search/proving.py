@@ -1,6 +1,5 @@
-"""All schedules of the matches of a game, tried or drawn by the program (arena_lab/search/program_search.py), and the
-schedule that
-it tells, as the agents play it."""
+"""The matches of a game whose schedules the program tries or draws (arena_lab/search/program_search.py), and the kept
+schedule, as the agents play it."""
 from typing import Any, Callable, Dict, Iterator, List, NamedTuple, Optional, Sequence, Tuple
 
 from arena_lab.play.matches import MatchRun
@@ -23,8 +22,8 @@ FOUND = (FAILS, BREAKS, ENDLESS)
 
 
 class MatchResult(NamedTuple):
-    """A match whose schedules were tried by the program, and by the Python model if the program says nothing of it; and
-    the SHA-256 of each file that its agents have read, by their names, where rows are written."""
+    """A match whose schedules the program tried. `beside` is the Python model's search, where the program could not.
+    `read` has the SHA-256 of each file that its agents read; it is empty unless rows are written."""
 
     fixture: Fixture
     answered: ExploreAnswer
@@ -49,8 +48,8 @@ After = Callable[[MatchResult, Any], MatchResult]
 
 
 class Proving:
-    """The matches of a game, whose schedules are tried up to the first match that fails or is not tried as a whole, and
-    what is checked of how their agents are taken for machines."""
+    """The matches of a game, up to the first one that fails or is not tried as a whole, and the checks of its
+    agents."""
 
     def __init__(self, game: Game, check: int) -> None:
         self._fixtures = game.fixtures()

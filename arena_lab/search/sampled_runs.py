@@ -1,5 +1,5 @@
-"""Drawn schedules of a match, played by the agents' programs and followed in what they answered before: the check that
-a program is a function of what it is told, or of the memory that it declares."""
+"""Plays drawn schedules with the agents' programs, and compares each step with the noted answers. So it checks that an
+agent is a function of its history, or of the memory that it declares."""
 import random
 from typing import List
 
@@ -15,7 +15,7 @@ from arena_lab.search.agent_processes import SLEEP, STOP, AgentStep
 
 
 class SampledProgram:
-    """An agent's program that plays, and its memory by what was answered."""
+    """An agent's program that plays, and its memory by the noted answers."""
 
     def __init__(self, machines: Machines, player: Player) -> None:
         self._machines, self.player = machines, player
@@ -28,14 +28,13 @@ class SampledProgram:
         self.go_on(line)
 
     def go_on(self, news: str) -> None:
-        """Goes on in what was answered. A memory that nobody asked for is asked for now. Who sees nothing was woken at
-        once."""
+        """Moves to the next noted memory, or asks for it. An agent that sees nothing was woken at once."""
         if news == WAKES and self._machines.steps[self.memory].does != SLEEP:
             return
         self.memory = self._machines.next(self.memory, news)
 
     def compare(self, step_number: int, is_blind: bool, has_ended: bool) -> None:
-        """Compares what the program does next with what was answered. Who sees nothing may still sleep."""
+        """Compares the program's next step with the noted one. An agent that sees nothing may still sleep."""
         player, step = self.player, self._machines.steps[self.memory]
         if has_ended and step.does == STOP:
             # nobody answers what it still says

@@ -17,17 +17,21 @@ Command = Dict[str, Any]
 
 
 class Memory(NamedTuple):
-    """What an agent knows: what it does, which side is its own, how many nodes of its side and of the other it knows to
-    be safe, how far it is to explore, by which port it goes to the right, what the whiteboard says, and how many steps
-    of a longer way are left."""
+    """What an agent knows."""
 
     doing: str = "enters"
+    # the side that it explores
     side: int = RIGHT
+    # how many nodes are safe on its own side, and on the other one
     mine: int = 0
     theirs: int = 0
+    # how many nodes of its own side it is to explore
     target: int = 0
+    # the port to the right, at the node where it is
     right: int = 0
+    # what the whiteboard says
     board: str = ""
+    # how many steps of a longer way are left
     steps: int = 0
 
     def left(self, nodes: int) -> int:

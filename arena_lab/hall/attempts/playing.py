@@ -52,7 +52,7 @@ def play(number: int, holder: str) -> None:
 
 
 def told_of(fault: Exception, work: object) -> str:
-    """What a team is told of a fault: those of the machine, which name files, stand in the worker's log."""
+    """What a team reads of a fault. A fault of the machine names files, so it goes to the worker's log alone."""
     if isinstance(fault, Fault):
         return str(fault)[:300]
     tell(f"{type(work).__name__} {work}: {fault}")

@@ -67,8 +67,8 @@ class Server:
 
 
 def tell_log(folder: pathlib.Path) -> None:
-    """Tells the teacher, in the log of the worker, what a server said last. Teams are not told: it counts events, also
-    those of which no agent knows."""
+    """Writes a server's last line to the worker's log, for the teacher. Teams never see it: it counts events that no
+    agent can observe."""
     with contextlib.suppress(OSError, IndexError):
         last = (folder / "log.txt").read_text(encoding="utf-8", errors="replace").splitlines()[-1]
         tell(f"{folder}: {last[:200]}")

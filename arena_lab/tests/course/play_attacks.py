@@ -610,7 +610,7 @@ except OSError as fault:
 
 class Timing(Course):
     def test_who_does_not_read_and_ends_is_heard_to_the_end(self) -> None:
-        """A function of what it is told, which says all at once: to node 1, back, to node 3, and what it has found."""
+        """It sends all its commands at once: to node 1, back, to node 3, and its accusation."""
         code = BEGINS + """server = socket.create_connection(("127.0.0.1", int(sys.argv[1])))
 said = [{"do": "enter", "key": sys.argv[2]}, *({"do": "depart", "port": port} for port in (0, 1, 1))]
 said += [{"do": "look"}] * 200 + [{"do": "accuse", "port": 1}]

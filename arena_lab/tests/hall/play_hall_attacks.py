@@ -1,20 +1,21 @@
-"""Attacks on a hall that were tried, each with what it wins: nothing. What each won before it was mended:
+"""Attacks on a hall, none of which wins anything now. Before it was mended,
 
-- a name of 400 bytes in a zip: 500 for every later hand-in of all teams
-- a page is sent a token that is a guess, which is then tried by REST: a guess cost no try
-- a token or session that was replaced: its flood spent the team's requests
-- zips with 180,000 entries, or what is refused, without end: seconds of the web server for each
-- a long replay's page again and again: it was read anew for each request
-- a fault of the disk: it named paths of the hall's folder
+- a name of 400 bytes in a zip made every later hand-in of all teams end with status 500
+- guesses of tokens cost no try if a page was asked first, and REST then
+- a flood with a replaced token or session used up the team's requests
+- a zip of 180,000 entries, or a refused file without end, took seconds of the web server
+- the page of a long replay was made anew for each request
+- a fault of the disk named paths of the hall's folder
 
-In other tests: tokens tried from all addresses
-of a network of IPv6, another team's match or replay, the black hole before the close by page, REST, size, header and
-error (play_hall_pages.py, play_hall_rest.py); X_Forwarded_For through Caddy, and many requests at once through nginx
-(play_hall_nginx.py); paths, SQL, HTML, formulas, requests of other sites, links and bombs in zips (test_hall.py,
-play_hall.py).
+Other files try other attacks:
 
-Two still win what they say: wrong tokens from a team's own address have others of that team wait minutes there, but
-nobody who has logged in; and the numbers of attempts count the attempts of all teams.
+- play_hall_pages.py and play_hall_rest.py: tokens from all addresses of an IPv6 network, another team's match or
+  replay, and the black hole before the close, by page, REST, size, header and error
+- play_hall_nginx.py: X_Forwarded_For through Caddy, and many requests at once through nginx
+- test_hall.py and play_hall.py: paths, SQL, HTML, formulas, requests of other sites, and links and bombs in zips
+
+Two attacks still win something. Wrong tokens from a team's own address make the team's other members wait minutes
+before they can log in from there. The numbers of attempts tell how many attempts all teams have made.
 """
 import unittest
 import zipfile

@@ -1,5 +1,5 @@
-"""What of a hall needs no Django: the table of its machine, its file, the rules of its standings, what is unpacked, and
-what a team sees of a match that goes on."""
+"""The parts of a hall that need no Django: its state machine, its file, the rules of its standings, the unpacking of
+hand-ins, and what a team sees of a running match."""
 import io
 import itertools
 import json

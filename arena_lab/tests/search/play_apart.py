@@ -27,7 +27,7 @@ ACCIDENTS = {
     "the time": ("from datetime import datetime", "pass", "datetime.now().microsecond % 10"),
     "what all programs share": ("import string", "string.zz = getattr(string, 'zz', 0) + 1", "string.zz % 7"),
 }
-# agents that are always right, by what the verdict says that they read or reach
+# agents that solve; the verdict names what each of them reads or reaches
 READ = {
     "draw by chance": ("import random", "pass", "random.random() < 2"),
     "read a clock": ("import time", "pass", "time.monotonic() > 0"),

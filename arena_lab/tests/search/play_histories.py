@@ -179,7 +179,7 @@ class Histories(InExplore):
                     self.assertIn(f"agent 1: has changed {said} of its lines, by which the lab plays it", self.said)
 
     def test_an_agent_was_told_what_the_lab_has_told_it(self) -> None:
-        """It goes on, though it says itself that it was told of the end."""
+        """An agent that claims to have had the last reply plays on."""
         text = "def good(agent, key):\n    agent.enter(key)\n    agent.accuse(0)\ndef wrong(agent, key):\n" \
             "    agent.enter(key)\n    agent._lines.latest = '{\"ok\":\"over\"}'\n    agent.accuse(1)\n"
         file = f"{self.folder}/hides.py"

@@ -69,7 +69,7 @@ class Order(unittest.TestCase):
         self.assertGreater(len(one.found), 100)
         for history in one.found:
             self.assertEqual(one.step(history), other.step(history), history)
-        # the same histories come to one memory, and only those of programs that have ended
+        # both merge the same histories, and only those of programs that have ended
         pairs = {(memory, other.found[history]) for history, memory in one.found.items()}
         self.assertEqual(len(pairs), len(set(one.found.values())))
         self.assertEqual(len(pairs), len(set(other.found.values())))
