@@ -6,7 +6,8 @@ The folder gets `runs.csv`, with a row for each run, `summary.csv`, `report.html
 the runs with the most moves, each with its schedule, its replay and its page. If you interrupt the command, run it
 again: it goes on behind the last row. The same file gives the same rows, however many --workers there are. The summary
 counts the different matches of each group: schedulers such as `starved` play few, however many seeds there are, and
-then the confidence of the mean says little. With holes = "by seed" it says nothing of holes that no seed has.
+then the confidence of the mean says little. With holes = "by seed" and fewer seeds than nodes it says nothing of the
+other black holes; with holes = "drawn" the seeds' black holes are a sample.
 
 With --cluster the runs are spread over the workers of a Dask scheduler (Debian's python3-distributed), on this machine
 or others: `dask-scheduler`, then `dask-worker ADDRESS` for each, then `--cluster ADDRESS`. The rows are the same.

@@ -44,9 +44,9 @@ know of the network; {network} is the network's file, for a team that is to have
 
 Names of files are paths from the folder of the course's file. A hand-in is bounded, and no link in it is followed.
 
-All teams play the same matches, each in an order of its own. Black holes are drawn if `holes` is a number or "by seed":
-for each match, so that one match tells nothing of another. Keys, black holes, home bases and ports that are drawn, the
-order, and the seeds of schedulers come from the course's secret, which is drawn at the first run and kept in
+All teams play the same matches, each in an order of its own. If `holes` is a number, "by seed" or "drawn", the black
+hole is drawn for each match, so that one match tells nothing of another. The draws of keys, black holes, home bases,
+ports, orders and seeds of schedulers come from the course's secret. The secret is drawn at the first run and kept in
 `secret.txt` beside the results. To grade again by the same draws, name that file by --secret; if a team has handed in
 something else since, all is drawn anew.
 """
@@ -131,7 +131,7 @@ class CourseFile(NamedTuple):
     def _placed(self, case: Case) -> Case:
         """A match with black holes, a home base and ports of its own, as far as the file does not name them. They are
         the same for all teams."""
-        if not isinstance(self.grid.holes, int) and self.grid.holes != grid.BY_SEED:
+        if not isinstance(self.grid.holes, int) and self.grid.holes not in (grid.BY_SEED, grid.DRAWN):
             return case
         words = (case.network, case.scheduler, case.seed, *case.holes)
         chance = random.Random(self.draws.drawn("place", *words))

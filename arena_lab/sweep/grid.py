@@ -16,9 +16,13 @@
     networks      names of networks, as --network takes them, or files
     ports         "shuffled:SEED" numbers the ports of each node anew; may be absent
     home          the home base (0)
-    holes         "by seed": seed S has a black hole of its own, as `run` takes it; "all": each node in turn; a number:
-                  this number of nodes, drawn for each network; a list: these nodes, each in turn, or in the place of a
-                  node a list of nodes that are all black holes, or [] for no black hole ("by seed")
+    holes         one of ("by seed"):
+                  "by seed"   seeds take the nodes as black holes in their order, one after the other, as `run` does
+                  "drawn"     the same in an order that is drawn for each network, so that few seeds are a sample
+                  "all"       each node in turn, with all seeds
+                  a number    this number of nodes, drawn for each network, with all seeds
+                  a list      these nodes, each in turn; in the place of a node there may be a list of nodes that are
+                              all black holes, or [] for no black hole
     dark          dark links, each by the node and the port of one of its ends, such as [[0, 1]] ([])
     schedulers    as --scheduler takes them (["fair"])
     seeds         how many seeds each scheduler gets (1)
@@ -44,7 +48,7 @@ from arena_lab.rules.model import Place, Setup
 from arena_lab.rules.networks import Network, NoNetwork
 from arena_lab.support.faults import Fault
 
-BY_SEED, ALL, DEGREE = "by seed", "all", "degree"
+BY_SEED, DRAWN, ALL, DEGREE = "by seed", "drawn", "all", "degree"
 BOUNDS: Dict[str, Callable[[float], float]] = {
     "2 n log2 n": lambda nodes: 2 * nodes * math.log2(nodes),
     "n log2 n": lambda nodes: nodes * math.log2(nodes),
@@ -132,8 +136,9 @@ class Grid(NamedTuple):
             return [[holes] for holes in self.holes]
         others = [node for node in range(self.networks[name].nodes) if node != self.home]
         chance = random.Random(f"{secret}{name} {self.holes}")
-        if self.holes == BY_SEED:
-            return [[(hole,) for hole in (chance.sample(others, len(others)) if secret else others)]]
+        if self.holes in (BY_SEED, DRAWN):
+            is_drawn = secret or self.holes == DRAWN
+            return [[(hole,) for hole in (chance.sample(others, len(others)) if is_drawn else others)]]
         drawn = others if isinstance(self.holes, str) else sorted(chance.sample(others, min(self.holes, len(others))))
         return [[(hole,)] for hole in drawn]
 
@@ -198,7 +203,7 @@ def grid_in(found: Dict[str, Any], folder: pathlib.Path = pathlib.Path()) -> Gri
     return grid
 
 
-HOLES_ARE = f'"{BY_SEED}", "{ALL}", how many to draw, or a list of nodes and of lists of nodes'
+HOLES_ARE = f'"{BY_SEED}", "{DRAWN}", "{ALL}", how many to draw, or a list of nodes and of lists of nodes'
 
 
 def ports_in(found: Dict[str, Any]) -> Optional[int]:
@@ -285,7 +290,7 @@ def is_count(value: Any) -> bool:
 
 
 def is_holes(value: Any) -> bool:
-    return value in (BY_SEED, ALL) or is_count(value) or isinstance(value, list) and value != [] and all(
+    return value in (BY_SEED, DRAWN, ALL) or is_count(value) or isinstance(value, list) and value != [] and all(
         is_number(it) or isinstance(it, list) and all(map(is_number, it)) for it in value)
 
 

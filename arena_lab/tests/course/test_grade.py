@@ -134,7 +134,7 @@ class Places(Folder):
         return [(setup.holes[0], setup.home, tuple(setup.links)) for setup in setups]
 
     def test_they_are_drawn_for_each_match(self) -> None:
-        for holes in ("1", '"by seed"'):
+        for holes in ("1", '"by seed"', '"drawn"'):
             hole, home, links = map(set, zip(*self.places(f"holes = {holes}\n")))
             self.assertGreater(len(hole), 8)
             self.assertGreater(len(home), 8)
@@ -159,7 +159,7 @@ class Secrets(Folder):
         return [case.holes[0] for case in course_of(text, self.folder, secret).cases() if case.network == "ring:64"]
 
     def test_black_holes(self) -> None:
-        for holes in ("8", '"by seed"'):
+        for holes in ("8", '"by seed"', '"drawn"'):
             found = {tuple(self.drawn(f"{SECRET}{number}", holes)) for number in range(5)}
             self.assertEqual(len(found), 5, holes)
             self.assertEqual(self.drawn(SECRET, holes), self.drawn(SECRET, holes))

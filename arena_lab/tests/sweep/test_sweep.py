@@ -49,6 +49,15 @@ class Files(unittest.TestCase):
         self.assertEqual(holes("2"), holes("2"))
         self.assertNotIn(2, holes("4"))
 
+    def test_few_seeds_that_draw_black_holes_are_a_sample(self) -> None:
+        def holes(seeds: int) -> List[int]:
+            grid = grid_of(text(f"seeds = {seeds}\nholes = 'drawn'\n").replace("ring:5", "ring:128"))
+            return [case.holes[0] for case in grid.cases() if case.network == "ring:128"]
+        self.assertEqual(sorted(holes(127)), list(range(1, 128)))
+        self.assertEqual(holes(20), holes(127)[:20])
+        # a quarter of them on each side of the home base at least
+        self.assertTrue(5 <= sum(hole < 64 for hole in holes(20)) <= 15, holes(20))
+
     def test_several_black_holes_and_dark_links(self) -> None:
         grid = grid_of(text("holes = [1, [3, 2], []]\ndark = [[0, 1]]\n"))
         cases = [case for case in grid.cases() if case.network == "ring:5"]
@@ -65,7 +74,7 @@ class Files(unittest.TestCase):
                             (text("seed = 3\n"), "it has no key seed; its keys are board,"), ("title", "it is no TOML"),
                             (text("seeds = 0\n"), "seeds must be a whole number from 1"),
                             (text("bound = 'n'\n"), "bound must be one of 2 n log2 n,"),
-                            (text("holes = 'some'\n"), "holes must be \"by seed\", \"all\","),
+                            (text("holes = 'some'\n"), "holes must be \"by seed\", \"drawn\", \"all\","),
                             (text("holes = [4]\n"), "holes has 4, and a black hole of ring:4 is a node up to 3"),
                             (text("holes = [[1, 1]]\n"), "ring:4: node 1 is named as a black hole twice"),
                             (text("dark = [[0, 2]]\n"), "ring:4: node 0 has no port 2, so no dark link is there"),
