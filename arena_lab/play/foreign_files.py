@@ -8,9 +8,11 @@ import importlib.util
 import os
 import pathlib
 import random
+import resource
 import sys
 import sysconfig
 import time
+import uuid
 from types import ModuleType
 from typing import Any, Callable, Dict, Iterator, List, Optional, Set, Tuple
 
@@ -28,12 +30,14 @@ REACHES = {"os.putenv": "sets a variable of the environment", "os.unsetenv": "se
            "os.kill": "sends a signal", "sqlite3.connect": "opens a database", "socket.__new__": "opens a socket",
            "ctypes.dlopen": "loads a library", "mmap.__new__": "maps a file"}
 # functions of the library that give something else another time
-CLOCKS = [f"{name}{unit}" for name in ("time", "monotonic", "perf_counter", "process_time", "thread_time")
-          for unit in ("", "_ns")]
+CLOCKS = [f"{name}{unit}" for name in ("time", "monotonic", "perf_counter", "process_time", "thread_time",
+                                       "clock_gettime") for unit in ("", "_ns")]
 CHANCE, CLOCK, PROCESS, IDENTITY = "draw by chance", "read a clock", "know their process", "know where objects lie"
 READS: Dict[str, List[Tuple[ModuleType, str]]] = {
-    CHANCE: [(os, "urandom"), (os, "getrandom"), (random, "_urandom")], PROCESS: [(os, "getpid")],
-    CLOCK: [(time, name) for name in [*CLOCKS, "localtime", "gmtime", "ctime", "strftime"]]}
+    CHANCE: [(os, "urandom"), (os, "getrandom"), (random, "_urandom")],
+    PROCESS: [(os, name) for name in ("getpid", "getppid", "getpgrp", "getpgid", "getsid")],
+    CLOCK: [(uuid, "uuid1"), (os, "times"), (resource, "getrusage"), *(
+        (time, name) for name in [*CLOCKS, "localtime", "gmtime", "ctime", "asctime", "strftime"])]}
 WRITES = os.O_WRONLY | os.O_RDWR | os.O_CREAT | os.O_APPEND | os.O_TRUNC
 # folders whose files are no part of an agent: those of Python, of the lab, and of Linux
 PYTHONS = ("stdlib", "platstdlib", "purelib", "platlib")

@@ -29,12 +29,17 @@ ACCIDENTS = {
 }
 # agents that solve; the verdict names what each of them reads or reaches
 READ = {
-    "draw by chance": ("import random", "pass", "random.random() < 2"),
-    "read a clock": ("import time", "pass", "time.monotonic() > 0"),
-    "know their process": ("import os", "pass", "os.getpid() > 0"),
     "know where objects lie": ("", "pass", "id(agent) > 0"),
     "share the installed greenlet": ("import greenlet", "pass", "True"),
     "reach what lies outside, since it writes a file": ("", "open('/dev/null', 'w').close()", "True"),
+}
+# what an agent may read, by the word for it and the modules of the library
+READERS = {
+    "draw by chance": ["os.urandom(1)", "random.SystemRandom().random()", "random.random()",
+                       "secrets.randbelow(9)", "uuid.uuid4()"],
+    "read a clock": ["time.time()", "time.monotonic()", "time.clock_gettime(time.CLOCK_MONOTONIC)", "time.asctime()",
+                     "datetime.datetime.now()", "os.times()", "uuid.uuid1()", "resource.getrusage(0)"],
+    "know their process": ["os.getpid()", "os.getppid()"],
 }
 MATES = '''
 import sys
@@ -57,9 +62,10 @@ def second(agent, key):
 
 
 class Apart(InExplore):
-    def explored(self, lines: str, first: str, is_right: str) -> int:
+    def explored(self, lines: str, first: str, is_right: str, check: int = 20) -> int:
         (self.folder / "agent.py").write_text(AGENT.format(lines=lines, first=first, is_right=is_right))
-        return self.command("--network", "ring:3", "--hole", 1, "--agents", 1, "--agent", f"{self.folder}/agent.py")
+        return self.command("--network", "ring:3", "--hole", 1, "--agents", 1, "--agent", f"{self.folder}/agent.py",
+                            "--check", check)
 
     def test_accidents_are_found_out(self) -> None:
         for name, agent in ACCIDENTS.items():
@@ -79,6 +85,14 @@ class Apart(InExplore):
         self.assertEqual(self.explored("import random\nrandom.seed(7)", "pass", "random.random() < 2"), 0)
         self.assertIn("checked, and all agree: 20 drawn schedules, 200 histories told in other processes, the Python "
                       "model's search of 1 of 1 matches\n", self.said)
+
+    def test_each_reader_of_the_library_is_named(self) -> None:
+        for said, readers in READERS.items():
+            for reader in readers:
+                with self.subTest(reader):
+                    lines = f"import {reader.partition('.')[0]}"
+                    self.assertEqual(self.explored(lines, "pass", f"{reader} is not None", check=1), 0, self.said)
+                    self.assertIn(f"; the agents {said}, and may do something else another time\n", self.said)
 
     def test_a_library_in_another_folder_is_of_one_agent(self) -> None:
         (self.folder / "elsewhere").mkdir()
