@@ -1,16 +1,18 @@
 """What `./arena check` and `./arena serve` say of a tournament on standard error, beside the lines of the program: keys
-that are ignored and why a network cannot be read, and behind `check` the schedule and the links that are held or dark.
+that are ignored, why a network cannot be read, and behind `check` the schedule and the links that are held or dark.
 
     python3 -m arena_lab.play.tournament_notes ignored|schedule WORDS OF THE PROGRAM ..
 
 The tournament is the first of the words that ends in .toml.
 """
 import difflib
+import itertools
 import pathlib
 import re
+import stat
 import sys
 import tomllib
-from typing import Any, Dict, Iterator, List, Sequence, Set, Tuple
+from typing import Any, Dict, Iterator, List, Optional, Sequence, Set, Tuple
 
 from arena_lab.play.mistakes import plain
 from arena_lab.rules.delays import OBLIVIOUS
@@ -26,29 +28,32 @@ ALIKE = {"team", NETWORK, "home", "quota", "board", "keys", "held"}
 MATCH_KEYS: Keys = {1: ALIKE | {"hole"}, 2: ALIKE | {"holes", "dark"}, 3: ALIKE | {"holes", "dark"}}
 IGNORED, NEAR = "ignored", 0.6
 LONE_MATCH = re.compile(r"\s*\[\s*match\s*\]")
+# bytes of a file that the program reads; what is said of a file at most: lines, and characters of a key
+MOST_BYTES, MOST_LINES, MOST_KEY = 1 << 20, 20, 40
 
 
-def ignored(found: Dict[str, Any]) -> List[str]:
+def ignored(found: Dict[str, Any]) -> Iterator[str]:
     """Of each key that the program ignores where it stands, and how to mend that."""
     version = found.get(VERSION)
-    if version not in FILE_KEYS or isinstance(version, bool):
-        return []
-    lines = [f"{key} is ignored: {mend}" for key, mend in strange(found, version, FILE_KEYS, MATCH_KEYS)]
+    if not isinstance(version, int) or isinstance(version, bool) or version not in FILE_KEYS:
+        return
+    for key, mend in strange(found, version, FILE_KEYS, MATCH_KEYS):
+        yield f"{key[:MOST_KEY]} is ignored: {mend}"
     if version == 3 and found.get(SCHEDULE) != OBLIVIOUS:
-        lines += [f'{key} is ignored without schedule = "{OBLIVIOUS}"' for key in ("delay_scales", "delay_odds")
-                  if key in found]
+        for key in (it for it in ("delay_scales", "delay_odds") if it in found):
+            yield f'{key} is ignored without schedule = "{OBLIVIOUS}"'
     for number, row in enumerate(matches_of(found)):
-        lines += [f"match {number} {key} is ignored: {mend}" for key, mend
-                  in strange(row, version, MATCH_KEYS, FILE_KEYS)]
-    return lines
+        for key, mend in strange(row, version, MATCH_KEYS, FILE_KEYS):
+            yield f"match {number} {key[:MOST_KEY]} is ignored: {mend}"
 
 
 def strange(row: Dict[str, Any], version: int, here: Keys, there: Keys) -> Iterator[Tuple[str, str]]:
     """The keys that do not belong into a part of the file, which has keys of its own and not those of the other part,
     each with how to mend it."""
+    absent = sorted(here[version] - set(row))
     for key in row:
         later = [number for number in here if key in here[number]]
-        near = difflib.get_close_matches(key, sorted(here[version] - set(row)), 1, NEAR)
+        near = difflib.get_close_matches(key[:MOST_KEY], absent, 1, NEAR)
         if key in here[version]:
             continue
         if later:
@@ -82,10 +87,19 @@ def schedule(found: Dict[str, Any]) -> List[str]:
     return lines
 
 
-def unread(path: pathlib.Path) -> List[str]:
-    """Why a file cannot be read, if it cannot."""
+def is_file(path: pathlib.Path) -> bool:
+    """Whether it is a file, which may be read twice. What comes through a pipe is the program's."""
     try:
-        path.read_bytes()
+        return stat.S_ISREG(path.stat().st_mode)
+    except OSError:
+        return False
+
+
+def unread(path: pathlib.Path) -> List[str]:
+    """Why a network cannot be read, if it cannot. Of other files the program says so."""
+    try:
+        if is_file(path) or not path.exists() or path.is_dir():
+            path.open("rb").close()
     except FileNotFoundError:
         return ["there is no such file"]
     except IsADirectoryError:
@@ -98,22 +112,31 @@ def unread(path: pathlib.Path) -> List[str]:
 
 
 def of_file(path: pathlib.Path) -> List[str]:
-    """What is said of a file before the program reads it, with the file's name."""
-    if unread(path):
-        # the program says why
-        return []
-    text = path.read_text(encoding="utf-8", errors="replace")
+    """What is said of a file before the program reads it, with the file's name, as a terminal may show it."""
+    return list(map(plain, notes_of(path)))
+
+
+def notes_of(path: pathlib.Path) -> List[str]:
+    """What is said of a file, as it is."""
+    text = text_of(path)
     found = table_of(text)
     if found is None:
         lone = [number for number, line in enumerate(text.split("\n"), 1) if LONE_MATCH.match(line)]
         return [f"{path}: line {lone[0]} has [match]: write [[match]], as of a match among others"] if lone else []
     names = {row[NETWORK] for row in matches_of(found) if isinstance(row.get(NETWORK), str)}
-    places = [network_path(name, path.parent) for name in sorted(names) if "\0" not in name]
-    return [*(f"{path}: {line}" for line in ignored(found)),
-            *(f"{place}: {line}" for place in places for line in unread(pathlib.Path(place)))]
+    places = [network_path(name, path.parent) for name in sorted(names) if "\0" not in name and len(name) < 256]
+    return [f"{path}: {line}" for line in itertools.islice(ignored(found), MOST_LINES)] + [
+        f"{place}: {line}" for place in places[:MOST_LINES] for line in unread(pathlib.Path(place))]
 
 
-def table_of(text: str) -> Any:
+def text_of(path: pathlib.Path) -> str:
+    """The text of a file, or nothing if it is one that the program refuses, or that can be read once."""
+    if not is_file(path) or path.stat().st_size > MOST_BYTES:
+        return ""
+    return path.read_text(encoding="utf-8", errors="replace")
+
+
+def table_of(text: str) -> Optional[Dict[str, Any]]:
     """What a text is as TOML, or None if it is none."""
     try:
         return tomllib.loads(text)
@@ -128,9 +151,10 @@ def main(words: Sequence[str]) -> List[str]:
         return []
     if words[0] == IGNORED:
         return of_file(path)
-    return [f"{path}: {line}" for line in schedule(table_of(path.read_text(encoding="utf-8")))]
+    found = table_of(text_of(path))
+    return [plain(f"{path}: {line}") for line in schedule(found)] if found else []
 
 
 if __name__ == "__main__":
     for said in main(sys.argv[1:]):
-        print(plain(said))
+        print(said)

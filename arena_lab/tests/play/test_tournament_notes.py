@@ -2,13 +2,15 @@
 schedule."""
 import contextlib
 import io
+import os
 import pathlib
 import tempfile
 import unittest
 from typing import List
+from unittest import mock
 
 from arena_lab import __main__ as lab
-from arena_lab.play.tournament_notes import IGNORED, SCHEDULE, main
+from arena_lab.play.tournament_notes import IGNORED, MOST_LINES, SCHEDULE, main
 
 MATCH = ('team = "red"\nnetwork = "tri.toml"\nhome = 0\nholes = [1]\ndark = []\nquota = 9\nboard = 9\nkeys = ["a"]\n'
          "held = [[0, 1], [2, 0]]\n")
@@ -77,6 +79,39 @@ class Notes(unittest.TestCase):
             "delay_odds 32", "match 0 of red has links (node,port) held 0,1, 2,0 and dark 1,1"])
         self.assertEqual(self.said(tournament(2, match=MATCH.replace("held", "hled")), SCHEDULE), [
             'the schedule is adaptive: no delays, and no turns to appeal by; version 3 has schedule = "oblivious"'])
+
+    def test_what_is_no_file_is_left_to_the_program(self) -> None:
+        """What comes through a pipe is read once, by the program; and what never ends, or is too long, by nobody."""
+        pipe, zero, long, folder = (self.folder / f"{name}.toml" for name in ("pipe", "zero", "long", "folder"))
+        os.mkfifo(pipe)
+        zero.symlink_to("/dev/zero")
+        folder.mkdir()
+        with long.open("wb") as file:
+            file.truncate(2 << 30)
+        with mock.patch.object(pathlib.Path, "open", side_effect=AssertionError("it was read")):
+            for path in (pipe, zero):
+                for what in (IGNORED, SCHEDULE):
+                    self.assertEqual(main([what, "check", str(path)]), [])
+        with mock.patch.object(pathlib.Path, "read_text", side_effect=AssertionError("it was read")):
+            for what in (IGNORED, SCHEDULE):
+                self.assertEqual(main([what, "check", str(long)]), [])
+        self.assertEqual(main([IGNORED, "check", str(folder)]), [])
+        self.network.unlink()
+        self.network.symlink_to("/dev/zero")
+        self.assertEqual(self.said(tournament()), [])
+
+    def test_files_that_are_to_end_the_notes(self) -> None:
+        for text in ("version = {a = 1}\n", "version = [1]\n", "version = 1e0\n", f"x = {'[' * 9999}\n", "x = \ud800",
+                     f"version = {'9' * 9999}\n", tournament(match=MATCH.replace("tri.toml", "x" * 5_000))):
+            path = self.folder / "cup.toml"
+            path.write_bytes(text.encode(errors="surrogatepass"))
+            self.assertEqual(main([IGNORED, "check", str(path)]), [])
+
+    def test_many_lines_and_long_keys_are_cut_and_nothing_moves_a_terminal(self) -> None:
+        found = self.said(tournament(more=DELAYS + "".join(f"k{number} = 1\n" for number in range(20_000))))
+        self.assertEqual(len(found), MOST_LINES)
+        found = self.said(tournament(more=f'{DELAYS}{"k" * 9_999} = 1\n"\\u001b[2J\\n" = 1\n'))
+        self.assertEqual((len(found[0]) < 200, found[1].partition(" is")[0]), (True, r"\x1b[2J\n"))
 
     def test_check_of_the_lab_names_the_program_s(self) -> None:
         with contextlib.redirect_stderr(io.StringIO()) as said:
