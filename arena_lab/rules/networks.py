@@ -19,11 +19,14 @@
     FILE.graphml    A graph in GraphML. Its nodes keep their order, and a node's ports have the order of its links.
 """
 import collections
+import io
 import pathlib
 import random
 import re
 import tomllib
+import warnings
 from typing import Any, Callable, Collection, Dict, List, NamedTuple, Sequence, Tuple
+from xml.parsers import expat
 
 from arena_lab.rules.limits import MOST_NODES, SMALL_NODES
 from arena_lab.rules.model import Place, link_of
@@ -35,6 +38,8 @@ Link = Tuple[int, int, int, int]
 NAMES = ("ring:N, hypercube:D, complete:N, torus:RxC, grid:RxC, wheel:N, petersen:NxK, ccc:D, random:SEED, "
          "random:N:degK:seedS")
 GRAPHML = ".graphml"
+# bytes of a file of GraphML, and characters of a fault that are shown
+MOST_GRAPHML, MOST_SHOWN = 16 << 20, 100
 LARGEST = 24
 LARGEST_DEGREE = 6
 
@@ -222,12 +227,38 @@ def in_file(path: str) -> Network:
 def in_graphml(path: str) -> Network:
     """The network of a graph in GraphML."""
     networkx = needed("networkx")
+    with open(path, "rb") as file:
+        raw = file.read(MOST_GRAPHML + 1)
     try:
-        graph = networkx.read_graphml(path)
-    except (ValueError, KeyError, SyntaxError, networkx.NetworkXException) as fault:
-        raise NoNetworkFile(f"{path}: it is no GraphML ({fault})") from None
+        check_xml(raw)
+        with warnings.catch_warnings():
+            # of data and ports that a file has beside its graph
+            warnings.simplefilter("ignore")
+            graph = networkx.read_graphml(io.BytesIO(raw))
+    except (ValueError, LookupError, SyntaxError, expat.ExpatError, networkx.NetworkXException) as fault:
+        raise NoNetworkFile(f"{path}: it is no GraphML ({str(fault)[:MOST_SHOWN]})") from None
     graph.name = path
     return of_graph(graph)
+
+
+def check_xml(raw: bytes) -> None:
+    """Refuses a file that takes long to read, or of which a few lines would become many: its entities stand for
+    texts, which have entities again."""
+    if len(raw) > MOST_GRAPHML:
+        raise ValueError(f"it has more than {MOST_GRAPHML >> 20} MB")
+    nodes = 0
+
+    def declared(*_: Any) -> None:
+        raise ValueError("it declares entities: write what they stand for")
+
+    def begun(name: str, _: Any) -> None:
+        nonlocal nodes
+        nodes += name.rpartition(":")[2] == "node"
+        if nodes > MOST_NODES:
+            raise ValueError(f"it has more than {MOST_NODES} nodes")
+    parser = expat.ParserCreate()
+    parser.EntityDeclHandler, parser.StartElementHandler = declared, begun
+    parser.Parse(raw, True)
 
 
 def fault_text(fault: Exception) -> str:

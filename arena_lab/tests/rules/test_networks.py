@@ -6,6 +6,7 @@ import pathlib
 import random
 import tempfile
 import unittest
+import warnings
 
 from arena_lab.__main__ import main
 from arena_lab.commands.network import ports_seed
@@ -61,6 +62,37 @@ class Networks(unittest.TestCase):
             pathlib.Path(path).write_text("nodes")
             with self.assertRaisesRegex(networks.NoNetwork, "it is no GraphML"):
                 networks.named(path)
+
+    @needs("networkx")
+    def test_graphml_that_is_to_fill_the_machine_is_refused_in_a_line_at_once(self) -> None:
+        ring = "".join(f'<node id="{node}"/><edge source="{node}" target="{(node + 1) % 5}"/>' for node in range(5))
+        laughs = "".join(f'<!ENTITY l{one} "{f"&l{one - 1};" * 10}">' for one in range(1, 10))
+        data = '<key id="k" for="node" attr.name="c" attr.type="{}"/>'
+        values = f'<node id="5"><data key="k">{"9" * 9_999}</data></node>'
+        files = {
+            "it declares entities": f'<!DOCTYPE x [<!ENTITY l0 "ha">{laughs}]>{{}}<node id="&l9;"/>',
+            "it declares entities:": '<!DOCTYPE x [<!ENTITY l0 SYSTEM "file:///etc/hostname">]>{}<node id="&l0;"/>',
+            "it has more than 4096 nodes": "{}" + "<node id='x'>" * 5_000 + "</node>" * 5_000,
+            "it has more than 16 MB": "{}" + " " * networks.MOST_GRAPHML,
+            "unknown encoding": '<?xml version="1.0" encoding="no-such"?>{}',
+            "4300 digits": data.format("int") + "{}" + values, "zork": data.format("zork") + "{}",
+            "999": data.format("boolean") + "{}" + values}
+        head = '<graphml xmlns="http://graphml.graphdrawing.org/xmlns">'
+        with tempfile.TemporaryDirectory() as folder:
+            path = pathlib.Path(folder) / "it.graphml"
+            for why, text in files.items():
+                before, _, behind = text.partition("{}")
+                is_key = before.startswith("<key")
+                path.write_text(f'{before * (not is_key)}{head}{before * is_key}<graph edgedefault="undirected">{ring}'
+                                f'{behind}</graph></graphml>')
+                with self.subTest(why), self.assertRaisesRegex(networks.NoNetwork, f"it is no GraphML .*{why}") as told:
+                    networks.named(str(path))
+                self.assertLess(len(str(told.exception)), 300)
+            port = ring.replace('<node id="1"/>', '<node id="1"><port name="x"/></node>')
+            path.write_text(f'{head}<graph edgedefault="undirected">{port}</graph></graphml>')
+            with warnings.catch_warnings():
+                warnings.simplefilter("error")
+                self.assertEqual(networks.named(str(path)).nodes, 5)
 
     @needs("networkx", "numpy", "scipy", "jinja2")
     def test_a_page_has_each_node_and_each_port(self) -> None:
