@@ -53,7 +53,8 @@ def step(work: Work, event: str, holder: str = "", only: Optional[models.Q] = No
                 runs__gte=machine.MOST_RUNS)
         if chosen.update(**changed(row, holder), **changes):
             work.refresh_from_db()
-            return True
+            # meanwhile the lease may have run out, and the row be another's
+            return row.after not in machine.ACTIVE or work.holder == holder
     return False
 
 

@@ -44,33 +44,34 @@ def grade(number: int, holder: str) -> None:
     work = Grading.objects.filter(pk=number).select_related("hand_in__team", "hand_in__contest").first()
     if work is None or not step(work, machine.BEGIN, holder):
         return
+    # a worker that comes back too late finds the files of no other
+    folder = work.folder.with_name(f"{work.folder.name}.{holder}")
     try:
-        prepare(work)
-        if ran(work, holder):
-            finish(work, holder)
+        prepare(work, folder)
+        if not (ran(work, holder, folder) and finish(work, holder, folder)):
+            shutil.rmtree(folder, ignore_errors=True)
     except WorkerStopped:
         give_up(work, holder, str(AGAIN))
     except (Fault, OSError) as fault:
         step(work, machine.FAIL, holder, fault=told_of(fault, work))
 
 
-def prepare(work: Grading) -> None:
+def prepare(work: Grading, folder: pathlib.Path) -> None:
     """Writes the file of a course that has this team alone, and the secret of its draws."""
     given, team, window = settings.HALL.hand_ins, work.hand_in.team, window_of(work.hand_in.contest)
     names = window and (window.secret if work.is_secret else window.public)
     if not names:
         raise Fault("the hall takes no hand-ins any more, or has no network of this contest")
-    shutil.rmtree(work.folder, ignore_errors=True)
-    work.folder.mkdir(mode=0o700, parents=True)
-    shutil.copytree(work.hand_in.folder / FILES, work.folder / FILES)
+    folder.mkdir(mode=0o700)
+    shutil.copytree(work.hand_in.folder / FILES, folder / FILES)
     rows: Dict[str, Any] = {
         "title": settings.HALL.title, "networks": list(names),
         "holes": given.holes, "schedulers": given.schedulers, "seeds": given.seeds}
     own = {"name": team.name, "agents": given.agents, "files": [FILES], "command": given.command}
     text = "".join(f"{name} = {toml_of(value)}\n" for name, value in rows.items())
     text += "\n[[team]]\n" + "".join(f"{name} = {toml_of(value)}\n" for name, value in own.items())
-    write_whole(work.folder / COURSE, text)
-    write_whole(work.folder / SECRET, hashlib.sha256(drawn_from(work).encode()).hexdigest() + "\n")
+    write_whole(folder / COURSE, text)
+    write_whole(folder / SECRET, hashlib.sha256(drawn_from(work).encode()).hexdigest() + "\n")
 
 
 def drawn_from(work: Grading) -> str:
@@ -81,14 +82,14 @@ def drawn_from(work: Grading) -> str:
     return secret if contest is None else f"{secret} contest {contest}"
 
 
-def ran(work: Grading, holder: str) -> bool:
+def ran(work: Grading, holder: str, folder: pathlib.Path) -> bool:
     """Runs `grade`; gives whether it has ended well and the work is still this holder's. It ends with this worker, and
     its cells with it. One that was killed is run again, once."""
     words = [sys.executable, "-m", "arena_lab", "grade", COURSE, "--out", OUT, "--secret", SECRET, "--workers", "1",
              "--program", settings.PLACE.program]
     variables = {"PATH": os.environ.get("PATH", "/usr/bin:/bin"), "PYTHONPATH": str(TOP), "PYTHONHASHSEED": "0"}
-    with (work.folder / LOG).open("wb") as log:
-        child = subprocess.Popen(bound(words), cwd=work.folder, stdin=subprocess.DEVNULL, stdout=log,
+    with (folder / LOG).open("wb") as log:
+        child = subprocess.Popen(bound(words), cwd=folder, stdin=subprocess.DEVNULL, stdout=log,
                                  stderr=log, env=variables)
     renewed = time.monotonic()
     try:
@@ -110,7 +111,7 @@ def ran(work: Grading, holder: str) -> bool:
         give_up(work, holder, f"the grading was killed by signal {-child.returncode}")
         return False
     if child.returncode != 0:
-        raise Fault(f"the hall could not grade: {last_line(work.folder / LOG)}")
+        raise Fault(f"the hall could not grade: {last_line(folder / LOG)}")
     return True
 
 
@@ -120,17 +121,23 @@ def last_line(path: pathlib.Path) -> str:
     return lines[-1][:200] if lines else ""
 
 
-def finish(work: Grading, holder: str) -> None:
-    """Notes what came of a grading."""
-    rows = rows_of(work.folder / OUT, work.hand_in.team.name)
+def finish(work: Grading, holder: str, folder: pathlib.Path) -> bool:
+    """Notes what came of a grading, and puts its files where they are looked at, both or neither; gives whether the
+    work is still this holder's."""
+    rows = rows_of(folder / OUT, work.hand_in.team.name)
     solved = [row for row in rows if row["solved"]]
     networks = {row["network"]: [0, 0] for row in rows}
     for row in rows:
         networks[row["network"]][0] += row["solved"]
         networks[row["network"]][1] += 1
     with transaction.atomic():
-        step(work, machine.FINISH, holder, solved=len(solved), matches=len(rows), networks=networks,
-             moves=sum(row["moves"] for row in solved), lost=sum(row["lost"] for row in solved))
+        is_own = step(work, machine.FINISH, holder, solved=len(solved), matches=len(rows), networks=networks,
+                      moves=sum(row["moves"] for row in solved), lost=sum(row["lost"] for row in solved))
+        if is_own:
+            for earlier in set(folder.parent.glob(f"{work.folder.name}*")) - {folder}:
+                shutil.rmtree(earlier, ignore_errors=True)
+            folder.rename(work.folder)
+    return is_own
 
 
 def rows_of(out: pathlib.Path, team: str) -> List[Dict[str, Any]]:

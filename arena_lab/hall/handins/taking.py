@@ -20,6 +20,7 @@ from arena_lab.hall.handins.windows import Window, ends, last_of_teams, window_o
 from arena_lab.hall.place import tell
 from arena_lab.hall.teams.guards import Buckets
 from arena_lab.hall.teams.models import Team, note, today
+from arena_lab.play.mistakes import plain
 
 # how many of a team may wait to be graded, and how often a team may send something in a minute, taken or not
 MOST_WAITING, A_MINUTE = 3, 12
@@ -44,8 +45,9 @@ def take(team: Team, name: str, file: Any, number: Optional[int] = None) -> Hand
     with transaction.atomic():
         team = Team.objects.select_for_update().get(pk=team.pk)
         check(team, file.size, window)
-        made = HandIn.objects.create(team=team, contest=contest, name=name[:80], size=sum(map(len, files.values())),
-                                     files=len(files), digest=digest.hexdigest())
+        made = HandIn.objects.create(
+            team=team, contest=contest, name=plain(name)[:80], size=sum(map(len, files.values())), files=len(files),
+            digest=digest.hexdigest())
         write(files, made.folder)
         Grading.objects.create(hand_in=made)
         note(team.name, f"hands in {made.pk}: {made.files} files, {made.size} bytes")

@@ -16,10 +16,13 @@ from arena_lab.hall.handins.models import HandIn
 from arena_lab.hall.handins.windows import windows
 from arena_lab.hall.teams.guards import BOXED
 from arena_lab.hall.teams.views import for_teams, may
+from arena_lab.play.mistakes import plain
 
 NUMBER = re.compile("[0-9]{1,9}")
 # what of the results of a grading a team may look at: its page, and what that leads to
 KEPT = re.compile(r"failed/[\w-]+/(?:smallest/)?[\w.-]+")
+# what may be no character that one sees
+UNSEEN = re.compile(r"[^\n\t -~]")
 # bytes of sources that a page has
 MOST_SHOWN = 400_000
 KINDS = {".html": "text/html; charset=utf-8"}
@@ -72,10 +75,15 @@ def sources(hand_in: HandIn) -> List[Dict[str, Any]]:
         size, text = path.stat().st_size, None
         if size <= left:
             with contextlib.suppress(UnicodeDecodeError):
-                text = path.read_text(encoding="utf-8")
+                text = as_seen(path.read_text(encoding="utf-8"))
                 left -= size
-        found.append({"name": path.relative_to(place), "size": size, "text": text})
+        found.append({"name": as_seen(str(path.relative_to(place))), "size": size, "text": text})
     return found
+
+
+def as_seen(text: str) -> str:
+    """A text in which nothing hides: what turns the direction of writing, or is not seen, is shown by its code."""
+    return UNSEEN.sub(lambda found: plain(found[0]), text)
 
 
 def result(request: Any, number: int, path: str) -> FileResponse:
@@ -88,8 +96,9 @@ def result(request: Any, number: int, path: str) -> FileResponse:
     name = TEAM_PAGE.format(team=hand_in.team.name) if not path else path
     if path and (not KEPT.fullmatch(path) or ".." in path):
         raise Http404
-    place = grading.folder / OUT / name
-    if place.is_symlink() or not place.is_file():
+    out = (grading.folder / OUT).resolve()
+    place = out / name
+    if place.resolve() != place or not place.is_file():
         raise Http404
     response = sent(place, KINDS.get(place.suffix, "text/plain; charset=utf-8"))
     response["Content-Security-Policy"] = BOXED

@@ -2,6 +2,7 @@
 from typing import Any, Callable
 
 from django import forms
+from django.db import transaction
 from django.db.models import Q
 from django.http import HttpResponse
 from django.shortcuts import redirect, render
@@ -10,7 +11,7 @@ from django.views.decorators.debug import sensitive_post_parameters
 from django.views.decorators.http import require_POST
 
 from arena_lab.hall.teams import logins
-from arena_lab.hall.teams.models import Message
+from arena_lab.hall.teams.models import Message, Team
 
 # how many questions of a team may wait for an answer
 MOST_WAITING = 5
@@ -68,12 +69,15 @@ class Question(forms.ModelForm):
 @for_teams
 def messages(request: Any) -> HttpResponse:
     """Announcements, questions and answers, and a form for a question of the team that asks."""
-    form, status = Question(request.POST or None), 200
-    if request.method == "POST":
-        waiting = Message.objects.filter(team=request.team, answer="").count()
-        if waiting < MOST_WAITING and form.is_valid():
-            Message.objects.create(team=request.team, text=form.cleaned_data["text"])
-            return redirect("/messages")
+    form, status = Question(request.POST if request.method == "POST" else None), 200
+    if form.is_bound:
+        with transaction.atomic():
+            # requests at the same time are taken one after the other
+            Team.objects.select_for_update().get(pk=request.team.pk)
+            waiting = Message.objects.filter(team=request.team, answer="").count()
+            if waiting < MOST_WAITING and form.is_valid():
+                Message.objects.create(team=request.team, text=form.cleaned_data["text"])
+                return redirect("/messages")
         status = 400 if waiting < MOST_WAITING else 429
         if status == 429:
             form.add_error("text", _("your questions wait for answers: wait for one"))

@@ -1,6 +1,7 @@
 """A hall that is served: matches from the request to the page, hand-ins, and processes that are killed."""
 import concurrent.futures
 import contextlib
+import http.client
 import json
 import os
 import pathlib
@@ -113,12 +114,31 @@ class Matches(Halls):
         with concurrent.futures.ThreadPoolExecutor(20) as pool:
             told = list(pool.map(lambda _: self.hall.ask("POST", "/api/matches", token, {"network": "ring of 5"}),
                                  range(20)))
-        self.assertEqual(sorted(it.status for it in told), [201] * 2 + [429] * 18)
+            self.assertEqual(sorted(it.status for it in told), [201] * 2 + [429] * 18)
+            cookie = self.session(token)
+            asked = list(pool.map(lambda _: self.post("/messages", "text=why", cookie).status, range(20)))
+        self.assertEqual(sorted(asked), [302] * 5 + [429] * 15)
         for it in told:
             if it.status == 201:
                 number = it.json()["id"]
                 self.hall.ask("POST", f"/api/matches/{number}/close", token)
                 self.assertIn(self.hall.over(token, number)["state"], ("over", "cancelled"))
+
+
+    def session(self, token: str) -> str:
+        """The cookie of a team that has logged in by the page."""
+        secret = str(self.hall.ask("GET", "/login").headers["Set-Cookie"]).partition(";")[0]
+        return f"{secret}; {self.post('/login', f'token={token}', secret).headers['Set-Cookie'].partition(';')[0]}"
+
+    def post(self, path: str, form: str, cookie: str) -> halls.Told:
+        """What a form is answered, whose secret is in a cookie."""
+        headers = {"Cookie": cookie, "X-CSRFToken": cookie.partition("=")[2].partition(";")[0],
+                   "Content-Type": "application/x-www-form-urlencoded"}
+        connection = http.client.HTTPConnection("127.0.0.1", self.hall.port, timeout=halls.SECONDS)
+        with contextlib.closing(connection):
+            connection.request("POST", path, form, headers)
+            answer = connection.getresponse()
+            return halls.Told(answer.status, answer.headers, answer.read())
 
 
 class HandIns(Halls):

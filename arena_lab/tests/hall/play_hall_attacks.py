@@ -6,20 +6,27 @@
 - a zip of 180,000 entries, or a refused file without end, took seconds of the web server
 - the page of a long replay was made anew for each request
 - a fault of the disk named paths of the hall's folder
+- signs that turn the direction of writing in a source showed the teacher another program than was graded
+- a file's name with a byte 0, or a question without fields, ended in status 500
+- questions at the same time were more than are allowed
+- `/health` told after the freeze how long each program was graded, and programs that fail take long
 
 Other files try other attacks:
 
+- play_hall_steps.py: a worker whose lease has run out
 - play_hall_pages.py and play_hall_rest.py: tokens from all addresses of an IPv6 network, another team's match or
   replay, and the black hole before the close, by page, REST, size, header and error
 - play_hall_nginx.py: X_Forwarded_For through Caddy, and many requests at once through nginx
 - test_hall.py and play_hall.py: paths, SQL, HTML, formulas, requests of other sites, and links and bombs in zips
 
-Two attacks still win something. Wrong tokens from a team's own address make the team's other members wait minutes
-before they can log in from there. The numbers of attempts tell how many attempts all teams have made.
+Three attacks still win something. Wrong tokens from a team's own address make its members who have not logged in wait
+minutes there. The numbers of matches and hand-ins tell how many all teams have made. How long a hand-in waits tells how
+long others are graded, but not whose.
 """
+import re
 import unittest
 import zipfile
-from typing import Any
+from typing import Any, Dict, List, Tuple
 from unittest import mock
 
 from arena_lab.hall import machine
@@ -28,18 +35,21 @@ from arena_lab.tests.hall.hall_pages import PLACE, Hall, graded, played
 from arena_lab.tests.hall.test_hall import zipped
 
 from django.conf import settings
+from django.contrib.auth import get_user_model
 from django.core.files.uploadedfile import SimpleUploadedFile
 from django.db import OperationalError
 from django.test import Client
+from django.utils import timezone
 
 from arena_lab.hall.attempts.models import Attempt
 from arena_lab.hall.handins import taking
-from arena_lab.hall.handins.models import Grading, HandIn
+from arena_lab.hall.handins.models import Contest, Grading, HandIn
 from arena_lab.hall.teams import guards
 from arena_lab.hall.teams.guards import TRIES
-from arena_lab.hall.teams.models import Team
+from arena_lab.hall.teams.models import Message, Team
+from arena_lab.hall.teams.views import MOST_WAITING
 
-FEW = 30
+FEW, HOUR = 30, timezone.timedelta(hours=1)
 
 
 class Requests(Hall):
@@ -112,6 +122,28 @@ class HandIns(Hall):
         with mock.patch.object(zipfile, "ZipFile", side_effect=AssertionError("it was read")):
             self.assertEqual(self.hand_in(many).status_code, 400)
 
+    def test_nothing_hides_in_a_source_or_a_name(self) -> None:
+        source = "if True: # \u202e } \u2066 if is_right\u2069 \u2066 begin\n\tprint('\u200b\x1b[2Jé')\n"
+        told = self.hand_in(zipped({"\u202eyp.exe": source.encode(), "two.py": b"x"}))
+        page = self.client_of("amber").get(f"/hand-ins/{told.json()['id']}").content.decode()
+        self.assertIn(r"if True: # \u202e } \u2066 if is_right\u2069 \u2066 begin", page)
+        self.assertIn("\n\tprint(&#x27;\\u200b\\x1b[2Jé&#x27;)", page)
+        self.assertIn(r"\u202eyp.exe", page)
+        self.assertEqual(re.findall("[\x00-\x08\x0b-\x1f\u200b-\u200f\u202a-\u202e\u2060-\u2069]", page), [])
+        client = self.client_of("birch")
+        client.post("/hand-ins/take", {"file": SimpleUploadedFile("a\0\u202egpj.py", b"print()")})
+        self.assertEqual(HandIn.objects.first().name, r"a\x00\u202egpj.py")
+
+    def test_a_link_below_the_results_leads_nowhere(self) -> None:
+        self.hand_in(b"print()")
+        found = Grading.objects.get()
+        (found.folder / "out" / "failed").mkdir(parents=True)
+        (found.folder / "out" / "failed" / "amber-0").symlink_to(PLACE.folder)
+        Grading.objects.update(state=machine.OVER)
+        self.assertTrue((found.folder / "out/failed/amber-0/key.txt").exists())
+        path = f"/hand-ins/{found.hand_in_id}/result/failed/amber-0/key.txt"
+        self.assertEqual(self.client_of("amber").get(path).status_code, 404)
+
     def test_hand_ins_that_are_refused_are_limited_too(self) -> None:
         found = [self.hand_in(zipped({"../x": b""})).status_code for _ in range(taking.A_MINUTE + 1)]
         self.assertEqual(found, [400] * taking.A_MINUTE + [429])
@@ -136,6 +168,51 @@ class Looks(Hall):
         Team.objects.filter(name="birch").update(hidden=True)
         after = self.rest("get", "/api/standings").json()["teams"]
         self.assertEqual([(row["team"], row["place"]) for row in after][0], ("amber", 1))
+
+    def told(self, clients: Dict[str, Client], paths: List[str]) -> Dict[Tuple[str, str], Any]:
+        """What each of these is answered, but for the secret of forms."""
+        found = {}
+        for name, client in clients.items():
+            for path in paths:
+                answer = client.get(path)
+                body = re.sub(rb'"csrfmiddlewaretoken" value="\w+"', b"", answer.content)
+                found[name, path] = answer.status_code, {**answer.headers, "Expires": ""}, body
+        return found
+
+    def test_nothing_tells_what_came_of_a_hand_in_after_the_freeze(self) -> None:
+        """Whatever came of it, all that other teams, strangers and tutors without that right may ask for is the same,
+        byte for byte, also where it has gone on from the one before the freeze."""
+        contest = Contest.objects.create(name="finale", networks=["ring of 5"], start=timezone.now() - HOUR,
+                                         end=timezone.now() + HOUR)
+        for name in ("amber", "birch"):
+            graded(name, 1, 9)
+            graded(name, 1, 9, contest=contest)
+        freeze = timezone.now()
+        Contest.objects.update(freeze=freeze)
+        late = [graded("birch"), graded("birch", contest=contest), graded("cedar"), graded("birch", is_secret=True)]
+        tutor = Client()
+        get_user_model().objects.create_user("tutor", password="another long password", is_staff=True)
+        self.assertTrue(tutor.login(username="tutor", password="another long password"))
+        clients = {"amber": self.client_of("amber"), "stranger": Client(), "tutor": tutor,
+                   "by token": Client(HTTP_AUTHORIZATION=f"Bearer {self.tokens['amber']}")}
+        here = [f"contests/{contest.pk}", *(f"hand-ins/{it.hand_in_id}" for it in late), "hand-ins", "matches"]
+        paths = ["/", "/screen", f"/contests/{contest.pk}/screen", "/messages", "/health", "/teacher/standings.csv",
+                 f"/teacher/contests/{contest.pk}.csv", f"/hand-ins/{late[0].hand_in_id}/result/", "/api/contests",
+                 "/teacher/", "/teacher/handins/grading/", "/api/standings", *(f"/{it}" for it in here),
+                 *(f"/api/{it}" for it in here)]
+        hall = settings.HALL._replace(freeze=freeze, public=True)
+        with mock.patch.object(settings, "HALL", hall):
+            found = []
+            for changes in ({"solved": 2, "moves": 1}, {"solved": 0, "moves": 99, "lost": 3}, {"state": machine.LOST},
+                            {"state": machine.RUNNING}):
+                Grading.objects.filter(pk__in=[it.pk for it in late]).update(**changes)
+                found.append(self.told(clients, paths))
+            teacher = self.teacher().get("/").content
+        for one, others in found[0].items():
+            self.assertEqual([it[one] for it in found], [others] * 4, one)
+        self.assertEqual(found[0]["amber", "/"][0], 200)
+        self.assertIn(b"Frozen since", found[0]["stranger", "/"][2])
+        self.assertNotIn(b"Frozen since", teacher)
 
     def test_a_full_disk_is_told(self) -> None:
         """Whatever is asked is answered by a sentence, which names no path of the hall."""
@@ -162,6 +239,30 @@ class Looks(Hall):
         self.assertEqual(told["state"], machine.LOST)
         self.assertNotIn(str(PLACE.folder), told["fault"])
         self.assertEqual(Grading.objects.count(), 0)
+
+
+class Questions(Hall):
+    """Who asks much, or nothing."""
+
+    def test_a_question_without_fields_is_refused_however_many_wait(self) -> None:
+        client = self.client_of("amber")
+        for wanted in (400, 429):
+            self.assertEqual(client.post("/messages", {}).status_code, wanted)
+            Message.objects.bulk_create([Message(team=self.team("amber"), text="why?") for _ in range(MOST_WAITING)])
+
+    def test_texts_of_teams_are_texts_on_each_page(self) -> None:
+        text = '"><script>alert(4)</script>'
+        self.client_of("birch").post("/messages", {"text": text})
+        made = Message.objects.get()
+        Message.objects.update(answer=text, is_public=True)
+        Message.objects.create(text=text)
+        page = f"/teacher/teams/message/{made.pk}"
+        for client, path in ((self.client_of("amber"), "/messages"), (self.teacher(), "/teacher/teams/message/"),
+                             (self.teacher(), f"{page}/change/"), (self.teacher(), f"{page}/delete/"),
+                             (self.teacher(), f"{page}/history/")):
+            content = client.get(path).content
+            self.assertNotIn(b"<script>alert", content, path)
+            self.assertIn(b"&lt;script&gt;alert", content, path)
 
 
 if __name__ == "__main__":

@@ -1,8 +1,10 @@
 """Steps of the hall's machine in the database are those of its table."""
 import datetime
 import itertools
+import shutil
 import unittest
 from typing import Any
+from unittest import mock
 
 from arena_lab.hall import machine
 from arena_lab.hall.machine import (ACTIVE, CLAIM, EVENTS, FINISH, HELD, LOST, MOST_RUNS, RUNNING, STATES, WAITING,
@@ -79,6 +81,68 @@ class Steps(TestCase):
         playing.play(work.pk, "another")
         work.refresh_from_db()
         self.assertEqual((work.state, work.runs), (HELD, 0))
+
+    def test_a_worker_that_hears_late_of_its_step_has_not_taken_it(self) -> None:
+        """Its lease ran out between the step and the look at the row, which another worker has begun meanwhile."""
+        work = attempt()
+        holder = str(claimed(work))
+        refresh = Attempt.refresh_from_db
+
+        def late(row: Any) -> None:
+            Attempt.objects.filter(pk=work.pk).update(holder="two", runs=2)
+            refresh(row)
+        with mock.patch.object(Attempt, "refresh_from_db", late):
+            self.assertFalse(step(work, machine.BEGIN, holder))
+
+    def test_a_grading_that_comes_back_late_leaves_the_files_of_the_newer_one(self) -> None:
+        """A worker sleeps before it prepares, while it grades, or before it notes what came; another grades meanwhile,
+        and is over or not."""
+        for where in ("prepare", "ran", "finish"):
+            with self.subTest(where):
+                made = HandIn.objects.create(team=of("amber"), name="a", size=1, files=1, digest="")
+                (made.folder / "files").mkdir(parents=True)
+                self.addCleanup(shutil.rmtree, made.folder, True)
+                work = Grading.objects.create(hand_in=made)
+                before = getattr(grading, where)
+
+                def slept(*given: Any) -> Any:
+                    with mock.patch.object(grading, where, before):
+                        past = timezone.now() - datetime.timedelta(seconds=1)
+                        Grading.objects.filter(pk=work.pk).update(until=past)
+                        lose_late(Grading)
+                        self.graded(work.pk, 7)
+                        return before(*given)
+                with mock.patch.object(grading, where, slept):
+                    self.graded(work.pk, 1)
+                work.refresh_from_db()
+                self.assertEqual((work.state, work.runs, work.moves), (machine.OVER, 2, 7))
+                self.assertEqual(grading.rows_of(work.folder / grading.OUT, "amber")[0]["moves"], 7)
+                self.assertEqual([it.name for it in made.folder.iterdir() if it.name != "files"], ["public"])
+
+    def graded(self, number: int, moves: int) -> None:
+        """Grades, as if all matches had taken these moves."""
+        class Program:
+            """In the place of `grade`."""
+
+            returncode = 0
+
+            def __init__(self, words: Any, cwd: Any, **given: Any) -> None:
+                self.out = cwd / grading.OUT
+                self.out.mkdir()
+                (self.out / "runs.csv").write_text(f"team,network,outcome,fault,moves,lost,run\namber,ring:5,solved,,"
+                                                   f"{moves},0,0\n")
+
+            def poll(self) -> int:
+                return 0
+
+            def kill(self) -> None:
+                pass
+
+            def wait(self) -> None:
+                pass
+        work = Grading.objects.get(pk=number)
+        with mock.patch.object(grading.subprocess, "Popen", Program):
+            grading.grade(number, str(claimed(work)))
 
     def test_a_network_that_is_gone_is_told(self) -> None:
         work = Attempt.objects.create(team=of("amber"), network="gone")
