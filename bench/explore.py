@@ -10,6 +10,7 @@ the most moves, the states of all matches, the seconds of the whole and of the p
 latter, and the most memory of one match. The program is ./arena, or what ARENA names.
 """
 import argparse
+import json
 import os
 import pathlib
 import re
@@ -70,6 +71,21 @@ def alone(fixture: Fixture, answers: Answers, states: int) -> Tuple[float, float
             return watched(subprocess.Popen(words, cwd=name, stdin=lines, stdout=subprocess.DEVNULL))
 
 
+def by_module(fixture: Fixture, module: str, states: int) -> Taken:
+    """What one match takes whose agents run a module (a word of `--module`), all schedules of which solve it."""
+    started = time.monotonic()
+    with tempfile.TemporaryDirectory(prefix="bench-") as name, tempfile.TemporaryFile() as printed:
+        write_tournament(fixture, pathlib.Path(name))
+        words = [PROGRAM, "explore", "tournament.toml", "0", "--module", module, "--max-states", str(states),
+                 "--spurious-wakeups", str(fixture.naps)]
+        program, memory = watched(subprocess.Popen(words, cwd=name, stdin=subprocess.DEVNULL, stdout=printed))
+        printed.seek(0)
+        found, counts = (json.loads(line) for line in printed.read().splitlines()[:2])
+    if found["found"] != program_search.SOLVES:
+        raise SystemExit(f"{PROGRAM} does not say that every schedule solves it: {found}")
+    return Taken(counts["states"], found["moves"], time.monotonic() - started, program, program, memory)
+
+
 def watched(child: "subprocess.Popen[bytes]") -> Tuple[float, float]:
     """The seconds of a processor that a program takes to its end, and the most megabytes that it was seen to take."""
     peak = 0.0
@@ -109,6 +125,13 @@ def tried(fixture: Fixture, machines: Machines, states: int) -> Taken:
 def words_of(agent: str) -> str:
     """What plays an agent of this name: its file, and the numbers that it wants."""
     return f"{AGENTS / agent}.py{NUMBERS.get(agent, ' {nodes}')}"
+
+
+def measured_by_module(network: str, module: str, states: int) -> List[Taken]:
+    """What the matches of a network take whose agents run a module with the number of nodes as its argument."""
+    given = parser().parse_args(["explore", "--network", network, "--agent", words_of("ring_step")])
+    [game] = games_of(given)
+    return [by_module(fixture, f"{AGENTS / module}:{fixture.setup.nodes}", states) for fixture in game.fixtures()]
 
 
 def measured(network: str, agent: str, states: int) -> List[Taken]:

@@ -8,13 +8,14 @@ On the ring of each number of nodes (16, 24 and 32), each node but the home base
 searches two models of `examples/agents/ring.py` that were written by hand: "natural" with SPIN's own reductions, and
 "merged", in which steps that nobody can know of were merged by hand as well. `./arena-lab explore` asks the same search
 as a step, `ring_step.py`: its row has the whole, and the next row what `arena explore` takes if it reads the agents'
-answers from a file. A row has who searched, the states, the most moves, the seconds of one processor, and megabytes.
-All must find the same moves. The seconds of SPIN do not count the compiler.
+answers from a file. The last row is of `arena explore --module` on `wasm/ring.wasm`. A row has who searched, the
+states, the most moves, the seconds of one processor, and megabytes. All must find the same moves. The seconds of SPIN
+do not count the compiler.
 """
 import argparse
 from typing import List, NamedTuple
 
-from bench.explore import measured
+from bench.explore import measured, measured_by_module
 from experiments import spin
 
 STATES = 1_000_000_000
@@ -43,6 +44,9 @@ def rows_of(nodes: int) -> List[Row]:
     found.append(Row("./arena-lab explore", states, moves, sum(it.processor for it in matches), ""))
     found.append(Row("arena explore alone", states, moves, sum(it.program for it in matches),
                      f"{max(it.memory for it in matches):.0f}"))
+    matches = measured_by_module(f"ring:{nodes}", "wasm/ring.wasm", STATES)
+    found.append(Row("arena explore --module", sum(it.states for it in matches), max(it.moves for it in matches),
+                     sum(it.program for it in matches), f"{max(it.memory for it in matches):.0f}"))
     if len({row.moves for row in found}) > 1:
         raise SystemExit(f"they differ on the ring of {nodes}: {found}")
     return found

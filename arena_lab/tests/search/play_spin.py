@@ -35,7 +35,8 @@ class TestSpin(unittest.TestCase):
     def test_the_benchmark_compares_them(self) -> None:
         with mock.patch.object(explore, "PROGRAM", program()):
             rows = bench_spin.rows_of(5)
-        names = ["SPIN, natural", "SPIN, merged", "./arena-lab explore", "arena explore alone"]
+        names = ["SPIN, natural", "SPIN, merged", "./arena-lab explore", "arena explore alone",
+                 "arena explore --module"]
         self.assertEqual(names, [it.name for it in rows])
         self.assertEqual(1, len({it.moves for it in rows}))
 
