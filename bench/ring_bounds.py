@@ -4,7 +4,7 @@
 
 Writes an SVG picture to FILE (docs/ring-bounds.svg). Its lines are `least_moves` and the second bound of `bhs_bounds`,
 and `most_moves` of `bhs_protocols`, each divided by the number of nodes n, over n. Its points are the most moves under
-every schedule that docs/EXPERIMENTS.md has of halves (`ring.py`) and of thirds (`ring3.py`). Needs python3-matplotlib.
+every schedule in docs/EXPERIMENTS.md, by halves (`ring_step.py`) and by thirds (`ring3.py`). Needs python3-matplotlib.
 """
 import argparse
 import pathlib
@@ -21,7 +21,7 @@ EXPERIMENTS = TOP / "docs" / "EXPERIMENTS.md"
 FIRST, LAST = 3, 256
 # a row of explored networks: the ring, the team, its states, and the most moves
 ROW = r"^\| ring:(\d+) \| 2, `{}` \| \d+ \| (\d+) \|"
-AGENTS = {"ring.py": ("halves, every schedule tried", "o"), "ring3.py": ("thirds, every schedule tried", "^")}
+AGENTS = {"ring_step.py": ("halves, every schedule tried", "o"), "ring3.py": ("thirds, every schedule tried", "^")}
 
 
 def explored(agent: str) -> Dict[int, int]:

@@ -4,7 +4,7 @@
 
 Without a table it makes all of them, which takes an hour or more. Rows, reports and pages go to the folder of --out;
 interrupted, sweeps go on there. With --write the tables are put into docs/EXPERIMENTS.md, each with its command, its
-engine, its time, the day, the machine and the commit.
+engine, its time, the day, the machine and the commit, and docs/growth.svg is drawn of them.
 
 Tables:
     rings        moves of two agents on rings under fair and under weighted schedules, and the most that was hunted
@@ -16,7 +16,6 @@ Tables:
     known-map    two agents that have the map
     large-known-map  the same on networks of up to 1,024 nodes
     too-few      one agent too few: a schedule after which the team fails
-    losses       the most agents that were lost in each sweep
 """
 import argparse
 import contextlib
@@ -33,6 +32,7 @@ import time
 import tomllib
 from typing import Callable, Dict, List, Mapping, NamedTuple, Sequence, Tuple
 
+from experiments import growth
 from experiments.division import Table, bound, of_ring3, ring3
 from experiments.turns import played
 from arena_lab.sweep import grid, report, tables
@@ -43,12 +43,12 @@ from arena_lab.search.ring_bounds import most_moves
 from arena_lab.support.built import TOP
 
 EXPERIMENTS = TOP / "experiments"
-DOCUMENT = TOP / "docs" / "EXPERIMENTS.md"
+DOCUMENT = growth.DOCUMENT
 AGENTS = "examples/agents"
 # how wide a line of the document is at most
 WIDTH = 120
 RING, MAP = f"{AGENTS}/ring.py {{nodes}}", f"{AGENTS}/map.py {{nodes}} {{links}}"
-RING3 = f"{AGENTS}/ring3.py {{nodes}}"
+RING_STEP, RING3 = f"{AGENTS}/ring_step.py {{nodes}}", f"{AGENTS}/ring3.py {{nodes}}"
 KNOWN_MAP = f"{AGENTS}/known_map.py"
 
 Cells = Sequence[str]
@@ -99,12 +99,13 @@ def of_sweep(name: str) -> Callable[[Asked], Made]:
     """Makes the table of a sweep: a row for each network, and of each scheduler the mean and the most moves."""
     def make(asked: Asked) -> Made:
         groups, commands = groups_of_sweep(name, asked)
-        return Made(rows_of(groups), commands)
+        return Made(rows_of(groups, are_drawn=grid.read(EXPERIMENTS / f"{name}.toml").holes == grid.DRAWN), commands)
     return make
 
 
-def rows_of(groups: Sequence[report.RunGroup], hunted: Mapping[str, int] = {}) -> List[Cells]:
-    """A row for each network, with the most moves that were hunted on it, if that was done."""
+def rows_of(groups: Sequence[report.RunGroup], hunted: Mapping[str, int] = {}, are_drawn: bool = False) -> List[Cells]:
+    """A row for each network, with the most moves that were hunted on it, if that was done. A mean has its confidence
+    if the black holes are drawn, or if there are enough seeds to take each."""
     schedulers = list(dict.fromkeys(group.name[2] for group in groups))
     bound = grid_bound(groups)
     moves = [f"{name}: {what}" for name in schedulers for what in ("mean", "most")]
@@ -112,7 +113,8 @@ def rows_of(groups: Sequence[report.RunGroup], hunted: Mapping[str, int] = {}) -
         moves.append("hunted: most")
     head = ["network", "agents", "runs", "solved", *moves, "most lost", bound, "most / bound"]
     networks = list(dict.fromkeys(group.name[0] for group in groups))
-    return [head, *(row_of([group for group in groups if group.name[0] == name], hunted) for name in networks)]
+    return [head, *(row_of([group for group in groups if group.name[0] == name], hunted, are_drawn)
+                    for name in networks)]
 
 
 def grid_bound(groups: Sequence[report.RunGroup]) -> str:
@@ -121,12 +123,17 @@ def grid_bound(groups: Sequence[report.RunGroup]) -> str:
                  if all(group.bound == bound(group.nodes) for group in groups)), "bound")
 
 
-def row_of(groups: Sequence[report.RunGroup], hunted: Mapping[str, int]) -> Cells:
+def mean_of(group: report.RunGroup, are_drawn: bool) -> str:
+    """The mean of its moves, with the confidence that it is of all black holes, if it says anything of them."""
+    said = f"{group.moves.mean:.1f}"
+    return f"{said} ± {group.moves.confidence:.1f}" if are_drawn or group.runs >= group.nodes - 1 else said
+
+
+def row_of(groups: Sequence[report.RunGroup], hunted: Mapping[str, int], are_drawn: bool) -> Cells:
     network = groups[0].name[0]
     most = max([int(group.worst["moves"]) for group in groups] + [hunted.get(network, 0)])
     bound = groups[0].bound or 1
-    cells = [f"{group.moves.mean:.1f} ± {group.moves.confidence:.1f}" if column == 0 else group.worst["moves"]
-             for group in groups for column in (0, 1)]
+    cells = [cell for group in groups for cell in (mean_of(group, are_drawn), group.worst["moves"])]
     if hunted:
         cells.append(str(hunted.get(network, "–")))
     return [network, str(groups[0].agents), str(sum(group.runs for group in groups)),
@@ -205,15 +212,14 @@ def thirds_row(nodes: int, drawn: Mapping[Tuple[str, str], str], hunted: Mapping
             f"{counted.moves() / bound(nodes):.2f}", f"{counted.moves() / halves:.2f}"]
 
 
-RINGS_EXPLORED = (3, 4, 5, 6, 7, 8, 9, 16, 24, 27, 32, 48, 64)
-NETWORKS_EXPLORED = ("ring:8", "ring:16", "hypercube:3", "hypercube:4", "hypercube:5", "torus:3x3", "torus:4x4",
-                     "torus:5x5", "torus:6x6", "random:16:deg3:seed1", "random:32:deg3:seed1")
+# agents written as steps are explored by their memories, and programs by their histories, which are many more
+RINGS_EXPLORED = (3, 4, 5, 6, 7, 8, 9, 16)
 # more commands and more states than a match of these has
 WIDE = ("--quota", "65535", "--max-states", "1000000000")
 EXPLORED = [
-    *(Search("explore", f"ring:{nodes}", RING, 2, WIDE) for nodes in RINGS_EXPLORED),
-    *(Search("explore", f"ring:{nodes}", RING3, 2, ("--board", "48", *WIDE)) for nodes in (8, 16, 27, 32, 48, 64)),
-    *(Search("explore", network, KNOWN_MAP, 2, WIDE) for network in NETWORKS_EXPLORED),
+    *(Search("explore", f"ring:{nodes}", RING_STEP, 2, WIDE) for nodes in RINGS_EXPLORED),
+    Search("explore", "ring:6", RING3, 2, ("--board", "48", *WIDE)),
+    Search("explore", "hypercube:3", KNOWN_MAP, 2, WIDE),
 ]
 EXPLORED_HEAD = ("network", "agents", "states", "most moves", "most lost", "seconds")
 
@@ -257,25 +263,11 @@ def too_few(asked: Asked) -> Made:
     return Made([TOO_FEW_HEAD, *rows], [shown(hunt.words()) for hunt in TOO_FEW], is_searched=True)
 
 
-def losses(asked: Asked) -> Made:
-    """The most agents that were lost in each sweep, by how many there were."""
-    rows: List[Cells] = [("sweep", "agents of a team", "runs", "most lost", "fewest that were left")]
-    commands = []
-    for name in ("rings", "large_rings", "no_map", "large_no_map", "known_map", "large_known_map"):
-        groups, told = groups_of_sweep(name, asked)
-        commands += told
-        for agents in sorted({group.agents for group in groups}):
-            of_these = [group for group in groups if group.agents == agents]
-            lost = max(group.lost for group in of_these)
-            rows.append((name, str(agents), str(sum(group.runs for group in of_these)), str(lost), str(agents - lost)))
-    return Made(rows, commands)
-
-
 TABLES: Dict[str, Callable[[Asked], Made]] = {
     "rings": rings, "thirds": thirds, "large-rings": of_sweep("large_rings"), "explored": explored,
     "no-map": of_sweep("no_map"), "large-no-map": of_sweep("large_no_map"),
     "known-map": of_sweep("known_map"), "large-known-map": of_sweep("large_known_map"),
-    "too-few": too_few, "losses": losses,
+    "too-few": too_few,
 }
 
 
@@ -297,7 +289,8 @@ def machine() -> str:
 
 def player_of(words: argparse.Namespace) -> str:
     """Who plays, in words."""
-    return name_of(program_of(words))
+    program = program_of(words)
+    return name_of(program) if program else "the Python model, which is not verified"
 
 
 def text_of(made: Made, seconds: float, player: str) -> str:
@@ -328,6 +321,8 @@ def main() -> int:
                         help="where rows and reports go (out/experiments)")
     add_workers(parser)
     add_engine(parser)
+    # the modules without which the program is not compiled for a command
+    parser.set_defaults(needs=())
     words = parser.parse_args()
     for name in words.tables:
         if name not in TABLES:
@@ -341,6 +336,8 @@ def main() -> int:
         if words.write:
             document = written(DOCUMENT.read_text(encoding="utf-8"), name, text)
             DOCUMENT.write_text(document, encoding="utf-8")
+    if words.write:
+        growth.write()
     return 0
 
 

@@ -29,7 +29,8 @@ class Bounds(unittest.TestCase):
                     self.assertLessEqual(moves, most_moves(nodes))
 
     def test_halves_make_as_many_moves_as_they_may(self) -> None:
-        self.assertEqual(explored("ring.py"), {nodes: most_moves(nodes) for nodes in explored("ring.py")})
+        found = explored("ring_step.py")
+        self.assertEqual(found, {nodes: most_moves(nodes) for nodes in found})
 
 
 if __name__ == "__main__":

@@ -1,12 +1,16 @@
 """Small parts of the experiments give the figures of docs/EXPERIMENTS.md."""
+import contextlib
+import io
 import os
 import pathlib
 import tempfile
 import unittest
 from typing import Dict, List
+from unittest import mock
 
-from experiments import make
+from experiments import growth, make
 from experiments.division import Table, bound, of_ring3
+from arena_lab.rules import networks
 from arena_lab.rules.engines import TOP
 from arena_lab.search.ring_bounds import most_moves
 from arena_lab.sweep import grid, report, sweeping, tables
@@ -24,9 +28,7 @@ HUNTED = 8
 
 def table(name: str) -> List[List[str]]:
     """The rows of a table of the document, without its head."""
-    text = DOCUMENT.read_text(encoding="utf-8").partition(f"<!-- table {name} -->")[2].partition("<!-- end")[0]
-    lines = [line for line in text.splitlines() if line.startswith("|")]
-    return [line.strip("| ").split(" | ") for line in lines[2:]]
+    return growth.cells_in(DOCUMENT.read_text(encoding="utf-8"), name)[1:]
 
 
 def hunted_in(rows: Dict[str, List[str]]) -> Dict[str, int]:
@@ -58,6 +60,13 @@ class Experiments(unittest.TestCase):
                 with self.subTest(name, network=row[0]):
                     self.assertEqual(given[row[0]], list(row))
 
+    def test_a_mean_has_a_confidence_if_it_is_of_all_black_holes(self) -> None:
+        moves = report.spread_of([5, 7])
+        few = report.RunGroup(("ring:8", "a", "fair"), 8, 2, 2, 2, 2, moves, {"moves": "7"}, 1, 48.0)
+        for group, are_drawn, has_confidence in ((few, False, False), (few, True, True),
+                                                 (few._replace(runs=7), False, True)):
+            self.assertEqual("±" in make.rows_of([group], are_drawn=are_drawn)[1][4], has_confidence)
+
     def test_small_hunts(self) -> None:
         for hunt in make.hunts(FEW):
             if hunt.network in SMALL_HUNTED:
@@ -73,11 +82,11 @@ class Experiments(unittest.TestCase):
                 asked = self.asked._replace(engine=["--program", program()])
                 row = list(make.explored_row(exploration, asked))
                 with self.subTest(row[0], agents=row[1]):
-                    # the states of the table are of an earlier lab
-                    self.assertEqual(found[tuple(row[:2])][3:-1], row[3:-1])
+                    self.assertEqual(found[tuple(row[:2])][2:-1], row[2:-1])
 
     def test_the_count_agrees_with_what_was_explored_hunted_and_drawn(self) -> None:
-        explored = {int(row[0].partition(":")[2]): int(row[3]) for row in table("explored") if "`ring.py`" in row[1]}
+        explored = {int(row[0].partition(":")[2]): int(row[3]) for row in table("explored")
+                    if "`ring_step.py`" in row[1]}
         self.assertEqual(explored, {nodes: most_moves(nodes) for nodes in make.RINGS_EXPLORED})
         for row in table("rings"):
             nodes = int(row[0].partition(":")[2])
@@ -112,6 +121,25 @@ class Experiments(unittest.TestCase):
                 with self.subTest(name, network=row[0]):
                     self.assertLess(int(row[-3]), int(row[1]))
                     self.assertEqual(row[2], row[3], "each run is solved")
+
+    def test_the_picture_has_each_network_of_its_tables(self) -> None:
+        document = DOCUMENT.read_text(encoding="utf-8")
+        for series in growth.ALL_SERIES:
+            found = growth.points(document, series)
+            self.assertEqual(len(found), sum(len(table(name)) for name in series.tables))
+            for row in (row for name in series.tables for row in growth.rows_in(document, name)):
+                nodes = networks.named(row["network"]).nodes
+                with self.subTest(series.name, network=row["network"]):
+                    self.assertEqual(f"{grid.BOUNDS[series.bound](nodes):.0f}", row[series.bound])
+                    self.assertIn((nodes, max(int(row[f"{it}: most"]) for it in ("fair", "slow-agents"))), found)
+        self.assertTrue(growth.svg_of(growth.drawn(document)).startswith("<svg"))
+
+    def test_a_table_says_which_program_played(self) -> None:
+        said = io.StringIO()
+        with mock.patch.dict(make.TABLES, one=lambda asked: make.Made([("network",), ("ring:3",)], ["a command"])), \
+                mock.patch("sys.argv", ["make", "one", "--program", program()]), contextlib.redirect_stdout(said):
+            self.assertEqual(make.main(), 0)
+        self.assertRegex(said.getvalue(), r"\| ring:3 \|\n\nEngine: .*\. \d+ s on ")
 
     def test_a_table_is_put_into_the_document(self) -> None:
         text = "a\n<!-- table one -->\nold\n<!-- end of one -->\nb\n"
