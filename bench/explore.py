@@ -32,6 +32,8 @@ PROGRAM = os.environ.get("ARENA", str(TOP / "arena"))
 AGENTS = TOP / "examples" / "agents"
 # the numbers that agents want which want others than how many nodes there are
 NUMBERS = {"map": " {nodes} {links}", "known_map": ""}
+# more states than any match here has
+STATES = 1_000_000_000
 # seconds between two looks at the memory of the program
 PAUSE = 0.002
 OWN, CHILDREN = resource.RUSAGE_SELF, resource.RUSAGE_CHILDREN
@@ -42,6 +44,7 @@ class Taken(NamedTuple):
 
     states: int
     moves: int
+    lost: int
     whole: float
     processor: float
     program: float
@@ -83,7 +86,8 @@ def by_module(fixture: Fixture, module: str, states: int) -> Taken:
         found, counts = (json.loads(line) for line in printed.read().splitlines()[:2])
     if found["found"] != program_search.SOLVES:
         raise SystemExit(f"{PROGRAM} does not say that every schedule solves it: {found}")
-    return Taken(counts["states"], found["moves"], time.monotonic() - started, program, program, memory)
+    whole = time.monotonic() - started
+    return Taken(counts["states"], found["moves"], found["lost"], whole, program, program, memory)
 
 
 def watched(child: "subprocess.Popen[bytes]") -> Tuple[float, float]:
@@ -119,7 +123,8 @@ def tried(fixture: Fixture, machines: Machines, states: int) -> Taken:
     found = answered.found
     if found is None or found["found"] != program_search.SOLVES:
         raise SystemExit(f"{PROGRAM} does not say that every schedule solves it: {found}")
-    return Taken(answered.counts["states"], found["moves"], whole, processor, *alone(fixture, answers, states))
+    return Taken(answered.counts["states"], found["moves"], found["lost"], whole, processor,
+                 *alone(fixture, answers, states))
 
 
 def words_of(agent: str) -> str:
@@ -151,7 +156,7 @@ def measured(network: str, agent: str, states: int) -> List[Taken]:
 
 def main() -> None:
     given = argparse.ArgumentParser(description=(__doc__ or "").partition("\n")[0])
-    given.add_argument("--max-states", type=int, default=1_000_000_000, help="the most states of a match (1000000000)")
+    given.add_argument("--max-states", type=int, default=STATES, help="the most states of a match (1000000000)")
     given.add_argument("matches", nargs="+", metavar="NETWORK=AGENT")
     words = given.parse_args()
     print("| network | agent | most moves | states | whole, s | program, s | states a second | memory, MB |")

@@ -15,10 +15,8 @@ do not count the compiler.
 import argparse
 from typing import List, NamedTuple
 
-from bench.explore import measured, measured_by_module
+from bench.explore import STATES, measured, measured_by_module
 from experiments import spin
-
-STATES = 1_000_000_000
 
 
 class Row(NamedTuple):

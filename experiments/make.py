@@ -10,7 +10,8 @@ Tables:
     rings        moves of two agents on rings under fair and under weighted schedules, and the most that was hunted
     thirds       the most moves of the search by halves and of the search by thirds, beside 3 n log3 n
     large-rings  moves of two agents on rings of up to 1,024 nodes
-    explored     the most moves of all schedules
+    explored     the most moves of all schedules of programs
+    modules      the most moves of all schedules of a WebAssembly module, by `arena explore --module` (ARENA names it)
     no-map       one agent more than the greatest degree, without a map
     large-no-map the same on networks of up to 256 nodes
     known-map    two agents that have the map
@@ -32,6 +33,7 @@ import time
 import tomllib
 from typing import Callable, Dict, List, Mapping, NamedTuple, Sequence, Tuple
 
+from bench import explore
 from experiments import growth
 from experiments.division import Table, bound, of_ring3, ring3
 from experiments.turns import played
@@ -239,6 +241,23 @@ def explored(asked: Asked) -> Made:
     return Made([EXPLORED_HEAD, *rows], [shown(EXPLORED[0].words())])
 
 
+MODULE, RINGS_OF_MODULE = "wasm/ring.wasm", (8, 16, 24, 27, 32, 48, 64)
+MODULES_HEAD = ("network", "module", "states", "most moves", "most lost", "processor, s", "memory, MB")
+
+
+def module_row(nodes: int) -> Cells:
+    """What was found of all schedules on a ring whose agents run the sample module."""
+    matches = explore.measured_by_module(f"ring:{nodes}", MODULE, explore.STATES)
+    return [f"ring:{nodes}", f"`{MODULE}:{nodes}`", str(sum(it.states for it in matches)),
+            str(max(it.moves for it in matches)), str(max(it.lost for it in matches)),
+            f"{sum(it.program for it in matches):.2f}", f"{max(it.memory for it in matches):.0f}"]
+
+
+def modules(asked: Asked) -> Made:
+    words = f"./arena explore tournament.toml 0 --module {AGENTS}/{MODULE}:{RINGS_OF_MODULE[-1]} --max-states"
+    return Made([MODULES_HEAD, *map(module_row, RINGS_OF_MODULE)], [f"{words} {explore.STATES}"])
+
+
 TOO_FEW = [
     Search("hunt", "ring:8", RING, 1), Search("hunt", "hypercube:3", KNOWN_MAP, 1),
     Search("hunt", "hypercube:3", MAP, 3), Search("hunt", "torus:3x3", MAP, 4),
@@ -265,6 +284,7 @@ def too_few(asked: Asked) -> Made:
 
 TABLES: Dict[str, Callable[[Asked], Made]] = {
     "rings": rings, "thirds": thirds, "large-rings": of_sweep("large_rings"), "explored": explored,
+    "modules": modules,
     "no-map": of_sweep("no_map"), "large-no-map": of_sweep("large_no_map"),
     "known-map": of_sweep("known_map"), "large-known-map": of_sweep("large_known_map"),
     "too-few": too_few,

@@ -69,7 +69,7 @@ def compiled(stage: Stage) -> None:
     if shutil.which("clang") is None or shutil.which("wasm-ld") is None:
         raise unittest.SkipTest("clang or lld is not installed")
     agent = stage.folder / "agent.wasm"
-    subprocess.run(["clang", "--target=wasm32", "-O2", "-nostdlib", "-Wl,--no-entry,--stack-first,-z,stack-size=1024",
+    subprocess.run(["clang", "--target=wasm32", "-O1", "-nostdlib", "-Wl,--no-entry,--stack-first,-z,stack-size=1024",
                     "-o", agent, RING.with_suffix(".c")], check=True)
     writes(stage, tri=TRIANGLE, cup=CUP.replace("quota = 10", "quota = 100").replace("board = 8", "board = 48"))
     found = [stage.run(["explore", "cup.toml", "0", "--module", f"{file}:3"], b"").printed.splitlines()[0]

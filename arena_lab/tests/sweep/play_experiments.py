@@ -1,5 +1,6 @@
 """Small parts of the experiments give the figures of docs/EXPERIMENTS.md."""
 import contextlib
+import hashlib
 import io
 import os
 import pathlib
@@ -8,6 +9,7 @@ import unittest
 from typing import Dict, List
 from unittest import mock
 
+from bench import explore
 from experiments import growth, make
 from experiments.division import Table, bound, of_ring3
 from arena_lab.rules import networks
@@ -83,6 +85,15 @@ class Experiments(unittest.TestCase):
                 row = list(make.explored_row(exploration, asked))
                 with self.subTest(row[0], agents=row[1]):
                     self.assertEqual(found[tuple(row[:2])][2:-1], row[2:-1])
+
+    def test_a_small_ring_that_was_explored_by_a_module(self) -> None:
+        rows = table("modules")
+        self.assertEqual([(row[0], int(row[3])) for row in rows],
+                         [(f"ring:{nodes}", most_moves(nodes)) for nodes in make.RINGS_OF_MODULE])
+        module = (TOP / make.AGENTS / make.MODULE).read_bytes()
+        self.assertIn(hashlib.sha256(module).hexdigest()[:12], DOCUMENT.read_text(encoding="utf-8"))
+        with mock.patch.object(explore, "PROGRAM", program()):
+            self.assertEqual(list(make.module_row(make.RINGS_OF_MODULE[0]))[:5], rows[0][:5])
 
     def test_the_count_agrees_with_what_was_explored_hunted_and_drawn(self) -> None:
         explored = {int(row[0].partition(":")[2]): int(row[3]) for row in table("explored")

@@ -4,7 +4,7 @@
  *
  *     ARENA_RUN { arena_enter(); arena_depart(0); arena_accuse(1 - arena_came()); }
  *
- *     clang --target=wasm32 -O2 -nostdlib -Wl,--no-entry,--stack-first,-z,stack-size=1024 -o agent.wasm agent.c
+ *     clang --target=wasm32 -O1 -nostdlib -Wl,--no-entry,--stack-first,-z,stack-size=1024 -o agent.wasm agent.c
  *
  * A command waits until its reply is there, and returns what the reply is: one of enum arena_reply, or less than 0 if
  * the server refuses it. The calls that are no commands answer at once, of the last reply. An agent has nothing else:
