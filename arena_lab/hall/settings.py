@@ -18,7 +18,7 @@ ALLOWED_HOSTS = ["localhost", "127.0.0.1", "[::1]", socket.gethostname().lower()
 ROOT_URLCONF = "arena_lab.hall.urls"
 
 INSTALLED_APPS = [
-    "arena_lab.hall.teams", "arena_lab.hall.attempts", "arena_lab.hall.handins", "arena_lab.hall.standings",
+    *(f"arena_lab.hall.apps.{name}" for name in ("Teams", "Attempts", "HandIns", "Standings")),
     "django.contrib.admin", "django.contrib.auth", "django.contrib.contenttypes", "django.contrib.sessions",
     "django.contrib.messages", "django.contrib.staticfiles", "rest_framework",
 ]
@@ -64,6 +64,10 @@ DEFAULT_AUTO_FIELD = "django.db.models.BigAutoField"
 AUTHENTICATION_BACKENDS = ["arena_lab.hall.teams.logins.Teachers"]
 AUTH_PASSWORD_VALIDATORS = [{"NAME": "django.contrib.auth.password_validation.MinimumLengthValidator",
                              "OPTIONS": {"min_length": 10}}]
+
+LOCAL = {"BACKEND": "django.core.cache.backends.locmem.LocMemCache"}
+CACHES = {"default": LOCAL,
+          "known": {**LOCAL, "LOCATION": "known", "TIMEOUT": None, "OPTIONS": {"MAX_ENTRIES": 20_000}}}
 
 LANGUAGE_CODE = HALL.language
 LANGUAGES = [("en", "English"), ("de", "Deutsch"), ("fr", "Français")]

@@ -1,6 +1,5 @@
 """The addresses of the hall."""
 import errno
-import json
 import pathlib
 import sys
 from typing import Any
@@ -13,11 +12,11 @@ from django.urls.converters import IntConverter
 from django.utils.translation import gettext as _
 from django.views.defaults import server_error
 
-from arena_lab.hall.attempts import api as attempts_api
 from arena_lab.hall.attempts import views as attempts
+from arena_lab.hall.attempts.api import Attempts, Networks
 from arena_lab.hall.attempts.models import Attempt
-from arena_lab.hall.handins import api as handins_api
 from arena_lab.hall.handins import views as handins
+from arena_lab.hall.handins.api import HandIns
 from arena_lab.hall.handins.models import Grading
 from arena_lab.hall.machine import ACTIVE, WAITING
 from arena_lab.hall.standings import views as standings
@@ -27,9 +26,9 @@ from arena_lab.hall.teams.guards import refusal
 OPENAPI = pathlib.Path(__file__).resolve().parent / "openapi.json"
 
 
-def openapi(request: Any) -> JsonResponse:
+def openapi(request: Any) -> HttpResponse:
     """What REST has."""
-    return JsonResponse(json.loads(OPENAPI.read_text(encoding="utf-8")))
+    return HttpResponse(OPENAPI.read_bytes(), content_type="application/json")
 
 
 class Number(IntConverter):
@@ -48,11 +47,6 @@ def health(request: Any) -> JsonResponse:
     return JsonResponse({"waiting": waiting, "running": Attempt.objects.filter(state__in=ACTIVE).count()})
 
 
-def icon(request: Any) -> HttpResponse:
-    """Browsers ask for an icon; there is none."""
-    return HttpResponse(status=204)
-
-
 def fault(request: Any) -> HttpResponse:
     """What is answered if something ends a request. On a full disk nothing can be written, and the hall goes on once
     there is room."""
@@ -65,20 +59,19 @@ def fault(request: Any) -> HttpResponse:
 handler500 = fault
 API = [
     path("openapi.json", openapi),
-    path("networks", attempts_api.Networks.as_view()),
-    path("matches", attempts_api.Attempts.as_view()),
-    path("matches/<number:number>", attempts_api.One.as_view()),
-    path("matches/<number:number>/close", attempts_api.Close.as_view()),
-    path("matches/<number:number>/replays/<number:match>", attempts_api.Replay.as_view()),
-    path("hand-ins", handins_api.HandIns.as_view()),
-    path("hand-ins/<number:number>", handins_api.One.as_view()),
+    path("networks", Networks.as_view()),
+    path("matches", Attempts.as_view({"get": "list", "post": "create"})),
+    path("matches/<number:number>", Attempts.as_view({"get": "retrieve"})),
+    path("matches/<number:number>/close", Attempts.as_view({"post": "close"})),
+    path("matches/<number:number>/replays/<number:match>", Attempts.as_view({"get": "replay"})),
+    path("hand-ins", HandIns.as_view({"get": "list", "post": "create"})),
+    path("hand-ins/<number:number>", HandIns.as_view({"get": "retrieve"})),
     path("standings", standings.Standings.as_view()),
     path("contests", standings.Contests.as_view()),
     path("contests/<number:number>", standings.Standings.as_view()),
 ]
 urlpatterns = [
     path("", standings.page),
-    path("favicon.ico", icon),
     path("health", health),
     path("screen", standings.screen),
     path("contests/<number:number>", standings.page),

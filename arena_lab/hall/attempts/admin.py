@@ -7,10 +7,11 @@ from django.utils.translation import gettext_lazy as _
 
 from arena_lab.hall.attempts import asking
 from arena_lab.hall.attempts.models import Attempt
+from arena_lab.hall.teams.admin import Made
 
 
 @admin.register(Attempt)
-class Attempts(admin.ModelAdmin):
+class Attempts(Made):
     """All matches, newest first."""
 
     list_display = ("pk", "team", "network", "state", "asked", "outcomes", "link")
@@ -32,6 +33,3 @@ class Attempts(admin.ModelAdmin):
         for attempt in chosen:
             if asking.close(attempt):
                 self.log_change(request, attempt, "closed")
-
-    def has_add_permission(self, request: Any) -> bool:
-        return False

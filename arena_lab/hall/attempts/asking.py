@@ -4,6 +4,7 @@ from typing import List, NamedTuple, Optional
 from django.conf import settings
 from django.db import models, transaction
 from django.utils.translation import gettext as _
+from rest_framework.exceptions import APIException
 
 from arena_lab.hall import machine
 from arena_lab.hall.attempts.models import Attempt
@@ -13,12 +14,12 @@ from arena_lab.hall.steps import step
 from arena_lab.hall.teams.models import Switch, Team, note, today
 
 
-class RequestRefused(Exception):
+class RequestRefused(APIException):
     """What is asked for is refused: the status of HTTP, and a line that says what to change."""
 
     def __init__(self, status: int, text: str) -> None:
         super().__init__(text)
-        self.status = status
+        self.status_code = status
 
 
 class Offer(NamedTuple):

@@ -71,21 +71,8 @@ def shortened(value: Any) -> Any:
     return value[:TEXT] + "…" if isinstance(value, str) and len(value) > TEXT else value
 
 
-class Parts:
-    """The parts that were looked at last."""
-
-    def __init__(self) -> None:
-        self._parts: "collections.OrderedDict[pathlib.Path, Part]" = collections.OrderedDict()
-        self._lock = threading.Lock()
-
-    def shown(self, path: pathlib.Path, agents: int) -> List[Dict[str, Any]]:
-        with self._lock:
-            part = self._parts.pop(path, None) or Part(path, agents)
-            self._parts[path] = part
-            while len(self._parts) > MATCHES:
-                self._parts.popitem(last=False)
-        return part.shown()
-
+# the parts that were looked at last
+part = functools.lru_cache(maxsize=MATCHES)(Part)
 
 # what a refusal means; the line itself is in no replay
 MEANINGS = {
@@ -94,10 +81,6 @@ MEANINGS = {
     "long": "the text is longer than a whiteboard holds",
     "spent": "all commands of the agent are used up",
 }
-
-
-def meaning(reply: Dict[str, Any]) -> str:
-    return MEANINGS.get(reply["no"], "")
 
 
 class Ended(NamedTuple):
@@ -138,5 +121,5 @@ def read_ended(replay: pathlib.Path, most: int = 50) -> Ended:
             if event.get("do") == "deliver" and reply is None:
                 lost.append({"agent": event["agent"], "port": departed.get(event["agent"], 0), "event": place + 1})
             if isinstance(reply, dict) and "no" in reply and len(refused) < most:
-                refused.append(shortened({"event": place + 1, **event, "meaning": meaning(reply)}))
+                refused.append(shortened({"event": place + 1, **event, "meaning": MEANINGS.get(reply["no"], "")}))
     return Ended(refused, lost, holes)

@@ -9,8 +9,6 @@ from arena_lab.hall import machine
 from arena_lab.hall.attempts import seen
 from arena_lab.hall.attempts.models import Attempt, Match, facts
 
-PARTS = seen.Parts()
-
 
 def attempt(it: Attempt) -> Dict[str, Any]:
     """An attempt with its matches."""
@@ -40,7 +38,7 @@ def match(it: Match, of: Attempt) -> Dict[str, Any]:
         page = f"/matches/{of.pk}/{it.number}/page" if it.page.exists() else None
         found.update(verdict=verdict(it), after=told and told._asdict(), page=page)
     else:
-        found.update(agents=PARTS.shown(it.part, len(it.keys)))
+        found.update(agents=seen.part(it.part, len(it.keys)).shown())
     return found
 
 

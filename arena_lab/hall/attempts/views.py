@@ -9,15 +9,12 @@ from arena_lab.hall import machine
 from arena_lab.hall.attempts import asking, shown
 from arena_lab.hall.attempts.models import Attempt, Match
 from arena_lab.hall.teams.guards import BOXED
-from arena_lab.hall.teams.views import for_teams, may
+from arena_lab.hall.teams.views import for_teams, owned
 
 
 def own(request: Any, number: int, right: str = "attempts.view_attempt") -> Attempt:
-    """An attempt of the team that asks, or of any team if who asks has this right. Another team's is as if there were
-    none."""
-    found = Attempt.objects.filter(pk=number).select_related("team").first()
-    if found is None or not may(request, found.team_id, right):
-        raise Http404
+    """An attempt."""
+    found: Attempt = owned(request, Attempt, number, right)
     return found
 
 
@@ -36,7 +33,7 @@ def ask(request: Any) -> HttpResponse:
     try:
         made = asking.ask(request.team, request.POST.get("network", ""))
     except asking.RequestRefused as fault:
-        return listed(request, str(fault), fault.status)
+        return listed(request, str(fault), fault.status_code)
     return redirect(f"/matches/{made.pk}")
 
 

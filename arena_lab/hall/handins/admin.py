@@ -1,4 +1,4 @@
-"""What the teacher sees and does of hand-ins and contests."""
+"""What the teacher sees, does and shows of hand-ins and contests."""
 from typing import Any, Sequence
 
 from django import forms
@@ -10,10 +10,12 @@ from django.utils.translation import gettext_lazy as _
 
 from arena_lab.hall import machine
 from arena_lab.hall.handins.models import Contest, Extension, Grading, HandIn
+from arena_lab.hall.standings.models import Reveal
+from arena_lab.hall.teams.admin import Made
 
 
 @admin.register(Grading)
-class Gradings(admin.ModelAdmin):
+class Gradings(Made):
     """All gradings, newest first."""
 
     list_display = ("pk", "team", "hand_in", "is_secret", "state", "solved", "matches", "moves", "lost", "fault",
@@ -39,12 +41,9 @@ class Gradings(admin.ModelAdmin):
             made = Grading.objects.create(hand_in=hand_in, is_secret=is_secret)
             self.log_change(request, made, f"hand-in {hand_in.pk} of {hand_in.team.name} is graded again")
 
-    def has_add_permission(self, request: Any) -> bool:
-        return False
-
 
 @admin.register(HandIn)
-class HandIns(admin.ModelAdmin):
+class HandIns(Made):
     """All hand-ins, newest first, with their sources."""
 
     list_display = ("pk", "team", "contest", "at", "name", "files", "size", "link")
@@ -55,9 +54,6 @@ class HandIns(admin.ModelAdmin):
     @admin.display(description="")
     def link(self, hand_in: HandIn) -> str:
         return format_html('<a href="/hand-ins/{}">{}</a>', hand_in.pk, _("look"))
-
-    def has_add_permission(self, request: Any) -> bool:
-        return False
 
 
 class ContestForm(forms.ModelForm):
@@ -87,3 +83,10 @@ class Extensions(admin.ModelAdmin):
     """Deadlines of teams."""
 
     list_display = ("team", "contest", "until")
+
+
+@admin.register(Reveal)
+class Reveals(admin.ModelAdmin):
+    """Shows what a freeze hides, or what came of the secret draw."""
+
+    list_display = ("contest", "what", "at")

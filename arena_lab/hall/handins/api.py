@@ -1,13 +1,11 @@
 """REST for hand-ins."""
 from typing import Any
 
-from rest_framework import exceptions, serializers
+from rest_framework import serializers
 from rest_framework.response import Response
-from rest_framework.views import APIView
+from rest_framework.viewsets import ViewSet
 
-from arena_lab.hall.attempts.api import Refusal
-from arena_lab.hall.attempts.asking import RequestRefused
-from arena_lab.hall.handins import taking
+from arena_lab.hall.handins import taking, views
 from arena_lab.hall.handins.models import HandIn
 
 
@@ -18,28 +16,18 @@ class Sent(serializers.Serializer):
     contest = serializers.IntegerField(default=None, allow_null=True, min_value=1, max_value=999_999_999)
 
 
-class HandIns(APIView):
-    """The hand-ins of a team; a new one."""
+class HandIns(ViewSet):
+    """The hand-ins of a team."""
 
-    def get(self, request: Any) -> Response:
+    def list(self, request: Any) -> Response:
         return Response([taking.shown(it) for it in HandIn.objects.filter(team=request.user)[:50]])
 
-    def post(self, request: Any) -> Response:
+    def create(self, request: Any) -> Response:
         sent = Sent(data=request.data)
         sent.is_valid(raise_exception=True)
         file = sent.validated_data["file"]
-        try:
-            made = taking.take(request.user, file.name, file, sent.validated_data["contest"])
-        except RequestRefused as fault:
-            raise Refusal(fault) from None
+        made = taking.take(request.user, file.name, file, sent.validated_data["contest"])
         return Response(taking.shown(made), status=201, headers={"Location": f"/api/hand-ins/{made.pk}"})
 
-
-class One(APIView):
-    """A hand-in."""
-
-    def get(self, request: Any, number: int) -> Response:
-        found = HandIn.objects.filter(pk=number, team=request.user).first()
-        if found is None:
-            raise exceptions.NotFound
-        return Response(taking.shown(found))
+    def retrieve(self, request: Any, number: int) -> Response:
+        return Response(taking.shown(views.own(request, number)))

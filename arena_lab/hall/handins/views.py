@@ -15,7 +15,7 @@ from arena_lab.hall.handins.grading import FILES, OUT, TEAM_PAGE
 from arena_lab.hall.handins.models import HandIn
 from arena_lab.hall.handins.windows import windows
 from arena_lab.hall.teams.guards import BOXED
-from arena_lab.hall.teams.views import for_teams, may
+from arena_lab.hall.teams.views import for_teams, owned
 from arena_lab.play.mistakes import plain
 
 NUMBER = re.compile("[0-9]{1,9}")
@@ -50,15 +50,13 @@ def take(request: Any) -> HttpResponse:
         number = int(contest) if NUMBER.fullmatch(contest) else 0
         taking.take(request.team, file.name, file, number if contest else None)
     except RequestRefused as fault:
-        return listed(request, str(fault), fault.status)
+        return listed(request, str(fault), fault.status_code)
     return redirect("/hand-ins")
 
 
 def own(request: Any, number: int) -> HandIn:
     """A hand-in of the team that asks, or of any if who asks may see gradings."""
-    found = HandIn.objects.filter(pk=number).select_related("team").first()
-    if found is None or not may(request, found.team_id, "handins.view_grading"):
-        raise Http404
+    found: HandIn = owned(request, HandIn, number, "handins.view_grading")
     return found
 
 

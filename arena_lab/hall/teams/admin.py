@@ -15,6 +15,13 @@ admin.site.site_header = admin.site.site_title = settings.HALL.title
 admin.site.index_title = _("Teacher")
 
 
+class Made(admin.ModelAdmin):
+    """What the hall makes, and nobody adds."""
+
+    def has_add_permission(self, request: Any) -> bool:
+        return False
+
+
 @admin.register(Team)
 class Teams(admin.ModelAdmin):
     """Teams: new key sheets, hidden or not."""
@@ -31,14 +38,11 @@ class Teams(admin.ModelAdmin):
 
 
 @admin.register(Switch)
-class Switches(admin.ModelAdmin):
+class Switches(Made):
     """Networks, which are open or closed."""
 
     list_display = ("network", "is_open")
     list_editable = ("is_open",)
-
-    def has_add_permission(self, request: Any) -> bool:
-        return False
 
 
 @admin.register(Message)
@@ -50,11 +54,8 @@ class Messages(admin.ModelAdmin):
     list_select_related = ("team",)
 
 
-class Log(admin.ModelAdmin):
+class Log(Made):
     """A log, which nobody changes."""
-
-    def has_add_permission(self, request: Any) -> bool:
-        return False
 
     def has_change_permission(self, request: Any, one: Any = None) -> bool:
         return False

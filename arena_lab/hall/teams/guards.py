@@ -8,10 +8,12 @@ import hashlib
 import ipaddress
 import threading
 import time
-from typing import Callable, Dict, Optional, Tuple
+from typing import Callable, Optional, Tuple
 
 from django.conf import settings
+from django.core.cache import caches
 from django.http import HttpRequest, HttpResponse, JsonResponse
+from django.utils.connection import ConnectionProxy
 from django.utils.translation import gettext as _
 
 STRICT = ("default-src 'none'; style-src 'self'; script-src 'self'; img-src 'self' data:; font-src 'self'; "
@@ -19,6 +21,9 @@ STRICT = ("default-src 'none'; style-src 'self'; script-src 'self'; img-src 'sel
 # pages that are made of what strangers said have their scripts in them, and may reach nothing, not even cookies
 BOXED = ("sandbox allow-scripts; default-src 'none'; style-src 'unsafe-inline'; script-src 'unsafe-inline'; "
          "base-uri 'none'; form-action 'none'; frame-ancestors 'none'")
+# what each answer has: nothing is taken from elsewhere, framed or kept
+HEADERS = {"Content-Security-Policy": STRICT, "X-Content-Type-Options": "nosniff", "Cache-Control": "no-store",
+           "Referrer-Policy": "same-origin", "Cross-Origin-Resource-Policy": "same-origin"}
 # requests a minute of an address that nobody has logged in from, or of a teacher; and wrong tries of a team's token or
 # of a teacher's password in ten minutes, from one address: others of a class behind it are not kept out
 STRANGERS, TRIES = 600, 10
@@ -70,31 +75,9 @@ class Buckets:
             self._left.clear()
 
 
-class CredentialCache:
-    """Whose credentials are known to be right: a token's or a session's digest, and the team's name."""
-
-    def __init__(self) -> None:
-        self._names: "collections.OrderedDict[str, str]" = collections.OrderedDict()
-        self._lock = threading.Lock()
-
-    def name(self, digest: Optional[str]) -> Optional[str]:
-        with self._lock:
-            return self._names.get(digest or "")
-
-    def note(self, digest: Optional[str], name: str) -> None:
-        with self._lock:
-            if digest and digest not in self._names:
-                self._names[digest] = name
-                if len(self._names) > MOST:
-                    self._names.popitem(last=False)
-
-    def forget(self, digest: Optional[str]) -> None:
-        """A token that was replaced, or a session that has ended, is nobody's."""
-        with self._lock:
-            self._names.pop(digest or "", None)
-
-
-asked, tried, known = Buckets(60), Buckets(600), CredentialCache()
+asked, tried = Buckets(60), Buckets(600)
+# whose credentials are known to be right: of the digest of a token or a session the team's name
+known = ConnectionProxy(caches, "known")
 
 
 def address_of(request: HttpRequest) -> str:
@@ -143,14 +126,14 @@ class Guards:
 
     def __call__(self, request: HttpRequest) -> HttpResponse:
         response = self._refused(request) or self._answer(request)
-        for name, value in headers().items():
+        for name, value in HEADERS.items():
             response.headers.setdefault(name, value)
         return response
 
     def _refused(self, request: HttpRequest) -> Optional[HttpResponse]:
         if request.path.startswith("/static/"):
             return None
-        name = known.name(credential_of(request))
+        name = known.get(credential_of(request))
         is_team = bool(name) and not str(name).startswith(STAFF)
         most = settings.HALL.limits.requests if is_team else STRANGERS
         wait = asked.wait(f"known {name}" if name else address_of(request), most)
@@ -169,12 +152,6 @@ def length_of(request: HttpRequest) -> int:
     """How many bytes are sent with a request. Without a word of that Django reads none."""
     said = str(request.META.get("CONTENT_LENGTH") or 0)
     return int(said) if said.isdecimal() and len(said) < 12 else MOST_SENT + 1
-
-
-def headers() -> Dict[str, str]:
-    """What each answer has: nothing is taken from elsewhere, framed or kept."""
-    return {"Content-Security-Policy": STRICT, "X-Content-Type-Options": "nosniff", "Cache-Control": "no-store",
-            "Referrer-Policy": "same-origin", "Cross-Origin-Resource-Policy": "same-origin"}
 
 
 def refusal(status: int, text: str, **more: str) -> HttpResponse:

@@ -17,15 +17,11 @@ WAIT = _("too many wrong tries: wait some minutes")
 SESSION_TEAM, SESSION_GENERATION = "team", "generation"
 
 
-class TooManyTries(Exception):
-    """Tokens or passwords were tried too often."""
-
-
 def tried(request: HttpRequest, token: str) -> Optional[Team]:
     """The team of a token, whose tries are limited by address."""
     name = token.partition(DOT)[0]
     if guards.must_wait_to_try(request, name):
-        raise TooManyTries
+        raise exceptions.Throttled(detail=WAIT)
     team = team_of(token.strip())
     if team is not None:
         guards.was_right(request, name)
@@ -57,11 +53,11 @@ class Teams:
         if guards.token_in(request) is None:
             digest = guards.credential_of(request)
             if request.team is not None:
-                guards.known.note(digest, request.team.name)
+                guards.known.set(digest, request.team.name)
             elif request.user.is_staff:
-                guards.known.note(digest, f"{guards.STAFF}{request.user.pk}")
+                guards.known.set(digest, f"{guards.STAFF}{request.user.pk}")
             else:
-                guards.known.forget(digest)
+                guards.known.delete(digest)
         return self._answer(request)
 
 
@@ -74,18 +70,13 @@ class ByToken(BaseAuthentication):
             return None
         digest = guards.credential_of(request)
         # a token that was right costs no try, and is asked for anew each time
-        team = team_of(token) if guards.known.name(digest) else self._tried(request, token)
+        team = team_of(token) if guards.known.get(digest) else tried(request, token)
         if team is None:
-            guards.known.forget(digest)
+            guards.known.delete(digest)
             raise exceptions.AuthenticationFailed(WRONG)
-        guards.known.note(digest, team.name)
+        guards.known.set(digest, team.name)
+        request._request.team = team
         return team, None
-
-    def _tried(self, request: Any, token: str) -> Optional[Team]:
-        try:
-            return tried(request, token)
-        except TooManyTries:
-            raise exceptions.Throttled(detail=WAIT) from None
 
     def authenticate_header(self, request: Any) -> str:
         return "Bearer"

@@ -33,8 +33,8 @@ class Team(models.Model):
         ordering = ["name"]
 
     # what Django and its REST framework ask of who is logged in
-    is_authenticated = True
-    is_active = True
+    is_authenticated = is_active = True
+    is_staff = False
 
     def __str__(self) -> str:
         return str(self.display or self.name)

@@ -4,11 +4,12 @@ from typing import Any, Callable
 from django import forms
 from django.db import transaction
 from django.db.models import Q
-from django.http import HttpResponse
-from django.shortcuts import redirect, render
+from django.http import Http404, HttpResponse
+from django.shortcuts import get_object_or_404, redirect, render
 from django.utils.translation import gettext_lazy as _
 from django.views.decorators.debug import sensitive_post_parameters
 from django.views.decorators.http import require_POST
+from rest_framework.exceptions import Throttled
 
 from arena_lab.hall.teams import logins
 from arena_lab.hall.teams.models import Message, Team
@@ -27,20 +28,17 @@ class Token(forms.Form):
 @sensitive_post_parameters()
 def login(request: Any) -> HttpResponse:
     """Asks for a token."""
-    form = Token(request.POST or None)
-    status = 200
-    if request.method == "POST" and form.is_valid():
+    form, status = Token(request.POST or None), 400 if request.method == "POST" else 200
+    if form.is_valid():
         try:
             team = logins.tried(request, form.cleaned_data["token"])
-        except logins.TooManyTries:
+        except Throttled:
             team, status = None, 429
         if team is not None:
             logins.log_in(request, team)
             return redirect("/matches")
         form.add_error("token", logins.WAIT if status == 429 else logins.WRONG)
         status = max(status, 403)
-    elif request.method == "POST":
-        status = 400
     return render(request, "login.html", {"form": form}, status=status)
 
 
@@ -85,7 +83,10 @@ def messages(request: Any) -> HttpResponse:
     return render(request, "messages.html", {"messages": found[:100], "form": form}, status=status)
 
 
-def may(request: Any, team: int, right: str) -> bool:
-    """Whether the team of this number asks, or a teacher or tutor who has a right."""
-    return bool(request.user.is_staff and request.user.has_perm(right)
-                or request.team is not None and request.team.pk == team)
+def owned(request: Any, kind: Any, number: int, right: str) -> Any:
+    """What the team that asks has under this number, or any team if a teacher or tutor asks who has a right. Another
+    team's is as if there were none."""
+    found = get_object_or_404(kind.objects.select_related("team"), pk=number)
+    if request.team == found.team or request.user.is_staff and request.user.has_perm(right):
+        return found
+    raise Http404

@@ -16,7 +16,7 @@ from django.test import Client, TestCase  # noqa: E402
 from django.utils import timezone, translation  # noqa: E402
 
 from arena_lab.hall import keys  # noqa: E402
-from arena_lab.hall.attempts import seen, shown  # noqa: E402
+from arena_lab.hall.attempts import seen  # noqa: E402
 from arena_lab.hall.attempts.models import Attempt, Match  # noqa: E402
 from arena_lab.hall.handins import taking  # noqa: E402
 from arena_lab.hall.handins.models import Grading, HandIn  # noqa: E402
@@ -34,7 +34,7 @@ class Hall(TestCase):
         for buckets in (guards.asked, guards.tried, taking.sent):
             buckets.clear()
         # numbers of attempts come again in each test
-        shown.PARTS = seen.Parts()
+        seen.part.cache_clear()
         self.tokens = {team.name: team.new_token() for team in Team.objects.all()}
         keys.set_password(PASSWORD)
         self.addCleanup(shutil.rmtree, PLACE.folder / "attempts", True)

@@ -78,11 +78,12 @@ def begun() -> HallFolder:
         entry.begin(str(made.folder))
         from django.conf import settings
         from django.core.management import call_command
-        from django.test.utils import setup_test_environment
+        from django.test.utils import override_settings, setup_test_environment
         call_command("migrate", verbosity=0, interactive=False)
         setup_test_environment()
         # tests change what tables have, and look at once; and each client of a test would list all files
-        settings.CACHES = {"default": {"BACKEND": "django.core.cache.backends.dummy.DummyCache"}}
+        dummy = {"BACKEND": "django.core.cache.backends.dummy.DummyCache"}
+        override_settings(CACHES={**settings.CACHES, "default": dummy}).enable()
         settings.WHITENOISE_AUTOREFRESH = True
         settings.PASSWORD_HASHERS = ["django.contrib.auth.hashers.MD5PasswordHasher"]
         from arena_lab.hall import keys

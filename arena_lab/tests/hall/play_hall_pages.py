@@ -9,7 +9,7 @@ from arena_lab.tests.hall.hall_pages import PASSWORD, PLACE, Hall, played
 from django.conf import settings
 from django.test import Client, RequestFactory
 
-from arena_lab.hall.attempts import shown
+from arena_lab.hall.attempts import seen
 from arena_lab.hall.attempts.models import Attempt
 from arena_lab.hall.teams import guards
 from arena_lab.hall.teams.models import Entry, Switch, Team
@@ -223,7 +223,7 @@ class Isolation(Hall):
         self.assertIsNone(dead.log[-1]["reply"])
         attempt = self.running(alive)
         one = self.answers(attempt)
-        shown.PARTS = type(shown.PARTS)()
+        seen.part.cache_clear()
         self.write(attempt.matches.get(), dead)
         self.assertEqual(self.answers(attempt), one)
         self.assertIn(b"gone", b"".join(one))

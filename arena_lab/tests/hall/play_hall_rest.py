@@ -85,7 +85,7 @@ class Standings(Hall):
             self.assertEqual([Client().get(path).status_code for path in ("/", "/screen", "/api/standings")], [200] * 3)
 
     def test_tables_are_made_once_however_often_they_are_asked_for(self) -> None:
-        kept = {"default": {"BACKEND": "django.core.cache.backends.locmem.LocMemCache"}}
+        kept = {**settings.CACHES, "default": {"BACKEND": "django.core.cache.backends.locmem.LocMemCache"}}
         with self.settings(CACHES=kept), mock.patch.object(tables, "tables", wraps=tables.tables) as made:
             for name in ("amber", "birch", "cedar"):
                 self.rest("get", "/api/standings", name)

@@ -7,10 +7,9 @@ from typing import Any
 from unittest import mock
 
 from arena_lab.hall import machine
-from arena_lab.hall.machine import (ACTIVE, CLAIM, EVENTS, FINISH, HELD, LOST, MOST_RUNS, RUNNING, STATES, WAITING,
-                                    JobState,
-                              after)
+from arena_lab.hall.machine import ACTIVE, CLAIM, FINISH, HELD, LOST, MOST_RUNS, RUNNING, WAITING
 from arena_lab.tests.hall import halls
+from arena_lab.tests.hall.work_model import EVENTS, STATES, JobState, after
 
 halls.begun()
 
@@ -85,8 +84,7 @@ class Steps(TestCase):
     def test_a_worker_that_hears_late_of_its_step_has_not_taken_it(self) -> None:
         """Its lease ran out between the step and the look at the row, which another worker has begun meanwhile."""
         work = attempt()
-        holder = str(claimed(work))
-        refresh = Attempt.refresh_from_db
+        holder, refresh = str(claimed(work)), Attempt.refresh_from_db
 
         def late(row: Any) -> None:
             Attempt.objects.filter(pk=work.pk).update(holder="two", runs=2)

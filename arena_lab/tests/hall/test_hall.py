@@ -10,19 +10,18 @@ import unittest
 import zipfile
 from typing import Any, Dict, List, Optional, Set, Tuple
 
-from arena_lab.hall import machine
 from arena_lab.hall.attempts.draws import TOURNAMENT, drawn, write
 from arena_lab.hall.attempts.seen import Part, ended
 from arena_lab.hall.course import DRAWN, FIXED, Net, hall_of
 from arena_lab.hall.handins import unpacking
 from arena_lab.hall.handins.unpacking import NoHandIn, files_of
-from arena_lab.hall.machine import (ACTIVE, BEGIN, CANCEL, CANCELLED, CLAIM, ENDED, EVENTS, FAIL, FINISH, HELD, LOSE,
-                                    LOST,
-                              MOST_RUNS, OVER, RENEW, RUNNING, STATES, WAITING, JobState, after)
+from arena_lab.hall.machine import (ACTIVE, BEGIN, CANCEL, CANCELLED, CLAIM, ENDED, FAIL, FINISH, HELD, LOSE,
+                                    LOST, MOST_RUNS, OVER, RENEW, RUNNING, WAITING)
 from arena_lab.hall.standings.rules import GradedTeam, league
 from arena_lab.rules.model import Match, Setup, spelled
 from arena_lab.rules.networks import ring
 from arena_lab.sweep.grid import NoSweep
+from arena_lab.tests.hall.work_model import EVENTS, STATES, JobState, after, rows
 from arena_lab.tests.needing import needs
 
 COURSE = 'title = "x"\n[[network]]\nname = "it"\nnetwork = "ring:5"\n'
@@ -111,8 +110,8 @@ class Machines(unittest.TestCase):
         self.assertGreater(len(seen), 1_000)
 
     def test_the_table_reads_as_it_stands(self) -> None:
-        self.assertEqual(machine.rows()[WAITING], ["claim: held", "cancel: cancelled"])
-        self.assertEqual(machine.rows()[RUNNING], ["renew: running", "finish: over", "fail: lost", "lose: waiting",
+        self.assertEqual(rows()[WAITING], ["claim: held", "cancel: cancelled"])
+        self.assertEqual(rows()[RUNNING], ["renew: running", "finish: over", "fail: lost", "lose: waiting",
                                                    "lose: lost", "cancel: cancelled"])
         self.assertIsNone(after(JobState(CANCELLED), CANCEL))
         self.assertEqual(after(JobState(RUNNING, 2, "one"), LOSE), JobState(LOST, 2, ""))

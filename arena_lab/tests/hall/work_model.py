@@ -1,0 +1,38 @@
+"""Work as the table of the hall's machine has it, without a database."""
+from typing import Dict, List, NamedTuple, Optional
+
+from arena_lab.hall.machine import (ACTIVE, BEGIN, BY_HOLDER, CLAIM, ENDED, MOST_RUNS, TABLE, WAITING, Transition,
+                                    steps_of)
+
+STATES = sorted({WAITING, *ACTIVE, *ENDED})
+EVENTS = sorted({row.event for row in TABLE})
+
+
+class JobState(NamedTuple):
+    """A piece of work as the machine sees it: its state, how many runs have begun, and who holds it."""
+
+    state: str = WAITING
+    runs: int = 0
+    holder: str = ""
+
+
+def fits(step: Transition, work: JobState) -> bool:
+    """Whether a row of the table is about work that stands so."""
+    return step.state == work.state and step.again in (None, work.runs < MOST_RUNS)
+
+
+def after(work: JobState, event: str, holder: str = "") -> Optional[JobState]:
+    """The work after an event, or None if the event changes nothing. A claim names the new holder."""
+    if event in BY_HOLDER and holder != work.holder:
+        return None
+    for step in steps_of(event):
+        if fits(step, work):
+            runs = work.runs + (event == BEGIN)
+            kept = holder if event == CLAIM else work.holder if step.after in ACTIVE else ""
+            return JobState(step.after, runs, kept)
+    return None
+
+
+def rows() -> Dict[str, List[str]]:
+    """The table as a reader has it: of each state its events and where they lead."""
+    return {state: [f"{step.event}: {step.after}" for step in TABLE if step.state == state] for state in STATES}
