@@ -8,9 +8,10 @@ Python that is written against `client.py`, which plays inside the lab and is ch
 matches on small networks (rings of 3 to 8 and 12 nodes, unless you name others by --network), each under a fair
 schedule and under one with slow agents. Each agent is repeated alone, as in a course; lines that were refused are told.
 A program is kept waiting for an arrival, longer by the clock than a link takes in a contest of the usual delays. Then
-schedules are drawn and hunted on rings of 5, 6 and 8, for a minute at most, and every schedule of a ring of 5 is tried,
-if that takes three minutes at most. In the end the agent is right, and one sentence says on what; or the first thing to
-mend is told, one fact a line, and how to see it again. The exit status is 1 if there is something to mend.
+schedules are drawn and hunted on rings of 5, 6 and 8, for a minute and at least 24 draws, and every schedule of a ring
+of 5 is tried, if that takes three minutes at most. In the end the agent is right, and one sentence says on what; or the
+first thing to mend is told, one fact a line, and how to see it again. The exit status is 1 if there is something to
+mend.
 
 Under --network the searches take the smallest three of the networks that you name.
 """
@@ -45,8 +46,8 @@ SEARCHED, EXPLORED = ("ring:5", "ring:6", "ring:8"), "ring:5"
 DRAWN = ("fair", "slow-agents", "fair", "slow-links")
 FOLDER = pathlib.Path("out/check")
 SECONDS, LONGER, MOST = 60, 3, 100_000
-# how many schedules of each network are drawn and hunted at most
-DRAWS, HUNTS = 300, 1000
+# how many schedules are drawn at least, however slow the machine is, and of each network drawn and hunted at most
+LEAST, DRAWS, HUNTS = 24, 300, 1000
 # seconds between two interrupts of a search whose time is up
 AGAIN = 5.0
 
@@ -186,10 +187,10 @@ def search(asked: Checked) -> Step:
 
 
 def draw(asked: Checked, names: Sequence[str]) -> Tuple[int, Optional[ToMend]]:
-    """Draws schedules on each network in turn, for half of the time; gives how many."""
+    """Draws schedules on each network in turn, for half of the time and the least number; gives how many."""
     until, number = time.monotonic() + asked.seconds / 2, 0
     with bar(None, "schedule") as shown:
-        while number < DRAWS * len(names) and time.monotonic() < until:
+        while number < LEAST or number < DRAWS * len(names) and time.monotonic() < until:
             name, scheduler = names[number % len(names)], DRAWN[number // len(names) % len(DRAWN)]
             record = Asked(asked.game(name), scheduler, number, None).play()
             if record.has_failed:
