@@ -17,8 +17,10 @@ Under --network the searches take the smallest three of the networks that you na
 """
 import argparse
 import contextlib
+import json
 import pathlib
 import signal
+import sys
 import threading
 import time
 from typing import Any, Iterator, List, NamedTuple, Optional, Sequence, Tuple
@@ -102,6 +104,8 @@ def add_words(parser: argparse.ArgumentParser) -> None:
     parser.add_argument("--no-repeat", action="store_true", help="do not repeat agents alone")
     parser.add_argument("--keep", metavar="FOLDER", type=pathlib.Path, default=FOLDER, help="write what shows the "
                         f"first thing to mend there ({FOLDER})")
+    parser.add_argument("--json", action="store_true", help="print an object of JSON, with `right`, what is `said` and "
+                        "the folder that is `kept`, and what is done meanwhile on standard error")
     add_engine(parser)
 
 
@@ -112,11 +116,17 @@ def run(words: argparse.Namespace) -> int:
     names = tuple(words.network or NETWORKS)
     asked = Checked(AgentWords(kind, words.agent), words.agents, names, words.limit, program_of(words), words.seconds,
                     not words.no_repeat)
-    right, wrong = checked(asked)
+    with contextlib.redirect_stdout(sys.stderr) if words.json else contextlib.nullcontext():
+        right, wrong = checked(asked)
+        if wrong is not None:
+            print(wrong.record.keep(words.keep)[-1])
+    if words.json:
+        print(json.dumps({"right": wrong is None, "said": [right] if wrong is None else wrong.said,
+                          "kept": None if wrong is None else str(words.keep)}))
+        return int(wrong is not None)
     if wrong is None:
         print(right)
         return 0
-    print(wrong.record.keep(words.keep)[-1])
     again = f"{arena_lab.called} replay {words.keep}{'' if asked.program else f' --engine {MODEL}'}"
     print("\n  ".join([f"To mend first: {wrong.said[0]}", *wrong.said[1:]]))
     print(f"See it again by `{again}`, and try a mended agent by `{again} --follow`" if wrong.is_repeatable else

@@ -1,9 +1,13 @@
 """How many schedules `check` draws: enough to say that an agent is right, whatever the clock says."""
+import contextlib
+import io
 import itertools
+import json
 import unittest
 from typing import Any
 from unittest import mock
 
+from arena_lab.__main__ import main
 from arena_lab.commands import check
 from arena_lab.commands.check import DRAWN, LEAST, SEARCHED, Checked
 from arena_lab.play.teams import INSIDE, AgentWords
@@ -33,6 +37,28 @@ class Draws(unittest.TestCase):
 
     def test_the_first_that_fails_ends_it(self) -> None:
         self.assertEqual(self.drawn(1_000.0, 3), (2, "to mend"))
+
+
+class Said(unittest.TestCase):
+    """What is printed as JSON."""
+
+    def said(self, step: Any) -> Any:
+        def checked(_: Any) -> Any:
+            print("14 matches: all solved")
+            return step
+        out, errors = io.StringIO(), io.StringIO()
+        with mock.patch.object(check, "checked", checked), contextlib.redirect_stdout(out), \
+                contextlib.redirect_stderr(errors):
+            status = main(["check", "examples/agents/ring.py {nodes}", "--json", "--engine", "model", "--keep", "kept"])
+        self.assertIn("14 matches", errors.getvalue())
+        return status, json.loads(out.getvalue())
+
+    def test_an_agent_that_is_right_and_one_that_is_to_be_mended(self) -> None:
+        self.assertEqual(self.said(("Right on all", None)), (0, {
+            "right": True, "said": ["Right on all"], "kept": None}))
+        record = mock.Mock(keep=lambda folder: [f"see {folder}"])
+        self.assertEqual(self.said(("", check.ToMend(["it fails", "so"], record))), (1, {
+            "right": False, "said": ["it fails", "so"], "kept": "kept"}))
 
 
 if __name__ == "__main__":
