@@ -7,6 +7,8 @@ again, once. A worker that comes back too late names a holder that is not the ho
 """
 from typing import FrozenSet, List, NamedTuple, Optional, Tuple
 
+from arena_lab.support.faults import Fault
+
 WAITING, HELD, RUNNING, OVER, LOST, CANCELLED = "waiting", "held", "running", "over", "lost", "cancelled"
 # no step leads out of these
 ENDED: FrozenSet[str] = frozenset((OVER, LOST, CANCELLED))
@@ -19,6 +21,10 @@ CLAIM, BEGIN, RENEW, FINISH, FAIL, LOSE, CANCEL = "claim", "begin", "renew", "fi
 BY_HOLDER: FrozenSet[str] = frozenset((BEGIN, RENEW, FINISH, FAIL))
 # a run that is lost is followed by one more
 MOST_RUNS = 2
+
+
+class TryAgain(Fault):
+    """A run came to nothing, as another may not: it may find another port, or a machine that has room. Says why."""
 
 
 class Transition(NamedTuple):

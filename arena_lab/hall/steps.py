@@ -1,21 +1,27 @@
 """Steps of the machine (arena_lab/hall/machine.py) in the database. Each is one UPDATE that names the state it
 leaves."""
+import contextlib
 import datetime
 import os
 import secrets
 import threading
-from typing import Any, Dict, List, Optional
+import time
+from typing import Any, Dict, Iterator, List, Optional
 
-from django.db import models
+from django.db import OperationalError, connection, models
 from django.utils import timezone
 from django.utils.translation import gettext_lazy as _
 
 from arena_lab.hall import machine
+from arena_lab.hall.place import tell
+from arena_lab.support.faults import Fault
 
 # how long a worker may be silent, and how often it says that it is there; how long work may wait for its worker
 SECONDS = float(os.environ.get("ARENA_HALL_LEASE", "30"))
 LEASE, RENEWED = datetime.timedelta(seconds=SECONDS), SECONDS / 5
 TO_BEGIN = LEASE
+# seconds between two looks at what does the work
+LOOK = 0.2
 # set once this process is told to end: what it does is given up, and done again by the next
 STOPPED = threading.Event()
 AGAIN = _("the hall was stopped meanwhile: it is done again, a match with other keys")
@@ -93,12 +99,60 @@ class WorkerStopped(Exception):
     """This process is told to end."""
 
 
-def check_stop() -> None:
-    """Raises WorkerStopped if this process is told to end."""
-    if STOPPED.is_set():
-        raise WorkerStopped
+class WorkLost(Exception):
+    """The work is not this worker's any more: it was given up, or another has it."""
 
 
-def give_up(work: Work, holder: str, why: str) -> bool:
-    """Gives up work that this holder has, so that it is done again if it has a run left, and says why."""
-    return step(work, machine.LOSE, "", models.Q(holder=holder), fault=why[:300])
+class Lease:
+    """The hold that a worker has on the work that it does."""
+
+    def __init__(self, work: Work, holder: str) -> None:
+        self._work, self._holder, self._renewed = work, holder, time.monotonic()
+
+    def renew(self) -> None:
+        if not step(self._work, machine.RENEW, self._holder):
+            raise WorkLost
+        self._renewed = time.monotonic()
+
+    def wait(self) -> None:
+        """Lets a moment pass, and renews the lease in time. A database that does not answer is asked again, as long as
+        the lease holds."""
+        time.sleep(LOOK)
+        silent = time.monotonic() - self._renewed
+        if STOPPED.is_set():
+            raise WorkerStopped
+        if silent > RENEWED:
+            try:
+                self.renew()
+            except OperationalError:
+                if silent > LEASE.total_seconds():
+                    raise WorkLost from None
+            finally:
+                if not connection.in_atomic_block:
+                    connection.close()
+
+
+@contextlib.contextmanager
+def begun(kind: Any, number: int, holder: str, *related: str) -> Iterator[Any]:
+    """Work of this number that begins, or nothing if this holder does not hold it. What ends it is noted, and work that
+    is given up is done again if it has a run left."""
+    work = kind.objects.filter(pk=number).select_related(*related).first()
+    if work is None or not step(work, machine.BEGIN, holder):
+        yield None
+        return
+    try:
+        yield work
+    except WorkLost:
+        pass
+    except (WorkerStopped, machine.TryAgain) as fault:
+        step(work, machine.LOSE, "", models.Q(holder=holder), fault=(str(fault) or str(AGAIN))[:300])
+    except (Fault, OSError) as fault:
+        step(work, machine.FAIL, holder, fault=told_of(fault, work))
+
+
+def told_of(fault: Exception, work: Work) -> str:
+    """What a team is told of a fault: those of the machine, which name files, stand in the worker's log."""
+    if isinstance(fault, Fault):
+        return str(fault)[:300]
+    tell(f"{type(work).__name__} {work}: {fault}")
+    return "the machine has a fault: tell your teacher"

@@ -11,52 +11,26 @@ import shutil
 import time
 
 from django.conf import settings
-from django.db import OperationalError, connection, transaction
+from django.db import transaction
 
 from arena_lab.hall import machine
 from arena_lab.hall.attempts import draws, servers
 from arena_lab.hall.attempts.models import ABSENT, Attempt, Match, Pages
-from arena_lab.hall.attempts.servers import NoServer, Server, Times
-from arena_lab.hall.place import tell
-from arena_lab.hall.steps import AGAIN, LEASE, RENEWED, WorkerStopped, check_stop, give_up, step
+from arena_lab.hall.attempts.servers import Server, Times
+from arena_lab.hall.steps import Lease, WorkLost, begun, step
 from arena_lab.pages import page
 from arena_lab.rules.engines import judged
 from arena_lab.support.faults import Fault
 
 # of a worker on another machine than the pages: by which name teams reach it
 HOST = "ARENA_HALL_HOST"
-# seconds between two looks at the server
-LOOK = 0.2
-
-
-class JobLost(Exception):
-    """The work is not this worker's any more: it was given up, or another has it."""
 
 
 def play(number: int, holder: str) -> None:
     """Plays the attempt of this number, if this holder holds it."""
-    attempt = Attempt.objects.filter(pk=number).select_related("team").first()
-    if attempt is None or not step(attempt, machine.BEGIN, holder):
-        return
-    try:
-        Playing(attempt, holder).play()
-    except JobLost:
-        pass
-    except WorkerStopped:
-        give_up(attempt, holder, str(AGAIN))
-    except NoServer as fault:
-        # another try may find another port, or a machine that has room
-        give_up(attempt, holder, str(fault))
-    except (Fault, OSError) as fault:
-        step(attempt, machine.FAIL, holder, fault=told_of(fault, attempt))
-
-
-def told_of(fault: Exception, work: object) -> str:
-    """What a team reads of a fault. A fault of the machine names files, so it goes to the worker's log alone."""
-    if isinstance(fault, Fault):
-        return str(fault)[:300]
-    tell(f"{type(work).__name__} {work}: {fault}")
-    return "the machine has a fault: tell your teacher"
+    with begun(Attempt, number, holder, "team") as attempt:
+        if attempt is not None:
+            Playing(attempt, holder).play()
 
 
 class Playing:
@@ -69,7 +43,7 @@ class Playing:
         self._net = settings.HALL.nets.get(attempt.network)
         hall = settings.HALL
         self._times = Times(hall.turns, hall.pause, hall.gather * 1000)
-        self._renewed = time.monotonic()
+        self._lease = Lease(attempt, holder)
         self._came = False
 
     def play(self) -> None:
@@ -92,7 +66,7 @@ class Playing:
         told = {"run": self._attempt.runs, "host": os.environ.get(HOST, settings.HALL.host), "port": server.port,
                 "keys": draw.fixture.keys, "map": draw.map}
         with transaction.atomic():
-            self._renew()
+            self._lease.renew()
             match, _ = Match.objects.update_or_create(attempt=self._attempt, number=0, defaults=told)
         return match
 
@@ -100,10 +74,7 @@ class Playing:
         """Waits until the server has ended."""
         began, is_closing = time.monotonic(), False
         while not server.has_ended():
-            time.sleep(LOOK)
-            check_stop()
-            if time.monotonic() - self._renewed > RENEWED:
-                self._try_to_renew()
+            self._lease.wait()
             if not is_closing and (self._attempt.closing or self._is_late(time.monotonic() - began, match)):
                 is_closing = True
                 server.close()
@@ -115,28 +86,12 @@ class Playing:
             self._came = has_entered(match.part) or has_entered(match.replay)
         return seconds > self._times.seconds() or waited and not self._came
 
-    def _try_to_renew(self) -> None:
-        """Renews the lease. A database that does not answer is asked again, as long as the lease holds."""
-        try:
-            self._renew()
-        except OperationalError:
-            if time.monotonic() - self._renewed > LEASE.total_seconds():
-                raise JobLost from None
-        finally:
-            if not connection.in_atomic_block:
-                connection.close()
-
-    def _renew(self) -> None:
-        if not step(self._attempt, machine.RENEW, self._holder):
-            raise JobLost
-        self._renewed = time.monotonic()
-
     def _finish(self) -> None:
         """Notes the verdict, and that the page is to be made, wholly or not at all."""
         verdicts = {match: judged(settings.PLACE.program, match.replay) for match in self._attempt.matches.all()}
         with transaction.atomic():
             if not step(self._attempt, machine.FINISH, self._holder, size=size_of(self._attempt.folder)):
-                raise JobLost
+                raise WorkLost
             for match, verdict in verdicts.items():
                 outcome = verdict.outcome if has_entered(match.replay) else ABSENT
                 Match.objects.filter(pk=match.pk).update(outcome=outcome, moves=verdict.moves, lost=verdict.lost)
@@ -157,19 +112,14 @@ def size_of(folder: pathlib.Path) -> int:
 
 def make_pages(number: int, holder: str) -> None:
     """Makes the pages of an attempt that is over."""
-    work = Pages.objects.filter(pk=number).select_related("attempt").first()
-    if work is None or not step(work, machine.BEGIN, holder):
-        return
-    try:
-        for match in work.attempt.matches.all():
+    with begun(Pages, number, holder, "attempt") as work:
+        for match in work.attempt.matches.all() if work else ():
             if match.replay.exists():
                 title = f"{work.attempt.network}, {work.attempt_id}.{match.number}"
                 page.write_page(settings.PLACE.program, match.replay, match.page, None, title)
-    except (Fault, OSError) as fault:
-        step(work, machine.FAIL, holder, fault=told_of(fault, work))
-        return
-    Attempt.objects.filter(pk=work.attempt_id).update(size=size_of(work.attempt.folder))
-    step(work, machine.FINISH, holder)
+        if work:
+            Attempt.objects.filter(pk=work.attempt_id).update(size=size_of(work.attempt.folder))
+            step(work, machine.FINISH, holder)
 
 
 def forget(attempt: Attempt) -> None:

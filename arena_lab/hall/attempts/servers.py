@@ -8,8 +8,8 @@ import subprocess
 from typing import IO, List, NamedTuple, Optional, Sequence, Tuple, cast
 
 from arena_lab.hall.attempts.draws import TOURNAMENT
+from arena_lab.hall.machine import TryAgain
 from arena_lab.hall.place import tell
-from arena_lab.support.faults import Fault
 from arena_lab.support.waiting import is_ready
 
 # ends a program with the process that started it, also where that is killed; one that is late to hear it ends itself
@@ -19,7 +19,7 @@ NO_PORT = 6
 SECONDS_TO_BEGIN, GRACE = 30.0, 3_000
 
 
-class NoServer(Fault):
+class NoServer(TryAgain):
     """The server of a match did not begin, or ended by a fault; says how."""
 
 

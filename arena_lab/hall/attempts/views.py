@@ -14,8 +14,7 @@ from arena_lab.hall.teams.views import for_teams, owned
 
 def own(request: Any, number: int, right: str = "attempts.view_attempt") -> Attempt:
     """An attempt."""
-    found: Attempt = owned(request, Attempt, number, right)
-    return found
+    return owned(request, Attempt, number, right)
 
 
 @for_teams

@@ -13,25 +13,22 @@ import pathlib
 import shutil
 import subprocess
 import sys
-import time
 from typing import Any, Dict, List
 
 from django.conf import settings
-from django.db import OperationalError, connection, transaction
+from django.db import transaction
 from django.utils import timezone
 
 from arena_lab.hall import machine
-from arena_lab.hall.attempts.playing import told_of
 from arena_lab.hall.attempts.servers import bound
 from arena_lab.hall.handins.models import Grading
 from arena_lab.hall.handins.windows import window_of
 from arena_lab.hall.place import SECRET, write_whole
-from arena_lab.hall.steps import AGAIN, LEASE, RENEWED, WorkerStopped, check_stop, give_up, step
+from arena_lab.hall.steps import Lease, WorkLost, begun, step
 from arena_lab.rules.fixtures import toml_of
 from arena_lab.support.built import TOP
 from arena_lab.support.faults import Fault
 
-LOOK = 0.2
 # for how long it is known how long a team's programs took
 RECENT = datetime.timedelta(days=1)
 COURSE, FILES, OUT, LOG = "course.toml", "files", "out", "log.txt"
@@ -41,19 +38,17 @@ SOLVED = "solved"
 
 def grade(number: int, holder: str) -> None:
     """Grades a hand-in, if this holder holds the work."""
-    work = Grading.objects.filter(pk=number).select_related("hand_in__team", "hand_in__contest").first()
-    if work is None or not step(work, machine.BEGIN, holder):
-        return
-    # a worker that comes back too late finds the files of no other
-    folder = work.folder.with_name(f"{work.folder.name}.{holder}")
-    try:
-        prepare(work, folder)
-        if not (ran(work, holder, folder) and finish(work, holder, folder)):
+    with begun(Grading, number, holder, "hand_in__team", "hand_in__contest") as work:
+        if work is None:
+            return
+        # a worker that comes back too late finds the files of no other
+        folder = work.folder.with_name(f"{work.folder.name}.{holder}")
+        try:
+            prepare(work, folder)
+            run(work, holder, folder)
+            finish(work, holder, folder)
+        except WorkLost:
             shutil.rmtree(folder, ignore_errors=True)
-    except WorkerStopped:
-        give_up(work, holder, str(AGAIN))
-    except (Fault, OSError) as fault:
-        step(work, machine.FAIL, holder, fault=told_of(fault, work))
 
 
 def prepare(work: Grading, folder: pathlib.Path) -> None:
@@ -82,37 +77,25 @@ def drawn_from(work: Grading) -> str:
     return secret if contest is None else f"{secret} contest {contest}"
 
 
-def ran(work: Grading, holder: str, folder: pathlib.Path) -> bool:
-    """Runs `grade`; gives whether it has ended well and the work is still this holder's. It ends with this worker, and
-    its cells with it. One that was killed is run again, once."""
+def run(work: Grading, holder: str, folder: pathlib.Path) -> None:
+    """Runs `grade`. It ends with this worker, and its cells with it. One that was killed is run again, once."""
     words = [sys.executable, "-m", "arena_lab", "grade", COURSE, "--out", OUT, "--secret", SECRET, "--workers", "1",
              "--program", settings.PLACE.program]
     variables = {"PATH": os.environ.get("PATH", "/usr/bin:/bin"), "PYTHONPATH": str(TOP), "PYTHONHASHSEED": "0"}
     with (folder / LOG).open("wb") as log:
         child = subprocess.Popen(bound(words), cwd=folder, stdin=subprocess.DEVNULL, stdout=log,
                                  stderr=log, env=variables)
-    renewed = time.monotonic()
+    lease = Lease(work, holder)
     try:
         while child.poll() is None:
-            time.sleep(LOOK)
-            check_stop()
-            if time.monotonic() - renewed > RENEWED:
-                with contextlib.suppress(OperationalError):
-                    if not step(work, machine.RENEW, holder):
-                        return False
-                    renewed = time.monotonic()
-                connection.close()
-            if time.monotonic() - renewed > LEASE.total_seconds():
-                return False
+            lease.wait()
     finally:
         child.kill()
         child.wait()
     if child.returncode < 0:
-        give_up(work, holder, f"the grading was killed by signal {-child.returncode}")
-        return False
+        raise machine.TryAgain(f"the grading was killed by signal {-child.returncode}")
     if child.returncode != 0:
         raise Fault(f"the hall could not grade: {last_line(folder / LOG)}")
-    return True
 
 
 def last_line(path: pathlib.Path) -> str:
@@ -121,9 +104,8 @@ def last_line(path: pathlib.Path) -> str:
     return lines[-1][:200] if lines else ""
 
 
-def finish(work: Grading, holder: str, folder: pathlib.Path) -> bool:
-    """Notes what came of a grading, and puts its files where they are looked at, both or neither; gives whether the
-    work is still this holder's."""
+def finish(work: Grading, holder: str, folder: pathlib.Path) -> None:
+    """Notes what came of a grading, and puts its files where they are looked at, both or neither."""
     rows = rows_of(folder / OUT, work.hand_in.team.name)
     solved = [row for row in rows if row["solved"]]
     networks = {row["network"]: [0, 0] for row in rows}
@@ -131,13 +113,12 @@ def finish(work: Grading, holder: str, folder: pathlib.Path) -> bool:
         networks[row["network"]][0] += row["solved"]
         networks[row["network"]][1] += 1
     with transaction.atomic():
-        is_own = step(work, machine.FINISH, holder, solved=len(solved), matches=len(rows), networks=networks,
-                      moves=sum(row["moves"] for row in solved), lost=sum(row["lost"] for row in solved))
-        if is_own:
-            for earlier in set(folder.parent.glob(f"{work.folder.name}*")) - {folder}:
-                shutil.rmtree(earlier, ignore_errors=True)
-            folder.rename(work.folder)
-    return is_own
+        if not step(work, machine.FINISH, holder, solved=len(solved), matches=len(rows), networks=networks,
+                    moves=sum(row["moves"] for row in solved), lost=sum(row["lost"] for row in solved)):
+            raise WorkLost
+        for earlier in set(folder.parent.glob(f"{work.folder.name}*")) - {folder}:
+            shutil.rmtree(earlier, ignore_errors=True)
+        folder.rename(work.folder)
 
 
 def rows_of(out: pathlib.Path, team: str) -> List[Dict[str, Any]]:

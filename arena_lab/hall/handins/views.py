@@ -56,8 +56,7 @@ def take(request: Any) -> HttpResponse:
 
 def own(request: Any, number: int) -> HandIn:
     """A hand-in of the team that asks, or of any if who asks may see gradings."""
-    found: HandIn = owned(request, HandIn, number, "handins.view_grading")
-    return found
+    return owned(request, HandIn, number, "handins.view_grading")
 
 
 def one(request: Any, number: int) -> HttpResponse:

@@ -111,7 +111,7 @@ class Forgeries(Hall):
         assert word is not None
         self.assertEqual(client.post("/login", {"token": self.tokens["amber"], "csrfmiddlewaretoken": word[1]}
                                      ).status_code, 302)
-        for path in ("/matches/ask", "/matches/1/close", "/hand-ins/take", "/logout", "/language/setlang/",
+        for path in ("/matches/ask", "/matches/1/close", "/hand-ins/take", "/logout", "/language/setlang/", "/messages",
                      "/api/matches", "/api/matches/1/close", "/api/hand-ins"):
             with self.subTest(path):
                 self.assertEqual(client.post(path, {"network": "ring of 5"}).status_code, 403)

@@ -95,7 +95,7 @@ class Steps(TestCase):
     def test_a_grading_that_comes_back_late_leaves_the_files_of_the_newer_one(self) -> None:
         """A worker sleeps before it prepares, while it grades, or before it notes what came; another grades meanwhile,
         and is over or not."""
-        for where in ("prepare", "ran", "finish"):
+        for where in ("prepare", "run", "finish"):
             with self.subTest(where):
                 made = HandIn.objects.create(team=of("amber"), name="a", size=1, files=1, digest="")
                 (made.folder / "files").mkdir(parents=True)
@@ -105,8 +105,7 @@ class Steps(TestCase):
 
                 def slept(*given: Any) -> Any:
                     with mock.patch.object(grading, where, before):
-                        past = timezone.now() - datetime.timedelta(seconds=1)
-                        Grading.objects.filter(pk=work.pk).update(until=past)
+                        Grading.objects.filter(pk=work.pk).update(until=timezone.now() - datetime.timedelta(1))
                         lose_late(Grading)
                         self.graded(work.pk, 7)
                         return before(*given)
@@ -119,27 +118,13 @@ class Steps(TestCase):
 
     def graded(self, number: int, moves: int) -> None:
         """Grades, as if all matches had taken these moves."""
-        class Program:
-            """In the place of `grade`."""
-
-            returncode = 0
-
-            def __init__(self, words: Any, cwd: Any, **given: Any) -> None:
-                self.out = cwd / grading.OUT
-                self.out.mkdir()
-                (self.out / "runs.csv").write_text(f"team,network,outcome,fault,moves,lost,run\namber,ring:5,solved,,"
-                                                   f"{moves},0,0\n")
-
-            def poll(self) -> int:
-                return 0
-
-            def kill(self) -> None:
-                pass
-
-            def wait(self) -> None:
-                pass
+        def program(words: Any, cwd: Any, **given: Any) -> Any:
+            (cwd / grading.OUT).mkdir()
+            (cwd / grading.OUT / "runs.csv").write_text(
+                f"team,network,outcome,fault,moves,lost,run\namber,ring:5,solved,,{moves},0,0\n")
+            return mock.Mock(returncode=0, poll=mock.Mock(return_value=0))
         work = Grading.objects.get(pk=number)
-        with mock.patch.object(grading.subprocess, "Popen", Program):
+        with mock.patch.object(grading.subprocess, "Popen", program):
             grading.grade(number, str(claimed(work)))
 
     def test_a_network_that_is_gone_is_told(self) -> None:
