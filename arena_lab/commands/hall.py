@@ -31,14 +31,14 @@ from arena_lab.commands.words import add_program, at_least_one, not_negative
 from arena_lab.course import sandbox
 from arena_lab.course.sandbox import Isolation
 from arena_lab.hall import backup, entry, place, serving
-from arena_lab.hall.course import Hall, NoHall, read
+from arena_lab.hall.course import Hall, NoHall, is_zone, read
 from arena_lab.hall.place import HallFolder, folder_of
 from arena_lab.rules.engines import program_at
 from arena_lab.support.missing import check
 
 NEEDED = ("django", "rest_framework", "waitress", "whitenoise")
 ACTIONS = ("new", "serve", "worker", "keys", "password", "contest", "backup", "restore")
-SHEET = "keys.csv"
+SHEET, LOCAL_TIME = "keys.csv", "/etc/localtime"
 # how far off the deadline of a new course is
 A_TERM = datetime.timedelta(weeks=16)
 
@@ -107,8 +107,15 @@ def write_new(course: pathlib.Path) -> int:
         raise NoHall(f"{course}: there is such a file already")
     text = (pathlib.Path(place.__file__).parent / "new.toml").read_text(encoding="utf-8")
     deadline = datetime.date.today() + A_TERM
-    course.write_text(text.replace("2099-12-31", str(deadline)), encoding="utf-8")
+    text = text.replace("2099-12-31", str(deadline)).replace('"UTC"', f'"{own_zone()}"')
+    course.write_text(text, encoding="utf-8")
     return report(f"wrote {course}: change it, and serve it by `arena-lab hall {course}`")
+
+
+def own_zone() -> str:
+    """The time zone of this machine, if it says which."""
+    name = os.path.realpath(LOCAL_TIME).partition("/zoneinfo/")[2]
+    return name if is_zone(name) else "UTC"
 
 
 def begin(of: HallFolder) -> None:
@@ -125,8 +132,7 @@ def check_walls(words: argparse.Namespace, hall: Hall) -> None:
     if hall.hand_ins is not None and sandbox.strongest() is not Isolation.ALL:
         if not words.weak_walls:
             raise NoHall(f"{sandbox.weakness()}: programs that are handed in could read the hall. Remove [hand_ins], "
-                         f"or "
-                         "say --weak-walls if you trust all teams")
+                         "or say --weak-walls if you trust all teams")
         print(f"hall: {sandbox.weakness()}; {sandbox.strongest().value}", file=sys.stderr)
 
 
@@ -229,7 +235,9 @@ def plan_contest(words: argparse.Namespace, hall: Hall, folder: pathlib.Path) ->
     except ValidationError as fault:
         raise NoHall("; ".join(fault.messages)) from None
     made.save()
-    return report(f"contest {made.pk}, {made}: from {made.start:%Y-%m-%d %H:%M} to {made.end:%H:%M}")
+    frozen = f", frozen from {made.freeze:%H:%M}" if made.freeze else ""
+    return report(f"contest {made.pk}, {made}: from {made.start:%Y-%m-%d %H:%M} to {made.end:%H:%M}{frozen}, by the "
+                  f"clock of {hall.zone}")
 
 
 DONE: Dict[str, Callable[[argparse.Namespace, Hall, pathlib.Path], int]] = {

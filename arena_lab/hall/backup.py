@@ -23,13 +23,16 @@ LEFT_OUT = ("lock",)
 def write(place: HallFolder, archive: pathlib.Path) -> pathlib.Path:
     """Writes the archive, whole or not at all."""
     new = archive.with_name(f".{archive.name}.new")
-    with tempfile.TemporaryDirectory() as name:
+    with tempfile.TemporaryDirectory() as apart:
         with open(os.open(new, os.O_WRONLY | os.O_CREAT | os.O_TRUNC, 0o600), "wb") as file, \
                 tarfile.open(fileobj=file, mode="w:gz") as tar:
-            database = dumped(pathlib.Path(name))
+            database = dumped(pathlib.Path(apart))
             tar.add(database, f"{place.folder.name}/{database.name}")
             tar.add(place.course, place.course.name)
-            tar.add(place.folder, place.folder.name, filter=kept)
+            for folder, folders, names in os.walk(place.folder):
+                for path in (pathlib.Path(folder, name) for name in (*folders, *names)):
+                    with contextlib.suppress(FileNotFoundError):
+                        tar.add(path, str(path.relative_to(place.folder.parent)), recursive=False, filter=kept)
     new.replace(archive)
     return archive
 

@@ -349,7 +349,7 @@ class Commands(Halls):
 
     def test_a_contest_is_planned(self) -> None:
         said = self.ran("contest", self.hall.course, "--name", "finale", "--networks", "ring of 5", "--minutes", "1")
-        self.assertIn(", finale: from ", said)
+        self.assertRegex(said, r", finale: from .* to \d\d:\d\d, by the clock of UTC$")
         told = self.hall.ask("GET", "/api/contests", self.tokens["amber"]).json()
         self.assertEqual([(it["name"], it["networks"]) for it in told], [("finale", ["ring of 5"])])
         for words, wanted in ((("--networks", "ring of 6"), "name networks of the course: ring of 5, torus with a map"),

@@ -1,22 +1,28 @@
 """The parts of a hall that need no Django: its state machine, its file, the rules of its standings, the unpacking of
 hand-ins, and what a team sees of a running match."""
+import contextlib
 import io
 import itertools
 import json
 import pathlib
 import random
+import tarfile
 import tempfile
 import unittest
 import zipfile
 from typing import Any, Dict, List, Optional, Set, Tuple
+from unittest import mock
 
+from arena_lab.commands import hall
+from arena_lab.hall import backup
 from arena_lab.hall.attempts.draws import TOURNAMENT, drawn, write
 from arena_lab.hall.attempts.seen import Part, ended
-from arena_lab.hall.course import DRAWN, FIXED, Net, hall_of
+from arena_lab.hall.course import DRAWN, FIXED, Net, hall_of, read
 from arena_lab.hall.handins import unpacking
 from arena_lab.hall.handins.unpacking import NoHandIn, files_of
 from arena_lab.hall.machine import (ACTIVE, BEGIN, CANCEL, CANCELLED, CLAIM, ENDED, FAIL, FINISH, HELD, LOSE,
                                     LOST, MOST_RUNS, OVER, RENEW, RUNNING, WAITING)
+from arena_lab.hall.place import HallFolder
 from arena_lab.hall.standings.rules import GradedTeam, league
 from arena_lab.rules.model import Match, Setup, spelled
 from arena_lab.rules.networks import ring
@@ -320,6 +326,50 @@ class Seen(unittest.TestCase):
         self.assertEqual([(it["do"], it["reply"]) for it in told.refused], [("depart", {"no": "port"})])
         self.assertEqual(told.refused[0]["meaning"], "the node has no such port: ports are 0 to `ports` - 1")
         self.assertIsNone(ended(self.path.with_name("none")))
+
+
+class Commands(unittest.TestCase):
+    """The file of a course that `hall new` writes, and backups."""
+
+    def test_its_times_are_those_of_the_machine(self) -> None:
+        with tempfile.TemporaryDirectory() as name:
+            folder = pathlib.Path(name)
+            berlin, clock = folder / "zoneinfo/Europe/Berlin", folder / "localtime"
+            berlin.parent.mkdir(parents=True)
+            for place in (berlin, folder / "a-copy"):
+                place.touch()
+                clock.symlink_to(place)
+                course = folder / f"{place.name}.toml"
+                with mock.patch.object(hall, "LOCAL_TIME", str(clock)), contextlib.redirect_stdout(io.StringIO()):
+                    hall.write_new(course)
+                clock.unlink()
+                self.assertEqual(read(course).zone, "Europe/Berlin" if place == berlin else "UTC")
+
+    def test_a_backup_goes_on_behind_files_that_are_gone_meanwhile(self) -> None:
+        """A part of a replay has become the replay, and the folder of a grading has its results' name."""
+        with tempfile.TemporaryDirectory() as name:
+            folder = pathlib.Path(name)
+            place = HallFolder(folder / "it.hall", folder / "it.toml", None)
+            place.write()
+            place.course.write_text(COURSE)
+            (folder / "hall.sqlite3").touch()
+            (place.folder / "attempts").mkdir()
+            for file in ("log.txt", "m0.jsonl.part"):
+                (place.folder / "attempts" / file).touch()
+            kept = backup.kept
+
+            def gone(entry: Any) -> Any:
+                for path in (place.folder / "attempts").iterdir():
+                    if entry.name.startswith("it.hall/attempts/") and not entry.name.endswith(path.name):
+                        path.unlink()
+                return kept(entry)
+            with mock.patch.object(backup, "dumped", return_value=folder / "hall.sqlite3"), \
+                    mock.patch.object(backup, "kept", gone):
+                archive = backup.write(place, folder / "it.tar.gz")
+            with tarfile.open(archive) as tar:
+                found = tar.getnames()
+            self.assertEqual(sum(it.startswith("it.hall/attempts/") for it in found), 1)
+            self.assertLessEqual({"it.toml", "it.hall/hall.sqlite3", "it.hall/hall.json"}, set(found))
 
 
 if __name__ == "__main__":
