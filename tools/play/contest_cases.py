@@ -24,7 +24,7 @@ delay_scales = 0
 delay_odds = 1
 """)
 # seconds: what the matches last, what sessions have left then, and within which the server is to have ended
-LASTS, GRACE, SOON = 0.2, 0.5, 2.0
+LASTS, GRACE, SOON = 0.2, 0.5, 5.0
 MANY = 40
 
 
@@ -195,7 +195,7 @@ def not_early(stage: Stage) -> None:
     with served(stage, "--early", turns=LONG) as server:
         for key in ("ba", "bb", "ra"):
             server.hears(enter(key) + LEAVE)
-        time.sleep(SOON / 2)
+        time.sleep(LASTS * 5)
         if server.child.poll() is not None:
             raise Wrong("the contest has ended")
 
