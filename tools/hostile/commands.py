@@ -61,7 +61,8 @@ COMMANDS = [
     Command("contest recover", ["recover", *CONTEST], "", "examples/appeal.toml", beside=OF_CONTEST),
     Command("explore", TRIES, "examples/triangle.answers", "examples/version1.toml", "host"),
     Command("draw", [*TRIES, *DRAWS], "examples/triangle.answers", "examples/version1.toml", "host"),
-    Command("module", [*TRIES, "--module", f"{MODULE}:3"], "", "examples/version1.toml", beside=[MODULE]),
+    Command("module", ["explore", "examples/appeal.toml", "0", "--module", f"{MODULE}:8"], "", "examples/appeal.toml",
+            beside=[MODULE]),
 ]
 SERVED = "serve"
 
