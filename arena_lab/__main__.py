@@ -1,6 +1,7 @@
 """The lab's command line: `./arena-lab --help`."""
 import argparse
 import importlib
+import multiprocessing
 import os
 import signal
 import sys
@@ -120,6 +121,11 @@ class Terminated(BaseException):
 
 
 def end(*_: object) -> None:
+    """Ends the lab, and the processes that play for it, whose matches may take minutes. A second signal does not
+    interrupt that."""
+    signal.signal(signal.SIGTERM, signal.SIG_IGN)
+    for process in multiprocessing.active_children():
+        process.terminate()
     raise Terminated
 
 
