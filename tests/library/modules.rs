@@ -4,7 +4,7 @@ use bhs_wasm::{
     Binary, Function, HostFunction, Instruction, Interpreter, Module, Progress, Unary, binary32,
     binary64, unary32, unary64,
 };
-use bhs_wasm_read::{FaultKind, module_of};
+use bhs_wasm_read::{FaultKind, ModuleFault, module_of};
 use std::alloc::Global;
 use std::test::Fail;
 
@@ -94,10 +94,10 @@ fn reads_a_module(rt: HostRuntime) -> Result<(), Fail> {
 fn says_where_a_file_is_refused(rt: HostRuntime) -> Result<(), Fail> {
     let mut cut = Vec::from_slice(rt.alloc(), EMPTY)?;
     cut.truncate(30);
-    let Err(fault) = module_of(rt.alloc(), &cut) else {
-        return Err("it is read".into());
+    let Err(ModuleFault::Inside { kind, at, import: _ }) = module_of(rt.alloc(), &cut) else {
+        return Err("it is read, or refused for its head".into());
     };
-    assert!(rt; fault.kind == FaultKind::End);
-    assert_eq!(rt; fault.at, 27);
+    assert!(rt; kind == FaultKind::End);
+    assert_eq!(rt; at, 27);
     Ok(())
 }

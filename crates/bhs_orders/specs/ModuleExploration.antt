@@ -61,7 +61,7 @@ pub record IsFoundOfModule (ready : Ready) (exploration : Exploration) (program 
 
 -- The text tells what was found of agents that run the module with these arguments, and so does the exit status. How an
 -- agent failed is not proved.
-pub record IsTold (ready : Ready) (exploration : Exploration) (program : Module) (arguments file text : List ℕ)
+pub record IsModuleReport (ready : Ready) (exploration : Exploration) (program : Module) (arguments file text : List ℕ)
     (code : ℕ) : Type 0 where
   pub found : Discovery
   pub is_found : IsFoundOfModule ready exploration program arguments FUEL found
@@ -74,7 +74,7 @@ pub record IsTold (ready : Ready) (exploration : Exploration) (program : Module)
 -- the calls of the output
 module _ {O : Type 0} (takes : O → List ℕ → WriteAnswer → O → Type 0) (flushes : O → Bool → O → Type 0) where
   -- a text is printed; if that succeeds, its exit status is this one
-  pub record PrintsTold (text : List ℕ) (done : ℕ) (output output' : O) (code : ℕ) : Type 0 where
+  pub record PrintsReport (text : List ℕ) (done : ℕ) (output output' : O) (code : ℕ) : Type 0 where
     pub printed : ℕ
     pub prints : Prints takes flushes text output output' printed
     pub coded : code ≡ (if printed == DONE then done else printed)
@@ -85,8 +85,8 @@ module _ {O : Type 0} (takes : O → List ℕ → WriteAnswer → O → Type 0) 
     explores_module : (lineup : Lineup) → IsAssembled lineup → (ready : Ready)
         → slice_get lineup.ready.items exploration.game ≡ Some ready
         → (program : Module) → (file text : List ℕ) → (done : ℕ)
-        → IsTold ready exploration program arguments file text done
-        → PrintsTold text done output output' code → ExploresModule arguments exploration output output' code
+        → IsModuleReport ready exploration program arguments file text done
+        → PrintsReport text done output output' code → ExploresModule arguments exploration output output' code
     -- a file is refused, or cannot be read, the tournament has no such match, or the search ended in a fault
     explores_no_module : (fault : Fault) → code ≡ status fault → output' ≡ output
         → ExploresModule arguments exploration output output' code

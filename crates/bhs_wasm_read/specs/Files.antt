@@ -3,6 +3,8 @@ use Rattle.std.specs.Prelude.{ℕ, zero, suc, ◌+◌, ◌==◌, ◌≡◌, Bool
 use Rattle.std.specs.Prelude.{Option, Some, None, Ok, Err, if◌then◌else◌, position}
 use Rattle.std.specs.List.{starts_with}
 use Rattle.bhs_wasm_read.specs.declared.faults.FaultKind.TheVariants as faults
+use Rattle.bhs_wasm_read.specs.declared.faults.ModuleFault.{ModuleFault}
+use Rattle.bhs_wasm_read.specs.declared.faults.ModuleFault.TheVariants as refused
 use Rattle.bhs_wasm_read.specs.Values.{Read, then_read, byte, u32, part, name}
 
 -- the magic number and the version: \0asm, 1
@@ -11,6 +13,11 @@ head = 0 ∷ 97 ∷ 115 ∷ 109 ∷ 1 ∷ 0 ∷ 0 ∷ 0 ∷ []
 
 abbrev pub has_head : List ℕ → Bool
 has_head file = starts_with nat_eq file head
+
+-- the byte at which a file is refused
+abbrev pub place_of : ModuleFault → ℕ
+place_of refused.Head = 0
+place_of (refused.Inside kind at import) = at
 
 -- the order of sections by their numbers: types, imports, functions, tables, memories, globals, exports, the start,
 -- elements, the number of data segments, code, data

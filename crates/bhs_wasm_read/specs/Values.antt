@@ -1,5 +1,4 @@
--- How bytes, numbers and names are read of the bytes that are left of a part of a file: the grammar of values in the
--- binary format.
+-- The grammar of values in the binary format: bytes, numbers and names, read from the front of the bytes that are left.
 use Rattle.std.specs.Prelude.{ℕ, ◌+◌, ◌-◌, ◌*◌, ◌%◌, ◌^◌, ◌≡◌, nat_lt, nat_le, List, [], ◌∷◌, length, take, drop}
 use Rattle.std.specs.Prelude.{Result, Ok, Err, if◌then◌else◌}
 use Rattle.std.specs.Str.{is_utf8}
@@ -41,7 +40,7 @@ bytes left count = if nat_lt (length left) count then Err faults.End else Ok (ta
 abbrev pub next : List ℕ → Read ℕ
 next left = then_read (byte left) (λ b rest. Ok (b, left))
 
--- a part of so many bytes is what is left, and the value is what stands behind it
+-- A part of so many bytes begins. What is left is the part, and the value is what stands behind it.
 abbrev pub part : List ℕ → (count : ℕ) → Read (List ℕ)
 part left count = then_read (bytes left count) (λ taken rest. Ok (rest, taken))
 

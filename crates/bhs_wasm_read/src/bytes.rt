@@ -48,7 +48,7 @@ impl<'b> Bytes<'b> {
         self.start = self.behind + self.left.len();
     }
 
-    /// Begins to read a part of so many bytes, and answers what is left of the part around it.
+    /// Begins a part of `count` bytes. The answer is the bytes behind the part.
     pub(crate) fn enter(&mut self, count: u32) -> Result<&'b [u8], FaultKind>
         ensures read { GivesAs (λ rest. rest.now) (specs.part self.old.left.now count) result self.new.left.now }
         ensures behind { IfOk result (λ rest. self.new.behind ≡ self.old.behind + length rest.now) }
@@ -64,7 +64,7 @@ impl<'b> Bytes<'b> {
         }
     }
 
-    /// Has read a part, and goes on with the part around it, of which this is left.
+    /// Ends a part, all of which must be read, and goes on with the bytes behind it.
     pub(crate) fn leave(&mut self, rest: &'b [u8]) -> Result<(), FaultKind>
         ensures read { Gives (specs.rest_behind self.old.left.now rest.now) result self.new.left.now }
         ensures behind { OnOk result (self.new.behind ≡ self.old.behind - length rest.now) }

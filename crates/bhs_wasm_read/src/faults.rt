@@ -11,9 +11,6 @@ pub enum FaultKind {
     /// The program's memory ran out.
     #[error("memory")]
     Memory,
-    /// It does not begin as a WebAssembly module, version 1.
-    #[error("head")]
-    Head,
     /// It ends too soon, or a part of it does.
     #[error("end")]
     End,
@@ -61,20 +58,28 @@ pub enum FaultKind {
     Run,
 }
 
-/// Why a file is refused: what is wrong, at which byte, and what it imports, if that is wrong.
+/// Why a file is refused.
 #[derive(Debug, Drop)]
-pub struct ModuleFault {
-    pub kind: FaultKind,
-    pub at: usize,
-    pub import: String,
+pub enum ModuleFault {
+    /// It does not begin as a WebAssembly module, version 1.
+    Head,
+    /// What is wrong behind its head, at which byte, and what it imports, if that is wrong.
+    Inside {
+        kind: FaultKind,
+        at: usize,
+        import: String,
+    },
 }
 
 impl Display for ModuleFault {
     fn fmt<W: fmt::Write>(&self, f: &mut Formatter<W>) -> fmt::Result {
-        match self.kind {
-            FaultKind::Memory => f.write_str("memory"),
-            FaultKind::Import => write!(f, "import {} at byte {}", self.import.as_str(), self.at),
-            kind => write!(f, "{kind} at byte {}", self.at),
+        match self {
+            ModuleFault::Head => f.write_str("head at byte 0"),
+            ModuleFault::Inside { kind, at, import } => match *kind {
+                FaultKind::Memory => f.write_str("memory"),
+                FaultKind::Import => write!(f, "import {} at byte {}", import.as_str(), *at),
+                kind => write!(f, "{kind} at byte {}", *at),
+            },
         }
     }
 }

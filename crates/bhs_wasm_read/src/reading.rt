@@ -1,9 +1,9 @@
 //! Modules, section by section.
 
 ghost use Rattle.std.specs.Prelude.{◌≡◌, ◌<◌, ◌≤◌, true, false, drop, length};
-ghost use Rattle.std.specs.Prelude.{IsOk, IsErrAnd, IfOk, IfErr, OnOk, OnErr};
+ghost use Rattle.std.specs.Prelude.{IsOk, IfOk, IfErr, OnOk, OnErr};
 ghost use Rattle.bhs_wasm_read.specs.Files as specs;
-ghost use Rattle.bhs_wasm_read.specs.Files.{AreInOrder, has_head};
+ghost use Rattle.bhs_wasm_read.specs.Files.{AreInOrder, has_head, place_of};
 
 use crate::bytes::Bytes;
 use crate::faults::{FaultKind, ModuleFault};
@@ -16,23 +16,20 @@ pub fn module_of(alloc: Global, file: &[u8]) -> Result<Module, ModuleFault>
     // A module has the head, and behind it sections in their order.
     ensures head { IsOk result → has_head file.now ≡ true }
     ensures sections { IsOk result → AreInOrder (drop 8 file.now) }
-    // A file that lacks the head is refused for that, and a fault is in the file.
-    ensures lacks_head { has_head file.now ≡ false → IsErrAnd result (λ fault. fault.kind ≡ FaultKind.Head) }
-    ensures within { IfErr result (λ fault. fault.at ≤ length file.now) }
+    // A file is refused for its head exactly if it lacks it. Any other fault is in the file.
+    ensures lacks_head { has_head file.now ≡ false → result ≡ Err ModuleFault.Head }
+    ensures refused_head { result ≡ Err ModuleFault.Head → has_head file.now ≡ false }
+    ensures within { IfErr result (λ fault. place_of fault ≤ length file.now) }
 {
     if !file.starts_with(b"\0asm\x01\0\0\0".as_slice()) {
-        return Err(ModuleFault {
-            kind: FaultKind::Head,
-            at: 0,
-            import: String::new(alloc),
-        });
+        return Err(ModuleFault::Head);
     }
     let mut bytes = Bytes::new(&file[8..]);
     let mut sections = Sections::new(alloc);
     match read(&mut bytes, &mut sections) {
         Ok(()) => {}
         Err(kind) => {
-            return Err(ModuleFault {
+            return Err(ModuleFault::Inside {
                 kind,
                 at: file.len().saturating_sub(bytes.start),
                 import: sections.import,
@@ -41,7 +38,7 @@ pub fn module_of(alloc: Global, file: &[u8]) -> Result<Module, ModuleFault>
     }
     match sections.whole() {
         Ok(module) => Ok(module),
-        Err(kind) => Err(ModuleFault {
+        Err(kind) => Err(ModuleFault::Inside {
             kind,
             at: file.len(),
             import: String::new(alloc),

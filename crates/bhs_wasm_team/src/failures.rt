@@ -1,19 +1,15 @@
 //! How agents fail that run a module.
 
 use bhs_wasm::Module;
-use thiserror::Error;
 
 /// Why an agent fails.
-#[derive(Clone, Copy, Debug, PartialEq, Eq, Error)]
+#[derive(Clone, Copy, Debug, PartialEq, Eq)]
 pub enum FailureCause {
     /// It executed too many instructions without a command.
-    #[error("fuel")]
     Fuel,
     /// An instruction trapped.
-    #[error("trap")]
     Trap,
     /// A port is no port, or a text lies outside of the memory or is not in ASCII.
-    #[error("command")]
     Command,
 }
 

@@ -4,8 +4,8 @@ ghost use Rattle.std.specs.Prelude.{◌≡◌, ℕ, List, IfErr, IfOk, string_by
 ghost use Rattle.hex.specs.Hex.{encode_lower};
 ghost use Rattle.sha2.specs.Sha256.{sha256};
 ghost use Rattle.bhs_orders.specs.Fault.{IsOfFault};
-ghost use Rattle.bhs_orders.specs.ModuleExploration.{ExploresModule, IsFoundOfModule, IsTold, PrintsTold, cause_text};
-ghost use Rattle.bhs_orders.specs.ModuleExploration.{failure_items, module_items};
+ghost use Rattle.bhs_orders.specs.ModuleExploration.{ExploresModule, IsFoundOfModule, IsModuleReport, PrintsReport};
+ghost use Rattle.bhs_orders.specs.ModuleExploration.{cause_text, failure_items, module_items};
 
 use crate::exploration::discoveries::{Discovery, found_of, numbers, status_of, text_of};
 use crate::exploration::exploring::draws_of;
@@ -68,14 +68,14 @@ pub fn explore_module_named<F: Files, W: Output, E: Write>(
         Err(status) => return status,
     };
     match explored(alloc, ready, exploration, &mut team, errors) {
-        Ok((text, status)) => told(text.as_str(), status, writer, errors),
+        Ok((text, status)) => print_report(text.as_str(), status, writer, errors),
         Err(fault) => report(agent_module.file.as_str(), fault, errors),
     }
 }
 
 // Prints what was found, whose exit status is given.
-fn told<W: Output, E: Write>(text: &str, status: u8, writer: &mut W, errors: &mut E) -> u8
-    ensures { PrintsTold W.takes W.flushes text.now status writer.old writer.new result }
+fn print_report<W: Output, E: Write>(text: &str, status: u8, writer: &mut W, errors: &mut E) -> u8
+    ensures { PrintsReport W.takes W.flushes text.now status writer.old writer.new result }
 {
     let printed = show_text(text, writer, errors);
     if printed == DONE { status } else { printed }
@@ -174,7 +174,12 @@ fn file_of<F: Files>(alloc: Global, files: &F, name: &str) -> Result<Vec<u8>, Fa
 fn report_module<E: Write>(alloc: Global, name: &str, fault: &ModuleFault, errors: &mut E) -> u8
     ensures { IsOfFault result }
 {
-    if fault.kind == FaultKind::Memory {
+    if let ModuleFault::Inside {
+        kind: FaultKind::Memory,
+        at: _,
+        import: _,
+    } = fault
+    {
         return report(name, Fault::Memory, errors);
     }
     let Ok(told) = format!(in alloc; "{fault}") else {
@@ -197,7 +202,7 @@ fn explored<E: Write>(
     errors: &mut E,
 ) -> Result<(String, u8), Fault>
     ensures { (file : List ℕ) → string_bytes team.old.line ≡ module_items file team.old.agents.arguments.items
-        → team.old.agents.fuel ≡ FUEL → IfOk result (λ told. IsTold ready.now exploration
+        → team.old.agents.fuel ≡ FUEL → IfOk result (λ told. IsModuleReport ready.now exploration
         team.old.agents.program team.old.agents.arguments.items file (string_bytes told.0) told.1) }
 {
     let found = discovered(alloc, ready, exploration, &mut team.agents, errors)?;

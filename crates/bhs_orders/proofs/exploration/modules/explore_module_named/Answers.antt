@@ -3,7 +3,7 @@ use Rattle.std.specs.Prelude.{slice_get}
 use Rattle.std.proofs.lemmas.Option.{slice_get_read}
 use Rattle.bhs_lineup.specs.declared.lineups.Ready.{Ready}
 use Rattle.bhs_orders.specs.declared.reporting.faults.Fault.TheVariants.{NoMatch}
-use Rattle.bhs_orders.specs.ModuleExploration.{IsTold, PrintsTold, explores_module, explores_no_module, module_items}
+use Rattle.bhs_orders.specs.ModuleExploration.{IsModuleReport, PrintsReport, explores_module, explores_no_module, module_items}
 use Rattle.bhs_orders.proofs.exploration.modules.explore_module_named.Goals as goal
 
 pub returns-in-Err : goal.returns-in-Err
@@ -28,13 +28,15 @@ returns-in-Ok-explored g c =
     (ap₂ (λ (all : List Ready) (n : ℕ). slice_get all n) (sym c.deref.ensures.value) (sym c.from.ensures)
     ∙ slice_get_read c.deref.result.now _ _ c.in-Some.ready.now refl read.3.0 read.1)
     c.in-Ok-agents_of.team.agents.program file c.as_str-in-Ok-explored.result.now c.in-Ok-explored.status
-    (subst (λ (arguments : List ℕ). IsTold c.in-Some.ready.now c.args.exploration c.in-Ok-agents_of.team.agents.program
-    arguments file c.as_str-in-Ok-explored.result.now c.in-Ok-explored.status) same
-    (subst (λ (text : List ℕ). IsTold c.in-Some.ready.now c.args.exploration c.in-Ok-agents_of.team.agents.program
-    c.in-Ok-agents_of.team.agents.arguments.items file text c.in-Ok-explored.status)
+    (subst (λ (arguments : List ℕ). IsModuleReport c.in-Some.ready.now c.args.exploration
+    c.in-Ok-agents_of.team.agents.program arguments file c.as_str-in-Ok-explored.result.now c.in-Ok-explored.status)
+    same
+    (subst (λ (text : List ℕ). IsModuleReport c.in-Some.ready.now c.args.exploration
+    c.in-Ok-agents_of.team.agents.program c.in-Ok-agents_of.team.agents.arguments.items file text
+    c.in-Ok-explored.status)
     (sym c.as_str-in-Ok-explored.ensures.value)
     (c.in-Ok-explored.ensures file (line ∙ ap (module_items file) (sym same)) c.in-Ok-agents_of.ensures.agents.1)))
-    c.told.ensures
+    c.print_report.ensures
 
 pub returns : goal.returns
 returns g c = explores_no_module c.in-Err-explored.fault c.report-in-Err-explored.ensures refl
