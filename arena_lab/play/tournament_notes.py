@@ -1,5 +1,5 @@
 """What `./arena check` and `./arena serve` say of a tournament on standard error, beside the lines of the program: keys
-that are ignored, why a network cannot be read, and behind `check` the schedule and the links that are held or dark.
+that are ignored, and behind `check` the schedule and the links that are held or dark.
 
     python3 -m arena_lab.play.tournament_notes ignored|schedule WORDS OF THE PROGRAM ..
 
@@ -16,16 +16,10 @@ from typing import Any, Dict, Iterator, List, Optional, Sequence, Set, Tuple
 
 from arena_lab.play.mistakes import plain
 from arena_lab.rules.delays import OBLIVIOUS
-from arena_lab.rules.fixtures import network_path
+from arena_lab.rules.fixtures import FILE_KEYS, MATCH_KEYS, STRICT
 
-VERSION, MATCH, NETWORK, SCHEDULE = "version", "match", "network", "schedule"
+VERSION, MATCH, SCHEDULE = "version", "match", "schedule"
 Keys = Dict[int, Set[str]]
-# the keys of a file and of a match, by the file's version
-FILE_KEYS: Keys = {1: {VERSION, "seed", MATCH}}
-FILE_KEYS[2] = FILE_KEYS[1]
-FILE_KEYS[3] = FILE_KEYS[2] | {SCHEDULE, "delay_scales", "delay_odds"}
-ALIKE = {"team", NETWORK, "home", "quota", "board", "keys", "held"}
-MATCH_KEYS: Keys = {1: ALIKE | {"hole"}, 2: ALIKE | {"holes", "dark"}, 3: ALIKE | {"holes", "dark"}}
 IGNORED, NEAR = "ignored", 0.6
 LONE_MATCH = re.compile(r"\s*\[\s*match\s*\]")
 # bytes of a file that the program reads; what is said of a file at most: lines, and characters of a key
@@ -33,15 +27,18 @@ MOST_BYTES, MOST_LINES, MOST_KEY = 1 << 20, 20, 40
 
 
 def ignored(found: Dict[str, Any]) -> Iterator[str]:
-    """Of each key that the program ignores where it stands, and how to mend that."""
+    """Of each key that the program ignores where it stands, and how to mend that. It refuses unknown keys of later
+    versions itself."""
     version = found.get(VERSION)
     if not isinstance(version, int) or isinstance(version, bool) or version not in FILE_KEYS:
         return
+    if version >= STRICT:
+        if found.get(SCHEDULE) != OBLIVIOUS:
+            for key in (it for it in ("delay_scales", "delay_odds") if it in found):
+                yield f'{key} is ignored without schedule = "{OBLIVIOUS}"'
+        return
     for key, mend in strange(found, version, FILE_KEYS, MATCH_KEYS):
         yield f"{key[:MOST_KEY]} is ignored: {mend}"
-    if version == 3 and found.get(SCHEDULE) != OBLIVIOUS:
-        for key in (it for it in ("delay_scales", "delay_odds") if it in found):
-            yield f'{key} is ignored without schedule = "{OBLIVIOUS}"'
     for number, row in enumerate(matches_of(found)):
         for key, mend in strange(row, version, MATCH_KEYS, FILE_KEYS):
             yield f"match {number} {key[:MOST_KEY]} is ignored: {mend}"
@@ -95,22 +92,6 @@ def is_file(path: pathlib.Path) -> bool:
         return False
 
 
-def unread(path: pathlib.Path) -> List[str]:
-    """Why a network cannot be read, if it cannot. Of other files the program says so."""
-    try:
-        if is_file(path) or not path.exists() or path.is_dir():
-            path.open("rb").close()
-    except FileNotFoundError:
-        return ["there is no such file"]
-    except IsADirectoryError:
-        return ["it is a folder"]
-    except PermissionError:
-        return ["you may not read it: see `ls -l`"]
-    except OSError as fault:
-        return [str(fault.strerror)]
-    return []
-
-
 def of_file(path: pathlib.Path) -> List[str]:
     """What is said of a file before the program reads it, with the file's name, as a terminal may show it."""
     return list(map(plain, notes_of(path)))
@@ -123,10 +104,7 @@ def notes_of(path: pathlib.Path) -> List[str]:
     if found is None:
         lone = [number for number, line in enumerate(text.split("\n"), 1) if LONE_MATCH.match(line)]
         return [f"{path}: line {lone[0]} has [match]: write [[match]], as of a match among others"] if lone else []
-    names = {row[NETWORK] for row in matches_of(found) if isinstance(row.get(NETWORK), str)}
-    places = [network_path(name, path.parent) for name in sorted(names) if "\0" not in name and len(name) < 256]
-    return [f"{path}: {line}" for line in itertools.islice(ignored(found), MOST_LINES)] + [
-        f"{place}: {line}" for place in places[:MOST_LINES] for line in unread(pathlib.Path(place))]
+    return [f"{path}: {line}" for line in itertools.islice(ignored(found), MOST_LINES)]
 
 
 def text_of(path: pathlib.Path) -> str:

@@ -2,7 +2,7 @@
 import json
 import pathlib
 import tomllib
-from typing import Any, Dict, Iterable, List, NamedTuple, Optional, Sequence, Tuple
+from typing import Any, Dict, Iterable, List, NamedTuple, Optional, Sequence, Set, Tuple
 
 from arena_lab.rules import networks
 from arena_lab.rules.delays import OBLIVIOUS, Delays
@@ -11,6 +11,14 @@ from arena_lab.rules.model import Object, Place, Setup, command_of, place_of, te
 
 SEED_BYTES = 32
 SEED = "0" * 2 * SEED_BYTES
+# the keys of a tournament and of a match, by the file's version
+FILE_KEYS: Dict[int, Set[str]] = {1: {"version", "seed", "match"}}
+FILE_KEYS[2] = FILE_KEYS[1]
+FILE_KEYS[3] = FILE_KEYS[2] | {"schedule", "delay_scales", "delay_odds"}
+ALIKE = {"team", "network", "home", "quota", "board", "keys", "held"}
+MATCH_KEYS = {1: ALIKE | {"hole"}, 2: ALIKE | {"holes", "dark"}, 3: ALIKE | {"holes", "dark"}}
+# the first version that refuses unknown keys
+STRICT = 3
 # the team of a match that has none
 OWN_TEAM = "lab"
 
@@ -85,10 +93,19 @@ def read_tournament(path: str) -> Tournament:
     """The tournament of a file, which must be right: ask `arena check`."""
     try:
         found = tomllib.loads(pathlib.Path(path).read_text(encoding="utf-8"))
+        if found["version"] >= STRICT:
+            for row, known in [(found, FILE_KEYS), *((row, MATCH_KEYS) for row in found["match"])]:
+                only_known(row, known[found["version"]])
         fixtures = [fixture_in(row, pathlib.Path(path).parent) for row in found["match"]]
         return Tournament(seed_in(found), fixtures, delays_in(found))
     except (ValueError, KeyError, TypeError) as fault:
         raise NoMatch(f"{path}: it is no tournament ({networks.fault_text(fault)}); `arena check` says more") from None
+
+
+def only_known(row: Object, known: Set[str]) -> None:
+    """Refuses a table that has another key than these."""
+    for key in sorted(set(row) - known):
+        raise ValueError(f"unknown key {key}: the keys here are {', '.join(sorted(known))}")
 
 
 def seed_in(found: Object) -> str:

@@ -13,6 +13,7 @@ MEANINGS = (
     (r"text", "it is no text in UTF-8, or it has more than 1,048,576 bytes"),
     (r"toml", "it is no TOML"),
     (r"version", "it has no version that this program knows"),
+    (r"unknown key", "it has a key that version 3 does not have"),
     (r"missing (\w+)", "it has no key {0}"),
     (r"shape (\w+)", "its key {0} has a value of another kind"),
     (r"home", "the home base is a node of the network (--home)"),

@@ -1,5 +1,4 @@
-"""What is said of a tournament beside the program's lines: keys that are ignored, networks that cannot be read, and the
-schedule."""
+"""What is said of a tournament beside the program's lines: keys that are ignored, and the schedule."""
 import contextlib
 import io
 import os
@@ -27,8 +26,6 @@ class Notes(unittest.TestCase):
         folder = tempfile.TemporaryDirectory()
         self.addCleanup(folder.cleanup)
         self.folder = pathlib.Path(folder.name)
-        self.network = self.folder / "tri.toml"
-        self.network.write_text("version = 1\n")
 
     def said(self, text: str, what: str = IGNORED) -> List[str]:
         """The lines of a tournament, without its name."""
@@ -37,16 +34,19 @@ class Notes(unittest.TestCase):
         return [line.removeprefix(f"{path}: ") for line in main([what, "check", str(path)])]
 
     def test_a_misspelt_key_is_named_with_the_one_that_is_meant(self) -> None:
-        self.assertEqual(self.said(tournament()), [])
-        self.assertEqual(self.said(tournament(more=DELAYS.replace("schedule", "schedul"))),
-                         ["schedul is ignored: did you mean schedule?", *NEEDS_IT])
-        self.assertEqual(self.said(tournament(match=MATCH.replace("dark", "drak"))),
+        self.assertEqual(self.said(tournament(2, "")), [])
+        self.assertEqual(self.said(tournament(2, "", MATCH.replace("dark", "drak"))),
                          ["match 0 drak is ignored: did you mean dark?"])
-        self.assertEqual(self.said(tournament(match=MATCH.replace("held", "hled"))),
+        self.assertEqual(self.said(tournament(2, "", MATCH.replace("held", "hled"))),
                          ["match 0 hled is ignored: did you mean held?"])
-        self.assertEqual(self.said(tournament(more=DELAYS + "turns = 5\n")), [
-            "turns is ignored: the keys here are delay_odds, delay_scales, match, schedule, seed, version"])
-        self.assertEqual(self.said(tournament(mark="[[matches]]")), ["matches is ignored: did you mean [[match]]?"])
+        self.assertEqual(self.said(tournament(2, "turns = 5\n")),
+                         ["turns is ignored: the keys here are match, seed, version"])
+        self.assertEqual(self.said(tournament(2, "", mark="[[matches]]")),
+                         ["matches is ignored: did you mean [[match]]?"])
+
+    def test_a_key_that_the_program_refuses_is_left_to_it(self) -> None:
+        self.assertEqual(self.said(tournament(match=MATCH.replace("held", "hled"))), [])
+        self.assertEqual(self.said(tournament(more=DELAYS.replace("schedule", "schedul"))), NEEDS_IT)
 
     def test_a_key_in_another_place_or_of_another_version(self) -> None:
         version = "is ignored: it is a key of version 3, and the file has version 2"
@@ -55,7 +55,7 @@ class Notes(unittest.TestCase):
         self.assertEqual(self.said(tournament(1, "", MATCH.replace("dark = []\n", ""))), [
             "match 0 holes is ignored: it is a key of version 2 and 3, and the file has version 1"])
         self.assertEqual(self.said(tournament(2, "home = 0\n")), ["home is ignored: it belongs below a [[match]]"])
-        self.assertEqual(self.said(tournament(match=f"{MATCH}seed = 1\n")), [
+        self.assertEqual(self.said(tournament(2, "", f"{MATCH}seed = 1\n")), [
             "match 0 seed is ignored: it belongs above the first [[match]]"])
         self.assertEqual(self.said(tournament(more=DELAYS.replace("oblivious", "adaptive"))), NEEDS_IT)
 
@@ -63,15 +63,6 @@ class Notes(unittest.TestCase):
         self.assertEqual(self.said(f"{tournament(2, '', mark='[match]')}[[match]]\n"), [
             "line 3 has [match]: write [[match]], as of a match among others"])
         self.assertEqual(self.said("version = \n"), [])
-
-    def test_why_a_network_cannot_be_read(self) -> None:
-        self.network.unlink()
-        self.assertEqual(self.said(tournament()), ["tri.toml: there is no such file"])
-        self.network.mkdir()
-        self.assertEqual(self.said(tournament()), [f"{self.network}: it is a folder"])
-        absent = self.folder / "absent.toml"
-        self.assertEqual(main([IGNORED, "serve", "--early", str(absent)]), [])
-        self.assertEqual(main([IGNORED, "check", "absent"]), [])
 
     def test_the_schedule_and_what_is_held_and_dark(self) -> None:
         self.assertEqual(self.said(tournament(match=MATCH.replace("[]", "[[1, 1]]")), SCHEDULE), [
@@ -96,21 +87,21 @@ class Notes(unittest.TestCase):
             for what in (IGNORED, SCHEDULE):
                 self.assertEqual(main([what, "check", str(long)]), [])
         self.assertEqual(main([IGNORED, "check", str(folder)]), [])
-        self.network.unlink()
-        self.network.symlink_to("/dev/zero")
-        self.assertEqual(self.said(tournament()), [])
+        absent = self.folder / "absent.toml"
+        self.assertEqual(main([IGNORED, "serve", "--early", str(absent)]), [])
+        self.assertEqual(main([IGNORED, "check", "absent"]), [])
 
     def test_files_that_are_to_end_the_notes(self) -> None:
         for text in ("version = {a = 1}\n", "version = [1]\n", "version = 1e0\n", f"x = {'[' * 9999}\n", "x = \ud800",
-                     f"version = {'9' * 9999}\n", tournament(match=MATCH.replace("tri.toml", "x" * 5_000))):
+                     f"version = {'9' * 9999}\n"):
             path = self.folder / "cup.toml"
             path.write_bytes(text.encode(errors="surrogatepass"))
             self.assertEqual(main([IGNORED, "check", str(path)]), [])
 
     def test_many_lines_and_long_keys_are_cut_and_nothing_moves_a_terminal(self) -> None:
-        found = self.said(tournament(more=DELAYS + "".join(f"k{number} = 1\n" for number in range(20_000))))
+        found = self.said(tournament(2, "".join(f"k{number} = 1\n" for number in range(20_000))))
         self.assertEqual(len(found), MOST_LINES)
-        found = self.said(tournament(more=f'{DELAYS}{"k" * 9_999} = 1\n"\\u001b[2J\\n" = 1\n'))
+        found = self.said(tournament(2, f'{"k" * 9_999} = 1\n"\\u001b[2J\\n" = 1\n'))
         self.assertEqual((len(found[0]) < 200, found[1].partition(" is")[0]), (True, r"\x1b[2J\n"))
 
     def test_check_of_the_lab_names_the_program_s(self) -> None:

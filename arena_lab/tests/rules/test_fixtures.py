@@ -73,6 +73,20 @@ class Files(unittest.TestCase):
             with self.assertRaisesRegex(NoMatch, "it has no key 'holes'"):
                 read_tournament(str(cup))
 
+    def test_version_3_has_no_other_keys(self) -> None:
+        with tempfile.TemporaryDirectory() as folder:
+            (pathlib.Path(folder) / "four.toml").write_text(text_of(NETWORK))
+            cup = pathlib.Path(folder) / "cup.toml"
+            text = tournament_text(SEED, [(fixture_of(RIGHT), "four.toml")])
+            for word in ("seed = ", "held = "):
+                strange = text.replace(word, f"hled = 0\n{word}")
+                with self.subTest(word):
+                    cup.write_text(strange)
+                    self.assertEqual(len(read_tournament(str(cup)).fixtures), 1)
+                    cup.write_text(strange.replace("version = 2", "version = 3"))
+                    with self.assertRaisesRegex(NoMatch, "unknown key hled: the keys here are"):
+                        read_tournament(str(cup))
+
     def test_a_network_is_looked_for_as_the_program_does(self) -> None:
         with tempfile.TemporaryDirectory() as name:
             folder, elsewhere = pathlib.Path(name, "week"), pathlib.Path(name, "elsewhere")

@@ -1,8 +1,8 @@
 -- Faults of parts.
 use Rattle.std.proofs.Common.{◌≡◌, Result, Err}
 use Rattle.bhs_files.specs.declared.faults.FileFault.{FileFault}
-use Rattle.bhs_files.specs.declared.faults.FileFault.TheVariants.{Toml, Version, Missing, Shape, Net, Setup, KeyTwice}
-use Rattle.bhs_files.specs.declared.faults.FileFault.TheVariants.{Held, Memory}
+use Rattle.bhs_files.specs.declared.faults.FileFault.TheVariants.{Toml, Version, Unknown, Missing, Shape, Net, Setup}
+use Rattle.bhs_files.specs.declared.faults.FileFault.TheVariants.{KeyTwice, Held, Memory}
 use Rattle.bhs_files.specs.Reading.{Fails}
 
 -- a fault of a part is one of the whole
@@ -11,6 +11,7 @@ pub fails_with : {A B : Type 0} (fault : FileFault) (part : Result A FileFault) 
 fails_with Memory part whole f h = tt
 fails_with Toml part whole f h = f h
 fails_with Version part whole f h = f h
+fails_with (Unknown game) part whole f h = f h
 fails_with (Missing game key) part whole f h = f h
 fails_with (Shape game key) part whole f h = f h
 fails_with (Net fault) part whole f h = f h

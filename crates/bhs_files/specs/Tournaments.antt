@@ -1,10 +1,11 @@
 -- What a tournament file says: the seed, the schedule and the matches, or its first fault.
-use Rattle.std.specs.Prelude.{ℕ, ◌+◌, ◌==◌, if◌then◌else◌, nat_lt, Bool, false, ◌∷◌, List, [], map, Option, Some, None}
-use Rattle.std.specs.Prelude.{option_to_list}
-use Rattle.std.specs.Prelude.{Result, Ok}
-use Rattle.toml.specs.Data.{Members}
+use Rattle.std.specs.Prelude.{ℕ, ◌+◌, ◌==◌, ◌&&◌, not, is_some, if◌then◌else◌, nat_le, nat_lt, Bool, false, List, []}
+use Rattle.std.specs.Prelude.{◌∷◌, map, codes, Option, Some, None, option_to_list, Result, Ok, Err}
+use Rattle.std.specs.List.{find}
+use Rattle.toml.specs.Data.{Members, no_members, member}
 use Rattle.toml.specs.Parse.{parse_document}
 use Rattle.bhs_files.specs.declared.faults.FileFault.{FileFault}
+use Rattle.bhs_files.specs.declared.faults.FileFault.TheVariants.{Unknown}
 use Rattle.bhs_files.specs.declared.file_keys.FileKey.TheVariants.{Seed, Match, Team, Network, Home, Hole, Holes, Dark}
 use Rattle.bhs_files.specs.declared.file_keys.FileKey.TheVariants.{Quota, Board, Keys, Held}
 use Rattle.bhs_files.specs.declared.file_keys.FileKey.TheVariants.{Schedule, DelayScales, DelayOdds}
@@ -15,6 +16,8 @@ use Rattle.bhs_files.specs.declared.limits.TheConstants.{TOURNAMENT_VERSION}
 use Rattle.bhs_files.specs.Documents.{Document, document_in}
 use Rattle.bhs_files.specs.Shapes.{number, team, network_name, seed, hole, holes, ends, matches, keys}
 use Rattle.bhs_files.specs.Shapes.{is_oblivious, delay_scales, delay_odds}
+use Rattle.bhs_files.specs.Names.{is_among}
+use Rattle.bhs_files.specs.Words.{word}
 use Rattle.bhs_time.specs.Schedules.{DelayLaw}
 use Rattle.bhs_time.specs.declared.kinds.ScheduleKind.{ScheduleKind}
 use Rattle.bhs_time.specs.declared.kinds.ScheduleKind.TheVariants.{Adaptive, Oblivious}
@@ -55,6 +58,25 @@ planned f = record {
 abbrev pub plan : Tournament → Plan
 plan t = record { seed = t.seed; schedule = t.schedule; matches = map planned t.matches.items }
 
+-- the keys of a tournament, or of a match, as a file of version 3 spells them
+abbrev pub known_keys : (game : Option ℕ) → List (List ℕ)
+known_keys None = codes "version" ∷ map word (Seed ∷ Schedule ∷ DelayScales ∷ DelayOdds ∷ Match ∷ [])
+known_keys (Some game) = map word (Team ∷ Network ∷ Home ∷ Holes ∷ Dark ∷ Quota ∷ Board ∷ Keys ∷ Held ∷ [])
+
+-- the keys that a table has
+abbrev pub table_keys : Members → List (List ℕ)
+table_keys no_members = []
+table_keys (member key value rest) = key ∷ table_keys rest
+
+-- the first of them that is none of a tournament, or of a match
+abbrev pub unknown_key : (game : Option ℕ) → Members → Option (List ℕ)
+unknown_key game members = find (λ key. not (is_among (known_keys game) key)) (table_keys members)
+
+-- From version 3 on a table has no unknown key.
+abbrev pub checked_keys : (version : ℕ) → (game : Option ℕ) → Members → Result Unit FileFault
+checked_keys version game members =
+    if nat_le 3 version && is_some (unknown_key game members) then Err (Unknown game) else Ok tt
+
 -- the black holes and the dark links of a match
 abbrev pub Dangers : Type 0
 Dangers = List ℕ × List (ℕ × ℕ)
@@ -70,6 +92,7 @@ dangers_in version game members =
 -- the match of this number, in a file of this version
 unfoldable pub match_in : (version : ℕ) → ℕ → Members → Result Planned FileFault
 match_in version game members = do
+  checked ← checked_keys version (Some game) members
   team ← required (Some game) Team team members
   network ← required (Some game) Network network_name members
   home ← required (Some game) Home number members
@@ -118,6 +141,7 @@ schedule_in version members =
 
 unfoldable pub plan_in : Document → Result Plan FileFault
 plan_in document = do
+  checked ← checked_keys document.0 None document.1
   seed ← required None Seed seed document.1
   schedule ← schedule_in document.0 document.1
   tables ← required None Match matches document.1

@@ -19,6 +19,8 @@ pub enum FileFault {
     Toml,
     /// The file lacks `version`, or it is none of its kind: 1 up to `NETWORK_VERSION` or `TOURNAMENT_VERSION`.
     Version,
+    /// The file has version 3, and a table of it has a key that it may not have.
+    Unknown { game: Option<u32> },
     /// A key is absent.
     Missing { game: Option<u32>, key: FileKey },
     /// A key holds what it may not.
@@ -40,6 +42,8 @@ impl fmt::Display for FileFault {
         match self {
             FileFault::Toml => f.write_str("toml"),
             FileFault::Version => f.write_str("version"),
+            FileFault::Unknown { game: None } => f.write_str("unknown key"),
+            FileFault::Unknown { game: Some(game) } => write!(f, "match {game} unknown key"),
             FileFault::Missing { game: None, key } => write!(f, "missing {key}"),
             FileFault::Missing {
                 game: Some(game),

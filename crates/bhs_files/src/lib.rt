@@ -20,5 +20,6 @@ pub use limits::{
     MAX_KEY, MAX_KEYS, MAX_MATCHES, MAX_NETWORK_NAME, NETWORK_VERSION, TOURNAMENT_VERSION,
 };
 pub use network_files::read_network;
+pub use tables::{known_keys, unknown_key};
 pub use tournament_files::read_tournament;
 pub use tournaments::Tournament;

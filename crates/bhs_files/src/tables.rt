@@ -1,13 +1,15 @@
 //! What a table says at each key, or the fault of the key.
 
 ghost use Rattle.std.specs.Prelude.{◌≡◌, ◌≤◌, false, Some, None, IfOk, [], option_map};
-ghost use Rattle.std.specs.Prelude.{option_to_list, vec_len, map};
+ghost use Rattle.std.specs.Prelude.{option_copied, option_to_list, vec_len, map};
 ghost use Rattle.toml.specs.Data.{get_member};
 ghost use Rattle.toml.specs.View.{view, table_view};
 ghost use Rattle.bhs_files.specs.Words.{word};
 ghost use Rattle.bhs_files.specs.Reading.{Gives, GivesUnlessMemory, present, shaped, required, optional};
 ghost use Rattle.bhs_files.specs.Shapes as shapes;
+ghost use Rattle.bhs_files.specs.Names.{is_among};
 ghost use Rattle.bhs_files.specs.Tournaments.{dangers_in, delays_in, schedule_in, schedule_if};
+ghost use Rattle.bhs_files.specs.Tournaments.{checked_keys, known_keys, unknown_key};
 ghost use Rattle.bhs_files.specs.declared.file_keys.FileKey.TheVariants as keys;
 
 use crate::faults::FileFault;
@@ -25,6 +27,49 @@ pub fn lookup<'a>(table: &'a Table, key: &str) -> Option<&'a Value>
     ensures { option_map (λ value. view value.now) result ≡ get_member key.now (table_view table.now) }
 {
     table.get(key)
+}
+
+/// The keys of a tournament, or of a match, as a file of version 3 spells them.
+pub fn known_keys(game: Option<u32>) -> &'static [&'static str]
+    ensures { map (λ key. key.now) result.now ≡ known_keys game }
+{
+    match game {
+        None => &[
+            "version",
+            "seed",
+            "schedule",
+            "delay_scales",
+            "delay_odds",
+            "match",
+        ],
+        Some(_) => &[
+            "team", "network", "home", "holes", "dark", "quota", "board", "keys", "held",
+        ],
+    }
+}
+
+fn is_key(game: Option<u32>, key: &str) -> bool
+    ensures { result ≡ is_among (known_keys game) key.now }
+{
+    known_keys(game).iter().any(|known| key == *known)
+}
+
+/// The first key of a table that is none of a tournament, or of a match.
+pub fn unknown_key(game: Option<u32>, table: &Table) -> Option<&str>
+    ensures { option_copied result ≡ unknown_key game (table_view table.now) }
+{
+    let key = table.keys().find(|key| !is_key(game, key.as_str()))?;
+    Some(key.as_str())
+}
+
+/// From version 3 of a tournament's file on, its tables have no unknown key.
+pub fn check_keys(version: u16, game: Option<u32>, table: &Table) -> Result<(), FileFault>
+    ensures { result ≡ checked_keys version game (table_view table.now) }
+{
+    if 3 <= version && unknown_key(game, table).is_some() {
+        return Err(FileFault::Unknown { game });
+    }
+    Ok(())
 }
 
 /// The value of a key that the table must have.

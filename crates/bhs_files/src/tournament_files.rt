@@ -28,6 +28,7 @@ fn fixture(alloc: Global, version: u16, game: u32, table: &Table) -> Result<Fixt
     ensures { GivesUnlessMemory planned result (match_in version game (table_view table.now)) }
 {
     let place = Some(game);
+    tables::check_keys(version, place, table)?;
     let team = tables::team(place, table)?;
     let network = tables::network(place, table)?;
     let home = tables::number(place, FileKey::Home, table)?;
@@ -68,6 +69,7 @@ fn fixtures(alloc: Global, version: u16, tables: &[&Table]) -> Result<Vec<Fixtur
 fn tournament(alloc: Global, version: u16, table: &Table) -> Result<Tournament, FileFault>
     ensures { GivesUnlessMemory plan result (plan_in (version, table_view table.now)) }
 {
+    tables::check_keys(version, None, table)?;
     let seed = tables::seed(table)?;
     let schedule = tables::schedule(version, table)?;
     let matches = tables::matches(alloc, table)?;
@@ -79,9 +81,10 @@ fn tournament(alloc: Global, version: u16, table: &Table) -> Result<Tournament, 
 }
 
 /// Reads a tournament file of version 1, 2 or 3. The first fault is told: the text is no TOML document, then its
-/// version, then `seed`, in version 3 `schedule`, and for the oblivious one `delay_scales` and `delay_odds`, then
-/// `match`, and then match by match `team`, `network`, `home`, `holes` and `dark` (`hole` in version
-/// 1), `quota`, `board`, `keys` and `held`, whatever the order in the file. Other keys are ignored.
+/// version, then in version 3 an unknown key, then `seed`, in version 3 `schedule`, and for the oblivious one
+/// `delay_scales` and `delay_odds`, then `match`, and then match by match in version 3 an unknown key, and then `team`,
+/// `network`, `home`, `holes` and `dark` (`hole` in version 1), `quota`, `board`, `keys` and `held`, whatever the order
+/// in the file. Versions 1 and 2 ignore unknown keys.
 #[tactic(auto, unfolding(crate::specs::Tournaments::tournament_in))]
 pub fn read_tournament(alloc: Global, text: &str) -> Result<Tournament, FileFault>
     ensures { GivesUnlessMemory plan result (tournament_in text.now) }

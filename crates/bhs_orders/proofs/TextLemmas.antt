@@ -50,6 +50,7 @@ given_or view (Ok x) reading y is gives = let same : Ok (view x) ≡ Ok y = sym 
 given_or view (Err faults.Memory) reading y is gives = refl
 given_or view (Err faults.Toml) reading y is gives = cc
 given_or view (Err faults.Version) reading y is gives = cc
+given_or view (Err (faults.Unknown game)) reading y is gives = cc
 given_or view (Err (faults.Missing game key)) reading y is gives = cc
 given_or view (Err (faults.Shape game key)) reading y is gives = cc
 given_or view (Err (faults.Net fault)) reading y is gives = cc

@@ -5,7 +5,7 @@ use std::fs;
 use std::io::ErrorKind;
 use std::rt::Files;
 
-const ABSENT: &str = "there is no such file";
+pub(crate) const ABSENT: &str = "there is no such file";
 
 const FOLDER: &str = "it is a folder";
 

@@ -106,7 +106,7 @@ fn network_of<F: Files, E: Write>(
     };
     let text = match text_of(alloc, files, place.as_str()) {
         Ok(text) => text,
-        Err(fault) => return Err(report_unread(own, name, fault, errors)),
+        Err(fault) => return Err(report_unread(files, own, place.as_str(), fault, errors)),
     };
     match read_network(alloc, text.as_str()) {
         Ok(network) => Ok(network),

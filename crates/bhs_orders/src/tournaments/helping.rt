@@ -2,14 +2,17 @@
 
 ghost use Rattle.bhs_orders.specs.Fault.{IsOfFault};
 
+use crate::reporting::causes::{ABSENT, cause_of_no_read};
 use crate::reporting::faults::{Fault, report};
 use crate::reporting::names::Shown;
 use crate::tournaments::network_places::other_folder;
-use bhs_files::{FileFault, FileKey};
+use bhs_files::{FileFault, FileKey, known_keys, unknown_key};
 use bhs_net::NetFault;
 use bhs_world::SetupFault;
 use std::alloc::Global;
 use std::io::Write;
+use std::rt::Files;
+use toml::Table;
 
 /// Reports what is wrong with the text of a file. The answer is the exit status.
 pub(crate) fn report_file<E: Write>(
@@ -22,8 +25,10 @@ pub(crate) fn report_file<E: Write>(
     ensures { IsOfFault result }
 {
     let status = report_fault(name, fault, errors);
-    if let FileFault::Toml = fault {
-        tell_line(alloc, text, errors);
+    match fault {
+        FileFault::Toml => tell_line(alloc, text, errors),
+        FileFault::Unknown { game } => tell_unknown(alloc, text, game, errors),
+        _ => {}
     }
     status
 }
@@ -47,19 +52,30 @@ pub(crate) fn report_fault<E: Write>(name: &str, fault: FileFault, errors: &mut 
         FileFault::Held { .. } => {
             let _ = errors.write_all(b"  held: [node, port] of ports that the network has\n");
         }
-        FileFault::Toml | FileFault::Memory => {}
+        FileFault::Toml | FileFault::Unknown { .. } | FileFault::Memory => {}
     }
     status
 }
 
-/// Reports why the file of a network of this name was not read. The answer is the exit status. `own` is the name of the
-/// tournament's file.
-pub(crate) fn report_unread<E: Write>(own: &str, name: &str, fault: Fault, errors: &mut E) -> u8
+/// Reports why the file of a network was not read, and the folders where it was looked for if it is absent. The answer
+/// is the exit status. `own` is the name of the tournament's file.
+pub(crate) fn report_unread<F: Files, E: Write>(
+    files: &F,
+    own: &str,
+    name: &str,
+    fault: Fault,
+    errors: &mut E,
+) -> u8
     ensures { IsOfFault result }
 {
     let status = report(name, fault, errors);
     if let Fault::Read = fault {
-        tell_folders(own, name, errors);
+        match cause_of_no_read(files, name) {
+            Some(cause) if cause != ABSENT => {
+                let _ = writeln!(errors, "  {cause}");
+            }
+            _ => tell_folders(own, name, errors),
+        }
     }
     status
 }
@@ -85,6 +101,34 @@ fn tell_line<E: Write>(alloc: Global, text: &str, errors: &mut E) {
     let line = line_at(text.as_bytes(), span.start);
     let why = error.message();
     let _ = writeln!(errors, "  line {line}: {why}");
+}
+
+// Tells the key that a tournament, or a match of it, may not have, and the keys that it may have.
+fn tell_unknown<E: Write>(alloc: Global, text: &str, game: Option<u32>, errors: &mut E) {
+    let Ok(file) = toml::table_from_str(alloc, text) else {
+        return;
+    };
+    let Some(key) = part_of(&file, game).and_then(|part| unknown_key(game, part)) else {
+        return;
+    };
+    let key = Shown { name: key };
+    let _ = write!(errors, "  {key}: the keys here are");
+    for (place, known) in known_keys(game).iter().enumerate() {
+        let comma = if place == 0 { "" } else { "," };
+        let _ = write!(errors, "{comma} {known}");
+    }
+    let _ = errors.write_all(b"\n");
+}
+
+// The table of a tournament, or of a match of it.
+fn part_of(file: &Table, game: Option<u32>) -> Option<&Table> {
+    match game {
+        None => Some(file),
+        Some(game) => {
+            let matches = file.get("match")?.as_array()?;
+            matches.get(game as usize)?.as_table()
+        }
+    }
 }
 
 // The line in which the byte at a place stands, counted from 1.
