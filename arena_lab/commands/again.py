@@ -43,8 +43,9 @@ def run(words: argparse.Namespace) -> int:
     words.out.mkdir(parents=True, exist_ok=True)
     network = Network(fixture.setup.nodes, fixture.setup.links)
     (words.out / NETWORK).write_text(networks.text_of(network), encoding="utf-8")
+    (words.out / AGAIN).write_text(f"match = {words.match}\n", encoding="utf-8")
     for file, text in secret_files([fixture.team], [TournamentMatch(fixture, NETWORK)], tournament.delays).items():
-        write_secret(words.out / file, f"{AGAIN} = {words.match}\n{text}" if file == TOURNAMENT else text)
+        write_secret(words.out / file, text)
     print(f"{path}: match {words.match} of team {fixture.team} again; serve it there by `arena serve {TOURNAMENT} "
           "--port N`")
     print(f"give the team its sheet: {words.out / sheet_name(fixture.team)}")

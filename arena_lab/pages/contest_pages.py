@@ -13,8 +13,8 @@ from arena_lab.rules.networks import NoNetwork
 
 # which of a match's tries counts
 BETTER, LAST = "better", "last"
-# the file of another try, and its key that says of which match it is one
-TOURNAMENT, AGAIN = "tournament.toml", "again"
+# the file of another try, and the one beside it that says of which match it is one
+TOURNAMENT, AGAIN = "tournament.toml", "again.toml"
 
 
 class Shown(NamedTuple):
@@ -84,7 +84,7 @@ class Tries(NamedTuple):
         for folder in self.folders:
             path = folder / TOURNAMENT
             try:
-                number = tomllib.loads(path.read_text(encoding="utf-8"))[AGAIN]
+                number = tomllib.loads(path.with_name(AGAIN).read_text(encoding="utf-8"))["match"]
             except (OSError, tomllib.TOMLDecodeError, KeyError):
                 raise NoNetwork(f"{path}: this is no other try of a match: see `./arena-lab again`") from None
             replay = path.with_name(f"{path.stem}0.jsonl")

@@ -65,7 +65,8 @@ class Writes(unittest.TestCase):
     def test_of_several_tries_one_counts(self) -> None:
         again = self.folder / "again1"
         again.mkdir()
-        (again / "tournament.toml").write_text(f"again = 1\n{TOURNAMENT}")
+        (again / "tournament.toml").write_text(TOURNAMENT)
+        (again / "again.toml").write_text("match = 1\n")
         for path, text in ((self.folder / "m1.jsonl", "first"), (again / "tournament0.jsonl", "second")):
             path.write_text(text)
         verdicts = {"first": Verdict("solved", 9, 1), "second": Verdict("silent", 7, 0)}
