@@ -1,5 +1,5 @@
 -- Numbers that stand between commas.
-use Rattle.std.proofs.Common.{◌≡◌, ◌∙◌, ◌∷◌, ap, ap₂, sym, List, Option, Some}
+use Rattle.std.proofs.Common.{◌≡◌, ◌∙◌, ◌∷◌, ap, ap₂, sym, List, Some}
 use Rattle.std.proofs.Common.{◌<◌, ◌-◌, ◌≢◌, ℕ, suc, zero, refl, length, lt-ltb}
 use native.Mathlib.Numerals.{unary_clauses}
 use Rattle.std.specs.List.{after_first, before_first, position_or_len}

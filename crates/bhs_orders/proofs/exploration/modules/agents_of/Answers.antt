@@ -1,4 +1,4 @@
-use Rattle.std.proofs.Common.{◌∙◌, ap, ap₂, ℕ, List}
+use Rattle.std.proofs.Common.{◌∙◌, ap}
 use Rattle.bhs_orders.specs.ModuleExploration.{module_items}
 use Rattle.bhs_orders.proofs.exploration.modules.agents_of.Goals as goal
 

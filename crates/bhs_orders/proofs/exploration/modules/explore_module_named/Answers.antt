@@ -1,9 +1,9 @@
-use Rattle.std.proofs.Common.{◌∙◌, ap, ap₂, refl, subst, sym, ℕ, List, string_bytes}
+use Rattle.std.proofs.Common.{◌∙◌, ap, ap₂, refl, subst, sym, ℕ, List}
 use Rattle.std.specs.Prelude.{slice_get}
 use Rattle.std.proofs.lemmas.Option.{slice_get_read}
 use Rattle.bhs_lineup.specs.declared.lineups.Ready.{Ready}
 use Rattle.bhs_orders.specs.declared.reporting.faults.Fault.TheVariants.{NoMatch}
-use Rattle.bhs_orders.specs.ModuleExploration.{IsModuleReport, PrintsReport, explores_module, explores_no_module, module_items}
+use Rattle.bhs_orders.specs.ModuleExploration.{IsModuleReport, explores_module, explores_no_module, module_items}
 use Rattle.bhs_orders.proofs.exploration.modules.explore_module_named.Goals as goal
 
 pub returns-in-Err : goal.returns-in-Err
