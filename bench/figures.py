@@ -239,8 +239,9 @@ In a root of `debootstrap` with python3 and no other package: the unit tests, th
 reaches no archive, and again where it does.
 """
 HALL_NOTE = """\
-60 teams ask for 120 attempts in six minutes and play each with two sample agents on a ring of 8 nodes; a course has 600
-attempts an hour. One more team asks for the standings as fast as it can, by eight connections.
+60 teams ask for 600 attempts in an hour, the pace of a course, and play each with two sample agents on a ring of 8
+nodes. Each team hands in the sample agent once. One more team asks for the standings as fast as it can, by eight
+connections.
 """
 
 
@@ -302,8 +303,8 @@ BENCHMARKS: Dict[str, Benchmark] = {
     "looks": Benchmark("Memory of looks", lambda at: of_python("bench.looks"), noted_text(LOOKS_NOTE, looks_text)),
     "bare": Benchmark("A bare Debian", lambda at: of_debians("tools.play.bare", "--program", str(at.program)),
                       noted_text(BARE_NOTE, results_text)),
-    "hall": Benchmark("A hall", lambda at: of_debians("bench.hall", "--attempts", "120", "--minutes", "6", "--program",
-                                                      str(at.program)), noted_text(HALL_NOTE, lines_text)),
+    "hall": Benchmark("A hall", lambda at: of_debians("bench.hall", "--program", str(at.program)),
+                      noted_text(HALL_NOTE, lines_text)),
 }
 
 

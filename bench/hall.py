@@ -1,16 +1,20 @@
-"""How a hall stands a course: many teams that ask for attempts and play them, while one more team floods it.
+"""How a hall stands a course: many teams that ask for attempts, play them and hand in programs, while one more team
+floods it.
 
-    /usr/bin/python3 -m bench.hall [--teams 60] [--attempts 600] [--minutes 60] [--no-flood] [--program PATH]
+    /usr/bin/python3 -m bench.hall [--teams 60] [--attempts 600] [--hand-ins 60] [--minutes 60] [--no-flood]
+        [--program PATH]
 
 Starts a hall with its usual limits. The teams ask for their attempts at times that are drawn over the minutes, and play
-each with two sample agents on a ring of 8 nodes. Meanwhile one more team asks for the standings as fast as it can, by
-eight connections at a time. Prints how many attempts were solved; how long it took from the request until the keys were
-there, and how long requests of the other teams took; what the flood was answered; and the hall's processor seconds. A
-course has 600 attempts an hour; fewer minutes for as many attempts are a heavier load.
+each with two sample agents on a ring of 8 nodes. They hand in the sample agent at times that are drawn too; each is
+graded in a sandbox. Meanwhile one more team asks for the standings as fast as it can, by eight connections at a time.
+Prints how many attempts were solved; how long it took from the request until the keys were there, and how long requests
+of the other teams took; how many programs solved their networks, and how long they waited for it; what the flood was
+answered; and the hall's processor seconds. A course has 600 attempts an hour; fewer minutes are a heavier load.
 """
 import argparse
 import contextlib
 import http.client
+import io
 import os
 import pathlib
 import random
@@ -18,22 +22,28 @@ import statistics
 import tempfile
 import threading
 import time
+import zipfile
 from collections import Counter
-from typing import Dict, Iterator, List
+from typing import Any, Callable, Dict, Iterator, List
 
-from arena_lab.rules.engines import program_at
+from arena_lab.rules.engines import TOP, program_at
 from arena_lab.tests.hall.halls import Served, play
 
-SEED, FLOODS, EVERY = 5, 8, 0.5
+# seconds between two looks at a match, and at a program that is to be graded: a team has 120 requests a minute
+SEED, FLOODS, EVERY, SELDOM = 5, 8, 1.0, 5.0
 # tests of processes that are killed take workers for gone earlier
 USUAL_LEASE = "30"
 COURSE = """
 title = "A load"
 ports = [{first}, {last}]
 [[network]]
-name = "ring of 5"
+name = "ring of 8"
 network = "ring:8"
+[hand_ins]
+command = "python3 agent.py {{host}} {{port}} {{key}} {{nodes}}"
+networks = ["ring:8"]
 """
+SAMPLES = TOP / "examples" / "agents"
 
 
 class Load:
@@ -43,31 +53,47 @@ class Load:
         self._hall, self._tokens = hall, tokens
         self.asked: List[float] = []
         self.waited: List[float] = []
+        self.graded: List[float] = []
         self.outcomes: "Counter[str]" = Counter()
         self.flooded: "Counter[int]" = Counter()
         self.is_over = threading.Event()
 
-    def request(self, how: str, path: str, name: str, body: object = None) -> object:
+    def request(self, how: str, path: str, name: str, body: object = None) -> Any:
         """A request of a team, whose time is noted."""
         began = time.monotonic()
         told = self._hall.ask(how, path, self._tokens[name], body)
         self.asked.append(time.monotonic() - began)
         return told.json() if told.status in (200, 201) else {"state": f"refused {told.status}"}
 
-    def attempt(self, name: str, at: float) -> None:
-        """An attempt of a team at a time, from the request to its end."""
-        time.sleep(max(0.0, at - time.monotonic()))
+    def at(self, moment: float, does: Callable[[str], None], name: str) -> None:
+        """What a team does at a time."""
+        time.sleep(max(0.0, moment - time.monotonic()))
         try:
-            self.ask_and_play(name)
+            does(name)
         except (OSError, http.client.HTTPException) as fault:
             self.outcomes[f"not answered: {fault}"] += 1
+
+    def hand_in(self, name: str) -> None:
+        """Hands in the sample agent, and waits until it is graded."""
+        began = time.monotonic()
+        told = self._hall.hand_in(self._tokens[name], program_of_sample())
+        if told.status != 201:
+            self.outcomes[f"hand-in refused {told.status}"] += 1
+            return
+        path, found = f"/api/hand-ins/{told.json()['id']}", told.json()
+        while found["state"] not in ("over", "lost"):
+            time.sleep(SELDOM)
+            found = self.request("GET", path, name)
+        self.graded.append(time.monotonic() - began)
+        result = found["result"] or {}
+        self.outcomes[f"program {result.get('solved')} of {result.get('matches')}"] += 1
 
     def ask_and_play(self, name: str) -> None:
         """Asks for an attempt and plays it."""
         began = time.monotonic()
-        told = self.request("POST", "/api/matches", name, {"network": "ring of 5"})
+        told = self.request("POST", "/api/matches", name, {"network": "ring of 8"})
         while told["state"] in ("waiting", "held", "running") and not told["matches"]:
-            time.sleep(EVERY / 5)
+            time.sleep(EVERY / 10)
             told = self.request("GET", f"/api/matches/{told['id']}", name)
         if "id" not in told:
             self.outcomes[told["state"]] += 1
@@ -114,6 +140,15 @@ def served(teams: int) -> Iterator[Served]:
             hall.stop()
 
 
+def program_of_sample() -> bytes:
+    """The sample agent as a zip."""
+    made = io.BytesIO()
+    with zipfile.ZipFile(made, "w") as archive:
+        archive.write(SAMPLES / "ring.py", "agent.py")
+        archive.write(SAMPLES / "client.py", "client.py")
+    return made.getvalue()
+
+
 def told(values: List[float]) -> str:
     """The median, the ninety-ninth of a hundred, and the most, in milliseconds."""
     ordered = sorted(values)
@@ -127,8 +162,9 @@ def run(words: argparse.Namespace) -> None:
         load = Load(hall, hall.tokens())
         began = time.monotonic()
         names = [f"team{number % words.teams}" for number in range(words.attempts)]
-        teams = [threading.Thread(target=load.attempt, args=(name, began + chance.uniform(0, words.minutes * 60)))
-                 for name in names]
+        handed = [f"team{number % words.teams}" for number in range(words.hand_ins)]
+        teams = [threading.Thread(target=load.at, args=(began + chance.uniform(0, words.minutes * 60), does, name))
+                 for does, those in ((load.ask_and_play, names), (load.hand_in, handed)) for name in those]
         floods = [threading.Thread(target=load.flood, args=(f"team{words.teams}",))
                   for _ in range(0 if words.no_flood else FLOODS)]
         for thread in [*teams, *floods]:
@@ -139,8 +175,11 @@ def run(words: argparse.Namespace) -> None:
         load.is_over.set()
         for thread in floods:
             thread.join()
-        print(f"{words.attempts} attempts of {words.teams} teams in {took / 60:.1f} minutes: {dict(load.outcomes)}")
+        print(f"{words.attempts} attempts and {words.hand_ins} programs of {words.teams} teams in {took / 60:.1f} "
+              f"minutes: {dict(load.outcomes)}")
         print(f"from the request to the keys, median, 99 of 100, most: {told(load.waited)}")
+        if load.graded:
+            print(f"from a hand-in to its grade, median, 99 of 100, most: {told(load.graded)}")
         print(f"{len(load.asked)} requests of these teams, median, 99 of 100, most: {told(load.asked)}")
         print(f"the flood: {dict(load.flooded)}")
         print(f"the hall took {seconds_of(hall):.0f} processor seconds; servers left: {len(hall.servers())}")
@@ -151,6 +190,7 @@ def main() -> None:
                                      formatter_class=argparse.RawDescriptionHelpFormatter)
     parser.add_argument("--teams", metavar="N", type=int, default=60, help="how many teams (60)")
     parser.add_argument("--attempts", metavar="N", type=int, default=600, help="how many attempts in all (600)")
+    parser.add_argument("--hand-ins", metavar="N", type=int, default=60, help="how many programs in all (60)")
     parser.add_argument("--minutes", metavar="N", type=float, default=60, help="in how many minutes they begin (60)")
     parser.add_argument("--no-flood", action="store_true", help="without the team that floods")
     parser.add_argument("--program", metavar="PATH", help="the program (the proved one if it is built)")

@@ -158,15 +158,28 @@ class Served:
         return self._said.read_text(errors="replace")[-3000:]
 
     def ask(self, how: str, path: str, token: str = "", body: Any = None) -> Told:
+        """Asks with a body in JSON, if there is one."""
+        if body is None:
+            return self.send(how, path, token)
+        return self.send(how, path, token, json.dumps(body).encode(), "application/json")
+
+    def send(self, how: str, path: str, token: str = "", body: Optional[bytes] = None, kind: str = "") -> Told:
+        """Asks with a body of this media type, if there is one."""
         connection = http.client.HTTPConnection("127.0.0.1", self.port, timeout=SECONDS)
         with contextlib.closing(connection):
             headers = {"Authorization": f"Bearer {token}"} if token else {}
-            sent = None if body is None else json.dumps(body)
-            if sent is not None:
-                headers["Content-Type"] = "application/json"
-            connection.request(how, path, sent, headers)
+            if body is not None:
+                headers["Content-Type"] = kind
+            connection.request(how, path, body, headers)
             answer = connection.getresponse()
             return Told(answer.status, answer.headers, answer.read())
+
+    def hand_in(self, token: str, sent: bytes) -> Told:
+        """Hands in a program, as a zip."""
+        edge = b"edge"
+        front = b"Content-Disposition: form-data; name=\"file\"; filename=\"a.zip\"\r\n\r\n"
+        body = b"--" + edge + b"\r\n" + front + sent + b"\r\n--" + edge + b"--\r\n"
+        return self.send("POST", "/api/hand-ins", token, body, "multipart/form-data; boundary=edge")
 
     def tokens(self) -> Dict[str, str]:
         with (self.folder / "keys.csv").open(encoding="utf-8", newline="") as file:

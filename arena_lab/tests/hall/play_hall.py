@@ -2,7 +2,6 @@
 import concurrent.futures
 import contextlib
 import http.client
-import json
 import os
 import pathlib
 import shutil
@@ -14,7 +13,6 @@ import sys
 import tarfile
 import time
 import unittest
-import urllib.request
 from typing import Any, Dict, List
 
 from arena_lab.rules.engines import TOP
@@ -180,13 +178,7 @@ class HandIns(Halls):
         return str(self.hall.ask("GET", f"/api/hand-ins/{number}", token).json()["state"])
 
     def hand_in(self, token: str, sent: bytes) -> int:
-        edge = "edge"
-        body = (f"--{edge}\r\nContent-Disposition: form-data; name=\"file\"; filename=\"a.zip\"\r\n\r\n".encode() + sent
-                + f"\r\n--{edge}--\r\n".encode())
-        asked = urllib.request.Request(f"http://127.0.0.1:{self.hall.port}/api/hand-ins", body, {
-            "Authorization": f"Bearer {token}", "Content-Type": f"multipart/form-data; boundary={edge}"})
-        with urllib.request.urlopen(asked) as told:
-            return int(json.load(told)["id"])
+        return int(self.hall.hand_in(token, sent).json()["id"])
 
     def graded(self, token: str, number: int) -> Any:
         return self.hall.wait(lambda: self.hall.ask("GET", f"/api/hand-ins/{number}", token).json()["result"],
