@@ -5,10 +5,11 @@ import pathlib
 import random
 import shutil
 import subprocess
+import sys
 import unittest
 from typing import Dict, List
 
-from tools.play.program_cases import CUP, TOP, TRIANGLE, case, writes
+from tools.play.program_cases import CRAMPED, CUP, NO_MEMORY, TOP, TRIANGLE, case, writes
 from tools.play.program_rows import DONE, REFUSED_TEXT, Stage, Wrong, expect
 from tools.play.wasm_modules import Call, Function, checks, constant, in_memory, module, numeric, told_by_node
 from tools.play.wasm_modules import I32
@@ -19,6 +20,10 @@ RING = TOP / "examples" / "agents" / "wasm" / "ring.wasm"
 CHANGED = 200
 DATA = bytes(range(7, 256, 5))
 CALL, DROP, END = b"\x10", b"\x1a", b"\x0b"
+LOOP, AGAIN = b"\x03\x40", b"\x0c\x00"
+SIZE, GROW, STORE8, MULTIPLY, SUBTRACT = b"\x3f\x00", b"\x40\x00", b"\x3a\x00\x00", b"\x6c", b"\x6b"
+# pages of 64 KiB that an agent asks for at a time
+GROWTH = 100
 STATES = '{"states":%d,"memories":%d,"stances":%d,"boards":1}\n'
 
 
@@ -88,9 +93,21 @@ def ends(stage: Stage) -> None:
 def fails(stage: Stage) -> None:
     for cause, agent, function in (
             ("trap", running(b"\x00"), 0), ("trap", running(b"\x00", "look"), 1),
-            ("fuel", running(b"\x03\x40\x0c\x00" + END), 0),
+            ("fuel", running(LOOP + AGAIN + END), 0),
             ("command", running(constant(I32, 65_536) + CALL + b"\x00" + DROP, "depart"), 1)):
         explores(stage, agent, BREAKS, FAILING, f',"failure":"{cause}","function":{function}')
+
+
+@case("agents whose memory grows are explored until memory runs out, and no longer")
+def grown(stage: Stage) -> None:
+    writes(stage, tri=TRIANGLE, cup=CUP)
+    enters, looks = (CALL + bytes([place]) + DROP for place in range(2))
+    last = SIZE + constant(I32, 65_536) + MULTIPLY + constant(I32, 1) + SUBTRACT
+    grows = constant(I32, GROWTH) + GROW + DROP + last + constant(I32, 1) + STORE8
+    (stage.folder / "agent.wasm").write_bytes(running(enters + LOOP + grows + looks + AGAIN + END, "enter", "look"))
+    front = [sys.executable, "-c", CRAMPED, str(200 << 20)]
+    expect(stage.run(["explore", "cup.toml", "0", "--module", "agent.wasm"], front=front), b"",
+           b"agent.wasm: memory\n", NO_MEMORY)
 
 
 @case("a file that is no module of agents is refused by what is wrong and where")
@@ -103,6 +120,7 @@ def refused(stage: Stage) -> None:
             (running(CALL + b"\x07"), "index at byte 40"),
             (running(b"", "look", "puts"), "import arena.puts at byte 38"),
             (module([Function([], [], b"", "run")], ["look"], "env"), "import env.look at byte 21"),
+            (running(b"", "\x1b[2J\n"), r"import arena.\u{1b}[2J\n at byte 21"),
             (module([Function([], [], b"")]), "run at byte 38")):
         refuses(stage, agent, fault)
 
