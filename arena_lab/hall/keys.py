@@ -2,7 +2,7 @@
 import csv
 import pathlib
 import secrets
-from typing import Iterable, List, Tuple
+from typing import Any, Iterable, List, Tuple
 
 from django.contrib.auth import get_user_model
 from django.db import transaction
@@ -50,7 +50,13 @@ def write_sheet(path: pathlib.Path, sheet: Sheet) -> None:
     path.touch(mode=0o600)
     with path.open("a", encoding="utf-8", newline="") as file:
         rows: Sheet = [HEAD, *sheet] if is_new else sheet
-        csv.writer(file, lineterminator="\n").writerows(rows)
+        csv.writer(file, lineterminator="\n").writerows(safe(rows))
+
+
+def safe(rows: Iterable[Iterable[Any]]) -> List[List[Any]]:
+    """The rows of a table in which no program takes a text for a formula."""
+    return [[f"'{it}" if isinstance(it, str) and it[:1] in ("=", "+", "-", "@", "\t", "\r") else it for it in row]
+            for row in rows]
 
 
 def set_password(password: str = "") -> str:

@@ -4,11 +4,12 @@ import contextlib
 import datetime
 import os
 import secrets
+import shutil
 import threading
 import time
 from typing import Any, Dict, Iterator, List, Optional
 
-from django.db import OperationalError, connection, models
+from django.db import OperationalError, connection, models, transaction
 from django.utils import timezone
 from django.utils.translation import gettext_lazy as _
 
@@ -25,6 +26,12 @@ LOOK = 0.2
 # set once this process is told to end: what it does is given up, and done again by the next
 STOPPED = threading.Event()
 AGAIN = _("the hall was stopped meanwhile: it is done again, a match with other keys")
+
+
+def remove_folder(instance: Any, **_given: Any) -> None:
+    """Removes the files of a row that is deleted, once the database has deleted it."""
+    folder = instance.folder
+    transaction.on_commit(lambda: shutil.rmtree(folder, ignore_errors=True))
 
 
 class Work(models.Model):

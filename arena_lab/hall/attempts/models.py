@@ -5,11 +5,12 @@ from typing import Any, Dict
 
 from django.conf import settings
 from django.db import models
+from django.db.models.signals import post_delete
 from django.utils import timezone
 from django.utils.translation import gettext_lazy as _
 
 from arena_lab.hall import machine
-from arena_lab.hall.steps import Work
+from arena_lab.hall.steps import Work, remove_folder
 from arena_lab.hall.teams.models import Team
 
 # what came of a match: the verdict of the program, or that nobody has entered
@@ -39,6 +40,9 @@ class Attempt(Work):
     @property
     def is_over(self) -> bool:
         return bool(self.state == machine.OVER)
+
+
+post_delete.connect(remove_folder, Attempt)
 
 
 class Match(models.Model):

@@ -6,11 +6,12 @@ from typing import Any, Dict
 from django.conf import settings
 from django.core.exceptions import ValidationError
 from django.db import models
+from django.db.models.signals import post_delete
 from django.utils import timezone
 from django.utils.translation import gettext_lazy as _
 
 from arena_lab.hall import machine
-from arena_lab.hall.steps import Work
+from arena_lab.hall.steps import Work, remove_folder
 from arena_lab.hall.teams.models import Team
 
 
@@ -89,6 +90,9 @@ class HandIn(models.Model):
     @property
     def folder(self) -> pathlib.Path:
         return pathlib.Path(settings.PLACE.folder) / "hand-ins" / str(self.pk)
+
+
+post_delete.connect(remove_folder, HandIn)
 
 
 class Grading(Work):

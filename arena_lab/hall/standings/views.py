@@ -17,6 +17,7 @@ from rest_framework.views import APIView
 from arena_lab.hall.attempts.shown import time_of
 from arena_lab.hall.handins.models import Contest
 from arena_lab.hall.handins.windows import Window, window_of
+from arena_lab.hall.keys import safe
 from arena_lab.hall.standings import tables
 
 
@@ -79,14 +80,9 @@ def as_rows(table: tables.StandingsTable) -> List[List[Any]]:
     return rows
 
 
-def safe(value: Any) -> Any:
-    """A text that no program for tables takes for a formula."""
-    return f"'{value}" if isinstance(value, str) and value[:1] in ("=", "+", "-", "@", "\t", "\r") else value
-
-
 def as_csv(rows: List[List[Any]]) -> str:
     made = io.StringIO()
-    csv.writer(made).writerows([[safe(value) for value in row] for row in rows])
+    csv.writer(made).writerows(safe(rows))
     return made.getvalue()
 
 

@@ -1,5 +1,7 @@
 """Standings, hand-ins and the teacher's pages of a hall, and whether REST is as its file says."""
+import pathlib
 import re
+import tempfile
 import unittest
 from typing import Any, Dict
 from unittest import mock
@@ -15,6 +17,7 @@ from django.core.files.uploadedfile import SimpleUploadedFile
 from django.test import Client
 from django.utils import timezone
 
+from arena_lab.hall import keys
 from arena_lab.hall.attempts.models import Attempt
 from arena_lab.hall.handins import grading, taking
 from arena_lab.hall.handins.models import Contest, Extension, Grading, HandIn
@@ -109,6 +112,10 @@ class Standings(Hall):
     def test_tables_have_no_formulas(self) -> None:
         Team.objects.filter(name="amber").update(display="=1+1")
         self.assertContains(self.teacher().get("/teacher/standings.csv"), ",'=1+1,")
+        with tempfile.TemporaryDirectory() as folder:
+            sheet = pathlib.Path(folder) / "keys.csv"
+            keys.write_sheet(sheet, [("amber", "=1+1", "amber.token")])
+            self.assertEqual(sheet.read_text(), "team,name,token\namber,'=1+1,amber.token\n")
         self.assertEqual(self.client_of("amber").get("/teacher/standings.csv").status_code, 302)
 
     def test_languages(self) -> None:
@@ -231,6 +238,17 @@ class HandIns(Hall):
         self.assertEqual(self.client_of("birch").get(path).status_code, 404)
         self.assertContains(self.client_of("amber").get("/hand-ins"), f'href="{path}"')
         self.assertContains(self.teacher().get("/teacher/handins/handin/"), f'href="{path}"')
+
+    def test_a_team_that_is_deleted_leaves_no_files(self) -> None:
+        for name in ("amber", "birch"):
+            self.assertEqual(self.hand_in(b"print()", name).status_code, 201)
+        gone, kept = (HandIn.objects.get(team__name=name).folder for name in ("amber", "birch"))
+        attempt = Attempt.objects.create(team=Team.objects.get(name="amber"), network="ring of 5")
+        attempt.folder.mkdir(parents=True)
+        with self.captureOnCommitCallbacks(execute=True):
+            team = Team.objects.get(name="amber")
+            self.teacher().post(f"/teacher/teams/team/{team.pk}/delete/", {"post": "yes"})
+        self.assertEqual([it.exists() for it in (gone, attempt.folder, kept)], [False, False, True])
 
     def test_limits(self) -> None:
         self.assertEqual([self.hand_in(b"x").status_code for _ in range(4)], [201, 201, 201, 429])
