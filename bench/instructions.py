@@ -2,6 +2,7 @@
 
     tools/build               # proves and builds the program, if that is not done yet
     python3 -m bench.instructions [PROGRAM [OTHER]] [--peer PATH] [--small]
+    python3 -m bench.instructions --kept [PROGRAM]
 
 Makes inputs by a seeded generator, of version 1, so that older builds and a peer take them too:
 
@@ -15,6 +16,10 @@ Valgrind's callgrind counts the instructions of `rehearse` on the script, of `ch
 named; those of the peer, a plain program with the same commands, if --peer names one; and PROGRAM divided by each. With
 --small the script is a tenth as long, the network has 64 nodes, and an agent has a tenth of the commands. It needs
 Debian's package valgrind, under which a build without a proof does not run.
+
+With --kept the small inputs are counted and compared with bench/instructions.toml. A run that takes 3 % more
+instructions than are kept there fails: make it faster, or raise the number and say why. The last line reads
+`N passed, M failed`.
 """
 import argparse
 import pathlib
@@ -25,15 +30,19 @@ import shutil
 import subprocess
 import sys
 import tempfile
-from typing import Callable, Iterator, List, NamedTuple, Sequence
+import tomllib
+from typing import Callable, Dict, Iterator, List, NamedTuple, Sequence
 
 from arena_lab.rules.model import AWAY, Match, Object, Setup, spelled
 from bench import compare, rehearse
 from bench.inputs import MAX_QUOTA, MAX_SCRIPT, torus, torus_links, tournament
+from tools.play.python_tests import SKIPPED
 
 TOP = pathlib.Path(__file__).resolve().parent.parent
 PROGRAM = TOP / "crates" / "bhs_main" / "out" / "bhs_main"
 VALGRIND = "valgrind"
+# the millions of instructions that are kept of each run on small inputs, and how many times as many pass
+KEPT, MOST = pathlib.Path(__file__).with_name("instructions.toml"), 1.03
 COUNTED = re.compile(r"^==\d+== Collected : (\d+)$", re.MULTILINE)
 SEED = 20_261_128
 MATCHES = AGENTS = 16
@@ -145,6 +154,27 @@ def row(work: Work, counts: Sequence[int]) -> str:
     return f"| {' | '.join([work.title, f'{counts[0] / 1e6:,.1f}', *others])} |"
 
 
+def risen(counts: Dict[str, float], kept: Dict[str, float]) -> List[str]:
+    """What is wrong with the millions of instructions of some runs, by those that are kept."""
+    return [f"{title} takes {count:.2f} million instructions, and {kept.get(title, 0):.2f} are kept: see {KEPT.name}"
+            for title, count in counts.items() if count > MOST * kept.get(title, 0)]
+
+
+def compare_kept(program: str) -> int:
+    """Compares a program with what is kept; gives the exit status."""
+    kept = tomllib.loads(KEPT.read_text(encoding="utf-8"))
+    with tempfile.TemporaryDirectory() as name:
+        folder = pathlib.Path(name)
+        counts = {work.title.replace("`", ""): counted(program, work, folder) / 1e6 for work in written(folder, SMALL)}
+    for title, count in counts.items():
+        print(f"{title}: {count:.2f} million instructions", flush=True)
+    wrong = risen(counts, kept)
+    for line in wrong:
+        print(f"FAILED {line}")
+    print(f"{len(counts) - len(wrong)} passed, {len(wrong)} failed")
+    return 1 if wrong else 0
+
+
 def given_words(words: Sequence[str]) -> argparse.Namespace:
     parser = argparse.ArgumentParser(prog="python3 -m bench.instructions", description=__doc__,
                                      formatter_class=argparse.RawDescriptionHelpFormatter)
@@ -152,6 +182,7 @@ def given_words(words: Sequence[str]) -> argparse.Namespace:
     parser.add_argument("other", nargs="?", type=pathlib.Path, help="an older build of it")
     parser.add_argument("--peer", type=pathlib.Path, metavar="PATH", help="a plain program with the same commands")
     parser.add_argument("--small", action="store_true", help="on inputs of a tenth of the size")
+    parser.add_argument("--kept", action="store_true", help=f"compare with {KEPT.name}, on small inputs")
     return parser.parse_args(words)
 
 
@@ -162,8 +193,13 @@ def main(words: Sequence[str]) -> int:
     for program in programs.values():
         if not pathlib.Path(program).exists():
             raise SystemExit(f"there is no program {program}: tools/build builds it")
+    if given.kept and not has_valgrind():
+        print(f"{SKIPPED}bench.instructions: Debian's valgrind is not installed\n0 passed, 0 failed")
+        return 0
     if not has_valgrind():
         raise SystemExit("valgrind is missing: install Debian's package valgrind")
+    if given.kept:
+        return compare_kept(programs["program"])
     head = ["millions of instructions", *(cell for name in programs for cell in (name, "ratio"))]
     head.remove("ratio")
     print(f"| {' | '.join(head)} |\n|{' --- |' * len(head)}", flush=True)

@@ -4,6 +4,7 @@ import io
 import json
 import pathlib
 import tempfile
+import tomllib
 import unittest
 import unittest.mock
 
@@ -63,6 +64,21 @@ class Counts(unittest.TestCase):
         self.assertEqual(lines[:2], ["| millions of instructions | program | peer | ratio |",
                                      "| --- | --- | --- | --- |"])
         self.assertEqual(lines[-2], "| `twin`, texts | 2.5 | 1.0 | 2.50 |")
+
+    def test_what_takes_more_than_is_kept_fails(self) -> None:
+        self.assertEqual(instructions.risen({"a": 1.03, "b": 2.0}, {"a": 1.0, "b": 2.5, "c": 1.0}), [])
+        wrong = instructions.risen({"a": 1.04, "new": 0.1}, {"a": 1.0})
+        self.assertEqual([line.partition(" takes ")[0] for line in wrong], ["a", "new"])
+
+    def test_each_run_is_compared_with_what_is_kept(self) -> None:
+        titles = list(tomllib.loads(instructions.KEPT.read_text()))
+        kept, valgrind = self.folder / "kept.toml", self.made("valgrind", "echo ==7== Collected : 2000000 >&2")
+        for number, last in ((2, "8 passed, 0 failed"), (1, "0 passed, 8 failed")):
+            kept.write_text("".join(f'"{title}" = {number}\n' for title in titles))
+            with unittest.mock.patch.multiple(instructions, KEPT=kept, VALGRIND=valgrind):
+                with contextlib.redirect_stdout(io.StringIO()) as told:
+                    self.assertEqual(instructions.main([self.made("one", "exit"), "--kept"]), number == 1)
+            self.assertEqual(told.getvalue().splitlines()[-1], last)
 
     def test_a_program_that_fails_ends_it(self) -> None:
         for said in ("exit 6", "echo nothing"):
