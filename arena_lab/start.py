@@ -9,7 +9,7 @@ from arena_lab.support import built
 def arena() -> int:
     """Becomes the program that was installed with the lab; `--version` says what it was built of, and so does the first
     line of a contest's log."""
-    program = built.released()
+    program = built.ARENA.in_release()
     if program is None:
         print("arena: no program was installed with this lab: take a release whose name has your machine",
               file=sys.stderr)

@@ -83,7 +83,7 @@ def arena() -> List[str]:
         return shlex.split(os.environ["ARENA"])
     launcher = next((it / "arena" for it in (TOP, built.TOP) if (it / "arena").exists()), None)
     if launcher is None:
-        return [str(built.PACKAGED)]
+        return [str(built.ARENA.packaged)]
     return [str(launcher if built.can_play() else launcher.with_name(LAB))]
 
 

@@ -17,6 +17,8 @@ from tools.prove import prover
 from tools.prove.forecast import LAST_PART, SECONDS, TRUST, Forecast, seconds_of, text_of
 
 LIBRARIES = {"low": [], "left": ["low"], "right": ["low", "json"], "bhs_main": ["left", "right"]}
+# the player is another program
+ALL = {**LIBRARIES, "bhs_player": ["right"]}
 RATTLE = f"""#!{sys.executable}
 import pathlib, sys
 words = sys.argv[1:]
@@ -85,7 +87,7 @@ class Build(unittest.TestCase):
     def setUp(self) -> None:
         self.top = pathlib.Path(self.enterContext(tempfile.TemporaryDirectory()))
         self.crates, kit = self.top / "crates", self.top / "kit"
-        for name in LIBRARIES:
+        for name in ALL:
             self.write(self.crates / name / "src" / "lib.rt", "whole\n")
         self.write(kit / "KIT-ID", "kit 1\n")
         for name, text in (("rattle", RATTLE), ("rattle-link", LINK)):
@@ -94,7 +96,7 @@ class Build(unittest.TestCase):
             self.write(self.top / name, (TOP / name).read_text()).chmod(0o755)
         self.build = module(TOP / "tools" / "build")
         self.record = prover.record_of(self.crates, "bhs_main")
-        for owner, found in ((prover, {"BUILT": self.crates}), (self.build, {"libraries_of": lambda: LIBRARIES})):
+        for owner, found in ((prover, {"BUILT": self.crates}), (self.build, {"libraries_of": lambda: ALL})):
             for name, value in {**found, "CRATES": self.crates, "KIT": kit, "TOP": self.top}.items():
                 self.enterContext(unittest.mock.patch.object(owner, name, value))
         self.enterContext(unittest.mock.patch.object(version, "KIT", kit))
@@ -115,10 +117,10 @@ class Build(unittest.TestCase):
     def test_it_shows_what_is_done_and_what_is_left(self) -> None:
         said = self.said(0)
         self.assertIn("meanwhile `./arena` plays without a proof", said)
-        self.assertRegex(said, r"arena: \[\.{20}\]   \d% 0 of 4 crates are proved, \d.* s, (about \d+ min|less than a "
+        self.assertRegex(said, r"arena: \[\.{20}\]   \d% 0 of 5 crates are proved, \d.* s, (about \d+ min|less than a "
                          r"minute) left; now low\n")
-        self.assertRegex(said, r"\[#+\.+\] +\d+% 3 of 4 crates are proved, \d.* s, .* left; now bhs_main\n")
-        self.assertRegex(said, r"all 4 crates are proved and the program is built, \d.* s\n$")
+        self.assertRegex(said, r"\[#+\.+\] +\d+% [34] of 5 crates are proved, \d.* s, .* left; now bhs_main")
+        self.assertRegex(said, r"all 5 crates are proved and the programs are built, \d.* s\n$")
         self.assertEqual(self.record.with_name("bhs_main").read_text(), "the program")
         self.assertIn("\n# toolchain kit 1\n", self.record.read_text())
         self.assertTrue(prover.is_current(self.record))
@@ -135,22 +137,22 @@ class Build(unittest.TestCase):
         self.said(0)
         late = time.time() + 10
         os.utime(self.crates / "left" / "src" / "lib.rt", (late, late))
-        self.assertEqual(self.said(0), "arena: the program is proved and built of the sources as they are\n")
+        self.assertEqual(self.said(0), "arena: the programs are proved and built of the sources as they are\n")
         source = self.write(self.crates / "left" / "src" / "lib.rt", "changed\n")
         self.assertEqual(self.build.unbuilt(LIBRARIES, ["low", "left", "right", "bhs_main"]), {"left", "bhs_main"})
         said = self.said(0)
-        self.assertIn("2 of 4 crates are proved", said)
+        self.assertIn("3 of 5 crates are proved", said)
         self.assertNotIn("the first time", said)
         self.write(source, "broken\n")
         said = self.said(1)
         self.assertIn("left was not proved: see crates/left/out/build.log\n", said)
-        self.assertNotIn("all 4 crates are proved", said)
+        self.assertNotIn("all 5 crates are proved", said)
 
     def test_a_source_that_is_put_in_its_place_is_proved_whatever_its_time(self) -> None:
         self.said(0)
         source = self.write(self.crates / "low" / "src" / "lib.rt", "an older one\n")
         os.utime(source, (1, 1))
-        self.assertIn("0 of 4 crates are proved", self.said(0))
+        self.assertIn("0 of 5 crates are proved", self.said(0))
 
     def test_what_changes_meanwhile_is_not_recorded_as_proved(self) -> None:
         change = f"import pathlib\npathlib.Path({str(self.crates / 'low' / 'src' / 'lib.rt')!r}).write_text('new')\n"
@@ -163,7 +165,7 @@ class Build(unittest.TestCase):
     def test_a_program_that_another_has_replaced_is_built_again(self) -> None:
         self.said(0)
         program = self.write(self.record.with_name("bhs_main"), "echo")
-        self.assertIn("3 of 4 crates are proved", self.said(0))
+        self.assertIn("4 of 5 crates are proved", self.said(0))
         self.assertEqual(program.read_text(), "the program")
 
 

@@ -88,7 +88,7 @@ class Gate(unittest.TestCase):
             for path in ("low/out/rlib/low.rlib/format", "bhs_main/out/bhs_main"):
                 (crates / path).parent.mkdir(parents=True)
                 (crates / path).write_text("")
-            gate.record_all(room, {"low": [], "bhs_main": ["low"]})
+            gate.record_all(room, {"low": [], "bhs_main": ["low"]}, ["bhs_main"])
             gate.take_from(crates)
             records = [prover.record_of(tree / "crates", name) for name in ("low", "bhs_main")]
             self.assertEqual([prover.is_current(it) for it in records], [True, True])

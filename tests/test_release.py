@@ -52,11 +52,11 @@ class Repositories(unittest.TestCase):
         self.unproved.write_bytes(self.proved.read_bytes() + built.SAID.encode())
         crates, kit = self.top / "crates", self.top / "kit"
         for owner, found in ((release, {"TOP": self.top, "CRATES": crates, "KIT": kit,
-                                        "proved_program": lambda: self.proved}),
+                                        "proved_program": lambda _: self.proved}),
                              (prover, {"TOP": self.top, "CRATES": crates, "KIT": kit}),
                              (version, {"TOP": self.top, "KIT": kit}),
-                             (built, {"PROVED": program}),
-                             (release.unproved, {"compiled": lambda: self.unproved})):
+                             (built, {"TOP": self.top}),
+                             (release.unproved, {"compiled": lambda _: self.unproved})):
             for name, value in found.items():
                 self.enterContext(unittest.mock.patch.object(owner, name, value))
 
@@ -91,10 +91,10 @@ class Releases(Repositories):
         found = self.unpacked(NAME)
         self.assertEqual(sorted(found), sorted([
             "BUILD", "CHANGELOG.md", "PROVED.txt", "README.md", "SHA256SUMS", "VERSION", "arena", "bin/arena",
-            "bin/ring", "docs/THEOREMS.md", "examples/agents/ring.c", "examples/contest.py",
+            "bin/bhs_player", "bin/ring", "docs/THEOREMS.md", "examples/agents/ring.c", "examples/contest.py",
             "arena_lab/support/built.py", "tools/version.py"]))
         runnable = {path for path, (_, mode) in found.items() if mode == 0o755}
-        self.assertEqual(runnable, {"arena", "bin/arena", "bin/ring"})
+        self.assertEqual(runnable, {"arena", "bin/arena", "bin/bhs_player", "bin/ring"})
         build, facts = found["BUILD"][0], found["PROVED.txt"][0]
         self.assertRegex(build, r"^arena 1\.2\.3, proved\ncommit [0-9a-f]{40}, tree clean\ntoolchain kit 1\n"
                          r"needs Linux on x86-64 with glibc 2\.\d+ or newer, and Python 3\.11 or newer\n$")
@@ -112,7 +112,7 @@ class Releases(Repositories):
         subprocess.run(["sha256sum", "--quiet", "-c", f"{NAME}.tar.gz.sha256"], cwd=folder, check=True)
         subprocess.run(["tar", "-xzf", f"{NAME}.tar.gz"], cwd=folder, check=True)
         subprocess.run(["sha256sum", "--quiet", "-c", "SHA256SUMS"], cwd=folder / NAME, check=True)
-        self.assertEqual((folder / NAME / "SHA256SUMS").read_text().count("\n"), 13)
+        self.assertEqual((folder / NAME / "SHA256SUMS").read_text().count("\n"), 14)
 
     def test_two_archives_of_one_commit_are_alike(self) -> None:
         archive, found = self.top / "out" / "release" / f"{NAME}.tar.gz", []
@@ -148,14 +148,14 @@ class Releases(Repositories):
             write(self.top / "tools" / "build", f"#!/bin/sh\nexit {status}\n", 0o755)
             self.git("add", ".")
             self.git("commit", "-q", "-m", "two")
-            write(built.PROVED, f"one that says {built.SAID}")
+            write(built.ARENA.proved, f"one that says {built.SAID}")
             with unittest.mock.patch.object(release, "proved_program", PROVED_PROGRAM):
                 self.assertIn(said, self.made(status=1)[1])
 
     def test_the_other_program_is_refused(self) -> None:
-        with unittest.mock.patch.object(release, "proved_program", lambda: self.unproved):
+        with unittest.mock.patch.object(release, "proved_program", lambda _: self.unproved):
             self.assertIn("this program says that it is not proved", self.made(status=1)[1])
-        with unittest.mock.patch.object(release.unproved, "compiled", lambda: self.proved):
+        with unittest.mock.patch.object(release.unproved, "compiled", lambda _: self.proved):
             self.assertIn("this program does not say that it is not proved", self.made("--unproved", status=1)[1])
         self.assertFalse((self.top / "out" / "release").exists())
 
@@ -170,7 +170,7 @@ class Versions(Repositories):
         head = subprocess.run(["git", "rev-parse", "HEAD"], cwd=self.top, check=True, capture_output=True, text=True)
         commit = f"commit {head.stdout.strip()}, tree"
         for is_proved, word, more in ((True, "proved", ""), (False, "unproved", f"{version.HOW_TO_PROVE}\n")):
-            with unittest.mock.patch.object(built, "is_proved", lambda: is_proved):
+            with unittest.mock.patch.object(built.Binary, "is_proved", lambda _: is_proved):
                 self.assertEqual(version.text(), f"arena 1.2.3, {word}\n{commit} clean\ntoolchain kit 1\n{more}")
         write(self.top / "new", "")
         self.assertEqual(version.commit(), f"{commit} changed")
@@ -180,12 +180,12 @@ class Versions(Repositories):
     def test_the_toolchain_is_the_one_that_built_the_program(self) -> None:
         write(self.top / "kit" / "KIT-ID", "kit 2\n")
         self.assertEqual((version.recorded(), version.installed()), ("toolchain kit 1", "toolchain kit 2"))
-        built.PROVED.with_name(built.RECORD).unlink()
+        built.ARENA.proved.with_name(built.RECORD).unlink()
         self.assertEqual(version.recorded(), "toolchain not known")
 
     def test_a_release_says_what_it_was_made_of(self) -> None:
         write(self.top / "BUILD", "arena 1.2.3, proved\n")
-        with unittest.mock.patch.object(built, "is_proved", lambda: False):
+        with unittest.mock.patch.object(built.Binary, "is_proved", lambda _: False):
             self.assertEqual(version.text(), "arena 1.2.3, proved\n")
 
     def test_the_version_is_that_of_the_changelog(self) -> None:

@@ -55,7 +55,7 @@ def installed() -> str:
 
 def recorded() -> str:
     """The toolchain that built the proved program, as its record says."""
-    record = built.PROVED.with_name(built.RECORD)
+    record = built.ARENA.proved.with_name(built.RECORD)
     found = re.search(r"^# (toolchain .*)$", record.read_text() if record.exists() else "", re.M)
     return found[1] if found else f"toolchain {UNKNOWN}"
 
@@ -69,7 +69,7 @@ def text() -> str:
     """What is said of the program that ./arena runs."""
     if (TOP / BUILD).exists():
         return (TOP / BUILD).read_text()
-    if built.is_proved():
+    if built.ARENA.is_proved():
         return lines(True, recorded())
     return lines(False, installed()) + f"{HOW_TO_PROVE}\n"
 

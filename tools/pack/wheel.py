@@ -10,7 +10,7 @@ from typing import Dict, List, NamedTuple, Tuple
 
 RUNNABLE, READABLE = 0o755, 0o644
 NAME = "arena_lab"
-# where the program, and what is said of it, stand in the package, and what stands beside the lab there
+# where the programs, and what is said of them, stand in the package, and what stands beside the lab there
 PROGRAM, BESIDE = "arena_lab/program/", ("examples/", "experiments/", "docs/")
 
 
@@ -35,10 +35,10 @@ def tag_of(glibc: str) -> str:
 
 
 def files_of(released: Files, extra: Files) -> Files:
-    """The files of the package: those of the lab, the program with what is said of it, examples and documents."""
+    """The files of the package: those of the lab, the programs with what is said of them, examples and documents."""
     found = {path: file for path, file in released.items() if path.startswith("arena_lab/")}
     found.update({f"arena_lab/{path}": file for path, file in released.items() if path.startswith(BESIDE)})
-    for path in ("bin/arena", "BUILD", "PROVED.txt", "UNPROVED.txt"):
+    for path in ("bin/arena", "bin/bhs_player", "BUILD", "PROVED.txt", "UNPROVED.txt"):
         if path in released:
             found[PROGRAM + path.rpartition("/")[2]] = released[path]
     return {**found, **extra}

@@ -1,21 +1,23 @@
 """Records of what was built, by the SHA-256 of each file, in the form that sha256sum checks.
 
-The record of the program names the program and the sources of all its crates, behind three lines that say which arena
-it is. A proved program has it beside it as proved.sha256. So has each crate that was proved: there it names the
-library, the sources, and the records of the crates that it stands on. `tools/prove/is_current RECORD` says whether all
-of that is as it was.
+The record of a program names the program and the sources of all its crates, behind three lines that say which arena it
+is. A proved program has it beside it as proved.sha256. So has each crate that was proved: there it names the library,
+the sources, and the records of the crates that it stands on. `tools/prove/is_current RECORD` says whether all of that
+is as it was.
 """
 import contextlib
 import hashlib
 import os
 import pathlib
-from typing import Iterable
+from typing import Iterable, List, Sequence
 
+from arena_lab.support.built import ARENA, PLAYER
 from tools import version
 from tools.prove.prover import PARTS, Libraries, below, record_of
 
-PROGRAM = "bhs_main"
-# what the program depends on beside its crates
+# the crates of the programs: `arena`, and what plays modules
+PROGRAMS = (ARENA.crate, PLAYER.crate)
+# what a program depends on beside its crates
 LISTS = ("crates.txt", "HANDLES")
 # begins the lines of a crate's sources: behind it stand the folders, of which a record names each file
 ALL_OF = "# all of "
@@ -48,26 +50,36 @@ def write(record: pathlib.Path, text: str) -> None:
 def record_crate(top: pathlib.Path, libraries: Libraries, name: str, proved: str) -> None:
     """Records that a crate was proved, of sources with these lines, and built, once those below it are recorded."""
     made, records = record_of(top / "crates", name), [record_of(top / "crates", it) for it in below(libraries, name)]
-    if name == PROGRAM:
-        record_program(top, "".join(ALL_OF + it.read_text().partition(ALL_OF)[2] for it in records) + proved)
+    if name in PROGRAMS:
+        record_program(top, name, "".join(ALL_OF + it.read_text().partition(ALL_OF)[2] for it in records) + proved)
         return
     library = made.parent / "rlib" / f"{name}.rlib"
     # of a library that is a folder, this file has the checksum of all the others
     write(made, digests(top, [library / "format" if library.is_dir() else library, *records]) + proved)
 
 
-def record_program(top: pathlib.Path, proved: str) -> None:
-    """Records that the program was built of crates that were proved, of sources with these lines."""
-    made = record_of(top / "crates", PROGRAM)
-    built = digests(top, [made.with_name(PROGRAM), *(top / it for it in LISTS)])
+def record_program(top: pathlib.Path, name: str, proved: str) -> None:
+    """Records that a program was built of crates that were proved, of sources with these lines."""
+    made = record_of(top / "crates", name)
+    built = digests(top, [made.with_name(name), *(top / it for it in LISTS)])
     write(made, head(True) + built + proved)
 
 
-def record_all(top: pathlib.Path, libraries: Libraries) -> None:
-    """Records that the program and its crates, which stand there as they were proved, are proved and built."""
-    crates = below(libraries, PROGRAM)
-    record_program(top, "".join(sources(top, it) for it in [*crates, PROGRAM]))
-    for name in crates:
+def programs_in(libraries: Libraries) -> List[str]:
+    """The crates of the programs, of a repository with these crates."""
+    return [name for name in PROGRAMS if name in libraries]
+
+
+def below_programs(libraries: Libraries, programs: Iterable[str]) -> List[str]:
+    """The crates that these programs stand on, lowest first."""
+    return list(dict.fromkeys(it for name in programs for it in below(libraries, name)))
+
+
+def record_all(top: pathlib.Path, libraries: Libraries, programs: Sequence[str]) -> None:
+    """Records that these programs and their crates, which stand there as they were proved, are proved and built."""
+    for name in programs:
+        record_program(top, name, "".join(sources(top, it) for it in [*below(libraries, name), name]))
+    for name in below_programs(libraries, programs):
         # without its library a crate has no record, and tools/build proves it again
         with contextlib.suppress(FileNotFoundError):
             record_crate(top, libraries, name, sources(top, name))
