@@ -33,7 +33,7 @@ from arena_lab.play.bounds import LIMIT
 from arena_lab.play.games import Asked, Record, Row, SchedulerName, rows_of
 from arena_lab.play.schedulers import NAMED as SCHEDULERS
 from arena_lab.play.schedules import schedule_of
-from arena_lab.play.teams import BOARD, INSIDE, NAPS, OUTSIDE, QUOTA, AgentWords, Game, filled
+from arena_lab.play.teams import BOARD, INSIDE, NAPS, OUTSIDE, QUOTA, AgentWords, Game, agent_named, filled
 from arena_lab.rules import networks
 from arena_lab.rules.engines import MODEL, PROGRAM, name_of, program_at
 from arena_lab.rules.fixtures import Fixture
@@ -43,8 +43,9 @@ from arena_lab.search import program_search, explore as exploring, hunt as hunti
 from arena_lab.search.program_search import BREAKS, COMES, SOLVES, SampleRequest
 from arena_lab.search.checking import Counted
 from arena_lab.search.capacity import OF_MODEL, OF_PROGRAM, fitting
+from arena_lab.search.history_tree import NoFunction
 from arena_lab.search.machines import Machines
-from arena_lab.search.proving import CHECKED, FOUND, Proving, MatchResult, choices_of, found_in
+from arena_lab.search.proving import CHECKED, FOUND, Proving, MatchResult, choices_of, found_in, unkept
 from arena_lab.support.built import NoProgram
 from arena_lab.support.progress import bar
 
@@ -71,7 +72,7 @@ def agent_of(agent: AgentLike) -> AgentWords:
     if isinstance(agent, AgentWords):
         return agent
     if isinstance(agent, str):
-        return AgentWords(INSIDE, agent)
+        return agent_named(INSIDE, agent)
     if not callable(agent):
         raise NoAgent(f"{agent!r} is no agent: name a file, or give a function of an agent and its key")
     return AgentWords(INSIDE, f"function:{getattr(agent, '__name__', 'agent')}", agent)
@@ -289,7 +290,12 @@ def failure(given: Game, tried: MatchResult, path: str) -> Record:
     """The match that fails under the schedule that the program tells, as the agents play it."""
     found = found_in(tried)
     turns, breaks = found["schedule"] + found.get("round", []), found["agent"] if found["found"] == BREAKS else None
-    choices = choices_of(tried.fixture, given.agents, turns, breaks, given.limit)
+    try:
+        choices = choices_of(tried.fixture, given.agents, turns, breaks, given.limit)
+    except NoFunction:
+        if not tried.answered.module:
+            raise
+        raise NoFunction(f"a schedule fails; {unkept(turns)}") from None
     schedule = schedule_of(tried.fixture, given.agents, f"explore{given.origin}", choices, given.limit)
     return Record(schedule, kept_matches.played_again(schedule, path), path)
 

@@ -2,16 +2,17 @@
 
     ./arena-lab check "python3 agent.py {host} {port} {key} {nodes}"
     ./arena-lab check "examples/agents/ring.py {nodes}"
+    ./arena-lab check "examples/agents/wasm/ring.wasm:{nodes}"
 
 AGENT is the words that start the program of one agent, with {host}, {port} and {key}; or without {port} a file in
-Python that is written against `client.py`, which plays inside the lab and is checked faster. Two of them play a few
-matches on small networks (rings of 3 to 8 and 12 nodes, unless you name others by --network), each under a fair
-schedule and under one with slow agents. Each agent is repeated alone, as in a course; lines that were refused are told.
-A program is kept waiting for an arrival, longer by the clock than a link takes in a contest of the usual delays. Then
-schedules are drawn and hunted on rings of 5, 6 and 8, for a minute and at least 24 draws, and every schedule of a ring
-of 5 is tried, if that takes three minutes at most. In the end the agent is right, and one sentence says on what; or the
-first thing to mend is told, one fact a line, and how to see it again. The exit status is 1 if there is something to
-mend.
+Python that is written against `client.py`, which plays inside the lab and is checked faster; or a WebAssembly module
+with its arguments. Two of them play a few matches on small networks (rings of 3 to 8 and 12 nodes, unless you name
+others by --network), each under a fair schedule and under one with slow agents. Each agent is repeated alone, as in a
+course; lines that were refused are told. A program is kept waiting for an arrival, longer by the clock than a link
+takes in a contest of the usual delays. Then schedules are drawn and hunted on rings of 5, 6 and 8, for a minute and at
+least 24 draws, and every schedule of a ring of 5 is tried, if that takes three minutes at most. In the end the agent is
+right, and one sentence says on what; or the first thing to mend is told, one fact a line, and how to see it again. The
+exit status is 1 if there is something to mend.
 
 Under --network the searches take the smallest three of the networks that you name.
 """
@@ -34,7 +35,7 @@ from arena_lab.play.bounds import LIMIT
 from arena_lab.play.games import Asked, Record, Row, rows_of
 from arena_lab.play.late_arrivals import LATE, kept_waiting
 from arena_lab.play.schedules import Schedule
-from arena_lab.play.teams import INSIDE, NAPS, OUTSIDE, QUOTA, BOARD, AgentWords, Game, filled
+from arena_lab.play.teams import INSIDE, NAPS, OUTSIDE, QUOTA, BOARD, AgentWords, Game, agent_named, filled
 from arena_lab.rules import networks
 from arena_lab.rules.engines import MODEL
 from arena_lab.search.hunt import Hunt, Hunter
@@ -93,7 +94,7 @@ class Checked(NamedTuple):
 def add_words(parser: argparse.ArgumentParser) -> None:
     """The words of the command `check`."""
     parser.add_argument("agent", metavar="AGENT", help="the words that start an agent's program, with {host}, {port}, "
-                        "{key}, and {nodes}, {links} and {home} if it is to know them")
+                        "{key}, and {nodes}, {links} and {home} if it is to know them; or FILE.py, or FILE.wasm[:N,..]")
     parser.add_argument("--network", metavar="NAME", action="append", help=f"a network ({', '.join(NETWORKS)})")
     parser.add_argument("--agents", metavar="N", type=at_least_one, default=2, help="how many agents there are (2)")
     parser.add_argument("--timeout", dest="limit", metavar="SECONDS", type=float, default=LIMIT,
@@ -112,9 +113,9 @@ def add_words(parser: argparse.ArgumentParser) -> None:
 def run(words: argparse.Namespace) -> int:
     if words.agent.endswith(".toml"):
         raise NoAgent(f"{words.agent}: that is no agent; of a tournament it is `arena check {words.agent}`")
-    kind = OUTSIDE if "{port}" in words.agent else INSIDE
+    agent = agent_named(OUTSIDE if "{port}" in words.agent else INSIDE, words.agent)
     names = tuple(words.network or NETWORKS)
-    asked = Checked(AgentWords(kind, words.agent), words.agents, names, words.limit, program_of(words), words.seconds,
+    asked = Checked(agent, words.agents, names, words.limit, program_of(words), words.seconds,
                     not words.no_repeat)
     with contextlib.redirect_stdout(sys.stderr) if words.json else contextlib.nullcontext():
         right, wrong = checked(asked)

@@ -26,8 +26,14 @@ time. So the command checks them, and the last line counts the checks:
 - If every schedule solves, the agents of one match are repeated alone, as by `run --repeat`, and a warning names a
   difference.
 
---check 0 leaves these out. The last line also says if agents draw by chance without a seed, read a clock, know their
-process or where objects lie, share installed packages, or reach files and programs.
+A team may run a WebAssembly module, FILE.wasm[:N,..]. The program then runs it itself (`arena explore --module`), so
+nothing is left to check: what it finds is proved of the module, whose SHA-256 is printed. A schedule that fails is kept
+unless the module sleeps in it; then its turns are printed.
+
+    ./arena-lab explore --network ring:16 --agent "examples/agents/wasm/ring.wasm:{nodes}"
+
+--check 0 leaves the checks out. The last line also says if agents draw by chance without a seed, read a clock, know
+their process or where objects lie, share installed packages, or reach files and programs.
 
 A schedule also fails if an agent raises an exception or breaks a rule, even after its end or the end of the match, and
 if an agent sleeps for ever. If an agent may use more commands than its quota, the Python model's search takes over;

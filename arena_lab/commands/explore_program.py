@@ -13,17 +13,18 @@ from arena_lab.play.teams import INSIDE, Game
 from arena_lab.rules.engines import name_of
 from arena_lab.rules.fixtures import Fixture
 from arena_lab.rules.model import Verdict
-from arena_lab.search.program_search import BREAKS, ENDLESS, EXCEEDS, FAILS, SOLVES, SampleRequest, asked
+from arena_lab.search.program_search import (BREAKS, ENDLESS, EXCEEDS, FAILS, SOLVES, ExploreAnswer, SampleRequest,
+                                             asked)
 from arena_lab.search.explore import Explored, explored
 from arena_lab.search.capacity import OF_MODEL, fitting
 from arena_lab.search.machines import Machines
 from arena_lab.search.history_tree import NoFunction
-from arena_lab.search.proving import After, Proving, MatchResult, bounds_of, choices_of, found_in
+from arena_lab.search.proving import After, Proving, MatchResult, bounds_of, choices_of, found_in, unkept
 from arena_lab.search.parallel import ParallelMatches, Parallelism, ExploreJob
 from arena_lab.support import built
 from arena_lab.support.progress import bar
 
-SOLVED_ALL = "every schedule that the lab tried solves"
+SOLVED_ALL, SOLVED_MODULE = "every schedule that the lab tried solves", "every schedule solves"
 # by what agents are told apart: steps, others inside the lab, and programs of their own
 OF_STEPS, OF_PYTHON = "memories of Python steps", "histories of Python programs"
 OF_PROGRAMS = "histories or declared memories of programs"
@@ -31,6 +32,9 @@ AS_STEPS = "an agent that is written as a step has fewer states: see `./arena-la
 # how an agent fails under a schedule that the program tells
 FAILURES = {"program": "fails", "close": "fails when it is told that the match is over",
             "asleep": "sleeps, and nothing changes any more"}
+# and how its module does
+MODULE_FAILURES = {"trap": "it traps", "fuel": "it executes too many instructions",
+                   "command": "it gives a port or a text that is none"}
 # of the table of several networks
 COLUMNS = ("network", "matches", "states", "moves", "lost", "seconds")
 # whether each agent that can move throughout a round has a turn in it
@@ -156,17 +160,24 @@ def beside(wanted: ExploreRequest, tried: MatchResult, shown: Any) -> MatchResul
         shown.clear()
 
 
+def failure_of(answered: ExploreAnswer) -> str:
+    """Which agent fails under a schedule, and how."""
+    found, module = answered.found or {}, answered.module
+    how = f": {MODULE_FAILURES[module['failure']]} in function {module['function']}" if "failure" in module else ""
+    return f"agent {found['agent']} {FAILURES[found['failure']]}{how}"
+
+
 def line_of(tried: MatchResult) -> str:
     """What was found of one match."""
     if tried.beside is not None:
         return by_model(tried.beside)
-    setup, (found, counts, seconds, why, _) = tried.fixture.setup, tried.answered
+    setup, (found, counts, seconds, why, *_) = tried.fixture.setup, tried.answered
     if found is None:
         said = why
     elif found["found"] == ENDLESS:
         said = f"{counts['states']} states, a schedule goes on for ever, " + FAIRNESS[found["fair"]]
     elif found["found"] == BREAKS:
-        said = f"{counts['states']} states, under a schedule agent {found['agent']} {FAILURES[found['failure']]}"
+        said = f"{counts['states']} states, under a schedule {failure_of(tried.answered)}"
     else:
         said = f"{counts['states']} states, " + ("every schedule solves, most" if found["found"] == SOLVES else
                                                  "a schedule fails, its") + f" moves {found['moves']}"
@@ -182,7 +193,7 @@ def report_matches(wanted: ExploreRequest, search: Search) -> int:
         return told_by_model(wanted.game, [last.beside], wanted.keep, wanted.engine)
     if not last.is_whole():
         print(f"{counts}: stopped before all were visited; no schedule failed until then")
-        if OF_PYTHON in told_apart(wanted.game):
+        if OF_PYTHON in told_apart(wanted.game, last.answered):
             print(AS_STEPS)
         return 130
     if last.has_failed():
@@ -191,7 +202,9 @@ def report_matches(wanted: ExploreRequest, search: Search) -> int:
     says_less = any(tried.beside is not None for tried in tries)
     engine = name_of(wanted.program)
     by = "" if engine == built.PROGRAM else f", by {engine}"
-    said = "no schedule fails, in part of the Python model" if says_less else f"{SOLVED_ALL}, {told_apart(wanted.game)}"
+    solved = SOLVED_MODULE if last.answered.module else SOLVED_ALL
+    apart = told_apart(wanted.game, last.answered)
+    said = "no schedule fails, in part of the Python model" if says_less else f"{solved}, {apart}"
     print(f"{counts}: {said}{by}; {search.checks}")
     moves, lost = zip(*(bounds_of(tried) for tried in tries))
     naps, turns = wanted.game.naps, [found_in(tried)["turns"] for tried in tries if tried.beside is None]
@@ -199,7 +212,7 @@ def report_matches(wanted: ExploreRequest, search: Search) -> int:
     # an agent on a held link does not arrive where it would be lost
     most = "no more agents lost than" if last.fixture.held else "most agents lost"
     print(f"most moves {max(moves)}, {most} {max(lost)}{more}")
-    for said in do_not_repeat(wanted.game) if wanted.check else []:
+    for said in do_not_repeat(wanted.game) if wanted.check and not last.answered.module else []:
         print(f"warning: {said}")
     if any(tried.answered.unwoken for tried in tries):
         print(f"warning: some agents still sleep after {naps} naps, and what they do when they wake once more is not "
@@ -207,8 +220,10 @@ def report_matches(wanted: ExploreRequest, search: Search) -> int:
     return 0
 
 
-def told_apart(game: Game) -> str:
+def told_apart(game: Game, answered: ExploreAnswer) -> str:
     """By what the states of agents are told apart."""
+    if answered.module:
+        return f"by memories of the module with the SHA-256 {answered.module['module']}"
     kinds = (OF_STEPS if agent.is_step() else OF_PYTHON if agent.kind == INSIDE else OF_PROGRAMS
              for agent in game.agents)
     return f"by {' and '.join(dict.fromkeys(kinds))}"
@@ -221,9 +236,8 @@ def do_not_repeat(game: Game) -> List[str]:
 
 def shown_failure(wanted: ExploreRequest, tried: MatchResult) -> int:
     """Writes the schedule that fails, once the agents have played it."""
-    found, setup, game = found_in(tried), tried.fixture.setup, wanted.game
+    found, setup = found_in(tried), tried.fixture.setup
     turns, breaks = found["schedule"] + found.get("round", []), found["agent"] if found["found"] == BREAKS else None
-    choices = choices_of(tried.fixture, game.agents, turns, breaks, game.limit)
     if found["found"] == ENDLESS:
         print(f"home {setup.home} holes {setup.holes}: after {len(found['schedule'])} choices, the last "
               f"{len(found['round'])} of the schedule may be repeated for ever, {FAIRNESS[found['fair']]}")
@@ -233,18 +247,29 @@ def shown_failure(wanted: ExploreRequest, tried: MatchResult) -> int:
         print(f"it comes to: home {setup.home} holes {setup.holes}, {found['outcome']} moves {found['moves']} lost "
               f"{most}{found['lost']}")
     verdict = Verdict(found["outcome"], found["moves"], found["lost"]) if found["found"] == FAILS else None
-    keep(wanted, tried, choices, verdict)
+    keep(wanted, tried, turns, breaks, verdict)
     return 1
 
 
 def shown_schedule(wanted: ExploreRequest, tried: MatchResult, verdict: Verdict) -> None:
     """Writes the schedule that the program tells, once the agents have played it to this verdict."""
-    found, game = found_in(tried), wanted.game
-    keep(wanted, tried, choices_of(tried.fixture, game.agents, found["schedule"], None, game.limit), verdict)
+    keep(wanted, tried, found_in(tried)["schedule"], None, verdict)
 
 
-def keep(wanted: ExploreRequest, tried: MatchResult, choices: List[Choice], verdict: Optional[Verdict]) -> None:
-    """Writes a schedule, once the agents have played it."""
+def keep(wanted: ExploreRequest, tried: MatchResult, turns: List[int], breaks: Optional[int],
+         verdict: Optional[Verdict]) -> None:
+    """Writes the schedule of these turns, once the agents have played it."""
+    game = wanted.game
+    try:
+        played_again(wanted, tried, choices_of(tried.fixture, game.agents, turns, breaks, game.limit), verdict)
+    except NoFunction:
+        if not tried.answered.module:
+            raise
+        print(unkept(turns))
+
+
+def played_again(wanted: ExploreRequest, tried: MatchResult, choices: List[Choice], verdict: Optional[Verdict]) -> None:
+    """Has the agents play a schedule to this verdict, and writes it."""
     game, found = wanted.game, found_in(tried)
     schedule = schedule_of(tried.fixture, game.agents, f"explore{game.origin}", choices, game.limit)
     played = kept_matches.keep(wanted.keep, schedule, wanted.engine)

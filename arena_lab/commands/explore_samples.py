@@ -3,8 +3,8 @@ agents do (arena_lab/search/program_search.py). The worst schedule is kept, and 
 import statistics
 from typing import List, NamedTuple, Sequence, Tuple
 
-from arena_lab.commands.explore_program import (FAILURES, Search, ExploreRequest, all_tried, in_turn, shown_failure,
-                                          shown_schedule)
+from arena_lab.commands.explore_program import (ExploreRequest, Search, all_tried, failure_of, in_turn, shown_failure,
+                                                shown_schedule)
 from arena_lab.rules.engines import Differs
 from arena_lab.rules.model import SOLVED, Object, Verdict
 from arena_lab.search.program_search import BREAKS, EXCEEDS, SampleRequest
@@ -51,7 +51,7 @@ def run(all_wanted: Sequence[ExploreRequest], draws: SampleRequest) -> int:
 
 def line_of(tried: MatchResult) -> str:
     """What the drawn schedules of one match come to."""
-    setup, (found, counts, seconds, why, _) = tried.fixture.setup, tried.answered
+    setup, (found, counts, seconds, why, *_) = tried.fixture.setup, tried.answered
     if found is None:
         return f"home {setup.home} holes {setup.holes}: {why}, {seconds:.1f} s"
     if found["found"] == EXCEEDS:
@@ -62,7 +62,7 @@ def line_of(tried: MatchResult) -> str:
                 f"mean {moves.mean:.1f} median {moves.median:g} most {moves.most}, {counts['turns']} steps, "
                 f"{speed:.0f} a second")
     if found["found"] == BREAKS:
-        said += f", under a schedule agent {found['agent']} {FAILURES[found['failure']]}"
+        said += f", under a schedule {failure_of(tried.answered)}"
     return f"home {setup.home} holes {setup.holes}: {said}, {seconds:.1f} s"
 
 

@@ -6,7 +6,7 @@ from typing import List, Optional, Set
 
 from arena_lab.play.agent_files import NoAgent
 from arena_lab.play.bounds import LIMIT
-from arena_lab.play.teams import BOARD, NAPS, NETWORK, QUOTA, AgentWords, Game, filled
+from arena_lab.play.teams import BOARD, NAPS, NETWORK, QUOTA, AgentWords, Game, agent_named, filled
 from arena_lab.rules import networks
 from arena_lab.rules.engines import MODEL, PROGRAM, program_at
 from arena_lab.rules.fixtures import Fixture, read_tournament
@@ -43,7 +43,7 @@ class Kinds(argparse.Action):
     """Keeps --agent and --command in one list, in their order."""
 
     def __call__(self, parser, words, value, option=None) -> None:  # type: ignore[no-untyped-def]
-        words.team = [*(words.team or []), AgentWords(option.strip("-"), value)]
+        words.team = [*(words.team or []), agent_named(option.strip("-"), value)]
 
 
 class Once(argparse.Action):
@@ -76,7 +76,8 @@ def add_match(parser: argparse.ArgumentParser, several: bool = False) -> None:
     match.add_argument("--board", metavar="N", type=int, default=BOARD, help=f"bytes of a whiteboard ({BOARD})")
     team = parser.add_argument_group("the team", "One of these for each agent, in the order of keys, or one for all.")
     team.add_argument("--agent", metavar="WORDS", action=Kinds, dest="team", help="an agent in Python inside the lab: "
-                      "FILE.py[:FUNCTION] and whole numbers, {nodes} or {links}")
+                      "FILE.py[:FUNCTION] and whole numbers, {nodes} or {links}; or a WebAssembly module with its "
+                      "arguments: FILE.wasm[:N,..]")
     team.add_argument("--command", metavar="WORDS", action=Kinds, dest="team", help="a program of its own, with "
                       "{host}, {port} and {key} for where it connects and by which key it enters, {nodes}, {links} "
                       "and {home}")

@@ -38,7 +38,9 @@ Each [[team]] has a `name`, of 1 to 16 characters out of a to z, 0 to 9 and -; `
 more than the network's greatest degree (2); `files`, a list of files and folders, whose copies each of its programs
 has; and `command`, the words that start the program of one agent in the folder with the copies. In the words {host},
 {port} and {key} say where it connects and by which key it enters. {nodes}, {links} and {home} say what the team is to
-know of the network; {network} is the network's file, for a team that is to have the map.
+know of the network; {network} is the network's file, for a team that is to have the map. Of a WebAssembly module the
+command is its file with its arguments, such as "agent.wasm:{nodes}"; it is played without walls, as it sees nothing but
+replies.
 
 `--export` writes the points of teams for gradebooks; the table [points] says how they are given.
 
@@ -69,6 +71,7 @@ from arena_lab.play.games import maker_of
 from arena_lab.play.programs import HOST
 from arena_lab.play.schedulers import Maker
 from arena_lab.play.teams import OUTSIDE
+from arena_lab.play.wasm_modules import is_module
 from arena_lab.rules import networks
 from arena_lab.rules.fixtures import Fixture
 from arena_lab.sweep import grid, tables
@@ -312,7 +315,7 @@ def check_command(command: str, team: str) -> None:
         why = f"has {fault}" if isinstance(fault, KeyError) else f"cannot be read: {fault}"
         known = ", ".join(f"{{{name}}}" for name in WORDS)
         raise NoSweep(f"the command of team {team} {why}; it may have {known}, and a brace is written twice") from None
-    for name in NEEDED:
+    for name in NEEDED if not is_module(command) else ():
         if f"<{name}>" not in said:
             raise NoSweep(f"the command of team {team} has no {{{name}}}: the program is to connect to {HOST} at "
                           "{port}, and to enter with {key}")

@@ -23,7 +23,7 @@ import socket
 import subprocess
 import sys
 import tempfile
-from typing import Any, Dict, Iterable, Iterator, List, NamedTuple, Optional, Sequence, Tuple
+from typing import Any, Collection, Dict, Iterator, List, NamedTuple, Optional, Sequence, Tuple
 
 from arena_lab.course import calls, sandbox_network, groups, system_copy, users, isolation, watch
 from arena_lab.course.sandbox_start import GO, READY
@@ -33,8 +33,10 @@ from arena_lab.course.groups import ControlGroup
 from arena_lab.course.watch import TOO_MUCH, MemoryWatch, memory_of, processes_below, space_of
 from arena_lab.play import programs
 from arena_lab.play.programs import NoStart, Started
+from arena_lab.play.wasm_modules import file_in, is_module
 from arena_lab.rules import networks
 from arena_lab.rules.model import Setup
+from arena_lab.support.built import player
 from arena_lab.support.missing import DEBIANS_PYTHON
 from arena_lab.support.waiting import is_ready
 
@@ -244,9 +246,12 @@ def cells(yard: Sandbox, kept: TeamFiles, count: int) -> Iterator[List[Cell]]:
 
 
 @contextlib.contextmanager
-def furnished(yard: Sandbox, commands: Iterable[str], packages: Sequence[str]) -> Iterator[Sandbox]:
+def furnished(yard: Sandbox, commands: Collection[str], packages: Sequence[str]) -> Iterator[Sandbox]:
     """The yard with control groups, and with a copy of the system for these commands, and these packages besides, if
     there can be one. If not, a line says why."""
+    if any(map(is_module, commands)):
+        # it may be compiled first, and nobody is timed yet
+        player()
     with contextlib.ExitStack() as held:
         if yard.walls is Isolation.ALL and yard.calls:
             # so that a name which is none is told before the first match
@@ -268,9 +273,15 @@ def furnished(yard: Sandbox, commands: Iterable[str], packages: Sequence[str]) -
 def grounds_of(yard: Sandbox, handed_in: HandIn, words: str, setup: Setup, count: int
                ) -> Iterator[Sequence[programs.Ground]]:
     """Where this number of a team's programs run, which these words start: each in a cell, unless their hand-in is
-    refused."""
+    refused. A module needs no cell for its player."""
     if handed_in.refusal:
         yield [programs.Nowhere(f"the hand-in is refused: {handed_in.refusal}")] * count
+        return
+    if is_module(words):
+        # it sees nothing but replies, and its memory and steps are bounded
+        with tempfile.TemporaryDirectory(prefix="lab-module-") as folder:
+            handed_in.write_file(file_in(words), pathlib.Path(folder))
+            yield [programs.LocalRunner(folder)] * count
         return
     network = networks.text_of(networks.Network(setup.nodes, setup.links)).encode()
     has_map = "{network}" in words

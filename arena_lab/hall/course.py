@@ -50,8 +50,8 @@ Each [[network]] has these keys:
     gradings      how many programs are graded at a time (2)
 
     [hand_ins]
-    command       the words that start the program of one agent, as in a course of `grade`
-    file          the name of a file that is handed in by itself ("agent.py")
+    command       the words that start the program of one agent, or its module, as in a course of `grade`
+    file          the name of a file that is handed in by itself ("agent.py", or the module that `command` names)
     networks      networks on which each hand-in is graded at once, as --network takes them
     secret        networks on which the last hand-in of each team is graded after the deadline, by one draw for all
                   teams (the same as `networks`)
@@ -71,6 +71,7 @@ import zoneinfo
 from typing import Any, Dict, List, NamedTuple, Optional, Tuple, Union
 
 from arena_lab.course.course import check_command
+from arena_lab.play.wasm_modules import file_in, is_module
 from arena_lab.rules import networks
 from arena_lab.rules.limits import MOST_AGENTS, MOST_BOARD, MOST_QUOTA, SMALL_BOARD, SMALL_QUOTA
 from arena_lab.rules.networks import Network, NoNetwork
@@ -333,7 +334,7 @@ def hand_ins_of(found: Any, zone: str) -> HandInRules:
     command = taken(found, "command", is_text, "given in [hand_ins]: the words that start the program of one agent")
     check_command(command, "of the hall")
     file = taken(found, "file", lambda it: is_text(it) and bool(re.fullmatch(r"\w[\w.-]{0,60}", it)),
-                 "the name of a file", "agent.py")
+                 "the name of a file", file_in(command) if is_module(command) else "agent.py")
     names = taken(found, "networks", is_texts, "a list of names, such as [\"ring:8\"]")
     secret = taken(found, "secret", lambda it: it == [] or is_texts(it), "a list of names", [])
     for name in [*names, *secret]:

@@ -105,9 +105,14 @@ def member(word: str, *usual: str) -> Any:
     raise NoAgent(f"{path}: it has no function {name or ' or '.join(usual)}")
 
 
+def facts_of(setup: Setup) -> Dict[str, int]:
+    """The numbers of a match that names stand for in words."""
+    return {"nodes": setup.nodes, "links": len(setup.links), "home": setup.home}
+
+
 def numbers_of(words: Sequence[str], setup: Setup) -> List[int]:
     """The whole numbers that the words say, of this match."""
-    facts = {"nodes": setup.nodes, "links": len(setup.links), "home": setup.home}
+    facts = facts_of(setup)
     try:
         return [int(word.format(**facts)) for word in words]
     except (KeyError, ValueError, IndexError):
@@ -301,6 +306,6 @@ def digests(words: Sequence[str], is_inside: bool = True, more: Sequence[str] = 
     `more` are names of modules that are imported too."""
     folders = [str(AGENTS)] if is_inside else []
     named = [word.partition(":")[0] for line in words for word in line.split()]
-    files = [file_of(word) if is_inside else pathlib.Path(word) for word in named]
+    files = map(file_of, named)
     return {name: digest for file in files if file.is_file()
             for name, digest in files_behind(file, folders, more).items()}

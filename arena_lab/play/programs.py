@@ -22,13 +22,15 @@ import time
 from collections import deque
 from typing import Any, Callable, Deque, Dict, List, Mapping, NamedTuple, Optional, Protocol, Sequence, Sized, Tuple
 
-from arena_lab.play.agent_files import NoAgent
+from arena_lab.play import wasm_modules
+from arena_lab.play.agent_files import NoAgent, facts_of
 from arena_lab.play.bounds import READ_NOTHING, SENT_NOTHING, TimeBound, Room
 from arena_lab.play.last_words import asked_behind, error_in, usage_in
 from arena_lab.play.mistakes import plain, shown
 from arena_lab.play.players import DENIALS, DONE, LAST_LINES, TRAVELS, WAITS
 from arena_lab.rules.fixtures import Fixture
 from arena_lab.rules.model import MAX_LINE
+from arena_lab.support.built import without_warning
 
 HOST = "127.0.0.1"
 GONE = '{"ok":"gone"}'
@@ -80,16 +82,20 @@ class Ground(Protocol):
 
 
 class LocalRunner:
-    """A program runs as the user who starts the lab, in the same folder."""
+    """A program runs as the user who starts the lab, in the same folder or in one that is named."""
 
     facts: Mapping[str, str] = {}
+
+    def __init__(self, folder: Optional[str] = None) -> None:
+        self._folder = folder
 
     def start(self, words: Sequence[str], seed: int, errors: Any) -> Started:
         listener = socket.create_server((HOST, 0))
         command = [word.replace("{port}", str(listener.getsockname()[1])) for word in words]
         try:
             return subprocess.Popen(command, stdin=subprocess.DEVNULL, stdout=subprocess.DEVNULL, stderr=errors,
-                                    env={**os.environ, **seeds(seed)}, start_new_session=True), lambda: listener
+                                    cwd=self._folder, env={**os.environ, **seeds(seed)},
+                                    start_new_session=True), lambda: listener
         except OSError:
             listener.close()
             raise
@@ -413,17 +419,18 @@ class Player:
         """The end of what the program wrote to standard error, without what is another on each run."""
         if self._errors.closed:
             return self.errors
+        return "\n".join(plain(self._ground.told(line)) for line in self._end_of_errors().split("\n"))
+
+    def _end_of_errors(self) -> str:
+        """The same as it was written. A player of modules may have said besides that it is not proved."""
         size = self._errors.seek(0, os.SEEK_END)
         self._errors.seek(max(0, size - PIECE))
-        lines = self._errors.read().decode(errors="replace").split("\n")
-        return "\n".join(plain(self._ground.told(line)) for line in lines)
+        return without_warning(self._errors.read().decode(errors="replace"))
 
     def _last_words(self) -> str:
         """The line that names the error in what the program wrote to standard error, as one that changes nothing where
         it is shown."""
-        size = self._errors.seek(0, os.SEEK_END)
-        self._errors.seek(max(0, size - PIECE))
-        text = self._errors.read().decode(errors="replace")
+        text = self._end_of_errors()
         words, usage = self._ground.told(error_in(text)), self._ground.told(usage_in(text))
         if usage:
             return f": an argument is missing, or there is one too many: it is called as `{plain(usage)[:WORDS]}`"
@@ -466,12 +473,12 @@ def seeds(seed: int) -> Dict[str, str]:
 
 
 def command_of(words: str, fixture: Fixture, number: int, others: Mapping[str, str]) -> List[str]:
-    """The words of a command that starts an agent's program, but for the port, which is not known yet."""
-    setup = fixture.setup
-    facts = {"host": HOST, "port": "{port}", "key": fixture.keys[number], "nodes": setup.nodes,
-             "links": len(setup.links), "home": setup.home, **others}
+    """The words of a command that starts an agent's program, or the player of a module, but for the port, which is not
+    known yet."""
+    facts: Dict[str, object] = {"host": HOST, "port": "{port}", "key": fixture.keys[number],
+                                **facts_of(fixture.setup), **others}
     try:
-        command = [word.format(**facts) for word in shlex.split(words)]
+        command = [word.format(**facts) for word in shlex.split(wasm_modules.command_of(words))]
     except (KeyError, IndexError, ValueError):
         command = []
     if not command:

@@ -11,6 +11,7 @@ from arena_lab.play.players import Team as Inside
 from arena_lab.play.programs import Team as Outside
 from arena_lab.play.programs import seeds_of
 from arena_lab.play.steps import Step, is_step
+from arena_lab.play.wasm_modules import is_module
 from arena_lab.rules import networks
 from arena_lab.rules.fixtures import Fixture, NoMatch, fixture_of
 from arena_lab.rules.limits import MOST_AGENTS, SMALL_BOARD, SMALL_QUOTA
@@ -42,6 +43,10 @@ class AgentWords(NamedTuple):
         """An agent inside, as it plays this match."""
         return script_of_function(self.function, setup) if self.function else script_of(self.words, setup)
 
+    def is_module(self) -> bool:
+        """Whether it runs a WebAssembly module."""
+        return self.kind == OUTSIDE and is_module(self.words)
+
     def is_step(self) -> bool:
         """Whether it is written as a step."""
         return self.kind == INSIDE and is_step(self.function or function_of(self.words))
@@ -56,6 +61,18 @@ class AgentWords(NamedTuple):
             return {self.words: source_digest(self.function)}
         # each agent inside has a client, also one whose file does not import it
         return digests([self.words], True, ["client"]) if self.kind == INSIDE else digests([self.words], False)
+
+
+def agent_named(kind: str, words: str) -> AgentWords:
+    """The agent of these words, which an option or a key of this kind names. A module is played by a program of its
+    own, whichever names it."""
+    return AgentWords(OUTSIDE if is_module(words) else kind, words)
+
+
+def module_of(agents: Sequence[AgentWords]) -> Optional[str]:
+    """The words of the module that all agents of a team run, if they all run one."""
+    words = {agent.words for agent in agents}
+    return words.pop() if len(words) == 1 and all(agent.is_module() for agent in agents) else None
 
 
 def digests_of(agents: Sequence[AgentWords]) -> Dict[str, str]:

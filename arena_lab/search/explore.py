@@ -181,7 +181,7 @@ class Explored(NamedTuple):
 def check_inside(game: Game) -> None:
     """Refuses agents that are programs, whose states cannot be told apart."""
     if any(agent.kind != INSIDE for agent in game.agents):
-        raise NoAgent("the Python model's search plays agents inside the lab: name them by --agent")
+        raise NoAgent("the Python model's search plays Python agents inside the lab: name them by --agent")
 
 
 def tried(game: Game, states: int, shown: Any) -> Iterator[Explored]:

@@ -1,6 +1,8 @@
-"""The program's own search through all schedules: `arena explore` asks what agents do, and the lab answers."""
+"""The program's own search through all schedules: `arena explore` asks what agents do, and the lab answers. A module it
+runs itself, and asks nothing."""
 import json
 import pathlib
+import re
 import subprocess
 import tempfile
 import threading
@@ -8,6 +10,7 @@ import time
 from typing import Any, Callable, Dict, List, NamedTuple, Optional, Tuple
 
 from arena_lab.play.players import WAKES
+from arena_lab.play.wasm_modules import word_of
 from arena_lab.rules.engines import EngineRefused, text_of_fault
 from arena_lab.rules.fixtures import Fixture, write_tournament
 from arena_lab.search.machines import Machines
@@ -43,13 +46,14 @@ class ExploreAnswer(NamedTuple):
     """What the program found in one match, how much it visited, and in how many seconds. If `found` is None, it was
     stopped before all was visited, and `why` says why. `unwoken` counts the memories that sleep and go on to something
     that was never asked, if they wake once more and see the same: agents that hold them have napped as often as they
-    may."""
+    may. `module` is what the program says of the module that the agents run, if they run one."""
 
     found: Optional[Found]
     counts: Found
     seconds: float
     why: str = ""
     unwoken: int = 0
+    module: Found = {}
 
 
 class ProgramRun:
@@ -137,13 +141,15 @@ def silent(_text: str) -> None:
 def asked(program: str, fixture: Fixture, machines: Machines, most: int, shown: Callable[[int], None],
           said: Callable[[str], None] = silent, draws: Optional[SampleRequest] = None) -> ExploreAnswer:
     """Lets the program try all schedules of a match, or draw some, and answers its questions. Ctrl-C stops it."""
-    started, run, last, errors = time.monotonic(), ProgramRun(machines), [], b""
-    with tempfile.TemporaryDirectory(prefix="lab-") as name:
+    started, run, last = time.monotonic(), ProgramRun(machines), []
+    # of a module the program says there how far it is, which nobody reads meanwhile
+    with tempfile.TemporaryDirectory(prefix="lab-") as name, tempfile.TemporaryFile() as errors:
         write_tournament(fixture, pathlib.Path(name))
         words = [program, "explore", "tournament.toml", "0", "--max-states", str(most), "--spurious-wakeups",
                  str(fixture.naps)]
+        words += ["--module", word_of(machines.module, fixture.setup)] if machines.module else []
         words += draws.words() if draws else []
-        child = subprocess.Popen(words, cwd=name, stdin=subprocess.PIPE, stdout=subprocess.PIPE, stderr=subprocess.PIPE)
+        child = subprocess.Popen(words, cwd=name, stdin=subprocess.PIPE, stdout=subprocess.PIPE, stderr=errors)
         assert child.stdin and child.stdout
         try:
             with ProgressWatch(child, said) as watch:
@@ -158,19 +164,22 @@ def asked(program: str, fixture: Fixture, machines: Machines, most: int, shown: 
                         watch.visited(told)
                     else:
                         last.append(told)
-                _, errors = child.communicate()
+                child.communicate()
         except BrokenPipeError:
             # the program has ended, and says why
-            _, errors = child.communicate()
+            child.communicate()
         except KeyboardInterrupt:
             return ExploreAnswer(None, {}, time.monotonic() - started, STOPPED)
         finally:
             if child.poll() is None:
                 child.kill()
                 child.communicate()
-    if len(last) == 2:
-        return ExploreAnswer(last[0], last[1], time.monotonic() - started, unwoken=run.unwoken())
-    fault = text_of_fault(errors)
-    if fault == f"host: {TOO_MANY}":
+        errors.seek(0)
+        # behind what it said of how far it was; the second line of a fault is indented
+        fault = re.split(r"\n(?! )", text_of_fault(errors.read()))[-1]
+    if len(last) >= 2:
+        return ExploreAnswer(last[0], last[1], time.monotonic() - started, unwoken=run.unwoken(),
+                             module=last[2] if machines.module else {})
+    if fault.endswith(f": {TOO_MANY}"):
         return ExploreAnswer(None, {}, time.monotonic() - started, LONGER if draws else MORE)
     raise EngineRefused(fault, child.returncode)

@@ -84,6 +84,12 @@ def bounds_of(tried: MatchResult) -> Tuple[int, int]:
     return found["moves"], found["lost"]
 
 
+def unkept(turns: Sequence[int]) -> str:
+    """What is said of a schedule that the player of a module does not play again."""
+    return ("the schedule is not kept, since the player of a module that sleeps looks again by the clock; its turns: "
+            f"{' '.join(map(str, turns))}")
+
+
 def found_in(tried: MatchResult) -> Object:
     """What the program found of a match that it has tried as a whole."""
     assert tried.answered.found is not None, "the program says what it found"

@@ -30,7 +30,7 @@
     bound         moves that the plots show beside: "2 n log2 n", "n log2 n" or "n^2"; may be absent
 
 Each [[team]] has a `name`, `agents`, a number or "degree" for one more than the network's greatest degree (2), and
-either `agent` or `command`, the words that --agent or --command takes.
+either `agent` or `command`, the words that --agent or --command takes; of a WebAssembly module either.
 """
 import functools
 import math
@@ -40,7 +40,7 @@ import tomllib
 from typing import Any, Callable, Dict, Iterable, Iterator, List, NamedTuple, Optional, Tuple, Union
 
 from arena_lab.play.agent_files import digests
-from arena_lab.play.teams import BOARD, INSIDE, OUTSIDE, QUOTA, AgentWords, digests_of
+from arena_lab.play.teams import BOARD, INSIDE, OUTSIDE, QUOTA, AgentWords, agent_named, digests_of
 from arena_lab.rules import networks
 from arena_lab.rules.fixtures import Fixture, NoMatch, checked, fixture_of
 from arena_lab.rules.limits import MOST_BOARD, MOST_QUOTA
@@ -258,7 +258,7 @@ def team_of(row: Dict[str, Any]) -> TeamRow:
     if len(kinds) != 1:
         raise NoSweep(f"each team needs either {INSIDE} or {OUTSIDE}, the words that play an agent")
     agents = taken(row, "agents", lambda it: it == DEGREE or is_count(it) and it <= 64, '1 to 64, or "degree"', 2)
-    words = AgentWords(kinds[0], taken(row, kinds[0], is_text, "a text"))
+    words = agent_named(kinds[0], taken(row, kinds[0], is_text, "a text"))
     return TeamRow(taken(row, "name", is_text, "a text"), agents, words)
 
 

@@ -71,6 +71,10 @@ class Files(Folder):
         self.assertEqual(found.grid.networks["net.toml"].nodes, 3)
         self.assertEqual({pathlib.Path(name).name for name in found.digests()}, {"net.toml", "secret.txt"})
 
+    def test_a_module_is_told_where_to_connect_by_its_player(self) -> None:
+        found = self.course("", TEAM.replace("python3 agent.py {port} {key}", "agent.wasm:{nodes}"))
+        self.assertEqual(found.grid.teams[0].words.words, "agent.wasm:{nodes}")
+
     def test_what_is_refused(self) -> None:
         for middle, team, said in (
                 ("", "", "team must be given"), ("size = 1\n", TEAM, "a course has no key size; its keys are board,"),

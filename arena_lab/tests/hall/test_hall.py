@@ -148,6 +148,14 @@ class Courses(unittest.TestCase):
         # by the secret draw programs play on the same networks, unless others are named
         self.assertEqual((given.notes, given.hand_ins.secret), ([], ["ring:5"]))
 
+    def test_hand_ins_may_be_modules(self) -> None:
+        words = "agent.wasm:{nodes}"
+        given = self.read(COURSE + HAND_INS.replace("python3 agent.py {host} {port} {key}", words))
+        self.assertEqual(given.hand_ins[:2], (words, "agent.wasm"))
+        for other, why in (("agent.wasm:{ports}", "has 'ports'; it may"), ("/agent.wasm", "file must be the name")):
+            with self.assertRaisesRegex(NoSweep, why):
+                self.read(COURSE + HAND_INS.replace("python3 agent.py {host} {port} {key}", other))
+
 
 class Draws(unittest.TestCase):
     """Each attempt has draws of its own."""

@@ -315,7 +315,7 @@ class Exploring(InExplore):
         long = self.folder / "long"
         long.write_text(LONG, encoding="utf-8")
         long.chmod(0o755)
-        told, machines = mock.Mock(), mock.Mock()
+        told, machines = mock.Mock(), mock.Mock(module=None)
         with mock.patch("arena_lab.search.program_search.PAUSE", 0.01):
             answered = asked(str(long), fixture, machines, 1_000_000, lambda count: None, told)
         self.assertEqual(answered.counts["states"], 600_000)
