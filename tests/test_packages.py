@@ -25,6 +25,7 @@ release = module(TOP / "tools" / "release")
 debian, manual, wheel = release.debian, release.manual, release.wheel
 PROJECT = (TOP / "pyproject.toml").read_bytes()
 READABLE, RUNNABLE = wheel.READABLE, wheel.RUNNABLE
+PROGRAMS = ("arena", "bhs_player")
 RELEASED = {
     "README.md": "read\n", "CHANGELOG.md": "changes\n", "docs/THEOREMS.md": "claims\n",
     "arena_lab/support/built.py": "built = 1\n", "arena_lab/README.md": "# The lab\n",
@@ -71,7 +72,8 @@ Exit status:
 
 def files() -> Dict[str, object]:
     found = {path: wheel.File(text.encode(), READABLE) for path, text in RELEASED.items()}
-    return {**found, "bin/arena": wheel.File(b"\x7fELF", RUNNABLE), "arena": wheel.File(b"#!/bin/sh\n", RUNNABLE)}
+    programs = {f"bin/{name}": wheel.File(b"\x7fELF", RUNNABLE) for name in PROGRAMS}
+    return {**found, **programs, "arena": wheel.File(b"#!/bin/sh\n", RUNNABLE)}
 
 
 def helps() -> List[object]:
@@ -157,9 +159,10 @@ class Wheels(unittest.TestCase):
                 "arena_lab-1.2.3.dist-info/WHEEL", "arena_lab-1.2.3.dist-info/entry_points.txt", "arena_lab/README.md",
                 "arena_lab/docs/THEOREMS.md", "arena_lab/examples/agents/ring.py", "arena_lab/examples/contest.py",
                 "arena_lab/program/BUILD", "arena_lab/program/PROVED.txt", "arena_lab/program/arena",
-                "arena_lab/support/built.py",
+                "arena_lab/program/bhs_player", "arena_lab/support/built.py",
                 "arena_lab-1.2.3.dist-info/RECORD"])
-            self.assertEqual(archive.getinfo("arena_lab/program/arena").external_attr >> 16, 0o100755)
+            for name in PROGRAMS:
+                self.assertEqual(archive.getinfo(f"arena_lab/program/{name}").external_attr >> 16, 0o100755)
             told = archive.read("arena_lab-1.2.3.dist-info/METADATA").decode()
             for line in ("Name: arena-lab", "Version: 1.2.3", "Requires-Python: >=3.11", "Requires-Dist: greenlet",
                          'Requires-Dist: hypothesis; extra == "hunt"', "Provides-Extra: sweep"):
@@ -191,7 +194,8 @@ class DebianPackages(unittest.TestCase):
     def test_it_has_both_commands_and_the_record_of_the_proof(self) -> None:
         top = self.unpacked(self.packed())
         self.assertEqual((top / "usr/bin/arena").resolve(), top / "usr/lib/arena/arena")
-        self.assertEqual((top / "usr/lib/arena/bin/arena").stat().st_mode & 0o777, 0o755)
+        for name in PROGRAMS:
+            self.assertEqual((top / "usr/lib/arena/bin" / name).stat().st_mode & 0o777, 0o755)
         self.assertEqual((top / "usr/bin/arena-lab").stat().st_mode & 0o777, 0o755)
         self.assertEqual((top / "usr/share/doc/arena/PROVED.txt").read_text(), "proved\n")
         self.assertEqual((top / "usr/lib/arena/PROVED.txt").read_text(), "proved\n")

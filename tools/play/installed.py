@@ -23,9 +23,11 @@ TOP = pathlib.Path(__file__).resolve().parents[2]
 DEBIANS_PYTHON = "/usr/bin/python3"
 EXTRAS = "hunt,page,sweep"
 RING, WRONG = "examples/agents/ring.py {nodes}", "arena_lab/mutants/reads_once.py {nodes}"
+MODULE = "examples/agents/wasm/ring.wasm:{nodes}"
 # commands of the lab's tutorial, and what each says
 TUTORIAL = (
     (["run", "--agent", RING, "--runs", "20"], 0, "20 schedules: solved 20; failed 0"),
+    (["run", "--agent", MODULE, "--runs", "5"], 0, "5 schedules: solved 5; failed 0"),
     (["hunt", "--agent", WRONG, "--keep", "small"], 1, "schedules were tried: the team fails"),
     (["replay", "small"], 0, "the replay is the same, byte for byte: small/match0.jsonl"),
     (["explore", "--network", "ring:4", "--agent", RING], 0, "every schedule that the lab tried solves, by"),
