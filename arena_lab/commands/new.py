@@ -2,10 +2,12 @@
 
     ./arena-lab new python my-agent
     ./arena-lab new java my-agent
+    ./arena-lab new wasm my-agent
 
 The folder has a client, which speaks to the server; an agent that searches a ring with it, to be changed into your own;
-a test; and a README with the commands to build, test and play it. docs/AGENTS.md says what an agent may do and what it
-is answered.
+a test; and a README with the commands to build, test and play it. `wasm` is an agent in C that is compiled to a
+WebAssembly module, of which `explore` proves what it finds. docs/AGENTS.md says what an agent may do and what it is
+answered.
 """
 import argparse
 import pathlib
@@ -35,4 +37,6 @@ def run(words: argparse.Namespace) -> int:
 def next_commands(kit: Kit) -> List[str]:
     """The commands by which a kit is built, tested and played on a ring of eight nodes, in its folder."""
     called = arena_lab.called if arena_lab.called == arena_lab.INSTALLED else shlex.quote(str(TOP / "arena-lab"))
-    return [*filter(None, (kit.build, kit.test)), f'{called} run --network ring:8 --command "{played(kit)}"']
+    words = f'--network ring:8 --command "{played(kit)}"'
+    explore = f"{called} explore {words}".replace("--command", "--agent") if kit.is_module else ""
+    return list(filter(None, (kit.build, kit.test, f"{called} run {words}", explore)))

@@ -10,12 +10,12 @@ from arena_lab.play.agent_files import AGENTS
 from arena_lab.support.faults import Fault
 
 # of each kit, what building leaves in its folder
-MADE = ("out", "target", "Cargo.lock", "__pycache__", ".mypy_cache", "careful", "test_client")
+MADE = ("out", "target", "Cargo.lock", "__pycache__", ".mypy_cache", "careful", "careful.wasm", "test_client")
 
 
 class Kit(NamedTuple):
     """A language: its name, how its kit is built, tested and played, and the packages of Debian that it needs. `play`
-    stands before the words of the sample agent."""
+    stands before the words of the sample agent, or is a WebAssembly module."""
 
     name: str
     build: str
@@ -23,6 +23,10 @@ class Kit(NamedTuple):
     play: str
     packages: Tuple[str, ...]
     shared: Tuple[str, ...] = ()
+
+    @property
+    def is_module(self) -> bool:
+        return self.play.endswith(".wasm")
 
 
 KITS: Dict[str, Kit] = {
@@ -34,12 +38,15 @@ KITS: Dict[str, Kit] = {
     "cpp": Kit("C++", "make", "make test", "./careful", ("g++", "nlohmann-json3-dev", "make")),
     "rust": Kit("Rust", "cargo build --release", "cargo test", "target/release/careful", ("cargo",)),
     "go": Kit("Go", "go build", "go test", "./careful", ("golang-go",)),
+    "wasm": Kit("C as a WebAssembly module", "make", "", "careful.wasm", ("clang", "lld", "make")),
+    "wasm-rust": Kit("Rust as a WebAssembly module", "make", "", "careful.wasm",
+                     ("rustc", "libstd-rust-dev-wasm32", "lld", "make")),
 }
 
 
 def played(kit: Kit) -> str:
     """The command by which `./arena-lab run` plays the sample agent of a kit, in its folder."""
-    return kit.play + " {host} {port} {key} {nodes}"
+    return kit.play + (":{nodes}" if kit.is_module else " {host} {port} {key} {nodes}")
 
 
 def write_kit(language: str, folder: pathlib.Path) -> Kit:

@@ -17,7 +17,7 @@ from typing import Any, Dict, Optional, Sequence, Tuple
 
 from arena_lab.course import sandbox
 from arena_lab.course.sandbox import Isolation
-from arena_lab.play.kits import KITS, Kit, write_kit
+from arena_lab.play.kits import KITS, Kit, played, write_kit
 from arena_lab.support.built import TOP
 from arena_lab.support.missing import DEBIANS_PYTHON
 
@@ -144,10 +144,14 @@ class Played:
             want(self.run(self.kit.build))
 
     def own_test(self) -> None:
-        want(self.run(self.kit.test))
+        if self.kit.test:
+            want(self.run(self.kit.test))
 
     def talk(self) -> None:
-        """The search, an end that comes early and a wrong key, by words and by the environment."""
+        """The search, an end that comes early and a wrong key, by words and by the environment. The player of modules
+        has tests of its own."""
+        if self.kit.is_module:
+            return
         for talks, status in (((NO_ROOM, SEARCH), 0), ((OVER,), 0), ((UNKNOWN,), 1)):
             server = Server(talks)
             by_words = f"{self.kit.play} 127.0.0.1 {server.port} {shlex.quote(ENTER['key'])} 5"
@@ -168,10 +172,17 @@ class Played:
         for hole in (1, 4, 7):
             words = f"{sys.executable} -m arena_lab run --network ring:8 --hole {hole}"
             words += f" --program {self._program} --command"
-            said = want(ran(self._folder, f"{words} {shlex.quote(self.kit.play + ' {host} {port} {key} {nodes}')}",
-                            PYTHONPATH=str(TOP)))
+            said = want(ran(self._folder, f"{words} {shlex.quote(played(self.kit))}", PYTHONPATH=str(TOP)))
             if "solved 1; failed 0" not in said:
                 raise AssertionError(f"{self.kit.name}, black hole {hole}: {said}")
+
+    def explore(self) -> None:
+        """Every schedule of a module is tried, with each black hole."""
+        if self.kit.is_module:
+            words = f"{sys.executable} -m arena_lab explore --network ring:6 --program {self._program} --agent"
+            said = want(ran(self._folder, f"{words} {shlex.quote(played(self.kit))}", PYTHONPATH=str(TOP)))
+            if "every schedule solves" not in said:
+                raise AssertionError(f"{self.kit.name}: {said}")
 
     def grade(self) -> None:
         """As a hand-in of a course, where programs may make the calls of the system that their language needs. It has
@@ -188,7 +199,7 @@ proc = {str(self.kit.name == "Java").lower()}
 [[team]]
 name = "kit"
 files = ["{handed_in.name}"]
-command = "{self.kit.play} {{host}} {{port}} {{key}} {{nodes}}"
+command = "{played(self.kit)}"
 """)
         out = self._folder.parent / f"out-{self._folder.name}"
         said = want(ran(TOP, f"{DEBIANS_PYTHON} -m arena_lab grade {file} --out {out} --engine model --workers 1"))
@@ -198,6 +209,6 @@ command = "{self.kit.play} {{host}} {{port}} {{key}} {{nodes}}"
     def all(self) -> float:
         """Builds, tests and plays the kit; gives for how many seconds."""
         started = time.monotonic()
-        for step in (self.build, self.own_test, self.talk, self.solve, self.grade):
+        for step in (self.build, self.own_test, self.talk, self.solve, self.explore, self.grade):
             step()
         return time.monotonic() - started

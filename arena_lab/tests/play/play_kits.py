@@ -1,4 +1,4 @@
-"""The kits of three languages are written, built and played; `python3 -m tools.play.kits PROGRAM` plays all."""
+"""The kits of four languages are written, built and played; `python3 -m tools.play.kits PROGRAM` plays all."""
 import pathlib
 import tempfile
 import unittest
@@ -25,6 +25,9 @@ class TestKits(unittest.TestCase):
 
     def test_javascript(self) -> None:
         self.play("javascript")
+
+    def test_wasm(self) -> None:
+        self.play("wasm")
 
 
 if __name__ == "__main__":
