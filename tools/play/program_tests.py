@@ -4,10 +4,10 @@
 
 PROGRAM is the built program. With a folder only the rows of its files are played: those of tests/benchmark go with the
 benchmark. program_rows.py says how rows are read and played; the other cases are in program_cases.py,
-interactive_cases.py, exploring_cases.py, module_cases.py, contest_cases.py, serving_cases.py, replay_cases.py,
-traced_files.py, program_contests.py and program_rehearsals.py. Each row and each case is played in a fresh temporary
-folder; nothing in the repository is overwritten. For each that fails a line names the file and the title, what was
-wanted and what came. The last line reads `N passed, M failed`, and the exit status is 1 if one failed.
+interactive_cases.py, exploring_cases.py, module_cases.py, player_cases.py, contest_cases.py, serving_cases.py,
+replay_cases.py, traced_files.py, program_contests.py and program_rehearsals.py. Each row and each case is played in a
+fresh temporary folder; nothing in the repository is overwritten. For each that fails a line names the file and the
+title, what was wanted and what came. The last line reads `N passed, M failed`, and the exit status is 1 if one failed.
 """
 import concurrent.futures
 import functools
@@ -16,15 +16,15 @@ import sys
 import unittest
 from typing import Iterator, NamedTuple, Sequence, Union
 
-from tools.play import (contest_cases, exploring_cases, interactive_cases, module_cases, program_contests,
-                        program_rehearsals, replay_cases, serving_cases, traced_files)
+from tools.play import (contest_cases, exploring_cases, interactive_cases, module_cases, player_cases,
+                        program_contests, program_rehearsals, replay_cases, serving_cases, traced_files)
 from tools.play.program_cases import CASES, Trial
 from tools.play.program_rows import fault_of, play, rows_of
 from tools.play.python_tests import SKIPPED
 
 # each adds its cases to CASES
-FILES = (contest_cases, exploring_cases, interactive_cases, module_cases, program_contests, program_rehearsals,
-         replay_cases, serving_cases, traced_files)
+FILES = (contest_cases, exploring_cases, interactive_cases, module_cases, player_cases, program_contests,
+         program_rehearsals, replay_cases, serving_cases, traced_files)
 ROWS = pathlib.Path(__file__).resolve().parents[2] / "tests" / "program"
 WORKERS = 4
 

@@ -36,7 +36,7 @@ module _ {R W : Type 0} (remaining : R → Option (List ℕ)) where
   IsUnheard old new = new.writer ≡ old.writer
 
 -- An agent with this strategy and this key has played to this end over a wire that began with this input and output:
--- all that it has written is what its strategy says of what it has read.
+-- all that it has written is what its strategy says of what it has read, and of where it slept.
 abbrev pub Plays : {R W : Type 0} → (W → List ℕ → WriteAnswer → W → Type 0) → (W → Bool → W → Type 0)
     → (R → Option (List ℕ)) → Strategy → (key : List ℕ) → (reader : R) (writer : W) → PlayEnd → Type 0
 Plays {R} {W} takes flushes remaining strategy key reader writer end = (old new : Wire R W) × (old.reader ≡ reader)

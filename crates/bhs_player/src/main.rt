@@ -1,84 +1,120 @@
-//! An agent that searches a ring by a protocol that is proved for every size, as a client of any server.
+//! An agent as a client of any server: one that searches a ring by a protocol that is proved for every size, or one
+//! that runs a WebAssembly module.
 #![tactic(auto)]
 
+mod agents;
 mod wire;
 mod words;
 
 ghost use Rattle.std.specs.Prelude.{IfOk};
+ghost use Rattle.bhs_player.specs.Agents.{strategy_played};
 ghost use Rattle.bhs_player.specs.Wires.{Plays};
-ghost use Rattle.bhs_searcher.specs.Protocols.{strategies_of};
 
-use bhs_searcher::{PlayEnd, PlayFault, Player, play};
+use agents::{PlayedAgent, agent_of, failure_of};
+use bhs_searcher::{PlayEnd, PlayFault, play};
 use bhs_stream::Output;
-use std::alloc::Global;
+use std::fmt::Display;
 use std::io::BufReader;
 use std::net::TcpStream;
 use std::process::ExitCode;
 use std::{env, io};
 use wire::Wire;
-use words::{Entrant, USAGE, entrant_of};
+use words::{AgentChoice, Entrant, USAGE, entrant_of};
 
-// The most replies that are heard: many more than any agent is told that keeps to its protocol.
+// The most that happens to an agent: many more replies than any is told that keeps to its protocol.
 const MOST_REPLIES: u64 = 1_099_511_627_776;
 
 fn main(rt: HostRuntime) -> ExitCode {
-    ExitCode::from(match started(&rt, rt.alloc()) {
+    ExitCode::from(match started(&rt) {
         Ok(status) => status,
         Err(_) => 1,
     })
 }
 
-fn started(rt: &HostRuntime, alloc: Global) -> io::Result<u8> {
+fn started(rt: &HostRuntime) -> io::Result<u8> {
+    let alloc = rt.alloc();
     let words: Vec<String> = env::args(rt)?.skip(1).collect(alloc)?;
-    let Some(entrant) = entrant_of(words.as_slice()) else {
+    let Some(entrant) = entrant_of(alloc, words.as_slice())? else {
         eprintln!(rt; "{USAGE}")?;
         return Ok(2);
     };
-    let ended = if entrant.host == "-" {
-        played(alloc, rt.reader(), io::writer(rt), &entrant)
-    } else {
-        match connected(rt, alloc, &entrant) {
-            Ok(stream) => played(alloc, BufReader::new(alloc, &stream)?, &stream, &entrant),
-            Err(_) => Err(PlayFault::Lost),
+    let mut agent = match agent_of(alloc, rt, &entrant.runs) {
+        Ok(agent) => agent,
+        Err(fault) => {
+            tell_of_agent(rt, &entrant, fault)?;
+            return Ok(1);
         }
     };
-    match ended {
+    match entered(rt, &entrant, &mut agent) {
         Ok(PlayEnd::Accused | PlayEnd::Over) => Ok(0),
         Err(fault) => {
-            eprintln!(rt; "bhs_player: {fault}")?;
+            match failure_of(alloc, &agent, fault)? {
+                Some(failure) => tell_of_agent(rt, &entrant, failure)?,
+                None => eprintln!(rt; "bhs_player: {fault}")?,
+            }
             Ok(1)
         }
     }
 }
 
-fn connected(rt: &HostRuntime, alloc: Global, entrant: &Entrant<'_>) -> io::Result<TcpStream> {
-    let address = format!(in alloc; "{}:{}", entrant.host, entrant.port)?;
+// Tells what is wrong with an agent, behind the name of its module's file if it has one.
+fn tell_of_agent<D: Display + Drop>(
+    rt: &HostRuntime,
+    entrant: &Entrant<'_>,
+    fault: D,
+) -> io::Result<()> {
+    match &entrant.runs {
+        AgentChoice::Module(module) => eprintln!(rt;
+            "bhs_player: {}: {fault}",
+            module.file.as_str()
+        ),
+        AgentChoice::Protocol {
+            protocol: _,
+            nodes: _,
+            side: _,
+        } => eprintln!(rt; "bhs_player: {fault}"),
+    }
+}
+
+// Plays an agent where the words say.
+fn entered(
+    rt: &HostRuntime,
+    entrant: &Entrant<'_>,
+    agent: &mut PlayedAgent,
+) -> Result<PlayEnd, PlayFault> {
+    if entrant.host == "-" {
+        return played(rt, rt.reader(), io::writer(rt), entrant.key, agent);
+    }
+    let Ok(stream) = connected(rt, entrant) else {
+        return Err(PlayFault::Lost);
+    };
+    let Ok(reader) = BufReader::new(rt.alloc(), &stream) else {
+        return Err(PlayFault::Memory);
+    };
+    played(rt, reader, &stream, entrant.key, agent)
+}
+
+fn connected(rt: &HostRuntime, entrant: &Entrant<'_>) -> io::Result<TcpStream> {
+    let address = format!(in rt.alloc(); "{}:{}", entrant.host, entrant.port)?;
     let stream = TcpStream::connect(rt, address.as_str())?;
     let _ = stream.set_nodelay(true);
     Ok(stream)
 }
 
-// Plays the agent that the words name: what it writes is what its strategy says of what it reads.
+// Plays an agent: what it writes is what its strategy says of what it reads.
 fn played<R: io::BufRead + Drop, W: Output + Drop>(
-    alloc: Global,
+    rt: &HostRuntime,
     reader: R,
     writer: W,
-    entrant: &Entrant<'_>,
+    key: &str,
+    agent: &mut PlayedAgent,
 ) -> Result<PlayEnd, PlayFault>
-    ensures { IfOk result (λ end. Plays W.takes W.flushes R.remaining
-        (strategies_of entrant.now.protocol entrant.now.nodes entrant.now.side) entrant.now.key.now
+    ensures { IfOk result (λ end. Plays W.takes W.flushes R.remaining (strategy_played agent.old) key.now
         reader writer end) }
 {
-    let player = Player {
-        protocol: entrant.protocol,
-        nodes: entrant.nodes,
-        agent: entrant.side,
-        key: entrant.key,
-    };
-    let mut wire = Wire {
-        alloc,
-        reader,
-        writer,
-    };
-    play(alloc, &mut wire, player, MOST_REPLIES)
+    let mut wire = Wire { rt, reader, writer };
+    match agent {
+        PlayedAgent::Protocol(agent) => play(rt.alloc(), &mut wire, agent, key, MOST_REPLIES),
+        PlayedAgent::Module(agent) => play(rt.alloc(), &mut wire, agent, key, MOST_REPLIES),
+    }
 }

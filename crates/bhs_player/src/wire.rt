@@ -5,18 +5,22 @@ ghost use Rattle.bhs_player.specs.Wires.{IsCut, IsHeard, IsSaid, IsUnheard};
 use bhs_searcher::{Lost, ServerConnection};
 use bhs_stream::{Output, finish, send};
 use bhs_wire::split_line;
-use std::alloc::Global;
 use std::io::BufRead;
+use std::thread;
+use std::time::Duration;
+
+// How many milliseconds an agent sleeps.
+const REST: u64 = 1_000;
 
 /// Where lines come from and go to.
 #[derive(Drop)]
-pub struct Wire<R, W> {
-    pub alloc: Global,
+pub struct Wire<'r, R, W> {
+    pub rt: &'r HostRuntime,
     pub reader: R,
     pub writer: W,
 }
 
-impl<R: BufRead + Drop, W: Output + Drop> ServerConnection for Wire<R, W> {
+impl<R: BufRead + Drop, W: Output + Drop> ServerConnection for Wire<'_, R, W> {
     ghost says = { IsSaid W.takes W.flushes };
 
     ghost hears = { IsHeard R.remaining };
@@ -26,7 +30,7 @@ impl<R: BufRead + Drop, W: Output + Drop> ServerConnection for Wire<R, W> {
     ghost loses = { IsUnheard R.remaining };
 
     fn say(&mut self, line: &str) -> Result<(), Lost> {
-        let Ok(text) = format!(in self.alloc; "{line}\n") else {
+        let Ok(text) = format!(in self.rt.alloc(); "{line}\n") else {
             return Err(Lost);
         };
         send(&mut self.writer, text.as_bytes()).map_err(|_| Lost)?;
@@ -34,7 +38,7 @@ impl<R: BufRead + Drop, W: Output + Drop> ServerConnection for Wire<R, W> {
     }
 
     fn hear(&mut self) -> Result<String, Lost> {
-        let mut line = Vec::new(self.alloc);
+        let mut line = Vec::new(self.rt.alloc());
         if self.reader.read_until(b'\n', &mut line).is_err() {
             return Err(Lost);
         }
@@ -47,6 +51,10 @@ impl<R: BufRead + Drop, W: Output + Drop> ServerConnection for Wire<R, W> {
         if !rest.is_empty() {
             return Err(Lost);
         }
-        String::from_str(self.alloc, text).map_err(|_| Lost)
+        String::from_str(self.rt.alloc(), text).map_err(|_| Lost)
+    }
+
+    fn sleep(&self) {
+        thread::sleep(self.rt, Duration::from_millis(REST));
     }
 }

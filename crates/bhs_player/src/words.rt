@@ -1,47 +1,103 @@
 //! The words that the program is run with.
 
-ghost use Rattle.std.specs.Prelude.{◌≤◌, IfSome};
+ghost use Rattle.std.specs.Prelude.{◌≤◌, IfOk, IfSome};
+ghost use Rattle.bhs_player.specs.Agents.{IsFit};
 
+use bhs_command_line::{AgentModule, Order, Parsed, order_of};
 use bhs_searcher::Protocol;
+use std::alloc::{AllocError, Global};
 
-/// Where an agent plays, with which key, and what.
+/// Where an agent plays, with which key, and what it runs.
 #[derive(Drop)]
 pub struct Entrant<'w> {
     /// The server's host; `-` stands for standard input and output.
     pub host: &'w str,
     pub port: u16,
     pub key: &'w str,
-    pub protocol: Protocol,
-    pub nodes: u16,
-    pub side: u16,
+    pub runs: AgentChoice,
+}
+
+/// What an agent runs.
+#[derive(Drop)]
+pub enum AgentChoice {
+    /// A protocol, on a ring of this number of nodes, as the agent of this side.
+    Protocol {
+        protocol: Protocol,
+        nodes: u16,
+        side: u16,
+    },
+    /// The module of a file.
+    Module(AgentModule),
 }
 
 /// What is told if the words are not fit.
 pub const USAGE: &str = "\
 usage: bhs_player HOST PORT KEY PROTOCOL NODES SIDE
+       bhs_player HOST PORT KEY --module FILE[:N,..]
 
-An agent that searches a ring by a protocol that is proved to solve every ring. Run it twice, with the sides 0 and 1.
+An agent as the client of a server: one that searches a ring by a protocol that is proved to solve every ring, or one
+that runs a WebAssembly module, as `arena explore --module` tries it. Run a protocol twice, with the sides 0 and 1.
 
   HOST      the server's name or address, or - to talk over standard input and output
   PORT      its port, 1 to 65535; 0 with -
   KEY       the agent's key
   PROTOCOL  halves (the fewest moves) or shuttle (the simplest)
   NODES     how many nodes the ring has, 3 to 4096
-  SIDE      0 or 1: the port of the home base behind which the agent begins";
+  SIDE      0 or 1: the port of the home base behind which the agent begins
+  FILE      the module's file, and behind a colon its arguments, numbers below 2^32 with commas between them";
 
 /// What the words say, if they are fit.
-pub fn entrant_of<'w>(words: &'w [String]) -> Option<Entrant<'w>>
-    ensures nodes { IfSome result (λ entrant. (3 ≤ entrant.nodes) × (entrant.nodes ≤ 4096)) }
-    ensures side { IfSome result (λ entrant. entrant.side ≤ 1) }
+pub fn entrant_of<'w>(alloc: Global, words: &'w [String]) -> Result<Option<Entrant<'w>>, AllocError>
+    ensures { IfOk result (λ entrant. IfSome entrant (λ entrant. IsFit entrant.runs)) }
 {
-    let [host, port, key, protocol, nodes, side] = words else {
-        return None;
+    let [host, port, key, what @ ..] = words else {
+        return Ok(None);
     };
-    Some(Entrant {
+    let Some(port) = number_of(port, 0, u16::MAX) else {
+        return Ok(None);
+    };
+    Ok(runs_of(alloc, what)?.map(|runs| Entrant {
         host: host.as_str(),
-        port: number_of(port, 0, u16::MAX)?,
+        port,
         key: key.as_str(),
-        protocol: protocol_of(protocol.as_str())?,
+        runs,
+    }))
+}
+
+fn runs_of(alloc: Global, words: &[String]) -> Result<Option<AgentChoice>, AllocError>
+    ensures { IfOk result (λ runs. IfSome runs IsFit) }
+{
+    match words {
+        [option, word] => {
+            if option.as_str() != "--module" {
+                return Ok(None);
+            }
+            Ok(module_in(alloc, word.as_str())?.map(AgentChoice::Module))
+        }
+        [protocol, nodes, side] => Ok(protocol_in(protocol.as_str(), nodes, side)),
+        _ => Ok(None),
+    }
+}
+
+// The module and its arguments that a word FILE[:N,..] says, as `arena explore` reads it.
+fn module_in(alloc: Global, word: &str) -> Result<Option<AgentModule>, AllocError> {
+    match order_of(alloc, &["explore", "-", "0", "--module", word])? {
+        Parsed::Ordered(
+            Order::ExploreModule {
+                tournament: _,
+                agent_module,
+                exploration: _,
+            },
+        ) => Ok(Some(agent_module)),
+        _ => Ok(None),
+    }
+}
+
+fn protocol_in(protocol: &str, nodes: &String, side: &String) -> Option<AgentChoice>
+    ensures { IfSome result IsFit }
+{
+    Some(AgentChoice::Protocol {
+        protocol: protocol_of(protocol)?,
         nodes: number_of(nodes, 3, 4096)?,
         side: number_of(side, 0, 1)?,
     })

@@ -1,3 +1,5 @@
 mod CommandLemmas
+mod ModuleLemmas
+mod ProtocolLemmas
 mod ReplyLemmas
 mod TalkLemmas

@@ -1,14 +1,15 @@
 -- The protocols that a client can run, as the strategies that the theorems on them speak of.
-use Rattle.std.specs.Prelude.{ℕ}
+use Rattle.std.specs.Prelude.{◌≡◌, ℕ}
 use Rattle.bhs_explore.specs.declared.answers.Step.{Step}
-use Rattle.bhs_explore.specs.Strategies.{History, Observation, Strategies}
+use Rattle.bhs_explore.specs.Strategies.{History, Observation, Strategies, Strategy}
 use Rattle.bhs_protocols.specs.Halves.{halves}
 use Rattle.bhs_protocols.specs.Programs.{held_after, strategies_by}
 use Rattle.bhs_protocols.specs.Shuttle.{shuttle}
-use Rattle.bhs_searcher.specs.declared.protocol_memory.Protocol.{Protocol}
-use Rattle.bhs_searcher.specs.declared.protocol_memory.Protocol.TheVariants.{Halves, Shuttle}
-use Rattle.bhs_searcher.specs.declared.protocol_memory.ProtocolMemory.{ProtocolMemory}
-use Rattle.bhs_searcher.specs.declared.protocol_memory.ProtocolMemory.TheVariants as held
+use Rattle.bhs_searcher.specs.declared.protocol_agent.Protocol.{Protocol}
+use Rattle.bhs_searcher.specs.declared.protocol_agent.Protocol.TheVariants.{Halves, Shuttle}
+use Rattle.bhs_searcher.specs.declared.protocol_agent.ProtocolAgent.{ProtocolAgent}
+use Rattle.bhs_searcher.specs.declared.protocol_agent.ProtocolMemory.{ProtocolMemory}
+use Rattle.bhs_searcher.specs.declared.protocol_agent.ProtocolMemory.TheVariants as held
 
 -- the strategies of agents that run this protocol on a ring of n nodes
 abbrev pub strategies_of : Protocol → (n : ℕ) → Strategies
@@ -29,3 +30,11 @@ after_in n (held.Shuttle memory) item = held.Shuttle ((shuttle n).after memory i
 abbrev pub does_in : (n : ℕ) → ProtocolMemory → Step
 does_in n (held.Halves memory) = (halves n).does memory
 does_in n (held.Shuttle memory) = (shuttle n).does memory
+
+-- the strategy of an agent
+abbrev pub strategy_of_agent : ProtocolAgent → Strategy
+strategy_of_agent agent = strategies_of agent.protocol agent.nodes agent.number
+
+-- it holds what it holds after this history
+abbrev pub Holds : ProtocolAgent → History → Type 0
+Holds agent history = agent.memory ≡ held_by agent.protocol agent.nodes agent.number history

@@ -1,21 +1,21 @@
 -- How an agent and a server talk, line by line.
-use Rattle.std.specs.Prelude.{◌≡◌, ℕ, List, [], ◌∷◌, Option, Some, None, false}
+use Rattle.std.specs.Prelude.{◌≡◌, ◌≢◌, ℕ, List, [], ◌∷◌, Option, Some, None, false}
 use Rattle.std.specs.List.{list_any}
 use Rattle.bhs_model.specs.declared.commands.Command.{Command}
 use Rattle.bhs_model.specs.declared.replies.Reply.{Reply}
-use Rattle.bhs_model.specs.declared.replies.Reply.TheVariants.{Here, Written, Changed, Gone, Noted, Bye, Over, No}
+use Rattle.bhs_model.specs.declared.replies.Reply.TheVariants.{Noted, Bye, Over}
 use Rattle.bhs_wire.specs.First.{first_of}
 use Rattle.bhs_wire.specs.Lines.{is_line_feed}
 use Rattle.bhs_explore.specs.declared.answers.Step.{Step}
 use Rattle.bhs_explore.specs.declared.answers.Step.TheVariants as step
-use Rattle.bhs_explore.specs.Strategies.{History, Heard, Strategy}
+use Rattle.bhs_explore.specs.Strategies.{History, Observation, Heard, Woke, Strategy}
 use Rattle.bhs_searcher.specs.declared.playing.PlayEnd.{PlayEnd}
 use Rattle.bhs_searcher.specs.declared.playing.PlayEnd.TheVariants.{Accused}
 use Rattle.bhs_searcher.specs.declared.playing.PlayEnd.TheVariants as ended
 use Rattle.bhs_searcher.specs.declared.playing.PlayFault.{PlayFault}
 use Rattle.bhs_searcher.specs.declared.playing.PlayFault.TheVariants as fault
-use Rattle.bhs_searcher.specs.declared.protocol_memory.MemoryFault.{MemoryFault}
-use Rattle.bhs_searcher.specs.declared.protocol_memory.MemoryFault.TheVariants as memory_fault
+use Rattle.bhs_searcher.specs.declared.searchers.SearcherFault.{SearcherFault}
+use Rattle.bhs_searcher.specs.declared.searchers.SearcherFault.TheVariants as searcher_fault
 use Rattle.bhs_searcher.specs.CommandLines.{meant}
 use Rattle.bhs_searcher.specs.ReplyLines.{reply_on}
 
@@ -24,52 +24,58 @@ pub record IsLineOf (key : List ℕ) (command : Command) (line : List ℕ) : Typ
   pub means : first_of line ≡ meant key command
   pub flat : list_any is_line_feed line ≡ false
 
--- what an agent says that does this next: the line of its command, or nothing
+-- What an agent says that does this next, before it hears: the line of its command, or nothing if it has stopped. One
+-- that sleeps or fails hears nothing.
 abbrev pub Says : {W : Type 0} → (says : W → List ℕ → W → Type 0) → (key : List ℕ) → Step → (old new : W) → Type 0
 Says says key (step.Says command) old new = (line : List ℕ) × IsLineOf key command line × says old line new
-Says says key step.Sleeps old new = old ≡ new
 Says says key step.Stops old new = old ≡ new
-Says says key step.Fails old new = old ≡ new
+Says says key step.Sleeps old new = ⊥
+Says says key step.Fails old new = ⊥
 
 -- what a line that is read says
 abbrev pub Hears : {W : Type 0} → (hears : W → List ℕ → W → Type 0) → Reply → (old new : W) → Type 0
 Hears hears reply old new = (line : List ℕ) × (reply_on line ≡ Some reply) × hears old line new
 
--- An agent with this strategy has said all that its strategy says, line by line, and has heard this, the newest first.
--- A connection that was at `start` is now at the last place: `says` and `hears` say what a line that is written or read
--- makes of it.
+-- What happens next to an agent that does this: it says it and hears a reply, or it sleeps and wakes. To one that fails
+-- nothing happens.
+pub data Meets {W : Type 0} (says hears : W → List ℕ → W → Type 0) (key : List ℕ) (doing : Step) (here : W)
+    : Observation → W → Type 0 where
+  speaks : (reply : Reply) (told new : W) → Says says key doing here told → Hears hears reply told new
+      → Meets says hears key doing here (Heard reply) new
+  sleeps : doing ≡ step.Sleeps → Meets says hears key doing here Woke here
+
+-- An agent with this strategy has said all that its strategy says, line by line, and this has happened to it, the
+-- newest first. A connection that was at `start` is now at the last place: `says` and `hears` say what a line that is
+-- written or read makes of it.
 pub data Talks {W : Type 0} (says hears : W → List ℕ → W → Type 0) (strategy : Strategy) (key : List ℕ) (start : W)
     : History → W → Type 0 where
   begins : Talks says hears strategy key start [] start
-  goes_on : (history : History) (reply : Reply) (here told next : W)
+  goes_on : (history : History) (item : Observation) (here next : W)
       → Talks says hears strategy key start history here
-      → Says says key (strategy history) here told
-      → Hears hears reply told next
-      → Talks says hears strategy key start (Heard reply ∷ history) next
+      → Meets says hears key (strategy history) here item next
+      → Talks says hears strategy key start (item ∷ history) next
 
--- why a player breaks off whose protocol cannot go on for this reason
-abbrev pub fault_by : MemoryFault → PlayFault
-fault_by memory_fault.Size = fault.Size
-fault_by memory_fault.Memory = fault.Memory
+-- why an agent breaks off that cannot go on for this reason
+abbrev pub fault_by : SearcherFault → PlayFault
+fault_by searcher_fault.Size = fault.Size
+fault_by (searcher_fault.Refused why) = fault.Refused why
+fault_by searcher_fault.Memory = fault.Memory
 
--- how an agent ends that is told this, if it ends
-abbrev pub ended_by : Reply → Option PlayEnd
-ended_by Noted = Some Accused
-ended_by Bye = Some ended.Over
-ended_by Over = Some ended.Over
-ended_by (Here ports came board) = None
-ended_by Written = None
-ended_by (Changed board) = None
-ended_by Gone = None
-ended_by (No why) = None
+-- how an agent ends to which this has happened, if it ends
+abbrev pub end_after : Observation → Option PlayEnd
+end_after (Heard Noted) = Some Accused
+end_after (Heard Bye) = Some ended.Over
+end_after (Heard Over) = Some ended.Over
+end_after item = None
 
--- the last that it was told has ended it so
+-- the last that has happened to it has ended it so, and it has not failed
 pub record Ends {W : Type 0} (says hears : W → List ℕ → W → Type 0) (strategy : Strategy) (key : List ℕ) (old : W)
     (how : PlayEnd) (new : W) : Type 0 where
   pub history : History
-  pub reply : Reply
-  pub talks : Talks says hears strategy key old (Heard reply ∷ history) new
-  pub last : ended_by reply ≡ Some how
+  pub item : Observation
+  pub talks : Talks says hears strategy key old (item ∷ history) new
+  pub last : end_after item ≡ Some how
+  pub fine : strategy (item ∷ history) ≢ step.Fails
 
 -- A read gave no line, or a line by which the agent does not go on. `loses` says what a read makes of the connection
 -- that gives no line.
@@ -87,11 +93,13 @@ pub data BreaksOff {W : Type 0} (says hears cuts : W → List ℕ → W → Type
   unheard : (told new : W) → Says says key doing here told → HearsNone hears loses told new
       → BreaksOff says hears cuts loses key doing here new
 
--- It breaks off: all that it had said and heard until then is what its strategy says, and so is the last that it began.
+-- It breaks off for this reason: all that it had said and heard until then is what its strategy says, and so is the
+-- last that it began. Nobody is said to fail whose strategy does not.
 pub record Breaks {W : Type 0} (says hears cuts : W → List ℕ → W → Type 0) (loses : W → W
     → Type 0) (strategy : Strategy)
-    (key : List ℕ) (old new : W) : Type 0 where
+    (key : List ℕ) (old : W) (why : PlayFault) (new : W) : Type 0 where
   pub history : History
   pub here : W
   pub talks : Talks says hears strategy key old history here
   pub off : BreaksOff says hears cuts loses key (strategy history) here new
+  pub failed : why ≡ fault.Failed → strategy history ≡ step.Fails

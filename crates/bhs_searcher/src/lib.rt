@@ -1,14 +1,18 @@
-//! Protocols that are proved for every size, as clients of a server.
+//! Agents as clients of a server: those that run a protocol that is proved for every size, and WebAssembly modules.
 #![tactic(auto)]
 
 mod commands;
 mod laws;
+mod module_agent;
 mod playing;
-mod protocol_memory;
+mod protocol_agent;
 mod replies;
+mod searchers;
 
 pub use commands::line_of;
 pub use laws::replies_are_read;
-pub use playing::{Lost, PlayEnd, PlayFault, Player, ServerConnection, play};
-pub use protocol_memory::{MemoryFault, Protocol, ProtocolMemory, after, begun, step_of};
+pub use module_agent::ModuleAgent;
+pub use playing::{Lost, PlayEnd, PlayFault, ServerConnection, play};
+pub use protocol_agent::{Protocol, ProtocolAgent, ProtocolMemory};
 pub use replies::reply_of;
+pub use searchers::{AgentNews, Searcher, SearcherFault};

@@ -1,15 +1,15 @@
-//! Playing a protocol against a server.
+//! Playing an agent against a server.
 
-ghost use Rattle.std.specs.Prelude.{◌≡◌, ℕ, List, string_bytes, IfOk, OnOk, OnErr};
+ghost use Rattle.std.specs.Prelude.{◌≡◌, ◌≢◌, ℕ, List, string_bytes, IfErr, IfOk, OnOk, OnErr};
 ghost use Rattle.bhs_searcher.specs.declared.playing.PlayFault.{PlayFault};
-ghost use Rattle.bhs_searcher.specs.Protocols.{strategies_of};
-ghost use Rattle.bhs_searcher.specs.Talks.{Breaks, BreaksOff, Ends, Hears, HearsNone, Says, ended_by, fault_by};
+ghost use Rattle.bhs_searcher.specs.Searchers.{observation_of};
+ghost use Rattle.bhs_searcher.specs.Talks.{Breaks, BreaksOff, Ends, Hears, HearsNone, Meets, Says, end_after, fault_by};
 
 use crate::commands::line_of;
-use crate::protocol_memory::{MemoryFault, Protocol, after, begun, step_of};
 use crate::replies::reply_of;
+use crate::searchers::{AgentNews, Searcher, SearcherFault};
 use bhs_explore::Step;
-use bhs_model::{Reply, Why};
+use bhs_model::{Command, Reply, Why};
 use std::alloc::{AllocError, Global};
 use thiserror::Error;
 
@@ -33,21 +33,15 @@ pub trait ServerConnection {
     fn hear(&mut self) -> Result<String, Lost>
         ensures heard { IfOk result (λ line. hears self.old (string_bytes line) self.new) }
         ensures lost { OnErr result (loses self.old self.new) };
+
+    /// Waits as long as an agent sleeps.
+    fn sleep(&self);
 }
 
 /// The connection is lost, or gives no line.
 #[derive(Clone, Copy, Debug, PartialEq, Eq, Drop, Error)]
 #[error("the connection is lost")]
 pub struct Lost;
-
-/// Who plays: the protocol, the number of nodes of the ring, the agent's number, 0 or 1, and its key.
-#[derive(Clone, Copy, Drop)]
-pub struct Player<'k> {
-    pub protocol: Protocol,
-    pub nodes: u16,
-    pub agent: u16,
-    pub key: &'k str,
-}
 
 /// How an agent ended that has played to its end.
 #[derive(Clone, Copy, Debug, PartialEq, Eq, Drop)]
@@ -63,6 +57,8 @@ pub enum PlayEnd {
 pub enum PlayFault {
     #[error("the connection is lost")]
     Lost,
+    #[error("the agent fails")]
+    Failed,
     #[error("the server refuses a command")]
     Refused(Why),
     #[error("a line of the server is no reply")]
@@ -91,75 +87,94 @@ impl From<AllocError> for PlayFault {
     }
 }
 
-impl From<MemoryFault> for PlayFault {
+impl From<SearcherFault> for PlayFault {
     ghost from_gives = { λ fault played. played ≡ fault_by fault };
 
-    fn from(fault: MemoryFault) -> PlayFault {
+    fn from(fault: SearcherFault) -> PlayFault {
         match fault {
-            MemoryFault::Size => PlayFault::Size,
-            MemoryFault::Memory => PlayFault::Memory,
+            SearcherFault::Size => PlayFault::Size,
+            SearcherFault::Refused(why) => PlayFault::Refused(why),
+            SearcherFault::Memory => PlayFault::Memory,
         }
     }
 }
 
-/// Plays a protocol until the agent has accused, or is told that its match is over. At most `turns` replies are heard.
+/// Plays an agent until it has accused, or is told that its match is over. At most `turns` times it hears a reply or
+/// wakes.
 ///
-/// The agent says what the strategies of the protocol's theorem say of all that it was told, line by line, and nothing
-/// else. If it breaks off, what it had said by then is what they say, and of its last line a front may have been
-/// written.
-pub fn play<C: ServerConnection>(
+/// The agent says what its strategy says of all that has happened to it, line by line, and nothing else. If it breaks
+/// off, what it had said by then is what its strategy says, and of its last line a front may have been written.
+pub fn play<C: ServerConnection, S: Searcher>(
     alloc: Global,
     connection: &mut C,
-    player: Player<'_>,
+    searcher: &mut S,
+    key: &str,
     turns: u64,
 ) -> Result<PlayEnd, PlayFault>
-    ensures ended { IfOk result (λ ended. Ends C.says C.hears
-        (strategies_of player.entry.protocol player.entry.nodes player.entry.agent) player.entry.key.now
+    ensures ended { IfOk result (λ ended. Ends C.says C.hears (S.strategy searcher.old) key.now
         connection.old ended connection.new) }
-    ensures broken { OnErr result (Breaks C.says C.hears C.cuts C.loses
-        (strategies_of player.entry.protocol player.entry.nodes player.entry.agent) player.entry.key.now
-        connection.old connection.new) }
+    ensures broken { IfErr result (λ fault. Breaks C.says C.hears C.cuts C.loses (S.strategy searcher.old) key.now
+        connection.old fault connection.new) }
 {
-    let mut held = begun(player.protocol, player.nodes, player.agent);
+    let mut step = searcher.begin()?;
     for _ in 0..turns {
-        let step = step_of(alloc, player.nodes, held)?;
-        say(alloc, connection, player.key, &step)?;
-        let reply = hear(alloc, connection)?;
-        if let Some(ended) = ended_by(&reply) {
-            return Ok(ended);
+        let news = meet(alloc, connection, key, &step)?;
+        step = searcher.next(&news)?;
+        if let Some(ended) = ended_by(&news) {
+            return end_of(ended, &step);
         }
-        if let Reply::No(why) = reply {
-            return Err(PlayFault::Refused(why));
-        }
-        held = after(player.nodes, held, &reply)?;
     }
     Err(PlayFault::Turns)
 }
 
-// Says the command of a step, if there is one.
-fn say<C: ServerConnection>(
+// What happens next to an agent that does this.
+fn meet<C: ServerConnection>(
     alloc: Global,
     connection: &mut C,
     key: &str,
     step: &Step,
-) -> Result<(), PlayFault>
-    ensures said { OnOk result (Says C.says key.now step.now connection.old connection.new) }
+) -> Result<AgentNews, PlayFault>
+    ensures met { IfOk result (λ news. Meets C.says C.hears key.now step.now connection.old
+        (observation_of news) connection.new) }
     ensures broken { OnErr result (BreaksOff C.says C.hears C.cuts C.loses key.now step.now
         connection.old connection.new) }
+    ensures failed { IfErr result (λ fault. fault ≡ PlayFault.Failed → step.now ≡ Step.Fails) }
 {
     match step {
         Step::Says(command) => {
-            let line = line_of(alloc, key, command)?;
-            Ok(connection.say(line.as_str())?)
+            say(alloc, connection, key, command)?;
+            Ok(AgentNews::Heard(hear(alloc, connection)?))
         }
-        Step::Sleeps | Step::Stops | Step::Fails => Ok(()),
+        Step::Stops => Ok(AgentNews::Heard(hear(alloc, connection)?)),
+        Step::Sleeps => {
+            connection.sleep();
+            Ok(AgentNews::Woke)
+        }
+        Step::Fails => Err(PlayFault::Failed),
     }
+}
+
+// Says a command.
+fn say<C: ServerConnection>(
+    alloc: Global,
+    connection: &mut C,
+    key: &str,
+    command: &Command,
+) -> Result<(), PlayFault>
+    ensures said { OnOk result (Says C.says key.now (Step.Says command.now) connection.old connection.new) }
+    ensures broken { OnErr result (BreaksOff C.says C.hears C.cuts C.loses key.now (Step.Says command.now)
+        connection.old connection.new) }
+    ensures fault { IfErr result (λ fault. fault ≢ PlayFault.Failed) }
+{
+    let line = line_of(alloc, key, command)?;
+    Ok(connection.say(line.as_str())?)
 }
 
 // Hears a reply.
 fn hear<C: ServerConnection>(alloc: Global, connection: &mut C) -> Result<Reply, PlayFault>
     ensures heard { IfOk result (λ reply. Hears C.hears reply connection.old connection.new) }
     ensures broken { OnErr result (HearsNone C.hears C.loses connection.old connection.new) }
+    ensures fault { IfErr result (λ fault. fault ≢ PlayFault.Failed) }
 {
     let line = connection.hear()?;
     match reply_of(alloc, line.as_str())? {
@@ -168,18 +183,24 @@ fn hear<C: ServerConnection>(alloc: Global, connection: &mut C) -> Result<Reply,
     }
 }
 
-// How an agent ends that is told this, if it ends.
-fn ended_by(reply: &Reply) -> Option<PlayEnd>
-    ensures { result ≡ ended_by reply.now }
+// How an agent ends that would then do this: one that fails breaks off.
+fn end_of(ended: PlayEnd, step: &Step) -> Result<PlayEnd, PlayFault>
+    ensures ended { IfOk result (λ it. (it ≡ ended) × (step.now ≢ Step.Fails)) }
+    ensures failed { OnErr result (step.now ≡ Step.Fails) }
 {
-    match reply {
-        Reply::Noted => Some(PlayEnd::Accused),
-        Reply::Over | Reply::Bye => Some(PlayEnd::Over),
-        Reply::Here {
-            ports: _,
-            came: _,
-            board: _,
-        } => None,
-        Reply::Written | Reply::Changed { board: _ } | Reply::Gone | Reply::No(_) => None,
+    match step {
+        Step::Fails => Err(PlayFault::Failed),
+        Step::Says(_) | Step::Sleeps | Step::Stops => Ok(ended),
+    }
+}
+
+// How an agent ends to which this has happened, if it ends.
+fn ended_by(news: &AgentNews) -> Option<PlayEnd>
+    ensures { result ≡ end_after (observation_of news.now) }
+{
+    match news {
+        AgentNews::Heard(Reply::Noted) => Some(PlayEnd::Accused),
+        AgentNews::Heard(Reply::Over | Reply::Bye) => Some(PlayEnd::Over),
+        _ => None,
     }
 }

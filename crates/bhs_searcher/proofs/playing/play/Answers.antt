@@ -1,110 +1,97 @@
-use Rattle.std.proofs.Common.{◌∙◌, [], ◌∷◌, refl, sym, rules}
-use Rattle.bhs_wire.proofs.Reading.{on_err}
-use Rattle.bhs_explore.specs.Strategies.{Heard}
-use Rattle.bhs_searcher.specs.Protocols.{does_in}
-use Rattle.bhs_searcher.specs.Talks.{begins, silent, unheard}
-use Rattle.bhs_searcher.proofs.TalkLemmas.{talks_on, holds_on, breaks_off, stuck_by}
+use Rattle.std.proofs.Common.{◌∙◌, [], ◌∷◌, Some, refl, sym, ap}
+use Rattle.std.proofs.lemmas.Result.{IfOk-weaker}
+use Rattle.bhs_searcher.specs.declared.playing.PlayEnd.{PlayEnd}
+use Rattle.bhs_searcher.specs.Searchers.{observation_of}
+use Rattle.bhs_searcher.specs.Talks.{begins, silent}
+use Rattle.bhs_searcher.proofs.TalkLemmas.{follows_on, talks_on, breaks_off, then_off, not_failed, by_fault, on_fault}
 use Rattle.bhs_searcher.proofs.playing.play.Goals as goal
 
 pub loop-init : goal.loop-init
-loop-init g c = ([], (begins, c.begun-held.ensures))
-
-pub returns-in-Some-clause-ended : goal.returns-in-Some-clause-ended
-returns-in-Some-clause-ended g c =
-    let (history, (talks, holds)) = c.loop.invariant in
-    let player = c.args.player in record {
-      history = history;
-      reply = c.in_ok-reply.reply;
-      talks = talks_on g.C.ServerConnection.says g.C.ServerConnection.hears player.protocol player.nodes player.agent
-          player.key.now
-          c.args.connection.now c.loop.connection c.say.new.connection c.hear.new.connection history c.loop.held
-          c.in_ok-step.step c.in_ok-reply.reply talks holds c.in_ok-step.ensures c.in_ok-say.ensures.said
-          c.in_ok-reply.ensures.heard;
-      last = sym c.ended_by.ensures ∙ c.in-Some.is;
-    }
+loop-init g c = ([], (begins, c.in_ok-step.ensures))
 
 pub loop-preserved : goal.loop-preserved
 loop-preserved g c =
-    let (history, (talks, holds)) = c.loop.invariant in
-    let player = c.args.player in
-    let heard = Heard c.in_ok-reply.reply in (
-      heard ∷ history,
+    let (history, (talks, follows)) = c.loop.invariant in
+    let it = g.C.ServerConnection in
+    let agent = g.S.Searcher in
+    let item = observation_of c.in_ok-news.news in (
+      item ∷ history,
       (
-        talks_on g.C.ServerConnection.says g.C.ServerConnection.hears player.protocol player.nodes player.agent
-            player.key.now
-            c.args.connection.now c.loop.connection c.say.new.connection c.hear.new.connection history c.loop.held
-            c.in_ok-step.step c.in_ok-reply.reply talks holds c.in_ok-step.ensures c.in_ok-say.ensures.said
-            c.in_ok-reply.ensures.heard,
-        holds_on player.protocol player.nodes player.agent history c.loop.held c.in_ok-held.held heard holds
-            c.in_ok-held.ensures,
+        talks_on it.says it.hears (agent.strategy c.args.searcher.now) c.args.key.now c.args.connection.now
+            c.loop.connection c.meet.new.connection history item c.loop.step talks follows.is_next
+            c.in_ok-news.ensures.met,
+        follows_on agent.strategy agent.has_met c.args.searcher.now c.loop.searcher c.next.new.self history item
+            c.loop.step c.in_ok-step-2.step follows (c.in_ok-step-2.ensures history follows.met),
       ),
     )
 
+pub returns-in-Some-clause-ended : goal.returns-in-Some-clause-ended
+returns-in-Some-clause-ended g c =
+    let (history, (talks, follows)) = c.loop.invariant in
+    let it = g.C.ServerConnection in
+    let agent = g.S.Searcher in
+    let item = observation_of c.in_ok-news.news in
+    let after = follows_on agent.strategy agent.has_met c.args.searcher.now c.loop.searcher c.next.new.self history
+    item c.loop.step c.in_ok-step-2.step follows (c.in_ok-step-2.ensures history follows.met) in
+    IfOk-weaker c.end_of.result _ _ (λ ended is. record {
+      history = history;
+      item = item;
+      talks = talks_on it.says it.hears (agent.strategy c.args.searcher.now) c.args.key.now c.args.connection.now
+          c.loop.connection c.meet.new.connection history item c.loop.step talks follows.is_next
+          c.in_ok-news.ensures.met;
+      last = sym c.ended_by.ensures ∙ (c.in-Some.is ∙ ap (λ (end : PlayEnd). Some end) (sym is.0));
+      fine = λ fails. is.1 (after.is_next ∙ fails);
+    }) c.end_of.ensures.ended
+
+pub returns-in-Some-clause-broken : goal.returns-in-Some-clause-broken
+returns-in-Some-clause-broken g c =
+    let (history, (talks, follows)) = c.loop.invariant in
+    let it = g.C.ServerConnection in
+    let agent = g.S.Searcher in
+    let item = observation_of c.in_ok-news.news in
+    let after = follows_on agent.strategy agent.has_met c.args.searcher.now c.loop.searcher c.next.new.self history
+    item c.loop.step c.in_ok-step-2.step follows (c.in_ok-step-2.ensures history follows.met) in
+    on_fault _ c.end_of.result (λ why fails.
+    breaks_off it.says it.hears it.cuts it.loses (agent.strategy c.args.searcher.now) c.args.key.now
+    c.args.connection.now c.meet.new.connection c.meet.new.connection (item ∷ history) c.in_ok-step-2.step why
+    (talks_on it.says it.hears (agent.strategy c.args.searcher.now) c.args.key.now c.args.connection.now
+    c.loop.connection c.meet.new.connection history item c.loop.step talks follows.is_next
+    c.in_ok-news.ensures.met) after.is_next silent (λ _. fails)) c.end_of.ensures.failed
+
 pub returns-in_err-step-clause-broken : goal.returns-in_err-step-clause-broken
 returns-in_err-step-clause-broken g c =
-    let (history, (talks, holds)) = c.loop.invariant in
     let it = g.C.ServerConnection in
-    let player = c.args.player in
-    on_err c.from_residual.result
-    (breaks_off it.says it.hears it.cuts it.loses player.protocol player.nodes player.agent player.key.now
-    c.args.connection.now c.loop.connection c.loop.connection history c.loop.held
-    (does_in c.args.player.nodes c.loop.held) talks holds refl
-    silent)
+    let strategy = g.S.Searcher.strategy c.args.searcher.now in
+    by_fault _ _ c.from_residual.result (λ why is.
+    breaks_off it.says it.hears it.cuts it.loses strategy c.args.key.now c.args.connection.now
+    c.args.connection.now c.args.connection.now [] (strategy []) why begins refl silent
+    (not_failed _ c.in_err-step.field-0.0 why is)) c.from_residual.ensures.1
 
-pub returns-in_err-say-clause-broken : goal.returns-in_err-say-clause-broken
-returns-in_err-say-clause-broken g c =
-    let (history, (talks, holds)) = c.loop.invariant in
+pub returns-in_err-news-clause-broken : goal.returns-in_err-news-clause-broken
+returns-in_err-news-clause-broken g c =
+    let (history, (talks, follows)) = c.loop.invariant in
     let it = g.C.ServerConnection in
-    let player = c.args.player in
-    on_err c.from_residual-in_err-say.result
-    (breaks_off it.says it.hears it.cuts it.loses player.protocol player.nodes player.agent player.key.now
-    c.args.connection.now c.loop.connection c.say.new.connection history c.loop.held
-    c.in_ok-step.step talks holds c.in_ok-step.ensures
-    c.in_err-say.ensures.broken)
+    by_fault _ _ c.from_residual-in_err-news.result (λ why is.
+    breaks_off it.says it.hears it.cuts it.loses (g.S.Searcher.strategy c.args.searcher.now) c.args.key.now
+    c.args.connection.now c.loop.connection c.meet.new.connection history c.loop.step why talks follows.is_next
+    c.in_err-news.ensures.broken (λ failed. c.in_err-news.ensures.failed (sym is ∙ failed)))
+    c.from_residual-in_err-news.ensures.1
 
-pub returns-in_err-reply-clause-broken : goal.returns-in_err-reply-clause-broken
-returns-in_err-reply-clause-broken g c =
-    let (history, (talks, holds)) = c.loop.invariant in
+pub returns-in_err-step-2-clause-broken : goal.returns-in_err-step-2-clause-broken
+returns-in_err-step-2-clause-broken g c =
+    let (history, (talks, follows)) = c.loop.invariant in
     let it = g.C.ServerConnection in
-    let player = c.args.player in
-    on_err c.from_residual-in_err-reply.result
-    (breaks_off it.says it.hears it.cuts it.loses player.protocol player.nodes player.agent player.key.now
-    c.args.connection.now c.loop.connection c.hear.new.connection history c.loop.held
-    c.in_ok-step.step talks holds c.in_ok-step.ensures
-    (unheard c.say.new.connection c.hear.new.connection c.in_ok-say.ensures.said c.in_err-reply.ensures.broken))
-
-pub returns-in-No-clause-broken : goal.returns-in-No-clause-broken
-returns-in-No-clause-broken g c =
-    let (history, (talks, holds)) = c.loop.invariant in
-    let it = g.C.ServerConnection in
-    let player = c.args.player in
-    breaks_off it.says it.hears it.cuts it.loses player.protocol player.nodes player.agent player.key.now
-    c.args.connection.now c.loop.connection c.hear.new.connection history c.loop.held
-    c.in_ok-step.step talks holds c.in_ok-step.ensures
-    (unheard c.say.new.connection c.hear.new.connection c.in_ok-say.ensures.said
-    (stuck_by it.hears it.loses c.in_ok-reply.reply c.say.new.connection c.hear.new.connection
-    c.in_ok-reply.ensures.heard))
-
-pub returns-in_err-held : goal.returns-in_err-held
-returns-in_err-held g c =
-    let (history, (talks, holds)) = c.loop.invariant in
-    let it = g.C.ServerConnection in
-    let player = c.args.player in
-    let broken = on_err c.from_residual-in_err-held.result
-    (breaks_off it.says it.hears it.cuts it.loses player.protocol player.nodes player.agent player.key.now
-    c.args.connection.now c.loop.connection c.hear.new.connection history c.loop.held
-    c.in_ok-step.step talks holds c.in_ok-step.ensures
-    (unheard c.say.new.connection c.hear.new.connection c.in_ok-say.ensures.said
-    (stuck_by it.hears it.loses c.in_ok-reply.reply c.say.new.connection c.hear.new.connection
-    c.in_ok-reply.ensures.heard))) in
-    record { ended = search rules; broken = broken }
+    let off = then_off it.says it.hears it.cuts it.loses c.args.key.now c.loop.step c.loop.connection
+    c.meet.new.connection (observation_of c.in_ok-news.news) c.in_ok-news.ensures.met in
+    by_fault _ _ c.from_residual-in_err-step-2.result (λ why is.
+    breaks_off it.says it.hears it.cuts it.loses (g.S.Searcher.strategy c.args.searcher.now) c.args.key.now
+    c.args.connection.now c.loop.connection c.meet.new.connection history c.loop.step why talks follows.is_next
+    off (not_failed _ c.in_err-step-2.field-0.0 why is)) c.from_residual-in_err-step-2.ensures.1
 
 pub returns-clause-broken : goal.returns-clause-broken
 returns-clause-broken g c =
-    let (history, (talks, holds)) = c.loop.invariant in
+    let (history, (talks, follows)) = c.loop.invariant in
     let it = g.C.ServerConnection in
-    let player = c.args.player in
-    breaks_off it.says it.hears it.cuts it.loses player.protocol player.nodes player.agent player.key.now
-    c.args.connection.now c.loop.connection c.loop.connection history c.loop.held
-    (does_in c.args.player.nodes c.loop.held) talks holds refl
-    silent
+    breaks_off it.says it.hears it.cuts it.loses (g.S.Searcher.strategy c.args.searcher.now) c.args.key.now
+    c.args.connection.now c.loop.connection c.loop.connection history c.loop.step _ talks follows.is_next silent
+    (λ failed. absurd (cc))

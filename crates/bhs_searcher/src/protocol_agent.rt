@@ -1,17 +1,17 @@
-//! Protocols, and what an agent holds that runs one.
+//! Agents that run a protocol.
 
 ghost use Rattle.std.specs.Prelude.{◌≡◌, ◌-◌, ◌/◌, ◌==◌, if◌then◌else◌, [], IfOk};
-ghost use Rattle.bhs_searcher.specs.declared.protocol_memory.MemoryFault.{MemoryFault};
 ghost use Rattle.bhs_explore.specs.Strategies.{Heard};
 ghost use Rattle.bhs_protocols.specs.Halves as halves_specs;
 ghost use Rattle.bhs_protocols.specs.Shuttle as shuttle_specs;
 ghost use Rattle.bhs_searcher.specs.Protocols as specs;
+ghost use Rattle.bhs_searcher.specs.Searchers.{observation_of};
 
+use crate::searchers::{AgentNews, Searcher, SearcherFault};
 use bhs_explore::Step;
 use bhs_model::Reply;
 use bhs_protocols::{halves, shuttle};
-use std::alloc::{AllocError, Global};
-use thiserror::Error;
+use std::alloc::Global;
 
 // The programs of the searches are proved for numbers below this one.
 const MOST: u16 = 4094;
@@ -32,27 +32,51 @@ pub enum ProtocolMemory {
     Shuttle(shuttle::Memory),
 }
 
-/// Why an agent cannot go on.
-#[derive(Clone, Copy, Debug, PartialEq, Eq, Drop, Error)]
-pub enum MemoryFault {
-    /// A number has come to 4,094 or more: the ring has too many nodes, or a whiteboard has a strange mark.
-    #[error("size")]
-    Size,
-    /// Memory ran out.
-    #[error("memory")]
-    Memory,
+/// An agent that runs a protocol on a ring of this number of nodes, its number, 0 or 1, and what it holds.
+#[derive(Drop)]
+pub struct ProtocolAgent {
+    pub alloc: Global,
+    pub protocol: Protocol,
+    pub nodes: u16,
+    pub number: u16,
+    pub memory: ProtocolMemory,
 }
 
-impl From<AllocError> for MemoryFault {
-    ghost from_gives = { λ _ fault. fault ≡ MemoryFault.Memory };
-
-    fn from(_refused: AllocError) -> MemoryFault {
-        MemoryFault::Memory
+impl ProtocolAgent {
+    /// An agent at its start.
+    pub fn new(alloc: Global, protocol: Protocol, nodes: u16, number: u16) -> ProtocolAgent
+        ensures { (result.protocol ≡ protocol) × (result.nodes ≡ nodes) × (result.number ≡ number) }
+    {
+        ProtocolAgent {
+            alloc,
+            protocol,
+            nodes,
+            number,
+            memory: begun(protocol, nodes, number),
+        }
     }
 }
 
-/// What agent 0 or 1 of a protocol holds at the start.
-pub fn begun(protocol: Protocol, nodes: u16, agent: u16) -> ProtocolMemory
+impl Searcher for ProtocolAgent {
+    ghost use Rattle.bhs_searcher.specs.Protocols.{Holds, strategy_of_agent};
+
+    ghost strategy = { strategy_of_agent };
+
+    ghost has_met = { Holds };
+
+    fn begin(&mut self) -> Result<Step, SearcherFault> {
+        self.memory = begun(self.protocol, self.nodes, self.number);
+        step_of(self.alloc, self.nodes, self.memory)
+    }
+
+    fn next(&mut self, news: &AgentNews) -> Result<Step, SearcherFault> {
+        self.memory = after(self.nodes, self.memory, news)?;
+        step_of(self.alloc, self.nodes, self.memory)
+    }
+}
+
+// What agent 0 or 1 of a protocol holds at the start.
+fn begun(protocol: Protocol, nodes: u16, agent: u16) -> ProtocolMemory
     ensures { result ≡ specs.held_by protocol nodes agent [] }
 {
     match protocol {
@@ -85,40 +109,59 @@ fn first_target(nodes: u16, agent: u16) -> u16
     }
 }
 
-/// What an agent that holds this does next on a ring of this number of nodes.
-pub fn step_of(alloc: Global, nodes: u16, held: ProtocolMemory) -> Result<Step, MemoryFault>
+// What an agent that holds this does next on a ring of this number of nodes.
+fn step_of(alloc: Global, nodes: u16, held: ProtocolMemory) -> Result<Step, SearcherFault>
     ensures { IfOk result (λ step. step ≡ specs.does_in nodes held) }
 {
     match held {
         ProtocolMemory::Halves(memory) => {
             if memory.mine >= MOST || memory.own >= MOST || memory.other >= MOST {
-                return Err(MemoryFault::Size);
+                return Err(SearcherFault::Size);
             }
             Ok(halves::does(alloc, nodes, memory)?)
         }
         ProtocolMemory::Shuttle(memory) => {
             if memory.mine >= MOST || memory.theirs >= MOST {
-                return Err(MemoryFault::Size);
+                return Err(SearcherFault::Size);
             }
             Ok(shuttle::does(alloc, nodes, memory)?)
         }
     }
 }
 
-/// What an agent that holds this holds after a reply.
-pub fn after(nodes: u16, held: ProtocolMemory, reply: &Reply) -> Result<ProtocolMemory, MemoryFault>
+// What an agent that holds this holds once this has happened. A protocol knows no refusals.
+fn after(
+    nodes: u16,
+    held: ProtocolMemory,
+    news: &AgentNews,
+) -> Result<ProtocolMemory, SearcherFault>
+    ensures { IfOk result (λ more. more ≡ specs.after_in nodes held (observation_of news.now)) }
+{
+    match news {
+        AgentNews::Heard(Reply::No(why)) => Err(SearcherFault::Refused(*why)),
+        AgentNews::Heard(reply) => after_reply(nodes, held, reply),
+        AgentNews::Woke => Ok(held),
+    }
+}
+
+// What it holds after a reply.
+fn after_reply(
+    nodes: u16,
+    held: ProtocolMemory,
+    reply: &Reply,
+) -> Result<ProtocolMemory, SearcherFault>
     ensures { IfOk result (λ more. more ≡ specs.after_in nodes held (Heard reply.now)) }
 {
     match held {
         ProtocolMemory::Halves(memory) => {
             if memory.mine >= MOST || halves_steps(memory.phase) >= MOST {
-                return Err(MemoryFault::Size);
+                return Err(SearcherFault::Size);
             }
             Ok(ProtocolMemory::Halves(halves::after(nodes, memory, reply)))
         }
         ProtocolMemory::Shuttle(memory) => {
             if memory.mine >= MOST || shuttle_steps(memory.phase) >= MOST {
-                return Err(MemoryFault::Size);
+                return Err(SearcherFault::Size);
             }
             Ok(ProtocolMemory::Shuttle(shuttle::after(memory, reply)))
         }

@@ -1,0 +1,124 @@
+//! Agents that the program plays.
+
+ghost use Rattle.std.specs.Prelude.{◌≡◌, IfOk};
+ghost use Rattle.bhs_player.specs.Agents.{IsChosen};
+
+use crate::words::AgentChoice;
+use bhs_command_line::AgentModule;
+use bhs_model::{MAX_TEXT, MAX_TURNS};
+use bhs_searcher::{ModuleAgent, PlayFault, ProtocolAgent};
+use bhs_stream::{ReadFault, read_text};
+use bhs_wasm_read::{ModuleFault, module_of};
+use bhs_wasm_team::{FailureCause, ModuleFailure};
+use std::alloc::{AllocError, Global};
+use std::rt::Files;
+use std::{fs, io};
+use thiserror::Error;
+
+/// How many instructions a module executes at most from one command to the next; with more it fails. `arena explore`
+/// has the same number.
+pub const FUEL: u32 = 10_000_000;
+
+/// An agent that is played.
+#[derive(Drop)]
+pub enum PlayedAgent {
+    Protocol(ProtocolAgent),
+    Module(ModuleAgent),
+}
+
+/// Why there is no agent of a module's file.
+#[derive(Debug, Drop, Error)]
+pub enum AgentFault {
+    #[error("{0}")]
+    Open(io::Error),
+    #[error("{0}")]
+    Read(ReadFault),
+    #[error("{0}")]
+    Module(ModuleFault),
+    #[error("memory")]
+    Memory,
+}
+
+impl From<io::Error> for AgentFault {
+    fn from(error: io::Error) -> AgentFault {
+        AgentFault::Open(error)
+    }
+}
+
+impl From<ReadFault> for AgentFault {
+    fn from(fault: ReadFault) -> AgentFault {
+        AgentFault::Read(fault)
+    }
+}
+
+impl From<ModuleFault> for AgentFault {
+    fn from(fault: ModuleFault) -> AgentFault {
+        AgentFault::Module(fault)
+    }
+}
+
+impl From<AllocError> for AgentFault {
+    fn from(_refused: AllocError) -> AgentFault {
+        AgentFault::Memory
+    }
+}
+
+/// The agent that runs this, at its start. The file of a module is read.
+pub fn agent_of<F: Files>(
+    alloc: Global,
+    files: &F,
+    runs: &AgentChoice,
+) -> Result<PlayedAgent, AgentFault>
+    ensures { IfOk result (IsChosen runs.now) }
+{
+    match runs {
+        AgentChoice::Protocol {
+            protocol,
+            nodes,
+            side,
+        } => {
+            let agent = ProtocolAgent::new(alloc, *protocol, *nodes, *side);
+            Ok(PlayedAgent::Protocol(agent))
+        }
+        AgentChoice::Module(module) => Ok(PlayedAgent::Module(module_agent(alloc, files, module)?)),
+    }
+}
+
+fn module_agent<F: Files>(
+    alloc: Global,
+    files: &F,
+    module: &AgentModule,
+) -> Result<ModuleAgent, AgentFault>
+    ensures { IfOk result (λ agent. (agent.agents.arguments.items ≡ module.now.arguments)
+        × (agent.agents.fuel ≡ FUEL)) }
+{
+    let mut file = fs::open(files, module.file.as_str())?;
+    let bytes = read_text(alloc, &mut file, MAX_TEXT, MAX_TURNS)?;
+    let program = module_of(alloc, &bytes)?;
+    let arguments = Vec::from_slice(alloc, module.arguments.all())?;
+    Ok(ModuleAgent::new(alloc, program, arguments, FUEL)?)
+}
+
+/// Why a module failed, and in which function, counted as in the file, if an agent broke off for this reason.
+pub fn failure_of(
+    alloc: Global,
+    agent: &PlayedAgent,
+    fault: PlayFault,
+) -> Result<Option<String>, AllocError> {
+    let (PlayedAgent::Module(agent), PlayFault::Failed) = (agent, fault) else {
+        return Ok(None);
+    };
+    let Some(ModuleFailure { cause, function }) = agent.agents.failure else {
+        return Ok(None);
+    };
+    let cause = word_of(cause);
+    Ok(Some(format!(in alloc; "{cause} in function {function}")?))
+}
+
+fn word_of(cause: FailureCause) -> &'static str {
+    match cause {
+        FailureCause::Fuel => "fuel",
+        FailureCause::Trap => "trap",
+        FailureCause::Command => "command",
+    }
+}

@@ -1,0 +1,21 @@
+-- Agents that run a module, as searchers.
+use Rattle.std.specs.Prelude.{◌≡◌, Some}
+use Rattle.bhs_explore.specs.Strategies.{History, Strategy}
+use Rattle.bhs_wasm_team.specs.declared.agents.Agents.{Agents}
+use Rattle.bhs_wasm_team.specs.Agents.{memory_after, strategy_of}
+use Rattle.bhs_wasm_team.specs.Tables.{saved_at}
+use Rattle.bhs_searcher.specs.declared.module_agent.ModuleAgent.{ModuleAgent}
+
+-- the same module, arguments and fuel
+abbrev pub RunsTheSame : (old new : Agents) → Type 0
+RunsTheSame old new =
+    (new.program ≡ old.program) × (new.arguments.items ≡ old.arguments.items) × (new.fuel ≡ old.fuel)
+
+-- the strategy of an agent
+abbrev pub strategy_of_module : ModuleAgent → Strategy
+strategy_of_module agent = strategy_of agent.agents.program agent.agents.arguments.items agent.agents.fuel
+
+-- its number of a memory is the one of the memory that it has after this history
+abbrev pub Remembers : ModuleAgent → History → Type 0
+Remembers agent history = saved_at agent.agents.table.states.items agent.memory
+    ≡ Some (memory_after agent.agents.program agent.agents.arguments.items agent.agents.fuel history)

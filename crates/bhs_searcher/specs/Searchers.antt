@@ -1,0 +1,19 @@
+-- Agents that follow a strategy, step by step.
+use Rattle.std.specs.Prelude.{◌≡◌}
+use Rattle.bhs_explore.specs.declared.answers.Step.{Step}
+use Rattle.bhs_explore.specs.Strategies.{Observation, Heard, Woke, History, Strategy}
+use Rattle.bhs_searcher.specs.declared.searchers.AgentNews.{AgentNews}
+use Rattle.bhs_searcher.specs.declared.searchers.AgentNews.TheVariants as news
+
+-- what strategies know of it
+abbrev pub observation_of : AgentNews → Observation
+observation_of (news.Heard reply) = Heard reply
+observation_of news.Woke = Woke
+
+-- The agent's strategy is what it was; with this history it is now in the new state, and does this next. `strategy`
+-- and `has_met` say what its strategy and its history are in a state.
+pub record KeepsTo {S : Type 0} (strategy : S → Strategy) (has_met : S → History → Type 0) (old : S) (history : History)
+    (step : Step) (new : S) : Type 0 where
+  pub same : strategy new ≡ strategy old
+  pub met : has_met new history
+  pub is_next : step ≡ strategy old history

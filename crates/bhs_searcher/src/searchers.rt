@@ -1,0 +1,65 @@
+//! Agents that follow a strategy.
+
+ghost use Rattle.std.specs.Prelude.{◌≡◌, [], ◌∷◌, IfOk};
+ghost use Rattle.bhs_explore.specs.Strategies.{History, Strategy};
+ghost use Rattle.bhs_searcher.specs.Searchers.{KeepsTo, observation_of};
+
+use bhs_explore::{Step, TeamFault};
+use bhs_model::{Reply, Why};
+use std::alloc::{AllocError, AllocFailed};
+
+/// What has happened to an agent.
+#[derive(Debug, PartialEq, Eq, Drop)]
+pub enum AgentNews {
+    /// It has heard a reply, also one by which it arrives.
+    Heard(Reply),
+    /// It has slept, and has woken.
+    Woke,
+}
+
+/// An agent that follows a strategy.
+pub trait Searcher {
+    // Its strategy.
+    ghost strategy: { Self → Strategy };
+    // In this state this has happened to it, the newest first.
+    ghost has_met: { Self → History → Type 0 };
+
+    /// What it does first. What has happened to it before counts no more.
+    fn begin(&mut self) -> Result<Step, SearcherFault>
+        ensures { IfOk result (λ step. KeepsTo strategy has_met self.old [] step self.new) };
+
+    /// What it does next, once this has happened.
+    fn next(&mut self, news: &AgentNews) -> Result<Step, SearcherFault>
+        ensures { IfOk result (λ step. (history : History) → has_met self.old history
+            → KeepsTo strategy has_met self.old (observation_of news.now ∷ history) step self.new) };
+}
+
+/// Why an agent cannot go on.
+#[derive(Clone, Copy, Debug, PartialEq, Eq)]
+pub enum SearcherFault {
+    /// A number has come to 4,094 or more: the ring has too many nodes, or a whiteboard has a strange mark.
+    Size,
+    /// Its protocol knows no refusals.
+    Refused(Why),
+    /// Memory ran out.
+    Memory,
+}
+
+impl From<AllocError> for SearcherFault {
+    fn from(_refused: AllocError) -> SearcherFault {
+        SearcherFault::Memory
+    }
+}
+
+impl<T: Drop> From<AllocFailed<T>> for SearcherFault {
+    fn from(_refused: AllocFailed<T>) -> SearcherFault {
+        SearcherFault::Memory
+    }
+}
+
+/// A module answers nothing only if memory is lacking.
+impl From<TeamFault> for SearcherFault {
+    fn from(_fault: TeamFault) -> SearcherFault {
+        SearcherFault::Memory
+    }
+}
