@@ -40,6 +40,11 @@ class Number(IntConverter):
 register_converter(Number, "number")
 
 
+def no_icon(request: Any) -> HttpResponse:
+    """The icon of Django's own pages, which name none: there is none."""
+    return HttpResponse(status=204)
+
+
 def health(request: Any) -> JsonResponse:
     """For whoever watches the hall: how much waits, and how many matches run. How long a program is graded is nobody's
     business, as those that fail take long. Without its database it answers 503."""
@@ -73,6 +78,7 @@ API = [
 urlpatterns = [
     path("", standings.page),
     path("health", health),
+    path("favicon.ico", no_icon),
     path("screen", standings.screen),
     path("contests/<number:number>", standings.page),
     path("contests/<number:number>/screen", standings.screen),
