@@ -101,13 +101,13 @@ def of_sweep(name: str) -> Callable[[Asked], Made]:
     """Makes the table of a sweep: a row for each network, and of each scheduler the mean and the most moves."""
     def make(asked: Asked) -> Made:
         groups, commands = groups_of_sweep(name, asked)
-        return Made(rows_of(groups, are_drawn=grid.read(EXPERIMENTS / f"{name}.toml").holes == grid.DRAWN), commands)
+        return Made(rows_of(groups), commands)
     return make
 
 
-def rows_of(groups: Sequence[report.RunGroup], hunted: Mapping[str, int] = {}, are_drawn: bool = False) -> List[Cells]:
-    """A row for each network, with the most moves that were hunted on it, if that was done. A mean has its confidence
-    if the black holes are drawn, or if there are enough seeds to take each."""
+def rows_of(groups: Sequence[report.RunGroup], hunted: Mapping[str, int] = {}) -> List[Cells]:
+    """A row for each network, with the most moves that were hunted on it, if that was done. A mean has its confidence,
+    which is of all black holes: the sweep draws them, or has enough seeds to take each."""
     schedulers = list(dict.fromkeys(group.name[2] for group in groups))
     bound = grid_bound(groups)
     moves = [f"{name}: {what}" for name in schedulers for what in ("mean", "most")]
@@ -115,8 +115,7 @@ def rows_of(groups: Sequence[report.RunGroup], hunted: Mapping[str, int] = {}, a
         moves.append("hunted: most")
     head = ["network", "agents", "runs", "solved", *moves, "most lost", bound, "most / bound"]
     networks = list(dict.fromkeys(group.name[0] for group in groups))
-    return [head, *(row_of([group for group in groups if group.name[0] == name], hunted, are_drawn)
-                    for name in networks)]
+    return [head, *(row_of([group for group in groups if group.name[0] == name], hunted) for name in networks)]
 
 
 def grid_bound(groups: Sequence[report.RunGroup]) -> str:
@@ -125,17 +124,12 @@ def grid_bound(groups: Sequence[report.RunGroup]) -> str:
                  if all(group.bound == bound(group.nodes) for group in groups)), "bound")
 
 
-def mean_of(group: report.RunGroup, are_drawn: bool) -> str:
-    """The mean of its moves, with the confidence that it is of all black holes, if it says anything of them."""
-    said = f"{group.moves.mean:.1f}"
-    return f"{said} ± {group.moves.confidence:.1f}" if are_drawn or group.runs >= group.nodes - 1 else said
-
-
-def row_of(groups: Sequence[report.RunGroup], hunted: Mapping[str, int], are_drawn: bool) -> Cells:
+def row_of(groups: Sequence[report.RunGroup], hunted: Mapping[str, int]) -> Cells:
     network = groups[0].name[0]
     most = max([int(group.worst["moves"]) for group in groups] + [hunted.get(network, 0)])
     bound = groups[0].bound or 1
-    cells = [cell for group in groups for cell in (mean_of(group, are_drawn), group.worst["moves"])]
+    cells = [cell for group in groups
+             for cell in (f"{group.moves.mean:.1f} ± {group.moves.confidence:.1f}", group.worst["moves"])]
     if hunted:
         cells.append(str(hunted.get(network, "–")))
     return [network, str(groups[0].agents), str(sum(group.runs for group in groups)),
@@ -215,7 +209,7 @@ def thirds_row(nodes: int, drawn: Mapping[Tuple[str, str], str], hunted: Mapping
 
 
 # agents written as steps are explored by their memories, and programs by their histories, which are many more
-RINGS_EXPLORED = (3, 4, 5, 6, 7, 8, 9, 16)
+RINGS_EXPLORED = (3, 4, 5, 6, 7, 8, 9, 16, 24, 32)
 # more commands and more states than a match of these has
 WIDE = ("--quota", "65535", "--max-states", "1000000000")
 EXPLORED = [

@@ -22,6 +22,8 @@ from arena_lab.tests.playing import program
 DOCUMENT = make.DOCUMENT
 SMALL = {"rings": ("rings", ["ring:4", "ring:6"]), "no-map": ("no_map", ["hypercube:3"]),
          "known-map": ("known_map", ["hypercube:3"])}
+# the tables of means
+SWEEPS = ("rings", "large-rings", "no-map", "large-no-map", "known-map", "large-known-map")
 SMALL_EXPLORED = ("ring:3", "ring:4", "ring:5")
 # rings on which so few schedules show the most moves that were hunted
 SMALL_HUNTED, FEW = ("ring:4", "ring:8"), 150
@@ -62,12 +64,14 @@ class Experiments(unittest.TestCase):
                 with self.subTest(name, network=row[0]):
                     self.assertEqual(given[row[0]], list(row))
 
-    def test_a_mean_has_a_confidence_if_it_is_of_all_black_holes(self) -> None:
-        moves = report.spread_of([5, 7])
-        few = report.RunGroup(("ring:8", "a", "fair"), 8, 2, 2, 2, 2, moves, {"moves": "7"}, 1, 48.0)
-        for group, are_drawn, has_confidence in ((few, False, False), (few, True, True),
-                                                 (few._replace(runs=7), False, True)):
-            self.assertEqual("±" in make.rows_of([group], are_drawn=are_drawn)[1][4], has_confidence)
+    def test_each_mean_is_of_all_black_holes(self) -> None:
+        """Otherwise its interval says nothing of them."""
+        for name in SWEEPS:
+            spec = grid.read(make.EXPERIMENTS / f"{name.replace('-', '_')}.toml")
+            most = max(network.nodes for network in spec.networks.values()) - 1
+            self.assertTrue(spec.holes == grid.DRAWN or spec.seeds >= most, f"{name}: draw its black holes")
+            with self.subTest(name):
+                self.assertTrue(all("±" in row[4] and "±" in row[6] for row in table(name)), "make the table anew")
 
     def test_small_hunts(self) -> None:
         for hunt in make.hunts(FEW):
@@ -127,7 +131,7 @@ class Experiments(unittest.TestCase):
                 self.assertIn(row, table("too-few"))
 
     def test_no_team_of_a_table_is_lost_whole(self) -> None:
-        for name in ("rings", "large-rings", "no-map", "large-no-map", "known-map", "large-known-map"):
+        for name in SWEEPS:
             for row in table(name):
                 with self.subTest(name, network=row[0]):
                     self.assertLess(int(row[-3]), int(row[1]))
