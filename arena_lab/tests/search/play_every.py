@@ -304,7 +304,7 @@ class Exploring(InExplore):
         self.assertIn("stopped before all were visited; no schedule failed until then", self.said)
 
     def test_it_is_told_how_long_the_program_works(self) -> None:
-        game, fixture = self.game("--network", "ring:4", "--hole", "1", "--agent", RING.words)
+        game, fixture = self.game("--network", "ring:6", "--hole", "1", "--agent", RING.words)
         told = mock.Mock()
         with mock.patch("arena_lab.search.program_search.PAUSE", 0.01):
             self.answered(fixture, game.agents, said=told)
