@@ -10,42 +10,35 @@ import threading
 
 from arena_lab.play import server
 from arena_lab.__main__ import main
-from arena_lab.rules.model import Object
 
 is_over = threading.Event()
-games = []
+contests = []
 
 
-class PatientGame(server.ServedMatch):
+class PatientContest(server.Contest):
     def __init__(self, *given: object) -> None:
         super().__init__(*given)
-        games.append(self)
+        contests.append(self)
 
-    def tell(self, agent: int, command: Object) -> Object:
+    def deal(self, game: int, course: server.ServeOptions) -> None:
+        super().deal(game, course._replace(pause=0))
+
+    def turn(self, game: int) -> None:
+        match = self.matches[game]
         with self.changed:
-            self.changed.notify_all()
-            return super().tell(agent, command)
-
-    def has_work(self) -> bool:
-        return any(not self.match.agents[agent].lost for agent in self.match.pool)
-
-    def deal(self, turns: int, pause: float, gather: float, early: bool) -> None:
-        for _ in range(turns):
-            with self.changed:
-                self.changed.wait_for(lambda: is_over.is_set() or self.has_work())
-                self.turn()
-        super().deal(0, pause, gather, early)
+            self.changed.wait_for(lambda: is_over.is_set() or any(not match.agents[it].lost for it in match.pool))
+            super().turn(game)
 
 
 def wait_for_the_end() -> None:
     sys.stdin.read()
     is_over.set()
-    for game in games:
-        with game.changed:
-            game.changed.notify_all()
+    for contest in contests:
+        with contest.changed:
+            contest.changed.notify_all()
 
 
 if __name__ == "__main__":
-    server.ServedMatch = PatientGame
+    server.Contest = PatientContest
     threading.Thread(target=wait_for_the_end, daemon=True).start()
     sys.exit(main())

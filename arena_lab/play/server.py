@@ -1,171 +1,16 @@
-"""A stand-in for `arena serve`: sessions over TCP, and turns by the tournament's schedule."""
+"""A stand-in for `arena serve`: sessions over TCP on the Python model, and turns by the tournament's schedule."""
+import contextlib
 import pathlib
 import socket
 import threading
 import time
-from typing import Any, Dict, List, NamedTuple, Set, Tuple
+from collections import defaultdict, deque
+from typing import Deque, Dict, Iterator, List, NamedTuple, Tuple
 
 from arena_lab.rules.delays import Turns
-from arena_lab.rules.fixtures import Fixture, read_tournament
-from arena_lab.rules.model import (ENDED, GONE, LAST, MAX_LINE, OUTSIDE, OVER, Match, Object, Verdict, command_of,
-                             denial, judge, rank, spelled, text_of)
-
-
-class ServedMatch:
-    """One match under its lock, with its held links and the arrivals that were not told yet."""
-
-    def __init__(self, fixture: Fixture, turns: Turns) -> None:
-        self.team = fixture.team
-        self.match = Match(fixture.setup)
-        self.held = set(fixture.held)
-        self.turns = turns
-        self.changed = threading.Condition()
-        self.arrivals: Dict[int, Object] = {}
-
-    def tell(self, agent: int, command: Object) -> Object:
-        """The reply to a command; one that departs is answered twice, and waits for the second by `arrival`."""
-        with self.changed:
-            reply = self.match.tell(agent, command)
-            if reply == GONE:
-                self.turns.departs(agent)
-            self.changed.notify_all()
-            return reply
-
-    def arrival(self, agent: int) -> Object:
-        with self.changed:
-            self.changed.wait_for(lambda: agent in self.arrivals or self.match.closed)
-            return self.arrivals.pop(agent, OVER)
-
-    def turn(self) -> None:
-        """Lets the agent that the turn picks arrive, if its link is not held."""
-        with self.changed:
-            number = self.turns.take(len(self.match.agents), self.match.pool)
-            if number is None:
-                return
-            agent = self.match.agents[number]
-            reply = None if (agent.node, agent.port) in self.held else self.match.deliver(number)
-            if reply:
-                self.arrivals[number] = reply
-                self.changed.notify_all()
-
-    def is_gathered(self) -> bool:
-        """Whether all agents have entered."""
-        return all(agent.standing != OUTSIDE for agent in self.match.agents)
-
-    def is_decided(self) -> bool:
-        """Whether each agent has ended or is lost."""
-        with self.changed:
-            return all(agent.standing == ENDED or agent.lost for agent in self.match.agents)
-
-    def deal(self, turns: int, pause: float, gather: float, early: bool) -> None:
-        with self.changed:
-            self.changed.wait_for(self.is_gathered, timeout=gather)
-        for _ in range(turns):
-            if early and self.is_decided():
-                break
-            time.sleep(pause)
-            self.turn()
-        with self.changed:
-            self.match.close()
-            self.changed.notify_all()
-
-
-class Session:
-    """One connection of a client."""
-
-    def __init__(self, connection: socket.socket, keys: Dict[str, Tuple[ServedMatch, int]], taken: Set[str]) -> None:
-        self.connection = connection
-        self.reader = connection.makefile("rb")
-        self.keys = keys
-        self.taken = taken
-
-    def lines(self) -> Any:
-        """The client's lines. One that is too long, of which no more than that is kept, or is not UTF-8, is given as an
-        empty line, which is no command."""
-        is_long = False
-        while piece := self.reader.readline(MAX_LINE + 1):
-            if not piece.endswith(b"\n"):
-                is_long = True
-                continue
-            if is_long or piece.strip(b" \t\r\n"):
-                yield "" if is_long else text_of(piece[:-1])
-            is_long = False
-
-    def say(self, reply: Object) -> None:
-        self.connection.sendall(spelled(reply).encode() + b"\n")
-
-    def serve(self) -> None:
-        try:
-            lines = self.lines()
-            seat = self.seat(next(lines, None))
-            if seat:
-                game, agent = seat
-                self.play(game, agent, lines)
-        except OSError:
-            pass
-        finally:
-            self.connection.close()
-
-    def seat(self, line: Any) -> Any:
-        """The match and agent of the first line, or None if the client is denied."""
-        if line is None:
-            return None
-        command = command_of(line)
-        denied = denial(command, self.keys, self.taken)
-        if denied:
-            self.say(denied)
-            return None
-        self.taken.add(command["key"])
-        return self.keys[command["key"]]
-
-    def play(self, game: ServedMatch, agent: int, lines: Any) -> None:
-        reply = game.tell(agent, {"do": "enter"})
-        try:
-            self.say(reply)
-            while reply not in LAST:
-                line = next(lines, None)
-                if line is None:
-                    return
-                reply = game.tell(agent, command_of(line))
-                self.say(reply)
-                if reply == GONE:
-                    reply = game.arrival(agent)
-                    self.say(reply)
-        finally:
-            game.tell(agent, {"do": "leave"})
-
-
-def games_of(path: str) -> Tuple[List[ServedMatch], Dict[str, Tuple[ServedMatch, int]]]:
-    """The matches of a tournament file and the seats of its keys. The files must be right: ask `arena check`."""
-    tournament = read_tournament(path)
-    games, keys = [], {}
-    for number, fixture in enumerate(tournament.fixtures):
-        game = ServedMatch(fixture, Turns(tournament.delays, tournament.seed, number))
-        games.append(game)
-        keys.update({key: (game, agent) for agent, key in enumerate(fixture.keys)})
-    return games, keys
-
-
-def table(rows: List[Tuple[str, Verdict]]) -> str:
-    """The table of teams and verdicts, best first."""
-    ranked = sorted(rows, key=lambda row: rank(row[1], row[0]))
-    lines = [("#", "team", "outcome", "moves", "lost")]
-    lines += [(str(place), team, verdict.outcome, str(verdict.moves), str(verdict.lost))
-              for place, (team, verdict) in enumerate(ranked, 1)]
-    return "".join(f"{a:>3} {b:<16} {c:<10} {d:>6} {e:>4}\n" for a, b, c, d, e in lines)
-
-
-def host(listener: socket.socket, sessions: int, keys: Dict[str, Tuple[ServedMatch, int]]) -> None:
-    """Serves this number of sessions to their ends."""
-    taken: Set[str] = set()
-    threads = []
-    for _ in range(sessions):
-        connection, _ = listener.accept()
-        connection.setsockopt(socket.IPPROTO_TCP, socket.TCP_NODELAY, 1)
-        threads.append(threading.Thread(target=Session(connection, keys, taken).serve, daemon=True))
-        threads[-1].start()
-    for thread in threads:
-        thread.join()
+from arena_lab.rules.fixtures import Tournament, read_tournament
+from arena_lab.rules.model import ENDED, GONE, MAX_LINE, OUTSIDE, Match, Object, Verdict, judge, rank, spelled
+from arena_lab.rules.rehearsal import Item, Ready, Sent, Sessions
 
 
 class ServeOptions(NamedTuple):
@@ -179,21 +24,128 @@ class ServeOptions(NamedTuple):
     grace: float
 
 
+class Contest:
+    """The sessions of a tournament's matches under one lock, and the replies that were not sent yet."""
+
+    def __init__(self, tournament: Tournament) -> None:
+        self.teams = [fixture.team for fixture in tournament.fixtures]
+        self.sessions = Sessions([Ready(Match(it.setup), it.held, it.keys) for it in tournament.fixtures])
+        self.matches = [it.match for it in self.sessions.ready]
+        self.changed = threading.Condition()
+        self._turns = [Turns(tournament.delays, tournament.seed, game) for game in range(len(self.teams))]
+        self._unsent: Dict[int, Deque[Object]] = defaultdict(deque)
+
+    def take(self, conn: int, item: Item) -> None:
+        """Takes a line of a client, or the end of its input. An agent that departs is given its delay."""
+        with self.changed:
+            sent = self.sessions.line(conn, item)
+            seat = self.sessions.connections[conn].seat
+            if seat and (conn, GONE) in sent:
+                self._turns[seat[0]].departs(seat[1])
+            self._reply(sent)
+
+    def serve(self, conn: int, client: socket.socket) -> None:
+        """Takes a client's lines, each once the lines before it are answered."""
+        with client:
+            with contextlib.suppress(OSError):
+                for line in lines_of(client):
+                    self.take(conn, line)
+                    for reply in self._replies(conn):
+                        client.sendall(spelled(reply).encode() + b"\n")
+                    if self.sessions.connections[conn].is_done:
+                        return
+            self.take(conn, None)
+
+    def deal(self, game: int, course: ServeOptions) -> None:
+        """Takes the turns of a match, and closes it."""
+        with self.changed:
+            self.changed.wait_for(lambda: all(agent.standing != OUTSIDE for agent in self.matches[game].agents),
+                                  timeout=course.gather)
+        for _ in range(course.turns):
+            if course.early and self._is_decided(game):
+                break
+            time.sleep(course.pause)
+            self.turn(game)
+        with self.changed:
+            self._reply(self.sessions.close(game))
+
+    def turn(self, game: int) -> None:
+        """Lets the agent that the turn picks arrive, if its link is not held."""
+        with self.changed:
+            match = self.matches[game]
+            agent = self._turns[game].take(len(match.agents), match.pool)
+            if agent is not None:
+                self._reply(self.sessions.deliver(game, agent))
+
+    def _is_decided(self, game: int) -> bool:
+        """Whether each agent has ended or is lost."""
+        with self.changed:
+            return all(agent.standing == ENDED or agent.lost for agent in self.matches[game].agents)
+
+    def _reply(self, sent: Sent) -> None:
+        for conn, reply in sent:
+            self._unsent[conn].append(reply)
+        self.changed.notify_all()
+
+    def _replies(self, conn: int) -> Iterator[Object]:
+        """What a client is to be sent until its next line is taken. It is sent without the lock, so that a client that
+        does not read keeps nobody waiting."""
+        unsent = self._unsent[conn]
+        while True:
+            with self.changed:
+                self.changed.wait_for(lambda: unsent or not self.sessions.waits(conn))
+                if not unsent:
+                    return
+                reply = unsent.popleft()
+            yield reply
+
+
+def lines_of(client: socket.socket) -> Iterator[bytes]:
+    """A client's lines. Of one that is too long no more is kept than shows it."""
+    reader, line = client.makefile("rb"), b""
+    while piece := reader.readline(MAX_LINE + 2):
+        line = line or piece
+        if piece.endswith(b"\n"):
+            yield line.removesuffix(b"\n")
+            line = b""
+
+
+def table(rows: List[Tuple[str, Verdict]]) -> str:
+    """The table of teams and verdicts, best first."""
+    ranked = sorted(rows, key=lambda row: rank(row[1], row[0]))
+    lines = [("#", "team", "outcome", "moves", "lost")]
+    lines += [(str(place), team, verdict.outcome, str(verdict.moves), str(verdict.lost))
+              for place, (team, verdict) in enumerate(ranked, 1)]
+    return "".join(f"{a:>3} {b:<16} {c:<10} {d:>6} {e:>4}\n" for a, b, c, d, e in lines)
+
+
+def host(listener: socket.socket, sessions: int, contest: Contest) -> None:
+    """Serves this number of sessions to their ends."""
+    threads = []
+    for conn in range(sessions):
+        client, _ = listener.accept()
+        client.setsockopt(socket.IPPROTO_TCP, socket.TCP_NODELAY, 1)
+        threads.append(threading.Thread(target=contest.serve, args=(conn, client), daemon=True))
+        threads[-1].start()
+    for thread in threads:
+        thread.join()
+
+
 def served(tournament: str, port: int, sessions: int, prefix: str, course: ServeOptions) -> None:
-    """Serves a contest: writes its replays, and prints its table."""
-    games, keys = games_of(tournament)
+    """Serves a contest: writes its replays, and prints its table. The files must be right: ask `arena check`."""
+    contest = Contest(read_tournament(tournament))
     with socket.create_server(("127.0.0.1", port), backlog=sessions) as listener:
         print(f"listening {port}", flush=True)
         # daemons, so that a server that is interrupted ends
-        times = (course.turns, course.pause, course.gather, course.early)
-        threads = [threading.Thread(target=game.deal, args=times, daemon=True) for game in games]
+        threads = [threading.Thread(target=contest.deal, args=(game, course), daemon=True)
+                   for game in range(len(contest.matches))]
         for thread in threads:
             thread.start()
-        hosting = threading.Thread(target=host, args=(listener, sessions, keys), daemon=True)
+        hosting = threading.Thread(target=host, args=(listener, sessions, contest), daemon=True)
         hosting.start()
         for thread in threads:
             thread.join()
         hosting.join(course.grace)
-    for number, game in enumerate(games):
-        pathlib.Path(f"{prefix}{number}.jsonl").write_text(game.match.replay(), encoding="utf-8")
-    print(table([(game.team, judge(game.match)) for game in games]), end="")
+    for number, match in enumerate(contest.matches):
+        pathlib.Path(f"{prefix}{number}.jsonl").write_text(match.replay(), encoding="utf-8")
+    print(table([(team, judge(match)) for team, match in zip(contest.teams, contest.matches)]), end="")

@@ -1,28 +1,140 @@
-"""A rehearsal on the Python model: one match and its connections, played as `arena rehearse` plays a script.
+"""Sessions on the Python model: connections, keys and queues of the matches of a tournament, played as `arena rehearse`
+plays a script. Nothing is proved of it.
 
-This is the engine that needs no build. Nothing is proved of it: it is for trying agents and for searching schedules.
+`Sessions` has any number of matches and takes bytes as they come. `Rehearsal` is the engine that needs no build: one
+match, whose lines come whole, and the script that does the same.
 """
 from collections import deque
-from typing import Deque, Dict, List, Optional, Tuple
+from typing import Collection, Deque, Dict, List, NamedTuple, Optional, Sequence, Tuple
 
 from arena_lab.rules.fixtures import Fixture
-from arena_lab.rules.model import (AWAY, LAST, MAX_LINE, OVER, AgentState, Match, Object, command_of, denial, spelled,
-                                   text_of)
+from arena_lab.rules.model import (AWAY, LAST, MAX_LINE, OVER, AgentState, Match, Object, Place, command_of, denial,
+                                   spelled, text_of)
 
-# what came out: the connection and the line that it is sent
+# an agent: the numbers of its match and of itself
+Seat = Tuple[int, int]
+# what came out: connections, each with the reply or the line that it is sent
+Sent = List[Tuple[int, Object]]
 Said = Tuple[int, str]
 # what a connection's input holds that was not taken yet: lines, and then None if it has ended
 Item = Optional[bytes]
 BLANK = b" \t\r"
 
 
+class Ready(NamedTuple):
+    """A match, its held links, and the keys of its agents."""
+
+    match: Match
+    held: Collection[Place]
+    keys: Sequence[str]
+
+
 class Connection:
     """One client: the agent that it plays, what it sent, and whether it is to be sent anything more."""
 
     def __init__(self) -> None:
-        self.agent: Optional[int] = None
+        self.seat: Optional[Seat] = None
+        self.unfinished = b""
         self.items: Deque[Item] = deque()
-        self.is_done = False
+        self.has_ended = self.is_done = False
+
+
+class Sessions:
+    """Connections to matches. Each call gives the replies that are sent, with the connections that are sent them."""
+
+    def __init__(self, ready: Sequence[Ready]) -> None:
+        self.ready = ready
+        # the agent of each key, and the connection that plays it
+        self.seats = {key: (game, agent) for game, it in enumerate(ready) for agent, key in enumerate(it.keys)}
+        self.plays: Dict[str, int] = {}
+        self.connections: Dict[int, Connection] = {}
+
+    def bytes_of(self, conn: int, data: bytes) -> Sent:
+        """What comes of bytes that a client sends."""
+        connection = self._connection(conn)
+        *lines, connection.unfinished = (connection.unfinished + data).split(b"\n")
+        return [it for line in lines for it in self.line(conn, line)]
+
+    def line(self, conn: int, item: Item) -> Sent:
+        """What comes of a line that a client sends, or of the end of its input."""
+        connection = self._connection(conn)
+        is_blank = item is not None and len(item) <= MAX_LINE and not item.strip(BLANK)
+        if not is_blank and not connection.has_ended:
+            connection.items.append(item)
+            connection.has_ended = item is None
+        return self._taken_by(conn)
+
+    def draw(self, game: int, word: int) -> Sent:
+        """What comes of a delivery that a word draws."""
+        pool = self.ready[game].match.pool
+        return self.deliver(game, pool[word % len(pool)]) if pool else []
+
+    def deliver(self, game: int, number: int) -> Sent:
+        """What comes of a delivery of an agent, unless its link is held."""
+        match, held, keys = self.ready[game]
+        agent = match.agents[number]
+        reply = None if (agent.node, agent.port) in held else match.deliver(number)
+        conn = self.plays.get(keys[number])
+        return [] if reply is None or conn is None else [(conn, reply), *self._taken_by(conn)]
+
+    def close(self, game: int) -> Sent:
+        """What comes of the end of a match."""
+        match, _, keys = self.ready[game]
+        if match.closed:
+            return []
+        match.close()
+        waiting = sorted(self.plays[key] for key in keys if key in self.plays and self.waits(self.plays[key]))
+        for conn in waiting:
+            self.connections[conn].is_done = True
+        return [(conn, OVER) for conn in waiting]
+
+    def enter(self, conn: int, key: str) -> Seat:
+        """Has a connection play the agent of a key."""
+        self.plays[key] = conn
+        seat = self._connection(conn).seat = self.seats[key]
+        return seat
+
+    def waits(self, conn: int) -> bool:
+        """Whether its agent is on a link."""
+        connection = self.connections[conn]
+        if connection.seat is None or connection.is_done:
+            return False
+        game, agent = connection.seat
+        return self.ready[game].match.agents[agent].standing == AWAY
+
+    def _connection(self, conn: int) -> Connection:
+        return self.connections.setdefault(conn, Connection())
+
+    def _taken_by(self, conn: int) -> Sent:
+        """Takes what a connection sent, until its agent is on a link."""
+        connection, sent = self.connections[conn], []
+        while connection.items and not connection.is_done and not self.waits(conn):
+            reply = self._answer(conn, connection.items.popleft())
+            if reply is not None:
+                sent.append((conn, reply))
+        return sent
+
+    def _answer(self, conn: int, item: Item) -> Optional[Object]:
+        """The reply to a line, or to the end of the input, which has none."""
+        connection = self.connections[conn]
+        if item is None:
+            connection.is_done = True
+            if connection.seat is not None:
+                self._tell(connection.seat, {"do": "leave"})
+            return None
+        command = command_of(text_of(item))
+        if connection.seat is None:
+            reply = denial(command, self.seats, self.plays)
+            if reply is not None:
+                connection.is_done = True
+                return reply
+        reply = self._tell(connection.seat or self.enter(conn, command["key"]), command)
+        connection.is_done = reply in LAST
+        return reply
+
+    def _tell(self, seat: Seat, command: Object) -> Object:
+        game, agent = seat
+        return self.ready[game].match.tell(agent, command)
 
 
 class Rehearsal:
@@ -33,47 +145,27 @@ class Rehearsal:
         self.fixture = fixture
         self.match = Match(fixture.setup)
         self.script: List[bytes] = []
-        self._seats = {key: agent for agent, key in enumerate(fixture.keys)}
-        self._taken: Dict[str, int] = {}
-        self._held = set(fixture.held)
-        self._connections: Dict[int, Connection] = {}
+        self._sessions = Sessions([Ready(self.match, set(fixture.held), fixture.keys)])
 
     def feed(self, number: int, line: bytes) -> List[Said]:
         """What comes of a line that a client sends."""
         self.script.append(b"%d %s" % (number, line))
-        return self._take_in(number, line)
+        return lines_of(self._sessions.line(number, line))
 
     def end(self, number: int) -> List[Said]:
         """What comes of the end of a client's input."""
         self.script.append(b"end %d" % number)
-        return self._take_in(number, None)
+        return lines_of(self._sessions.line(number, None))
 
     def draw(self, word: int) -> List[Said]:
         """What comes of a delivery that a word draws."""
         self.script.append(b"draw 0 %d" % word)
-        match = self.match
-        if match.closed or not match.pool:
-            return []
-        number = match.pool[word % len(match.pool)]
-        agent = match.agents[number]
-        reply = None if (agent.node, agent.port) in self._held else match.deliver(number)
-        if reply is None:
-            return []
-        number = self._connection_of(number)
-        return [(number, spelled(reply)), *self._taken_by(number)]
+        return lines_of(self._sessions.draw(0, word))
 
     def close(self) -> List[Said]:
         """What comes of the end of the match."""
         self.script.append(b"close 0")
-        if self.match.closed:
-            return []
-        self.match.close()
-        told = []
-        for number, connection in sorted(self._connections.items()):
-            if not connection.is_done and self._is_away(connection):
-                connection.is_done = True
-                told.append((number, spelled(OVER)))
-        return told
+        return lines_of(self._sessions.close(0))
 
     def replay(self) -> bytes:
         """The replay of the match, which must have been closed."""
@@ -86,53 +178,16 @@ class Rehearsal:
         """Sets the match to one agent, which plays over the connection of its number, with this text on the whiteboard
         in front of it; of the other agents and nodes nothing is kept."""
         self.match.set_alone(number, agent, board)
-        connection = Connection()
-        connection.agent = number if is_seated else None
-        self._connections = {number: connection}
-        self._taken = {self.fixture.keys[number]: number} if is_seated else {}
+        self._sessions = Sessions(self._sessions.ready)
+        if is_seated:
+            self._sessions.enter(number, self.fixture.keys[number])
         self.script.clear()
 
     def is_seated(self, number: int) -> bool:
         """Whether the connection plays an agent."""
-        return self._connections[number].agent is not None
+        return number in self._sessions.plays.values()
 
-    def _take_in(self, number: int, item: Item) -> List[Said]:
-        connection = self._connections.setdefault(number, Connection())
-        if item is not None and len(item) <= MAX_LINE and not item.strip(BLANK):
-            return []
-        connection.items.append(item)
-        return self._taken_by(number)
 
-    def _connection_of(self, agent: int) -> int:
-        return next(number for number, it in self._connections.items() if it.agent == agent)
-
-    def _is_away(self, connection: Connection) -> bool:
-        return connection.agent is not None and self.match.agents[connection.agent].standing == AWAY
-
-    def _taken_by(self, number: int) -> List[Said]:
-        """Takes what a connection sent, until its agent is on a link."""
-        connection = self._connections[number]
-        told = []
-        while connection.items and not connection.is_done and not self._is_away(connection):
-            reply = self._answer(connection, connection.items.popleft())
-            if reply is not None:
-                told.append((number, spelled(reply)))
-        return told
-
-    def _answer(self, connection: Connection, item: Item) -> Optional[Object]:
-        """The reply to a line, or to the end of the input, which has none."""
-        if item is None:
-            connection.is_done = True
-            if connection.agent is not None:
-                self.match.tell(connection.agent, {"do": "leave"})
-            return None
-        command = command_of(text_of(item))
-        if connection.agent is None:
-            reply = denial(command, self._seats, self._taken)
-            if reply is not None:
-                connection.is_done = True
-                return reply
-            connection.agent = self._taken[command["key"]] = self._seats[command["key"]]
-        reply = self.match.tell(connection.agent, command)
-        connection.is_done = reply in LAST
-        return reply
+def lines_of(sent: Sent) -> List[Said]:
+    """Replies as the lines that are sent."""
+    return [(conn, spelled(reply)) for conn, reply in sent]

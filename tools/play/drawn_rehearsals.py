@@ -1,153 +1,10 @@
-"""Rehearsals in Python, after docs/FORMATS.md and apart from the proved code: connections, keys and queues of several
-matches over the model of the lab, which take bytes as they come, and scripts that are drawn from a seed. Nothing is
-proved of it."""
+"""Scripts of rehearsals that are drawn from a seed, with what arena_lab/rules/rehearsal.py prints of them."""
 import collections
 import random
-from typing import Counter, Deque, Dict, List, NamedTuple, Optional, Sequence, Tuple
+from typing import Counter, Dict, List, NamedTuple, Sequence, Tuple
 
-from arena_lab.rules.model import AWAY, BAD, BYE, NOTED, OVER, Match, Object, Place, Setup, command_of, spelled
-
-CONNECTIONS = 256
-MAX_LINE = 65_536
-BLANK = b" \t\r"
-# the end of a connection's input, among its lines
-END = None
-
-Seat = Tuple[int, int]
-Sent = List[Tuple[int, Object]]
-
-
-class Ready(NamedTuple):
-    """A match, its held links, and the keys of its agents."""
-    match: Match
-    held: Sequence[Place]
-    keys: Sequence[str]
-
-
-def read(line: bytes) -> Object:
-    """The command of a line; an enter has its key."""
-    if len(line) > MAX_LINE:
-        return BAD
-    try:
-        return command_of(line.decode())
-    except UnicodeDecodeError:
-        return BAD
-
-
-class Connection:
-    """What came on a connection and was not taken, and whom it plays."""
-
-    def __init__(self) -> None:
-        self.unfinished = b""
-        self.items: Deque[Optional[bytes]] = collections.deque()
-        self.seat: Optional[Seat] = None
-        self.has_ended = False
-        self.is_done = False
-
-    def receive(self, data: bytes) -> None:
-        *lines, self.unfinished = (self.unfinished + data).split(b"\n")
-        self.items.extend(line for line in lines if len(line) > MAX_LINE or line.strip(BLANK))
-
-
-class Rehearsal:
-    """Each call gives what is sent, by connection. It counts what it was asked and what came of that."""
-
-    def __init__(self, ready: Sequence[Ready]) -> None:
-        self.ready = ready
-        self.seats = {key: (game, agent) for game, one in enumerate(ready) for agent, key in enumerate(one.keys)}
-        self.connections = [Connection() for _ in range(CONNECTIONS)]
-        self.seen: Counter[str] = collections.Counter()
-
-    def feed(self, conn: int, data: bytes) -> Sent:
-        if not self.connections[conn].has_ended:
-            self.connections[conn].receive(data)
-        return self.taken(conn)
-
-    def end(self, conn: int) -> Sent:
-        connection = self.connections[conn]
-        if not connection.has_ended:
-            connection.has_ended = True
-            connection.items.append(END)
-        return self.taken(conn)
-
-    def draw(self, game: int, word: int) -> Sent:
-        match, held, _ = self.ready[game]
-        self.seen[f"pool of {len(match.pool)}"] += 1
-        if match.closed or not match.pool:
-            return []
-        number = match.pool[word % len(match.pool)]
-        agent = match.agents[number]
-        if (agent.node, agent.port) in held:
-            self.seen["held"] += 1
-            return []
-        reply = match.deliver(number)
-        self.seen["arrival" if reply else "destroyed"] += 1
-        conn = self.conn_of((game, number))
-        return [(conn, reply), *self.taken(conn)] if reply and conn is not None else []
-
-    def close(self, game: int) -> Sent:
-        match = self.ready[game].match
-        if match.closed:
-            return []
-        match.close()
-        waiting = [conn for conn, one in enumerate(self.connections) if self.waits(one) and one.seat[0] == game]
-        for conn in waiting:
-            self.connections[conn].is_done = True
-        self.seen["over"] += len(waiting)
-        return [(conn, OVER) for conn in waiting]
-
-    def conn_of(self, seat: Seat) -> Optional[int]:
-        return next((conn for conn, one in enumerate(self.connections) if one.seat == seat), None)
-
-    def waits(self, connection: Connection) -> bool:
-        """Whether its agent is on a link."""
-        if connection.seat is None or connection.is_done:
-            return False
-        game, agent = connection.seat
-        return self.ready[game].match.agents[agent].standing == AWAY
-
-    def taken(self, conn: int) -> Sent:
-        """Takes lines while nothing keeps the connection from it."""
-        connection, sent = self.connections[conn], []
-        while connection.items and not connection.is_done and not self.waits(connection):
-            reply = self.take(connection, connection.items.popleft())
-            if reply:
-                sent.append((conn, reply))
-        return sent
-
-    def take(self, connection: Connection, line: Optional[bytes]) -> Optional[Object]:
-        if line is END:
-            connection.is_done = True
-            if connection.seat:
-                self.tell(connection.seat, {"do": "leave"})
-                self.seen["end of an agent"] += 1
-            return None
-        command = read(line)
-        if connection.seat is None:
-            return self.first(connection, command)
-        return self.answered(connection, {name: command[name] for name in command if name != "key"})
-
-    def first(self, connection: Connection, command: Object) -> Object:
-        """A first line lets an agent in, or the connection is denied."""
-        seat = self.seats.get(command.get("key", "")) if command["do"] == "enter" else None
-        denial = "enter" if command["do"] != "enter" else "key" if seat is None else \
-            "taken" if self.conn_of(seat) is not None else None
-        if denial:
-            connection.is_done = True
-            self.seen[f"denied: {denial}"] += 1
-            return {"no": denial}
-        connection.seat = seat
-        return self.answered(connection, {"do": "enter"})
-
-    def answered(self, connection: Connection, command: Object) -> Object:
-        reply = self.tell(connection.seat, command)
-        connection.is_done = reply in (BYE, NOTED, OVER)
-        self.seen[reply.get("ok") or f"no {reply['no']}"] += 1
-        return reply
-
-    def tell(self, seat: Seat, command: Object) -> Object:
-        game, agent = seat
-        return self.ready[game].match.tell(agent, command)
+from arena_lab.rules.model import Match, Setup, spelled
+from arena_lab.rules.rehearsal import Ready, Sent, Sessions
 
 
 class Drawn(NamedTuple):
@@ -199,31 +56,39 @@ class ScriptMaker:
     """Makes a script, instruction by instruction, and has what each prints."""
 
     def __init__(self, ready: Sequence[Ready], chance: random.Random) -> None:
-        self.rehearsal = Rehearsal(ready)
+        self.rehearsal = Sessions(ready)
+        self.seen: Counter[str] = collections.Counter()
         self.chance = chance
         self.script: List[str] = []
         self.printed: List[str] = []
 
     def note(self, line: str, sent: Sent) -> None:
         self.script.append(line)
+        self.seen.update(reply.get("ok") or f"no {reply['no']}" for _, reply in sent)
         self.printed.append("".join(f"{conn} {spelled(reply)}\n" for conn, reply in sorted(sent, key=lambda it: it[0])))
 
     def say(self, conn: int, line: bytes) -> None:
         """A connection sends a line, whole or in pieces."""
         cut = self.chance.randrange(len(line) + 1) if self.chance.random() < 0.2 else None
         if cut is None and b"\xff" not in line:
-            self.note(f"{conn} {line.decode()}", self.rehearsal.feed(conn, line + b"\n"))
+            self.note(f"{conn} {line.decode()}", self.rehearsal.bytes_of(conn, line + b"\n"))
             return
         for piece in (line[:cut or 0], line[cut or 0:] + b"\n"):
             if piece:
-                self.note(f"hex {conn} {piece.hex()}", self.rehearsal.feed(conn, piece))
+                self.note(f"hex {conn} {piece.hex()}", self.rehearsal.bytes_of(conn, piece))
 
     def draw(self, game: int) -> None:
-        word = self.chance.getrandbits(32)
+        word, (match, held, _) = self.chance.getrandbits(32), self.rehearsal.ready[game]
+        self.seen[f"pool of {len(match.pool)}"] += 1
+        if match.pool and not match.closed:
+            agent = match.agents[match.pool[word % len(match.pool)]]
+            self.seen["held" if (agent.node, agent.port) in held else
+                      "destroyed" if match.doomed(agent.node, agent.port) else "arrival"] += 1
         self.note(f"draw {game} {word}", self.rehearsal.draw(game, word))
 
     def end(self, conn: int) -> None:
-        self.note(f"end {conn}", self.rehearsal.end(conn))
+        self.seen["end of an agent"] += conn in self.rehearsal.plays.values()
+        self.note(f"end {conn}", self.rehearsal.line(conn, None))
 
     def close(self, game: int) -> None:
         self.note(f"close {game}", self.rehearsal.close(game))
@@ -280,4 +145,4 @@ def drawn(agents: int) -> Drawn:
         maker.close(game)
     for conn in range(0, 70, 7):
         maker.say(conn, b'{"do":"look"}')
-    return Drawn(files, maker.script, maker.printed, maker.rehearsal.seen)
+    return Drawn(files, maker.script, maker.printed, maker.seen)

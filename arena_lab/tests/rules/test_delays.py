@@ -1,36 +1,60 @@
-"""The oblivious schedule of the stand-in: the delay of a word, and that an agent's turns tell nothing of others."""
+"""The stand-in: its oblivious schedule tells an agent nothing of others, and who does not read keeps nobody waiting."""
 import pathlib
+import socket
 import tempfile
+import threading
 import unittest
 from typing import List, Optional
 
-from arena_lab.play.server import ServedMatch
-from arena_lab.rules.delays import Delays, Turns
-from arena_lab.rules.fixtures import fixture_of, read_tournament, tournament_text
-from arena_lab.rules.model import Setup
+from arena_lab.play.server import Contest
+from arena_lab.rules.delays import Delays
+from arena_lab.rules.fixtures import Tournament, fixture_of, read_tournament, tournament_text
+from arena_lab.rules.model import AWAY, Setup
 from arena_lab.rules.networks import ring
 
 DELAYS = Delays(3, 4)
 SEED = "07" * 32
 
 
+def contest_on_ring(delays: Optional[Delays]) -> Contest:
+    """A contest of two agents on a ring."""
+    network = ring(6)
+    fixture = fixture_of(Setup(network.nodes, network.links, 0, [5], 2, 1000, 64))
+    return Contest(Tournament(SEED, [fixture], delays))
+
+
 def turns_of_moves(delays: Optional[Delays], is_other_destroyed: bool, moves: int) -> List[int]:
     """After how many turns each move of agent 0 ends, on a ring whose black hole agent 1 departs for or not."""
-    network = ring(6)
-    game = ServedMatch(fixture_of(Setup(network.nodes, network.links, 0, [5], 2, 1000, 64)), Turns(delays, SEED, 0))
+    contest = contest_on_ring(delays)
     for agent in range(2):
-        game.tell(agent, {"do": "enter"})
+        contest.take(agent, b'{"do":"enter","key":"k%d"}' % agent)
     if is_other_destroyed:
-        game.tell(1, {"do": "depart", "port": 1})
-    found, port, turns = [], 0, 0
+        contest.take(1, b'{"do":"depart","port":1}')
+    found, port, turns, walker = [], 0, 0, contest.matches[0].agents[0]
     for _ in range(moves):
-        game.tell(0, {"do": "depart", "port": port})
-        while 0 not in game.arrivals:
-            game.turn()
+        contest.take(0, b'{"do":"depart","port":%d}' % port)
+        while walker.standing == AWAY:
+            contest.turn(0)
             turns += 1
         found.append(turns)
-        port = game.arrivals.pop(0)["from"]
+        port = walker.came
     return found
+
+
+class Clients(unittest.TestCase):
+    def test_one_that_does_not_read_keeps_nobody_waiting(self) -> None:
+        contest, (ours, theirs) = contest_on_ring(None), socket.socketpair()
+        threading.Thread(target=contest.serve, args=(0, theirs), daemon=True).start()
+        with ours:
+            ours.settimeout(0.5)
+            ours.sendall(b'{"do":"enter","key":"k0"}\n')
+            with self.assertRaises(TimeoutError):
+                while True:
+                    ours.sendall(b'{"do":"look"}\n' * 1000)
+            other = threading.Thread(target=contest.take, args=(1, b'{"do":"enter","key":"k1"}'), daemon=True)
+            other.start()
+            other.join(20)
+            self.assertFalse(other.is_alive())
 
 
 class DelaysTest(unittest.TestCase):
