@@ -2,13 +2,18 @@
 begin."""
 
 import os
+import pathlib
 import sys
 
 VERSION = "1"
 
-# how one calls the lab, here and where it was installed; `called` is what the commands of this process say
+# how one calls the lab, in a clone or an archive and where it was installed
 IN_CLONE, INSTALLED = "./arena-lab", "arena-lab"
-called = IN_CLONE
+
+
+def called() -> str:
+    """How one calls this lab: by the command that pip or Debian has installed, or else by the script of a clone."""
+    return INSTALLED if pathlib.PurePath(sys.argv[0]).name == INSTALLED else IN_CLONE
 
 
 def with_one_order() -> None:

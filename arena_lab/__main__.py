@@ -129,10 +129,9 @@ def end(*_: object) -> None:
     raise Terminated
 
 
-def main(given: Optional[List[str]] = None, name: str = IN_CLONE) -> int:
-    arena_lab.called = name
+def main(given: Optional[List[str]] = None) -> int:
     line = ways.spelled(sys.argv[1:] if given is None else given)
-    words, strange = parser(name, line[:1]).parse_known_args(line)
+    words, strange = parser(arena_lab.called(), line[:1]).parse_known_args(line)
     if strange:
         # with the usage of the command, where argparse has that of the lab
         words.refuse(f"unrecognized arguments: {' '.join(strange)}")

@@ -2,7 +2,7 @@
 import os
 import sys
 
-from arena_lab import INSTALLED, with_one_order
+from arena_lab import with_one_order
 from arena_lab.support import built
 
 
@@ -25,7 +25,7 @@ def arena() -> int:
 
 
 def lab() -> int:
-    """Runs the lab under the name by which it was installed."""
+    """Runs the lab."""
     with_one_order()
     from arena_lab.__main__ import main
-    return main(None, INSTALLED)
+    return main()

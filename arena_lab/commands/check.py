@@ -128,7 +128,7 @@ def run(words: argparse.Namespace) -> int:
     if wrong is None:
         print(right)
         return 0
-    again = f"{arena_lab.called} replay {words.keep}{'' if asked.program else f' --engine {MODEL}'}"
+    again = f"{arena_lab.called()} replay {words.keep}{'' if asked.program else f' --engine {MODEL}'}"
     print("\n  ".join([f"To mend first: {wrong.said[0]}", *wrong.said[1:]]))
     print(f"See it again by `{again}`, and try a mended agent by `{again} --follow`" if wrong.is_repeatable else
           "A replay has no clock and does not show it: check again once it is mended")

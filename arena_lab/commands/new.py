@@ -36,7 +36,7 @@ def run(words: argparse.Namespace) -> int:
 
 def next_commands(kit: Kit) -> List[str]:
     """The commands by which a kit is built, tested and played on a ring of eight nodes, in its folder."""
-    called = arena_lab.called if arena_lab.called == arena_lab.INSTALLED else shlex.quote(str(TOP / "arena-lab"))
+    called = shlex.quote(str(TOP / "arena-lab")) if arena_lab.called() == arena_lab.IN_CLONE else arena_lab.INSTALLED
     words = f'--network ring:8 --command "{played(kit)}"'
     explore = f"{called} explore {words}".replace("--command", "--agent") if kit.is_module else ""
     return list(filter(None, (kit.build, kit.test, f"{called} run {words}", explore)))

@@ -40,7 +40,7 @@ def spelled(given: List[str]) -> List[str]:
     not say how the team is tried."""
     if given[:1] != [COMMAND] or len(given) == 2 and given[1] in HELP:
         return given
-    chosen = argparse.ArgumentParser(add_help=False, allow_abbrev=False, prog=f"{arena_lab.called} {COMMAND}")
+    chosen = argparse.ArgumentParser(add_help=False, allow_abbrev=False, prog=f"{arena_lab.called()} {COMMAND}")
     add_words(chosen)
     words, others = chosen.parse_known_args(given[1:])
     return [*WAYS[words.how], *others]

@@ -64,7 +64,7 @@ def write_find(folder: pathlib.Path, schedule: Schedule, played: PlayedMatch, pr
     for number, text in played.errors.items():
         (folder / f"{ERRORS}{number}.txt").write_text(text, encoding="utf-8")
     write_refused(folder / REFUSED, played)
-    said = [f"{folder}: {len(schedule.choices)} choices; again by `{arena_lab.called} replay {folder}`"]
+    said = [f"{folder}: {len(schedule.choices)} choices; again by `{arena_lab.called()} replay {folder}`"]
     if program is None:
         said.append("the Python model played it, which proves nothing: the program was not asked")
         return said + written_page(folder, None, schedule.title(), played.refused)

@@ -45,7 +45,7 @@ def by_debian(modules: Sequence[str]) -> str:
     packages = " ".join(PACKAGES[name] for name in modules)
     said = f"install Debian's package{'' if len(modules) == 1 else 's'} by `apt-get install {packages}`"
     is_debians = pathlib.Path(sys.executable).resolve() == pathlib.Path(DEBIANS_PYTHON).resolve()
-    return said if is_debians else f"{said}, and run the lab by `{arena_lab.called}`, which takes Debian's Python"
+    return said if is_debians else f"{said}, and run the lab by `{arena_lab.called()}`, which takes Debian's Python"
 
 
 def needed(name: str) -> ModuleType:

@@ -2,9 +2,12 @@
 import argparse
 import contextlib
 import io
+import sys
 import unittest
 from typing import Tuple
+from unittest import mock
 
+from arena_lab import called
 from arena_lab.__main__ import parser
 from arena_lab.commands.spellings import SPELLINGS
 
@@ -20,6 +23,11 @@ def read(*words: str) -> Tuple[argparse.Namespace, str]:
 
 
 class Spellings(unittest.TestCase):
+    def test_the_lab_is_called_by_the_command_that_was_installed(self) -> None:
+        for word, name in (("/usr/bin/arena-lab", "arena-lab"), ("/clone/arena_lab/__main__.py", "./arena-lab")):
+            with mock.patch.object(sys, "argv", [word]):
+                self.assertEqual(called(), name)
+
     def test_an_old_spelling_does_what_the_new_one_does(self) -> None:
         for command, old, value in (("run", "--naps", "7"), ("run", "--limit", "3.5"), ("explore", "--by", "starved"),
                                     ("explore", "--hunt", "lost"), ("explore", "--states", "9"),
