@@ -46,36 +46,23 @@ COMMANDS = {
     "invariant": Command("arena_lab.commands.invariant", "try a candidate invariant on every picture of small networks",
                          PLAYS + PAGES),
     "replay": Command("arena_lab.commands.replay", "play a schedule again, and compare every byte", PLAYS + PAGES),
-    "mutants": Command("arena_lab.commands.mutants",
-                       "try whether the lab finds out wrong versions of the sample agents",
-                       PLAYS + ("networkx", "hypothesis")),
-    "endure": Command("arena_lab.commands.endure", "play the sample agents under many drawn schedules",
-                      PLAYS + ("networkx",)),
-    "speed": Command("arena_lab.commands.speed", "measure how many steps a second the lab plays"),
-    "compare": Command("arena_lab.commands.compare", "compare the program with the Python model, byte for byte",
-                       PLAYS + ("networkx",)),
     "serve": Command("arena_lab.commands.serve",
                      "a stand-in for `arena serve`, to try agents without building the program",
                      ()),
     "network": Command("arena_lab.commands.network", "write a network file, or a page to see it", ("networkx",)),
     "tournament": Command("arena_lab.commands.tournament",
-                          "write a tournament of teams, networks and black holes, with their keys", ("networkx",)),
-    "again": Command("arena_lab.commands.again", "write another try of a match, for a team whose program crashed",
-                     ("networkx",)),
+                          "write a tournament of teams, networks and black holes, or another try of a match",
+                          ("networkx",)),
     "sweep": Command("arena_lab.commands.sweep", "play teams over a grid of networks and schedules, and write a report",
                      PLAYS + PAGES + ("matplotlib",)),
-    "grade": Command("arena_lab.commands.grade",
-                     "grade the programs of a course: a league table, and a page for each team",
+    "grade": Command("arena_lab.commands.grade", "grade the programs of a course, or repeat a graded course once more",
                      PLAYS + PAGES),
-    "repeat": Command("arena_lab.commands.repeat", "repeat each agent of a graded course's solved matches once more",
-                      ("tqdm",)),
     "hall": Command("arena_lab.commands.hall",
                     "serve a hall, where teams practise, try again, and are ranked for a term",
                     PLAYS + PAGES + ("django", "rest_framework", "waitress", "whitenoise")),
-    "page": Command("arena_lab.commands.page", "write a page on which one watches a match that has ended", PAGES),
+    "page": Command("arena_lab.commands.page", "write a page of a match that has ended, or of each match of a contest",
+                    PAGES),
     "watch": Command("arena_lab.commands.watch", "show a contest that goes on, for a projector", PAGES + ("aiohttp",)),
-    "pages": Command("arena_lab.commands.pages", "write a page of each match of a contest, and one that lists them",
-                     PAGES),
 }
 
 ABOUT = """Plays agents under a schedule that you choose, records it, and plays it again byte for byte.
@@ -130,8 +117,9 @@ def end(*_: object) -> None:
 
 
 def main(given: Optional[List[str]] = None) -> int:
-    line = ways.spelled(sys.argv[1:] if given is None else given)
-    words, strange = parser(arena_lab.called(), line[:1]).parse_known_args(line)
+    name = arena_lab.called()
+    line = ways.spelled(spellings.command_of_today(name, sys.argv[1:] if given is None else given))
+    words, strange = parser(name, line[:1]).parse_known_args(line)
     if strange:
         # with the usage of the command, where argparse has that of the lab
         words.refuse(f"unrecognized arguments: {' '.join(strange)}")

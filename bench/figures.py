@@ -289,7 +289,7 @@ BENCHMARKS: Dict[str, Benchmark] = {
                               lambda at: "" if instructions.has_valgrind() else "valgrind is not installed"),
     "replays": Benchmark("Replays", lambda at: of_python("bench.replays", str(at.program)), replays_text),
     "serve": Benchmark("The server's speed", lambda at: of_python("bench.serve"), serve_text),
-    "lab": Benchmark("The lab", lambda at: of_debians("arena_lab", "speed", "--program", str(at.program)), lab_text),
+    "lab": Benchmark("The lab", lambda at: of_debians("bench.speed", "--program", str(at.program)), lab_text),
     "explore": Benchmark("Every schedule", lambda at: of_debians("bench.explore", *EXPLORED), noted_text(EXPLORE_NOTE)),
     "spin": Benchmark("Every schedule beside SPIN", lambda at: of_debians("bench.spin"), noted_text(SPIN_NOTE),
                       lambda at: "" if spin.HAS_SPIN else "spin is not installed"),

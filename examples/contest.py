@@ -13,7 +13,7 @@ Python, `./arena-lab serve`, and a line says so.
 
 With --kill the agents of the team green are killed in the middle of their search, and the other teams must solve
 theirs. Files go to a temporary folder; --keep has the replays of the matches written to a folder, --pages also a page
-of each and a list of them (./arena-lab pages). With --watch a browser shows the contest while it goes on (./arena-lab
+of each and a list of them (./arena-lab page). With --watch a browser shows the contest while it goes on (./arena-lab
 watch); turns are slower then, and the page stays until you press Enter. ARENA in the environment names another server,
 as ARENA="./arena-lab" for the one in Python.
 """
@@ -149,7 +149,7 @@ def write_pages(replays: str, folder: pathlib.Path) -> None:
     server = arena()
     is_model = pathlib.Path(server[0]).name == LAB or len(server) > 1
     program = ["--engine", "model"] if is_model else ["--program", server[0]] if "ARENA" in os.environ else []
-    tool = [DEBIANS_PYTHON, "-m", "arena_lab", "pages", TOURNAMENT, replays, "--out", str(folder.resolve()), *program]
+    tool = [DEBIANS_PYTHON, "-m", "arena_lab", "page", TOURNAMENT, replays, "--out", str(folder.resolve()), *program]
     subprocess.run(tool, cwd=TOP, check=True)
 
 

@@ -26,7 +26,7 @@ EXAMPLES = {
     "`lost`": Example(r"\blost\b", ["crates/bhs_standings/s*/**/*.*t", "arena_lab/play/server.py",
                                     "arena_lab/pages/[st]*.py"]),
     "`events`": Example(r'"events"', ["arena_lab/play/*.py", "arena_lab/sweep/*.py"]),
-    "`endure`": Example(r"commands\.endure|arena-lab endure", [*OWN, "*.md", "docs/*.md", "arena_lab/*.md"]),
+    "`serve`": Example(r"commands\.serve|arena-lab serve", [*OWN, "*.md", "docs/*.md", "arena_lab/*.md"]),
     "`slow-links`": Example(r"slow-links|SlowLinks", [*CRATES, *ROWS, *OWN]),
 }
 

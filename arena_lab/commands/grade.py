@@ -1,6 +1,7 @@
 """Grades the programs of a course: plays them all, and writes a league table and a page for each team.
 
     ./arena-lab grade examples/course/course.toml --out out/course
+    ./arena-lab grade out/course --repeat-only
 
 Each team plays the same matches. The folder gets `league.html` and `league.csv`, the table of all teams (matches solved
 first, then the moves and the lost agents of these); `team-NAME.html` for each team; `runs.csv`, a row for each
@@ -15,6 +16,13 @@ the whiteboards only while it runs is not there to be heard. The first differenc
 `repeats.csv` has a row for each solved match, and `solved` has the replays. A program may use what it is told and the
 number in ARENA_SEED, and nothing else: no clock, and no other random numbers. With `--no-repeat` the lab leaves that
 out.
+
+With `--repeat-only` it does nothing else, and writes nothing. The folder of results has all that is needed: the
+course's file, what each team has handed in, the secret, and the replays of solved matches. So you can copy it to
+another machine, and repeat there: what an agent has left in the kernel of the first machine is not there. The order is
+drawn anew on each run. A line for each team says how many of its solved matches repeat, and a line for each that does
+not says which agent says something else, at which command. The exit status is 1 if a match does not repeat that counted
+when the course was graded.
 
 A program that crashes, hangs, or sends rubbish fails its own matches, and so does one that is handed in with too much
 or takes too long. Each program runs in a folder of its own, and what else keeps it apart depends on the machine; the
@@ -33,6 +41,7 @@ from arena_lab.commands.words import add_engine, add_forget, add_workers, progra
 from arena_lab.course import sandbox, course, export, points
 from arena_lab.course.sandbox import Isolation, Sandbox
 from arena_lab.course.grading import GradingRun, graded_in, hand_ins
+from arena_lab.course.repeating import repeat_graded
 from arena_lab.support.missing import check
 from arena_lab.sweep import tables
 
@@ -45,8 +54,11 @@ def add_words(parser: argparse.ArgumentParser) -> None:
     group = parser.add_argument_group("the file", course.__doc__)
     parser.add_argument_group("points", points.__doc__)
     parser.add_argument_group("exports", export.__doc__)
-    group.add_argument("file", metavar="COURSE.toml", type=pathlib.Path, help="the course")
-    parser.add_argument("--out", metavar="FOLDER", type=pathlib.Path, required=True, help="write everything there")
+    group.add_argument("file", metavar="COURSE.toml", type=pathlib.Path, help="the course; or, with "
+                       "--repeat-only, the folder of its results")
+    parser.add_argument("--out", metavar="FOLDER", type=pathlib.Path, help="write everything there")
+    parser.add_argument("--repeat-only", action="store_true", help="repeat the solved matches of a graded course once "
+                        "more, also on another machine")
     parser.add_argument("--secret", metavar="FILE", type=pathlib.Path, help="take the secret that this file has, such "
                         "as the `secret.txt` of other results, to play the same matches")
     parser.add_argument("--no-repeat", action="store_true", help="count all solved matches, also those whose agents "
@@ -61,6 +73,10 @@ def add_words(parser: argparse.ArgumentParser) -> None:
 
 
 def run(words: argparse.Namespace) -> int:
+    if words.repeat_only:
+        return repeat_graded(words.file, words.workers, words.drop_caches)
+    if not words.out:
+        words.refuse("name a folder for the results by --out FOLDER")
     check(*NEEDED)
     path, strongest = words.file.resolve(), sandbox.strongest()
     read = course.read(path, "")

@@ -1,11 +1,18 @@
-"""Writes a page on which one can watch a match that has ended.
+"""Writes a page on which one can watch a match that has ended, or the pages of a contest.
 
     ./arena-lab page REPLAY [--out PAGE] [--twin V] [--program PATH | --engine model]
+    ./arena-lab page TOURNAMENT PREFIX --out FOLDER [--again FOLDER] [--program PATH | --engine model]
 
 The page is one HTML file that opens without a network: REPLAY with the ending `.html`, or PAGE. With --twin it shows
 beside the match its twin whose black hole is node V. The program `arena` judges the replay, explains it and makes the
 twin; a replay that it refuses is refused here with its line and its status. With --engine model the Python model judges
 and explains, which needs no build of the program and proves nothing; it makes no twins.
+
+Of a contest, TOURNAMENT is the file that was served, and PREFIX what its --replay named: the replay of match M is
+PREFIXM.jsonl. The folder gets index.html, which has the table of the contest with links, and beside it the page and the
+replay of each match. A match without a replay, as after a server that was killed, is listed so. --again FOLDER takes
+another try of a match in: the folder is that of `./arena-lab tournament --again`, in which its server was started. The
+better of the tries counts, or the last one with --take last.
 
 Networks are laid out by Debian's package python3-networkx with python3-numpy and python3-scipy, which that package
 recommends.
@@ -14,17 +21,33 @@ import argparse
 import pathlib
 
 from arena_lab.commands.words import add_engine, program_of
+from arena_lab.pages.contest_pages import BETTER, LAST, Tries, write_pages
 from arena_lab.pages.page import write_page
 
 
 def add_words(parser: argparse.ArgumentParser) -> None:
     """The words of the command `page`."""
-    parser.add_argument("replay", metavar="REPLAY", type=pathlib.Path, help="a replay, as the arena writes it")
-    parser.add_argument("--out", metavar="PAGE", type=pathlib.Path, help="write the page there")
+    parser.add_argument("file", metavar="REPLAY", type=pathlib.Path, help="a replay, as the arena writes it; or, "
+                        "before a PREFIX, the tournament's file that was served")
+    parser.add_argument("prefix", metavar="PREFIX", nargs="?", help="what --replay of the server named: the replay of "
+                        "match M is PREFIXM.jsonl")
+    parser.add_argument("--out", metavar="PAGE", type=pathlib.Path, help="write the page there, or the pages of a "
+                        "contest into this folder")
     parser.add_argument("--twin", metavar="V", type=int, help="show the twin whose black hole is node V beside it")
+    parser.add_argument("--again", metavar="FOLDER", type=pathlib.Path, action="append", default=[], help="another try "
+                        "of a match, and more by more of these, in the order in which they were played")
+    parser.add_argument("--take", choices=(BETTER, LAST), default=BETTER, help="which of the tries counts (better)")
     add_engine(parser)
 
 
 def run(words: argparse.Namespace) -> int:
-    write_page(program_of(words), words.replay, words.out or words.replay.with_suffix(".html"), words.twin)
+    if words.prefix is None:
+        if words.again:
+            words.refuse("--again is for a contest: name its TOURNAMENT and the PREFIX of its replays")
+        write_page(program_of(words), words.file, words.out or words.file.with_suffix(".html"), words.twin)
+        return 0
+    if not words.out or words.twin is not None:
+        words.refuse("the pages of a contest need a folder, by --out FOLDER, and have no --twin")
+    tries = Tries(words.again, words.take)
+    print(write_pages(program_of(words), words.file, words.prefix, words.out, tries))
     return 0

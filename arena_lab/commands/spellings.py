@@ -1,10 +1,25 @@
-"""Old spellings of options: they still work for a release, and say what the option is called now."""
+"""Old spellings of commands and options: they still work for a release, and say what is called so now."""
 import argparse
 import sys
-from typing import Any
+from typing import Any, List
 
 SPELLINGS = {"--by": "--scheduler", "--for": "--objective", "--hunt": "--objective", "--limit": "--timeout",
              "--naps": "--spurious-wakeups", "--states": "--max-states"}
+COMMANDS = {"pages": ["page"], "again": ["tournament", "--again"], "repeat": ["grade", "--repeat-only"]}
+# commands of old that are modules of a clone
+MODULES = {"compare": "tools.play.compare", "endure": "tools.play.endure", "mutants": "tools.play.mutants",
+           "speed": "bench.speed"}
+
+
+def command_of_today(lab: str, line: List[str]) -> List[str]:
+    """A command line with the command of today. If it has an old one, the new one is named on standard error."""
+    old = line[0] if line else ""
+    if old in MODULES:
+        print(f"{lab}: in a clone, {old} is called /usr/bin/python3 -m {MODULES[old]} now", file=sys.stderr)
+        sys.exit(2)
+    if old in COMMANDS:
+        print(f"{lab}: {old} is called {' '.join(COMMANDS[old])} now", file=sys.stderr)
+    return [*COMMANDS.get(old, line[:1]), *line[1:]]
 
 
 class OldSpelling(argparse.Action):

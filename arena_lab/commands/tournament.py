@@ -1,6 +1,7 @@
 """Writes a tournament: each team on each network with each black hole.
 
     ./arena-lab tournament --team red --team blue --network ring:8 --network torus:5x5 --holes 2 --out contest
+    ./arena-lab tournament --again contest/tournament.toml 3 --out again3
 
 The folder gets the file of the tournament, a file for each network, and a sheet of keys for each team. Keys and the
 tournament's seed are drawn by the operating system's source of secrets. So are black holes, unless you name them by
@@ -11,12 +12,18 @@ delays and how many turns a match takes.
 With --traps N each team gets N matches more, on networks that are drawn, without a black hole: two nodes are drawn
 instead, and the links into them let nobody arrive. No agent can tell such a match from one in which either is the black
 hole and the links into the other are slow. So a team that decides nothing by time is `silent` there; one that takes a
-long silence for a black hole is `wrong`, and the standings of `./arena-lab pages` and `./arena-lab watch` say how often
-it was
-deceived. All matches stand in an order that is drawn. A trap goes on until its last turn, as its agents wait.
+long silence for a black hole is `wrong`, and the standings of `./arena-lab page` and `./arena-lab watch` say how often
+it was deceived. All matches stand in an order that is drawn. A trap goes on until its last turn, as its agents wait.
 
 Give each team its own sheet and no other file of the folder. A file of a network has no black hole: a team may have it
 if its agents are to know the map. Run `arena check tournament.toml` and `arena serve tournament.toml` in the folder.
+
+--again TOURNAMENT M writes another try of match M alone, for a team whose program crashed once it had entered: a key is
+used once. It has the team, the network, the home base and the limits of match M, and everything else anew: keys, the
+labels of ports, the tournament's seed, and what destroys or lets nobody arrive. It is served beside the contest, on
+another port, and the first match stays as it is. Give the team its new sheet, and the network's file if it had that.
+`./arena-lab page tournament.toml PREFIX --again again3 --out pages` counts the better of the two tries, or the last one
+with --take last.
 """
 import argparse
 import pathlib
@@ -26,9 +33,10 @@ from typing import Callable, Dict, List, NamedTuple, Optional, Sequence, Tuple, 
 
 from arena_lab.commands.network import add_ports, network_for
 from arena_lab.commands.words import not_negative
+from arena_lab.pages.contest_pages import AGAIN
 from arena_lab.rules import networks
 from arena_lab.rules.delays import ADAPTIVE, OBLIVIOUS, ODDS, SCALES, Delays
-from arena_lab.rules.fixtures import Fixture, tournament_text
+from arena_lab.rules.fixtures import Fixture, read_tournament, tournament_text
 from arena_lab.rules.limits import MOST_AGENTS, MOST_BOARD, MOST_QUOTA, SMALL_BOARD, SMALL_QUOTA
 from arena_lab.rules.model import Setup
 from arena_lab.rules.networks import Network, NoNetwork
@@ -36,7 +44,7 @@ from arena_lab.rules.networks import Network, NoNetwork
 ALL, DEGREE = "all", "degree"
 MOST_MATCHES = 64
 MOST_SCALES, MOST_ODDS = 24, 65_535
-TOURNAMENT = "tournament.toml"
+TOURNAMENT, NETWORK = "tournament.toml", "network0.toml"
 QUOTA, BOARD = SMALL_QUOTA, SMALL_BOARD
 
 
@@ -181,9 +189,9 @@ def number_or(*others: str) -> Callable[[str], Union[int, str]]:
 
 def add_words(parser: argparse.ArgumentParser) -> None:
     """The words of the command `tournament`."""
-    parser.add_argument("--team", metavar="NAME", type=team_name, action="append", required=True, help="a team, and "
+    parser.add_argument("--team", metavar="NAME", type=team_name, action="append", default=[], help="a team, and "
                         "more by more of these")
-    parser.add_argument("--network", metavar="NAME", action="append", required=True, help="a network, and more by more "
+    parser.add_argument("--network", metavar="NAME", action="append", default=[], help="a network, and more by more "
                         "of these: see `./arena-lab network --help`")
     add_ports(parser)
     parser.add_argument("--home", metavar="V", type=int, default=0, help="the home base (0)")
@@ -203,16 +211,28 @@ def add_words(parser: argparse.ArgumentParser) -> None:
                         f"than 2^N turns and a few picks ({SCALES})")
     parser.add_argument("--delay-odds", metavar="N", type=int, default=ODDS, help="of N moves one takes 1 turn more, "
                         f"one 2 or 3, one 4 to 7, and so on ({ODDS})")
+    parser.add_argument("--again", metavar=("TOURNAMENT", "M"), nargs=2, help="write another try of match M of a "
+                        "tournament's file; its networks are named from this folder")
     parser.add_argument("--out", metavar="FOLDER", type=pathlib.Path, required=True, help="write it there; the folder "
                         "must not have a tournament")
 
 
 def run(words: argparse.Namespace) -> int:
-    check_limits(words)
-    check_delays(words)
+    if not words.again and not (words.team and words.network):
+        words.refuse("name teams by --team and networks by --network, or a match by --again")
+    if words.again and (words.team or words.network):
+        words.refuse("--again takes the team and the network of its match: leave --team and --network out")
     path = words.out / TOURNAMENT
     if path.exists():
         raise NoNetwork(f"{path}: there is a tournament, whose keys teams may have: name another folder by --out")
+    return write_again(words.out, *words.again) if words.again else write_all(words)
+
+
+def write_all(words: argparse.Namespace) -> int:
+    """Writes the tournament of all teams."""
+    check_limits(words)
+    check_delays(words)
+    path = words.out / TOURNAMENT
     entries = entries_of(words)
     setups = {words.out / entry.file: entry.fixture.setup for entry in entries}
     for file in setups:
@@ -250,3 +270,45 @@ def write_secret(path: pathlib.Path, text: str) -> None:
     path.touch(mode=0o600)
     path.chmod(0o600)
     path.write_text(text, encoding="utf-8")
+
+
+def write_again(out: pathlib.Path, file: str, match: str) -> int:
+    """Writes another try of a match of a tournament's file."""
+    tournament = read_tournament(file)
+    if not match.isdecimal() or int(match) >= len(tournament.fixtures):
+        raise NoNetwork(f"{file}: it has no match {match}")
+    fixture = drawn_anew(tournament.fixtures[int(match)])
+    out.mkdir(parents=True, exist_ok=True)
+    network = Network(fixture.setup.nodes, fixture.setup.links)
+    (out / NETWORK).write_text(networks.text_of(network), encoding="utf-8")
+    (out / AGAIN).write_text(f"match = {match}\n", encoding="utf-8")
+    for name, text in secret_files([fixture.team], [TournamentMatch(fixture, NETWORK)], tournament.delays).items():
+        write_secret(out / name, text)
+    print(f"{out / TOURNAMENT}: match {match} of team {fixture.team} again; serve it there by "
+          f"`arena serve {TOURNAMENT} --port N`")
+    print(f"give the team its sheet: {out / sheet_name(fixture.team)}")
+    return 0
+
+
+def drawn_anew(fixture: Fixture) -> Fixture:
+    """The same match with other keys and labels, and with other nodes that destroy or at which nobody arrives."""
+    setup, chance = fixture.setup, secrets.SystemRandom()
+    if setup.dark:
+        raise NoNetwork("the match has dark links: write another try of it by hand")
+    network = networks.shuffled(Network(setup.nodes, setup.links), secrets.randbits(128))
+    closed = closed_nodes(fixture)
+    drawn = chance.sample([it for it in range(setup.nodes) if it != setup.home], len(setup.holes) + len(closed))
+    holes, others = sorted(drawn[:len(setup.holes)]), drawn[len(setup.holes):]
+    return fixture._replace(setup=setup._replace(links=network.links, holes=holes),
+                            keys=[key_of(fixture.team) for _ in fixture.keys],
+                            held=networks.places_into(network.links, others))
+
+
+def closed_nodes(fixture: Fixture) -> List[int]:
+    """The nodes at which nobody arrives, since all links into them are held."""
+    links = fixture.setup.links
+    nodes = {node for node in range(fixture.setup.nodes)
+             if set(networks.places_into(links, [node])).issubset(fixture.held)}
+    if networks.places_into(links, nodes) != sorted(fixture.held):
+        raise NoNetwork("some links into a node are held and others are not: write another try of the match by hand")
+    return sorted(nodes)

@@ -86,7 +86,7 @@ class Tries(NamedTuple):
             try:
                 number = tomllib.loads(path.with_name(AGAIN).read_text(encoding="utf-8"))["match"]
             except (OSError, tomllib.TOMLDecodeError, KeyError):
-                raise NoNetwork(f"{path}: this is no other try of a match: see `./arena-lab again`") from None
+                raise NoNetwork(f"{path}: this is no other try of a match: see `tournament --again`") from None
             replay = path.with_name(f"{path.stem}0.jsonl")
             if replay.exists():
                 found.setdefault(number, []).append(replay)

@@ -1,6 +1,7 @@
-"""Old spellings of the lab's options: they still work, and say the new one."""
+"""Old spellings of the lab's commands and options: they still work, and say the new one."""
 import argparse
 import contextlib
+import importlib.util
 import io
 import sys
 import unittest
@@ -8,8 +9,8 @@ from typing import Tuple
 from unittest import mock
 
 from arena_lab import called
-from arena_lab.__main__ import parser
-from arena_lab.commands.spellings import SPELLINGS
+from arena_lab.__main__ import COMMANDS, main, parser
+from arena_lab.commands.spellings import MODULES, SPELLINGS
 
 
 PARSER = parser()
@@ -20,6 +21,40 @@ def read(*words: str) -> Tuple[argparse.Namespace, str]:
     said = io.StringIO()
     with contextlib.redirect_stderr(said):
         return PARSER.parse_args(words), said.getvalue()
+
+
+class Commands(unittest.TestCase):
+    def refused(self, *words: str) -> str:
+        """What a command line that ends here says."""
+        said = io.StringIO()
+        with contextlib.redirect_stderr(said), self.assertRaises(SystemExit) as ended:
+            main(list(words))
+        self.assertEqual(ended.exception.code, 2)
+        return said.getvalue()
+
+    def test_an_old_command_is_the_new_one(self) -> None:
+        for old, new, needs in (("pages t.toml cup", "page", "by --out FOLDER"),
+                                ("again t.toml 3", "tournament --again", "required: --out"),
+                                ("repeat out --workers 0", "grade --repeat-only", "--workers: 0 is not a whole")):
+            first, *others = self.refused(*old.split()).splitlines()
+            self.assertEqual(first, f"./arena-lab: {old.split()[0]} is called {new} now")
+            self.assertIn(f"arena-lab {new.split()[0]}: error: ", others[-1])
+            self.assertIn(needs, others[-1])
+
+    def test_what_tests_and_measures_the_lab_is_a_module(self) -> None:
+        for old, module in MODULES.items():
+            self.assertNotIn(old, COMMANDS)
+            self.assertIsNotNone(importlib.util.find_spec(module))
+            self.assertEqual(self.refused(old), f"./arena-lab: in a clone, {old} is called /usr/bin/python3 -m "
+                             f"{module} now\n")
+
+    def test_what_does_not_belong_together_is_refused(self) -> None:
+        for words, said in (("page m0.jsonl --again again3", "name its TOURNAMENT"),
+                            ("page t.toml cup --out pages --twin 3", "have no --twin"),
+                            ("tournament --out cup", "or a match by --again"),
+                            ("tournament --again t.toml 3 --team red --out cup", "leave --team and --network out"),
+                            ("grade course.toml", "by --out FOLDER")):
+            self.assertIn(said, self.refused(*words.split()))
 
 
 class Spellings(unittest.TestCase):

@@ -99,7 +99,7 @@ class Courses(Commands):
 
     def test_a_course_is_repeated_by_its_results_alone(self) -> None:
         here = self.graded()
-        status, said = self.said("repeat", str(here), "--workers", "2")
+        status, said = self.said("grade", "--repeat-only", str(here), "--workers", "2")
         self.assertEqual((status, said.splitlines()[:3]), (0, [
             "amber: 4 of 4 solved matches repeat", "birch: 4 of 4 solved matches repeat",
             "cedar: 2 of 2 solved matches repeat"]))
@@ -107,13 +107,13 @@ class Courses(Commands):
         replay = min((here / "solved").glob("amber-*"))
         text = replay.read_text()
         replay.write_text(text.replace('"do":"depart","port":0', '"do":"depart","port":1'))
-        status, said = self.said("repeat", str(here))
+        status, said = self.said("grade", "--repeat-only", str(here))
         self.assertEqual((status, said.splitlines()[0]), (1, "amber: 3 of 4 solved matches repeat"), said)
         self.assertIn(f"match {replay.stem.partition('-')[2]}: agent ", said)
 
     def test_programs_that_were_exchanged_are_refused(self) -> None:
         here = self.graded()
         shutil.copy(here / "hand-ins" / "birch.tar", here / "hand-ins" / "amber.tar")
-        status, said = self.said("repeat", str(here))
+        status, said = self.said("grade", "--repeat-only", str(here))
         self.assertEqual(status, 2)
         self.assertIn("hand-ins/amber.tar: it is not what the team has handed in", said)

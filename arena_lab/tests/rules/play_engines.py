@@ -10,7 +10,6 @@ import unittest
 from unittest import mock
 
 from arena_lab.__main__ import main
-from arena_lab.commands import compare
 from arena_lab.play import kept_matches
 from arena_lab.play.schedules import read, schedule_of, text_of
 from arena_lab.rules import model
@@ -18,6 +17,7 @@ from arena_lab.rules.engines import Differs, Program
 from arena_lab.rules.networks import ring
 from arena_lab.rules.rehearsal import Rehearsal
 from arena_lab.tests.playing import AGENTS, MAP, RING, fixture, network_fixture, played, program
+from tools.play import compare
 
 MATCHES = 60
 # changes of a find: the file, what is replaced in it by what, the status, and what is said

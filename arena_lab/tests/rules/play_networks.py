@@ -125,7 +125,7 @@ class Written(unittest.TestCase):
         with contextlib.chdir("cup"):
             for number, first in enumerate(read_tournament("tournament.toml").fixtures):
                 folder = f"again{number}"
-                self.assertEqual(lab("again", "tournament.toml", str(number), "--out", folder)[0], 0)
+                self.assertEqual(lab("tournament", "--again", "tournament.toml", str(number), "--out", folder)[0], 0)
                 self.assertIn("match 0 ", self.checked(folder))
                 self.assertEqual(pathlib.Path(folder, "again.toml").read_text(), f"match = {number}\n")
                 with contextlib.chdir(folder):
@@ -140,7 +140,7 @@ class Written(unittest.TestCase):
                 self.assertNotEqual(found.seed, read_tournament("tournament.toml").seed)
                 for name in ("tournament.toml", f"keys-{first.team}.txt"):
                     self.assertEqual(stat.S_IMODE(os.stat(f"{folder}/{name}").st_mode), 0o600)
-            self.assertEqual(lab("again", "tournament.toml", "9", "--out", "x")[0], 2)
+            self.assertEqual(lab("tournament", "--again", "tournament.toml", "9", "--out", "x")[0], 2)
 
     def test_a_tournament_is_never_overwritten(self) -> None:
         words = ["tournament", "--team", "red", "--network", "ring:6", "--out", "contest"]

@@ -117,10 +117,11 @@ class CommandLine(unittest.TestCase):
                     needed(name)
 
     def test_a_program_that_is_missing_is_told_with_what_to_do(self) -> None:
-        said = self.told("compare", "--program", "/nowhere")
+        said = self.told("page", "match0.jsonl", "--program", "/nowhere")
         self.assertEqual(said,
                          "arena-lab: /nowhere: there is no such program: name another by --program; by default the "
-                         "lab takes the one that `./arena` runs\n")
+                         "lab takes the one that `./arena` runs; or add `--engine model`: the Python model needs none, "
+                         "and nothing of it is proved\n")
 
     def test_words_that_name_nothing(self) -> None:
         agent = ["--engine", "model", "--agent", "examples/agents/ring.py {nodes}"]

@@ -4,9 +4,9 @@ import tempfile
 import unittest
 from unittest import mock
 
-from arena_lab.commands import compare
 from arena_lab.rules.model import Match, Setup, Verdict
 from arena_lab.rules.networks import ring
+from tools.play import compare
 
 
 class Compared(unittest.TestCase):

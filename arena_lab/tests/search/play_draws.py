@@ -8,10 +8,10 @@ from arena_lab import api as lab
 from arena_lab.__main__ import main
 from arena_lab.commands.explore_samples import moves_of
 from arena_lab.commands.explore import SCHEDULERS
-from arena_lab.commands.mutants import FOLDER
 from arena_lab.search.program_search import ExploreAnswer, SampleRequest
 from arena_lab.tests.search.exploring import InExplore
 from arena_lab.tests.playing import RING, RING_STEP, program
+from tools.play.mutants import FOLDER
 
 
 class Drawing(InExplore):

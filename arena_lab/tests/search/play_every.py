@@ -9,7 +9,6 @@ from unittest import main as run_tests
 from unittest import mock
 
 from arena_lab.__main__ import main
-from arena_lab.commands.mutants import FOLDER
 from arena_lab.play.matches import STUCK
 from arena_lab.play.teams import Game
 from arena_lab.rules.fixtures import Fixture
@@ -20,6 +19,7 @@ from arena_lab.search.machines import Machines
 from arena_lab.search.history_tree import NoFunction
 from arena_lab.tests.search.exploring import InExplore
 from arena_lab.tests.playing import AGENTS, FAULTY, KNOWN_MAP, MAP, RING, program
+from tools.play.mutants import FOLDER
 
 SOLVED = "every schedule that the lab tried solves, by histories of Python programs"
 # a program that asks nothing, and tells now and then how far it is

@@ -11,7 +11,6 @@ from typing import Iterator, List, Sequence
 from unittest import mock
 
 from arena_lab.__main__ import main, parser
-from arena_lab.commands import mutants
 from arena_lab.commands.words import games_of
 from arena_lab.play.games import play_seed
 from arena_lab.play.matches import play
@@ -24,6 +23,7 @@ from arena_lab.rules.networks import ring
 from arena_lab.rules.rehearsal import Rehearsal
 from arena_lab.search import explore, hunt, history_tree
 from arena_lab.tests.playing import FAULTY, MAP, RING, fixture, program
+from tools.play import mutants
 
 WORST = {3: 4, 4: 9, 5: 14, 6: 23}
 BY_MODEL = ("--search", "model")

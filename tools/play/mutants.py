@@ -1,18 +1,18 @@
 """Tries whether the lab catches wrong versions of the sample agents.
 
-    ./arena-lab mutants [NAME ..] [--program PATH]
+    /usr/bin/python3 -m tools.play.mutants [NAME ..] [--program PATH]
 
 Each of arena_lab/mutants/*.py is a sample agent with one mistake, and its first lines name it. `hunt` looks for a
-schedule
-after which the agent fails, and `explore` tries all schedules of a small network. A line says for each mutant after how
-many schedules and seconds `hunt` caught it, what the program's verdict was, and after how many states `explore` caught
-it. The exit status is 1 if one of them does not catch it.
+schedule after which the agent fails, and `explore` tries all schedules of a small network. A line says for each mutant
+after how many schedules and seconds `hunt` caught it, what the program's verdict was, and after how many states
+`explore` caught it. The exit status is 1 if one of them does not catch it.
 """
 import argparse
+import sys
 import time
 from typing import Dict, List, NamedTuple, Optional, Tuple
 
-from arena_lab import api
+from arena_lab import api, with_one_order
 from arena_lab.commands.words import add_program
 from arena_lab.rules.engines import program_at
 from arena_lab.rules.model import Verdict
@@ -95,23 +95,25 @@ def line_of(name: str, hunted: Caught, explored: Caught) -> str:
     return f"{name:<20} hunt: {found:<24} {verdict:<28} explore {PLANS[name].explored.network}: {tried}"
 
 
-def add_words(parser: argparse.ArgumentParser) -> None:
-    """The words of the command `mutants`."""
+def main() -> int:
+    parser = argparse.ArgumentParser("python3 -m tools.play.mutants", description=__doc__,
+                                     formatter_class=argparse.RawDescriptionHelpFormatter)
     parser.add_argument("names", metavar="NAME", nargs="*", help="which of them; all by default")
     add_program(parser)
-
-
-def run(words: argparse.Namespace) -> int:
-    program = program_at(words.program, words.needs)
+    words = parser.parse_args()
     names: List[str] = words.names or sorted(PLANS)
     unknown = set(names) - set(PLANS)
     if unknown:
-        print(f"arena-lab: there is no mutant {', '.join(sorted(unknown))}; there are {', '.join(sorted(PLANS))}")
-        return 2
-    left = 0
+        parser.error(f"there is no mutant {', '.join(sorted(unknown))}; there are {', '.join(sorted(PLANS))}")
+    program, left = program_at(words.program), 0
     for name in names:
         hunted, explored = caught(name, program)
         print(line_of(name, hunted, explored), flush=True)
         left += not (hunted.is_caught and explored.is_caught)
     print(f"{len(names)} mutants, {left} not caught")
     return 1 if left else 0
+
+
+if __name__ == "__main__":
+    with_one_order()
+    sys.exit(main())

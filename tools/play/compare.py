@@ -1,6 +1,6 @@
 """Compares the engines: the proved program and the Python model play the same matches, and every byte must agree.
 
-    ./arena-lab compare [--matches N] [--seed S] [--program PATH]
+    /usr/bin/python3 -m tools.play.compare [--matches N] [--seed S] [--program PATH]
 
 Each match has a drawn network, up to three black holes and two dark links, 1 to 8 agents, small quotas and small
 whiteboards. Half of the matches are drawn scripts, in which connections speak out of turn, end, or send lines that are
@@ -14,6 +14,7 @@ import sys
 import tempfile
 from typing import Any, List, Tuple
 
+from arena_lab import with_one_order
 from arena_lab.commands.words import add_program, at_least_one
 from arena_lab.play import schedulers
 from arena_lab.play.agent_files import Script, Sleep
@@ -140,16 +141,20 @@ def compare(program: str, seeds: range) -> Tuple[int, List[str]]:
     return played, faults
 
 
-def add_words(parser: argparse.ArgumentParser) -> None:
-    """The words of the command `compare`."""
+def main() -> int:
+    parser = argparse.ArgumentParser("python3 -m tools.play.compare", description=__doc__,
+                                     formatter_class=argparse.RawDescriptionHelpFormatter)
     parser.add_argument("--matches", metavar="N", type=at_least_one, default=1000, help="how many matches (1000)")
     parser.add_argument("--seed", metavar="S", type=int, default=0, help="the first match's seed (0)")
     add_program(parser)
-
-
-def run(words: argparse.Namespace) -> int:
-    played, faults = compare(program_at(words.program, words.needs), range(words.seed, words.seed + words.matches))
+    words = parser.parse_args()
+    played, faults = compare(program_at(words.program), range(words.seed, words.seed + words.matches))
     for fault in faults:
         print(fault, file=sys.stderr)
     print(f"{played} matches, {len(faults)} differ")
     return 1 if faults else 0
+
+
+if __name__ == "__main__":
+    with_one_order()
+    sys.exit(main())

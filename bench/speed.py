@@ -1,6 +1,6 @@
 """Measures how many steps a second the lab plays.
 
-    ./arena-lab speed [--rounds N] [--program PATH]
+    /usr/bin/python3 -m bench.speed [--rounds N] [--program PATH]
 
 A step is one choice of a scheduler: an agent is answered, arrives or wakes. Two agents search a ring of 64 nodes under
 slow-agents. A line for each engine and each kind of player has the median of the rounds. A last line says how many
@@ -12,6 +12,7 @@ import sys
 import time
 from typing import Callable, Dict, List, Optional
 
+from arena_lab import with_one_order
 from arena_lab.commands.words import add_program, at_least_one
 from arena_lab.play import schedulers
 from arena_lab.play.agent_files import AGENTS
@@ -62,15 +63,14 @@ def rate(count: Callable[[int], int], rounds: int) -> int:
     return round(statistics.median(found))
 
 
-def add_words(parser: argparse.ArgumentParser) -> None:
-    """The words of the command `speed`."""
+def main() -> int:
+    parser = argparse.ArgumentParser("python3 -m bench.speed", description=__doc__,
+                                     formatter_class=argparse.RawDescriptionHelpFormatter)
     parser.add_argument("--rounds", metavar="N", type=at_least_one, default=ROUNDS, help="how often to measure each "
                         f"({ROUNDS})")
     add_program(parser)
-
-
-def run(words: argparse.Namespace) -> int:
-    named = program_at(words.program, words.needs)
+    words = parser.parse_args()
+    named = program_at(words.program)
     engines: Dict[str, Optional[str]] = {"the Python model": None, name_of(named): named}
     for engine, program in engines.items():
         for team, agent in TEAMS.items():
@@ -78,3 +78,8 @@ def run(words: argparse.Namespace) -> int:
             print(f"{engine}, {team}: {found} steps a second", flush=True)
     print(f"explore: {rate(lambda seed: states(), words.rounds)} states a second")
     return 0
+
+
+if __name__ == "__main__":
+    with_one_order()
+    sys.exit(main())

@@ -1,6 +1,6 @@
 """Plays the sample agents under many drawn schedules. They are to survive all.
 
-    ./arena-lab endure [--runs N] [--seed S]
+    /usr/bin/python3 -m tools.play.endure [--runs N] [--seed S]
 
 Two agents that know n search rings of n nodes, for n from 3 to 64. On the hypercube of 16 nodes, the torus of 5 rows
 and 5 columns, and 50 drawn networks there is one agent more than the greatest degree. Two agents that have the map
@@ -9,8 +9,10 @@ line is printed for each match in which the team fails; the exit status is then 
 """
 import argparse
 import itertools
+import sys
 from typing import List, NamedTuple
 
+from arena_lab import with_one_order
 from arena_lab.commands.words import at_least_one
 from arena_lab.play import schedulers
 from arena_lab.play.agent_files import AGENTS
@@ -64,13 +66,12 @@ def fault_of(seed: int) -> str:
             f"{'; '.join([played.verdict().outcome, *played.faults])}")
 
 
-def add_words(parser: argparse.ArgumentParser) -> None:
-    """The words of the command `endure`."""
+def main() -> int:
+    parser = argparse.ArgumentParser("python3 -m tools.play.endure", description=__doc__,
+                                     formatter_class=argparse.RawDescriptionHelpFormatter)
     parser.add_argument("--runs", metavar="N", type=at_least_one, default=RUNS, help=f"how many matches ({RUNS})")
     parser.add_argument("--seed", metavar="S", type=int, default=0, help="the first seed (0)")
-
-
-def run(words: argparse.Namespace) -> int:
+    words = parser.parse_args()
     faults: List[str] = []
     played = 0
     try:
@@ -85,3 +86,8 @@ def run(words: argparse.Namespace) -> int:
     networks = len({pairing.network for pairing in PAIRINGS})
     print(f"{played} matches on {networks} networks, {len(faults)} failed")
     return 1 if faults else 0
+
+
+if __name__ == "__main__":
+    with_one_order()
+    sys.exit(main())
