@@ -4,8 +4,8 @@ import unittest
 import unittest.mock
 from typing import List
 
-from arena_lab.course import sandbox
 from arena_lab.play.kits import KITS
+from arena_lab.sandbox import cells
 from arena_lab.support.missing import PACKAGES
 from tests import TOP
 from tools import packages
@@ -21,7 +21,7 @@ class Listed(unittest.TestCase):
     def test_each_package_that_is_named_is_listed(self) -> None:
         depends = re.findall(r"^(?:Depends|Recommends|Suggests):((?:.|\n )*)", CONTROL, re.M)
         named = {word.split()[0] for words in depends for word in re.sub(r"\(.*?\)", "", words).split(",")}
-        named |= {*PACKAGES.values(), *sandbox.PACKAGES.split()[2:]}
+        named |= {*PACKAGES.values(), *cells.PACKAGES.split()[2:]}
         named |= {package for kit in KITS.values() for package in kit.packages}
         readme = (TOP / "arena_lab" / "README.md").read_text().replace("\\\n", "")
         named |= {word for line in re.findall(r"apt-get install (.*)", readme) for word in line.split()}

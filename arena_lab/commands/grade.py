@@ -38,10 +38,11 @@ import pathlib
 import sys
 
 from arena_lab.commands.words import add_engine, add_forget, add_workers, program_of
-from arena_lab.course import sandbox, course, export, points
-from arena_lab.course.sandbox import Isolation, Sandbox
+from arena_lab.course import course, export, points
 from arena_lab.course.grading import GradingRun, graded_in, hand_ins
 from arena_lab.course.repeating import repeat_graded
+from arena_lab.sandbox import cells
+from arena_lab.sandbox.cells import Isolation, Sandbox
 from arena_lab.support.missing import check
 from arena_lab.sweep import tables
 
@@ -78,7 +79,7 @@ def run(words: argparse.Namespace) -> int:
     if not words.out:
         words.refuse("name a folder for the results by --out FOLDER")
     check(*NEEDED)
-    path, strongest = words.file.resolve(), sandbox.strongest()
+    path, strongest = words.file.resolve(), cells.strongest()
     read = course.read(path, "")
     course.check_networks(read)
     own = [file for files in read.files.values() for file in files]
@@ -86,7 +87,7 @@ def run(words: argparse.Namespace) -> int:
     for name in read.grid.schedulers:
         read.maker(name)
     if strongest is not Isolation.ALL:
-        print(f"arena-lab: {sandbox.weakness()}; {strongest.value}", file=sys.stderr)
+        print(f"arena-lab: {cells.weakness()}; {strongest.value}", file=sys.stderr)
     wanted = export.export_of(words.export, words.students, path.parent, list(read.files))
     program = program_of(words)
     with tables.alone_in(words.out):

@@ -28,12 +28,12 @@ import sys
 from typing import Any, Callable, Dict
 
 from arena_lab.commands.words import add_program, at_least_one, not_negative
-from arena_lab.course import sandbox
-from arena_lab.course.sandbox import Isolation
 from arena_lab.hall import backup, entry, place, serving
 from arena_lab.hall.course import Hall, NoHall, is_zone, read
 from arena_lab.hall.place import HallFolder, folder_of
 from arena_lab.rules.engines import program_at
+from arena_lab.sandbox import cells
+from arena_lab.sandbox.cells import Isolation
 from arena_lab.support.missing import check
 
 NEEDED = ("django", "rest_framework", "waitress", "whitenoise")
@@ -129,11 +129,11 @@ def begin(of: HallFolder) -> None:
 
 def check_walls(words: argparse.Namespace, hall: Hall) -> None:
     """Refuses to take programs of strangers where nothing keeps them from the hall."""
-    if hall.hand_ins is not None and sandbox.strongest() is not Isolation.ALL:
+    if hall.hand_ins is not None and cells.strongest() is not Isolation.ALL:
         if not words.weak_walls:
-            raise NoHall(f"{sandbox.weakness()}: programs that are handed in could read the hall. Remove [hand_ins], "
+            raise NoHall(f"{cells.weakness()}: programs that are handed in could read the hall. Remove [hand_ins], "
                          "or say --weak-walls if you trust all teams")
-        print(f"hall: {sandbox.weakness()}; {sandbox.strongest().value}", file=sys.stderr)
+        print(f"hall: {cells.weakness()}; {cells.strongest().value}", file=sys.stderr)
 
 
 def restore(of: HallFolder, archive: pathlib.Path) -> int:

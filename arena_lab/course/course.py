@@ -32,7 +32,7 @@
                   ["python3-numpy"]
     proc          true if programs need /proc, as those in Java do (false)
     calls         calls of the system that programs may make, besides those that their language needs, such as
-                  ["splice"]; `python3 -m arena_lab.course.calls --help` says how to see which a program makes
+                  ["splice"]; `python3 -m arena_lab.sandbox.calls --help` says how to see which a program makes
 
 Each [[team]] has a `name`, of 1 to 16 characters out of a to z, 0 to 9 and -; `agents`, a number or "degree" for one
 more than the network's greatest degree (2); `files`, a list of files and folders, whose copies each of its programs
@@ -63,8 +63,6 @@ import shlex
 import sys
 from typing import Any, Dict, FrozenSet, List, Mapping, NamedTuple, Optional, Sequence, Tuple
 
-from arena_lab.course import calls, isolation
-from arena_lab.course.sandbox import Isolation
 from arena_lab.course.points import Points, points_in
 from arena_lab.play.agent_files import digests
 from arena_lab.play.games import maker_of
@@ -74,6 +72,8 @@ from arena_lab.play.teams import OUTSIDE
 from arena_lab.play.wasm_modules import is_module
 from arena_lab.rules import networks
 from arena_lab.rules.fixtures import Fixture
+from arena_lab.sandbox import calls, isolation
+from arena_lab.sandbox.cells import Isolation
 from arena_lab.sweep import grid, tables
 from arena_lab.sweep.grid import Case, Grid, NoSweep, is_count, is_text, is_texts, taken
 

@@ -11,9 +11,9 @@ import tempfile
 import time
 from typing import Dict, Iterator, List, NamedTuple, Optional, Sequence, Set, Tuple
 
-from arena_lab.course import sandbox, course, intake, league, rounds, isolation
-from arena_lab.course.sandbox import Isolation, Sandbox
+from arena_lab.course import course, intake, league, rounds
 from arena_lab.course.course import CourseFile
+from arena_lab.course.grounds import grounds_of
 from arena_lab.course.hand_in import HandIn
 from arena_lab.course.intake import HandInRecord
 from arena_lab.course.export import Export, Marks
@@ -31,6 +31,8 @@ from arena_lab.play.parallel import Result
 from arena_lab.play.summaries import Summary
 from arena_lab.rules.engines import name_of
 from arena_lab.rules.model import SOLVED, Verdict
+from arena_lab.sandbox import cells, isolation
+from arena_lab.sandbox.cells import Isolation, Sandbox
 from arena_lab.search.minimising import Cut, Runs, in_words, noted, runs_of
 from arena_lab.support.missing import Missing
 from arena_lab.support.progress import along
@@ -94,7 +96,7 @@ class GradingRun(NamedTuple):
         schedule, played = self.match(case, self.course.maker(case.scheduler)(self.course.seed(case)), self.program)
         row = sweeping.row_for(case, schedule, played, self.program)
         place = self.place(case)
-        sandbox.remove(place)
+        cells.remove(place)
         if played.has_failed() or tables.row_of(row)["outcome"] != SOLVED:
             kept_matches.write_find(place, schedule, played, self.program)
             (place / TOLD).write_text("\n".join(referee.told(played.match, played.faults)), encoding="utf-8")
@@ -143,7 +145,7 @@ class GradingRun(NamedTuple):
         origin = f"{case.scheduler} {self.course.seed(case)} on {case.network}"
         empty = schedule_of(fixture, agents, origin, [], limits.line)._replace(files=files)
         words, handed_in = case.team.words.words, self.hand_in(case.team.name)
-        with sandbox.grounds_of(self.yard, handed_in, words, fixture.setup, len(agents)) as grounds:
+        with grounds_of(self.yard, handed_in, words, fixture.setup, len(agents)) as grounds:
             commands = {number: agent.words for number, agent in enumerate(agents)}
             line = max(1, limits.line // HURRIED) if self.is_hurried else limits.line
             team = programs.Team(fixture, commands, line, dict(enumerate(grounds)), limits.match,
@@ -253,7 +255,7 @@ def graded_in(graded: GradingRun, workers: int, handed_in: Optional[Dict[str, st
     cases = graded.course.cases()
     commands = [team.words.words for team in graded.course.grid.teams]
     try:
-        with sandbox.furnished(graded.yard, commands, graded.course.packages) as yard:
+        with cells.furnished(graded.yard, commands, graded.course.packages) as yard:
             graded = graded._replace(yard=yard)
             prepare(graded)
             budget = budget_of(graded, cases)

@@ -64,13 +64,17 @@ class HandIn(NamedTuple):
             behind = [files_behind(folder / name) for name in names if (folder / name).is_file()]
             return {os.path.relpath(name, folder): digest for found in behind for name, digest in found.items()}
 
+    def content_of(self, name: str) -> Optional[bytes]:
+        """The content of the file of a name, if it is one and no link."""
+        entry = self.entries.get(os.path.normpath(name))
+        return entry.content if entry is not None and entry.kind == tarfile.REGTYPE else None
+
     def write_file(self, name: str, folder: pathlib.Path) -> None:
         """Writes the file of a name there, if it is one and no link."""
-        entry = self.entries.get(os.path.normpath(name))
-        if entry is not None and entry.kind == tarfile.REGTYPE:
-            path = folder / os.path.normpath(name)
+        content, path = self.content_of(name), folder / os.path.normpath(name)
+        if content is not None:
             path.parent.mkdir(parents=True, exist_ok=True)
-            path.write_bytes(entry.content)
+            path.write_bytes(content)
 
     def archive(self, **more: bytes) -> bytes:
         """All of it as a tar archive, and more files by their names."""

@@ -10,18 +10,20 @@ import random
 import time
 from typing import Dict, Iterator, List, NamedTuple, Sequence, Tuple
 
-from arena_lab.course import sandbox, intake, league, kernel_traces
-from arena_lab.course.sandbox import Sandbox
+from arena_lab.course import intake, league
 from arena_lab.course.course import CourseDraws, ProgramLimits, terms_of
+from arena_lab.course.grounds import grounds_of
 from arena_lab.course.pool import Budget, Limited, TimedResult, in_time
-from arena_lab.course.users import NoUser
-from arena_lab.course.isolation import NoCell
 from arena_lab.play import mistakes, programs, repeating
 from arena_lab.play.agent_files import NoAgent
 from arena_lab.play.schedulers import Impossible
 from arena_lab.play.parallel import Result
 from arena_lab.rules.fixtures import Fixture
 from arena_lab.rules.model import begun, objects_of
+from arena_lab.sandbox import kernel_traces
+from arena_lab.sandbox.cells import Sandbox
+from arena_lab.sandbox.isolation import NoCell
+from arena_lab.sandbox.users import NoUser
 from arena_lab.support.built import NoProgram
 from arena_lab.support.missing import Missing
 from arena_lab.support.progress import along
@@ -83,7 +85,7 @@ class Repeating(NamedTuple):
         played = Fixture(it.team, setup, self.draws.keys(self.text, it.number, setup.agents))
         again, words = repeating.with_new_keys(played), terms_of(self.text, 0).commands[it.team]
         handed_in = intake.hand_in_of(self.out, it.team)
-        with sandbox.grounds_of(self.yard, handed_in, words, setup, 1) as grounds:
+        with grounds_of(self.yard, handed_in, words, setup, 1) as grounds:
             team = programs.Team(again, {it.agent: words}, self.limits.line, {it.agent: grounds[0]}, self.limits.match,
                                  programs.seeds_of(played), self.limits.match_space << 20)
             return str(repeating.repeated(team, again, repeating.past_of(replay, it.agent)) or "")

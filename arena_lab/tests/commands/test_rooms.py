@@ -11,8 +11,8 @@ from typing import Dict, Iterator, List, Set, Tuple
 from arena_lab.support.built import LAB, TOP
 
 # from the ground up: a room imports from itself and from rooms below it; so do the modules that stand in no room
-ROOMS = ("support", "rules", "pages", "play", "search", "sweep", "course", "hall", "api", "commands", "__main__",
-         "start")
+ROOMS = ("support", "rules", "pages", "play", "search", "sweep", "sandbox", "course", "hall", "api", "commands",
+         "__main__", "start")
 TESTS = ("tests", "mutants")
 # these modules need Django and a hall, which no unit test has: they are read and not imported
 HALL = ("arena_lab.hall.", "arena_lab.tests.hall.hall_pages")

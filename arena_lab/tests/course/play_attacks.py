@@ -48,25 +48,25 @@ from typing import Any, Dict, Iterator, List
 from unittest import mock
 
 from arena_lab.__main__ import main
-from arena_lab.course import calls, sandbox, system_copy, kernel_traces, watch
-from arena_lab.course.sandbox import Isolation, Sandbox
 from arena_lab.course.grading import GradingRun
-from arena_lab.course.isolation import NoCell
 from arena_lab.play import schedulers
 from arena_lab.play.matches import PlayedMatch
 from arena_lab.rules.engines import TOP
+from arena_lab.sandbox import calls, cells, kernel_traces, system_copy, watch
+from arena_lab.sandbox.cells import Isolation, Sandbox
+from arena_lab.sandbox.isolation import NoCell
 from arena_lab.support.missing import DEBIANS_PYTHON
 from arena_lab.sweep import tables
 from arena_lab.tests.play.play_programs import running
 from arena_lab.tests.playing import AGENTS
 
-HAS_WALLS = sandbox.strongest() is Isolation.ALL
+HAS_WALLS = cells.strongest() is Isolation.ALL
 IS_ROOT = os.geteuid() == 0
 # all that can keep programs apart for the user who runs the tests
 ALL_WALLS = [Isolation.ALL] * HAS_WALLS + [Isolation.USER] * IS_ROOT + [Isolation.NONE] * (not IS_ROOT)
 SECRET = "a secret of the tests"
 HEAD = 'title = "A trial"\nnetworks = ["ring:4"]\nholes = [2]\nlimit = 60\n'
-WALLED = unittest.skipUnless(HAS_WALLS, f"no walls here: {sandbox.weakness()}")
+WALLED = unittest.skipUnless(HAS_WALLS, f"no walls here: {cells.weakness()}")
 
 # begins an agent's program: `ask` plays, by the port and the key that stand first in the command
 BEGINS = """import json, os, socket, sys, time
@@ -110,7 +110,7 @@ class Course(unittest.TestCase):
                has_proc: bool = False, root: str = "") -> PlayedMatch:
         """A match of the team."""
         (self.team / "evil.py").write_text(code)
-        sandbox.remove(self.folder / "out")
+        cells.remove(self.folder / "out")
         text = head + team("evil", ["evil"], EVIL, agents)
         yard = Sandbox(walls, tuple(tools), has_proc, root)
         graded = GradingRun(text, self.folder, SECRET, None, yard, self.folder / "out")
@@ -217,7 +217,7 @@ class TwoCommands(Course):
     @unittest.skipUnless(IS_ROOT, "only root can let programs be other users")
     def test_they_do_not_end_each_others_programs(self) -> None:
         """The same match twice at a time: whoever kills by user must not share it."""
-        for walls in {Isolation.USER, sandbox.strongest()}:
+        for walls in {Isolation.USER, cells.strongest()}:
             with self.subTest(walls):
                 found: List[PlayedMatch] = []
                 code = ENTERS + "time.sleep(0.5)\nask(do='look')\nask(do='leave')\n"
@@ -409,7 +409,7 @@ said = [subprocess.run(["stat", "-f", "-c", "%T", path], capture_output=True, te
         for path in ("/", "/usr", "/usr/lib/python3", "/etc", "/tmp", "/agent", "/bin/sh", "/etc/alternatives")]
 sys.exit(f"{set(said)} {os.path.exists('/usr/share/doc/bash')} {len(os.listdir('/usr/bin')) > 50}")
 """
-        with sandbox.furnished(Sandbox(Isolation.ALL), [EVIL], []) as yard:
+        with cells.furnished(Sandbox(Isolation.ALL), [EVIL], []) as yard:
             self.assertNotEqual(yard.root, "")
             self.assertEqual(self.said(Isolation.ALL, code, root=yard.root), ["{'tmpfs'} False True"])
             self.assertEqual(self.said(Isolation.ALL, WAYS, root=yard.root), ["all are shut"])
@@ -429,7 +429,7 @@ sys.exit(f"{{kind}} {{open('{tools}/bin/it').read()}} {{os.path.isfile('{tools}/
             with open(tools / "large", "wb") as file:
                 file.truncate(0 if kind else 90 << 20)
             err = io.StringIO()
-            with mock.patch.object(system_copy, "MOST", most), contextlib.redirect_stderr(err), sandbox.furnished(
+            with mock.patch.object(system_copy, "MOST", most), contextlib.redirect_stderr(err), cells.furnished(
                     Sandbox(Isolation.ALL, (str(tools),)), [EVIL, f"{tools}/bin/it"], []) as yard:
                 said = self.said(Isolation.ALL, code, tools=yard.tools, root=yard.root)[0]
             self.assertEqual((said.startswith("tmpfs"), said.endswith("of the course False")), (bool(kind), True), said)
@@ -438,10 +438,10 @@ sys.exit(f"{{kind}} {{open('{tools}/bin/it').read()}} {{os.path.isfile('{tools}/
     def test_packages_that_the_course_names_are_seen(self) -> None:
         code = "import os, sys\nsys.exit(str(os.path.exists('/usr/lib/python3/dist-packages/yaml')))"
         for packages, expected in (([], "False"), (["python3-yaml"], "True")):
-            with sandbox.furnished(Sandbox(Isolation.ALL), [EVIL], packages) as yard:
+            with cells.furnished(Sandbox(Isolation.ALL), [EVIL], packages) as yard:
                 self.assertEqual(self.said(Isolation.ALL, code, root=yard.root), [expected])
         with self.assertRaisesRegex(NoCell, "packages: the package no-such-one is not installed: `apt-get install no"):
-            with sandbox.furnished(Sandbox(Isolation.ALL), [EVIL], ["no-such-one"]):
+            with cells.furnished(Sandbox(Isolation.ALL), [EVIL], ["no-such-one"]):
                 pass
 
     def test_numbers_of_pipes_and_of_memory_go_on_by_chance_between_rounds(self) -> None:
@@ -648,7 +648,7 @@ class Saying(Course):
             with self.subTest(said):
                 (self.team / "go.sh").write_text(text, newline="")
                 (self.team / "go.sh").chmod(mode)
-                sandbox.remove(self.folder / "out")
+                cells.remove(self.folder / "out")
                 found = self.graded(HEAD + team("evil", ["evil"], "./go.sh {port} {key}"), f"out-{mode}-{len(text)}")
                 self.assertIn(said, found["evil"][0]["fault"])
 

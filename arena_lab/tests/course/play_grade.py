@@ -11,13 +11,14 @@ from typing import Dict, Iterator, List
 from unittest import mock
 
 from arena_lab.__main__ import main
-from arena_lab.course import sandbox, league
-from arena_lab.course.sandbox import Cell, TeamFiles, Isolation, Sandbox
+from arena_lab.course import grounds, league
 from arena_lab.course.grading import GradingRun
 from arena_lab.course.hand_in import HandIn
 from arena_lab.play import schedulers
 from arena_lab.rules import engines
 from arena_lab.rules.engines import TOP
+from arena_lab.sandbox import cells
+from arena_lab.sandbox.cells import Cell, ProgramFiles, Isolation, Sandbox
 from arena_lab.sweep import tables
 from arena_lab.tests.play.play_programs import running
 from arena_lab.tests.playing import AGENTS, InFolder, program
@@ -194,7 +195,7 @@ class Grading(InFolder):
         (self.folder / "meets.py").write_text(MEETS)
         file = self.folder / "course.toml"
         file.write_text(HEAD + team("meets", ["meets.py"], f"python3 meets.py {{port}} {{key}} {self.folder.name}"))
-        with mock.patch.object(sandbox, "strongest", return_value=Isolation.NONE):
+        with mock.patch.object(cells, "strongest", return_value=Isolation.NONE):
             for out, solved, more in (("alone", "0", []), ("trusted", "1", ["--no-repeat"])):
                 said = self.graded(file, out, "--engine", "model", "--workers", "2", *more)
                 self.assertEqual(said.splitlines()[1].split()[2], solved, said)
@@ -266,7 +267,7 @@ class Spies(unittest.TestCase):
         _, played = graded.match(case, schedulers.fair(0), None)
         return [fault.rpartition(": ")[2] for fault in played.faults]
 
-    @unittest.skipUnless(sandbox.strongest() is Isolation.ALL, f"no walls here: {sandbox.weakness()}")
+    @unittest.skipUnless(cells.strongest() is Isolation.ALL, f"no walls here: {cells.weakness()}")
     def test_behind_walls_they_find_nothing(self) -> None:
         self.assertEqual(self.found(Isolation.ALL, "/tmp", "/dev/shm"), ["found nothing"] * 2)
 
@@ -279,8 +280,8 @@ class Spies(unittest.TestCase):
     def test_in_one_folder_they_find_all(self) -> None:
         """The spies are good ones: in a body that runs all teams in one folder they find what they look for."""
         shutil.copy(self.folder / "rich" / "plan.txt", self.folder)
-        shared = Cell(Sandbox(Isolation.NONE), TeamFiles(HandIn({}).archive()), None, self.folder)
-        with mock.patch.object(sandbox, "cells", lambda *_: in_one_folder(shared)):
+        shared = Cell(Sandbox(Isolation.NONE), ProgramFiles(HandIn({}).archive()), None, self.folder)
+        with mock.patch.object(grounds, "cells_for", lambda *_: in_one_folder(shared)):
             for said in self.found(Isolation.NONE):
                 self.assertIn("TREASURE-plan", said)
 

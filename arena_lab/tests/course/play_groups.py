@@ -10,12 +10,13 @@ import unittest
 from typing import List, Tuple
 from unittest import mock
 
-from arena_lab.course import calls, sandbox, groups, rounds, watch
-from arena_lab.course.sandbox import TeamFiles, Isolation, Sandbox
+from arena_lab.course import rounds
 from arena_lab.course.course import course_of
 from arena_lab.course.grading import GradingRun
-from arena_lab.course.groups import ControlGroup
 from arena_lab.course.hand_in import HandIn
+from arena_lab.sandbox import calls, cells, groups, watch
+from arena_lab.sandbox.cells import ProgramFiles, Isolation, Sandbox
+from arena_lab.sandbox.groups import ControlGroup
 from arena_lab.support.built import TOP
 from arena_lab.sweep import tables
 
@@ -143,8 +144,8 @@ class TestPrograms(Fake):
             self.assertEqual(subprocess.run(words, capture_output=True).stdout, b"")
 
     def test_what_is_said_of_a_program_that_the_kernel_has_ended(self) -> None:
-        kept = TeamFiles(HandIn({}).archive(), {}, calls.ANY)
-        with mock.patch.object(watch, "MOST", 200 << 20), sandbox.cells(
+        kept = ProgramFiles(HandIn({}).archive(), {}, calls.ANY)
+        with mock.patch.object(watch, "MOST", 200 << 20), cells.cells_for(
                 Sandbox(Isolation.NONE, groups=str(self.own)), kept, 1) as made, tempfile.TemporaryFile() as errors:
             child, listener_of = made[0].start(["true"], 0, errors)
             listener_of().close()
@@ -171,8 +172,8 @@ class TestPrograms(Fake):
             f'files = ["{agents}/client.py", "{agents}/ring.py"]\n'
             'command = "python3 ring.py {host} {port} {key} {nodes}"\n')
         course = course_of((self.top / "course.toml").read_text(), self.top, SECRET)
-        copied = mock.patch.object(sandbox.system_copy, "copied", lambda *given: contextlib.nullcontext(""))
-        with copied, mock.patch.object(ControlGroup, "bound", noted), sandbox.furnished(Sandbox(sandbox.strongest()),
+        copied = mock.patch.object(cells.system_copy, "copied", lambda *given: contextlib.nullcontext(""))
+        with copied, mock.patch.object(ControlGroup, "bound", noted), cells.furnished(Sandbox(cells.strongest()),
                                                                                         [], []) as yard:
             self.assertEqual(yard.groups, str(self.own))
             graded = GradingRun(course.text, self.top, SECRET, None, yard, self.top / "out")

@@ -12,9 +12,9 @@ import tempfile
 import unittest
 from typing import Any, Dict, List
 
-from arena_lab.course import calls, isolation
 from arena_lab.course.course import calls_in
 from arena_lab.course.hand_in import HandInEntry, HandIn
+from arena_lab.sandbox import calls, isolation
 from arena_lab.support.missing import DEBIANS_PYTHON
 from arena_lab.sweep.grid import NoSweep
 
@@ -27,10 +27,10 @@ syslog unshare setns mount clone3 seccomp setsid""".split()
 # loads the filter of a language, makes calls by their numbers with these arguments, and writes their errors
 LOADS = """import ctypes, json, os, sys, tomllib
 sys.path.insert(0, sys.argv[1])
-import sandbox_filter, seccomp
+import filter, seccomp
 libc = ctypes.CDLL(None, use_errno=True)
 table = tomllib.load(open(sys.argv[2], "rb"))
-sandbox_filter.made(table, sys.argv[3], sys.argv[4].split()).load()
+filter.made(table, sys.argv[3], sys.argv[4].split()).load()
 found = []
 for call, *given in json.loads(sys.argv[5]):
     number = call if isinstance(call, int) else seccomp.resolve_syscall(seccomp.Arch(), call)
@@ -93,7 +93,7 @@ class TestTable(unittest.TestCase):
                 ("/usr/bin/python3 it.py", "python"), ("./careful {port}", "native"), ("in/../careful", "native"),
                 ("in/it", "native"), ("./go.py", "python"), ("./go.sh", "any"), ("bash go.sh", "any"), ("./odd", "any"),
                 ("./absent", "any"), ("ruby it.rb", "any")):
-            self.assertEqual(calls.language_of(words, HandIn(entries)), language, words)
+            self.assertEqual(calls.language_of(words, HandIn(entries).content_of), language, words)
 
 
 @WITH_SECCOMP

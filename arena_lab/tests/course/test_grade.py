@@ -10,13 +10,14 @@ import unittest
 from typing import Any, Dict, List
 from unittest import mock
 
-from arena_lab.course import course, league, pool, users
-from arena_lab.course.sandbox import Isolation
+from arena_lab.course import course, league, pool
 from arena_lab.course.course import CourseFile, course_of
 from arena_lab.play import bounds, mistakes
 from arena_lab.play.schedulers import ANSWER, Choice, in_runs
 from arena_lab.search.minimising import Cut, Runs, in_words, runs_of, tidy
 from arena_lab.rules import networks
+from arena_lab.sandbox import users
+from arena_lab.sandbox.cells import Isolation
 from arena_lab.sweep import tables
 from arena_lab.sweep.grid import NoSweep
 

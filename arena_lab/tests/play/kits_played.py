@@ -15,9 +15,9 @@ import threading
 import time
 from typing import Any, Dict, Optional, Sequence, Tuple
 
-from arena_lab.course import sandbox
-from arena_lab.course.sandbox import Isolation
 from arena_lab.play.kits import KITS, Kit, played, write_kit
+from arena_lab.sandbox import cells
+from arena_lab.sandbox.cells import Isolation
 from arena_lab.support.built import TOP
 from arena_lab.support.missing import DEBIANS_PYTHON
 
@@ -187,7 +187,7 @@ class Played:
     def grade(self) -> None:
         """As a hand-in of a course, where programs may make the calls of the system that their language needs. It has
         to repeat too."""
-        if sandbox.strongest() is not Isolation.ALL:
+        if cells.strongest() is not Isolation.ALL:
             return
         handed_in, file = self._folder.parent / f"in-{self._folder.name}", self._folder.parent / "course.toml"
         shutil.copytree(self._folder, handed_in, ignore=shutil.ignore_patterns(*NOT_HANDED_IN))

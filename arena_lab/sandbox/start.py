@@ -1,4 +1,4 @@
-"""Starts a program in its cell (arena_lab/course/sandbox.py): `python3 sandbox_start.py CHANNEL FILES PORT SEED WORD
+"""Starts a program in its cell (arena_lab/sandbox/cells.py): `python3 start.py CHANNEL FILES PORT SEED WORD
 ..`
 
 Unpacks the team's files, a tar archive that stands open as FILES, into its folder; opens the port to which the program

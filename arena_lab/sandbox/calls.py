@@ -1,7 +1,7 @@
 """Which calls of the system programs behind walls may make, by their language: `calls.toml` beside this file has them.
 
     strace -f -X raw -o TRACE PROGRAM ..
-    python3 -m arena_lab.course.calls LANGUAGE TRACE ..
+    python3 -m arena_lab.sandbox.calls LANGUAGE TRACE ..
 
 The command says which calls of a program that was traced are refused to its language, and what allows them. A new
 language begins as a list of what `every` lacks.
@@ -13,13 +13,12 @@ import pathlib
 import re
 import shlex
 import sys
-import tarfile
 import tomllib
-from typing import Any, Counter, Dict, Iterable, List, Optional, Sequence, Set, Tuple
-
-from arena_lab.course.hand_in import HandIn
+from typing import Any, Callable, Counter, Dict, Iterable, List, Optional, Sequence, Set, Tuple
 
 TABLE = pathlib.Path(__file__).resolve().parent / "calls.toml"
+# the file in which one sets what programs in cells may do, as messages name it
+SETTINGS = "course.toml"
 # all lists together, for a program whose language is not known; the list that each language has too; and a program that
 # the machine starts without an interpreter
 ANY, EVERY, NATIVE = "any", "every", "native"
@@ -52,21 +51,21 @@ def allowed(language: str) -> Set[str]:
 
 
 def never(call: str) -> str:
-    """Why no course may allow a call, or nothing if one may."""
+    """Why nobody may allow a call, or nothing if one may."""
     by_arguments = {row["call"] for row in table()["arguments"]}
     if call in by_arguments:
         return "it is allowed by its arguments, which stand in calls.toml"
     return next((str(row["why"]) for row in table()["never"] if call in row["calls"]), "")
 
 
-def language_of(words: str, handed_in: HandIn) -> str:
+def language_of(words: str, content_of: Callable[[str], Optional[bytes]]) -> str:
     """The language of the program that these words of a command start, as far as they and its file show it."""
     first = shlex.split(words)[0]
-    entry = handed_in.entries.get(os.path.normpath(first)) if "/" in first else None
-    if entry is not None and entry.kind == tarfile.REGTYPE:
-        if entry.content.startswith(ELF):
+    content = content_of(first) if "/" in first else None
+    if content is not None:
+        if content.startswith(ELF):
             return NATIVE
-        line = entry.content[:256].partition(b"\n")[0]
+        line = content[:256].partition(b"\n")[0]
         first = line.split()[-1].decode(errors="replace") if line.startswith(b"#!") and line.split() else first
     started = os.path.basename(first)
     # a shell may start programs in any language
@@ -128,7 +127,7 @@ def report_trace(language: str, lines: Iterable[str]) -> str:
         why = "by its arguments" if " " in call else never(call) or "it is in no list"
         said.append(f"{count:7}  {call}: {why}")
     if free:
-        said.append(f"in course.toml this allows what is in no list: calls = {str(free).replace(chr(39), chr(34))}")
+        said.append(f"in {SETTINGS} this allows what is in no list: calls = {str(free).replace(chr(39), chr(34))}")
     return "\n".join(said)
 
 

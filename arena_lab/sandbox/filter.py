@@ -1,8 +1,8 @@
-"""Writes to standard output the filter of system calls for programs behind walls (arena_lab/course/sandbox.py), for
+"""Writes to standard output the filter of system calls for programs behind walls (arena_lab/sandbox/cells.py), for
 bubblewrap:
-`python3 sandbox_filter.py TABLE LANGUAGE [CALL ..]`
+`python3 filter.py TABLE LANGUAGE [CALL ..]`
 
-It allows what the table (arena_lab/course/calls.toml) has for the language, and these calls besides. All others are
+It allows what the table (arena_lab/sandbox/calls.toml) has for the language, and these calls besides. All others are
 answered
 ENOSYS, as if the system had none, but where the table names another error. Needs Debian's python3-seccomp, which
 Debian's Python sees.

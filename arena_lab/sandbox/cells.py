@@ -1,6 +1,6 @@
 """Cells: where programs of strangers play, each apart from all others.
 
-A program in a cell runs in a folder of its own, which has a copy of its team's files and nothing else. What else keeps
+A program in a cell runs in a folder of its own, which has a copy of its files and nothing else. What else keeps
 it apart depends on the machine and on who starts the lab:
 
 - With Debian's bubblewrap and python3-seccomp, where the machine lets its users make namespaces (as Linux does outside
@@ -22,29 +22,27 @@ import signal
 import socket
 import subprocess
 import sys
+import tarfile
 import tempfile
 from typing import Any, Collection, Dict, Iterator, List, NamedTuple, Optional, Sequence, Tuple
 
-from arena_lab.course import calls, sandbox_network, groups, system_copy, users, isolation, watch
-from arena_lab.course.sandbox_start import GO, READY
-from arena_lab.course.hand_in import NETWORK, HandIn
-from arena_lab.course.isolation import HOME, PATH, PORT, SPACES, NoCell
-from arena_lab.course.groups import ControlGroup
-from arena_lab.course.watch import TOO_MUCH, MemoryWatch, memory_of, processes_below, space_of
-from arena_lab.play import programs
 from arena_lab.play.programs import NoStart, Started
-from arena_lab.play.wasm_modules import file_in, is_module
-from arena_lab.rules import networks
-from arena_lab.rules.model import Setup
+from arena_lab.play.wasm_modules import is_module
+from arena_lab.sandbox import calls, groups, isolation, network, system_copy, users, watch
+from arena_lab.sandbox.groups import ControlGroup
+from arena_lab.sandbox.isolation import HOME, PATH, PORT, SPACES, NoCell
+from arena_lab.sandbox.start import GO, READY
+from arena_lab.sandbox.watch import TOO_MUCH, MemoryWatch, memory_of, processes_below, space_of
 from arena_lab.support.built import player
 from arena_lab.support.missing import DEBIANS_PYTHON
 from arena_lab.support.waiting import is_ready
 
-STARTER = pathlib.Path(__file__).resolve().parent / "sandbox_start.py"
+STARTER = pathlib.Path(__file__).resolve().parent / "start.py"
 # how long a machine with much other work may take to begin a cell
 SECONDS_TO_BEGIN = 60
 PACKAGES = "apt-get install bubblewrap python3-seccomp"
-NOTHING = HandIn({}).archive()
+# an archive of no files
+NOTHING = bytes(tarfile.RECORDSIZE)
 # last words of programs that meet a bound, and what is said of them
 THREADS = "a program may have 256 processes and threads"
 HINTS = {
@@ -52,28 +50,28 @@ HINTS = {
     "failed to create new OS thread": THREADS, "Resource temporarily unavailable": THREADS,
     "annot assign requested address": "a program may have two connections to a port at a time",
     "Too many open files": "a program may have 256 open files",
-    "libjli.so": "programs in Java need `proc = true` in course.toml",
+    "libjli.so": f"programs in Java need `proc = true` in {calls.SETTINGS}",
     "No space left on device": "a program's folder, /tmp and /dev/shm take 64 MB each",
 }
 
 # last words of programs that make a call of the system which is refused; what is said of it
 NO_CALL = re.compile("function not implemented|operation not permitted|bad system call|ENOSYS|EPERM", re.IGNORECASE)
 A_CALL = ("calls of the system are refused to it that {language} does not need: examples/README.md says how to see "
-          "which this was, and `calls` in course.toml allows more")
+          f"which this was, and `calls` in {calls.SETTINGS} allows more")
 
 
 class Isolation(enum.Enum):
     """What keeps a program apart, besides a folder of its own."""
 
     ALL = "each program has a network, processes and a view of the disk of its own"
-    USER = ("each program has a user of its own, but can read what every user may read, so close the course's folder "
+    USER = ("each program has a user of its own, but can read what every user may read, so close your folder "
             "to others by `chmod go= FOLDER`; and a team's programs can talk to each other unseen")
     NONE = ("teams' programs run as you: they can read and change your files, and what they write to /tmp and "
             "processes that leave their group stay when a match has ended")
 
 
 class Sandbox(NamedTuple):
-    """What all cells of a course share: what keeps programs apart, which folders they see besides the system's,
+    """What cells share: what keeps programs apart, which folders they see besides the system's,
     whether they see /proc, which folder has the copy of the system that they see, if there is one, which calls of the
     system they may make besides those of their languages, and which control group has those of programs, if there is
     one."""
@@ -86,8 +84,8 @@ class Sandbox(NamedTuple):
     groups: str = ""
 
 
-class TeamFiles(NamedTuple):
-    """What a team's programs have: their files as an archive, what is told of the network, and their language."""
+class ProgramFiles(NamedTuple):
+    """What programs have: their files as an archive, what they are told of the network, and their language."""
 
     files: bytes
     facts: Dict[str, str] = {}
@@ -95,9 +93,9 @@ class TeamFiles(NamedTuple):
 
 
 class Cell:
-    """A place for one program: its team's files and what is told of the network, its user, and what keeps it apart."""
+    """A place for one program: its files and what it is told of the network, its user, and what keeps it apart."""
 
-    def __init__(self, yard: Sandbox, kept: TeamFiles, user: Optional[int], place: Optional[pathlib.Path],
+    def __init__(self, yard: Sandbox, kept: ProgramFiles, user: Optional[int], place: Optional[pathlib.Path],
                  group: Optional[ControlGroup] = None) -> None:
         self.yard = yard
         self._group = group
@@ -148,7 +146,7 @@ class Cell:
                 if self.place is None:
                     inside = processes_below(child.pid)[1:2]
                     self._first = opened(inside)
-                    sandbox_network.bound(inside[0])
+                    network.bound(inside[0])
                 channel.sendall(GO)
                 return listener
         except (OSError, IndexError) as fault:
@@ -232,8 +230,8 @@ def opened(processes: Sequence[int]) -> Optional[int]:
 
 
 @contextlib.contextmanager
-def cells(yard: Sandbox, kept: TeamFiles, count: int) -> Iterator[List[Cell]]:
-    """Cells of a team's programs, each with a copy of the files of an archive."""
+def cells_for(yard: Sandbox, kept: ProgramFiles, count: int) -> Iterator[List[Cell]]:
+    """Cells of programs, each with a copy of the files of an archive."""
     with contextlib.ExitStack() as left:
         made = []
         for _ in range(count):
@@ -269,31 +267,9 @@ def furnished(yard: Sandbox, commands: Collection[str], packages: Sequence[str])
         yield yard._replace(root=folder, groups=held.enter_context(groups.divided()))
 
 
-@contextlib.contextmanager
-def grounds_of(yard: Sandbox, handed_in: HandIn, words: str, setup: Setup, count: int
-               ) -> Iterator[Sequence[programs.Ground]]:
-    """Where this number of a team's programs run, which these words start: each in a cell, unless their hand-in is
-    refused. A module needs no cell for its player."""
-    if handed_in.refusal:
-        yield [programs.Nowhere(f"the hand-in is refused: {handed_in.refusal}")] * count
-        return
-    if is_module(words):
-        # it sees nothing but replies, and its memory and steps are bounded
-        with tempfile.TemporaryDirectory(prefix="lab-module-") as folder:
-            handed_in.write_file(file_in(words), pathlib.Path(folder))
-            yield [programs.LocalRunner(folder)] * count
-        return
-    network = networks.text_of(networks.Network(setup.nodes, setup.links)).encode()
-    has_map = "{network}" in words
-    files = handed_in.archive(**({NETWORK: network} if has_map else {}))
-    kept = TeamFiles(files, {"network": NETWORK} if has_map else {}, calls.language_of(words, handed_in))
-    with cells(yard, kept, count) as made:
-        yield made
-
-
 def try_out(yard: Sandbox) -> None:
     """Starts a program that does nothing; if even that cannot be started, NoCell says why."""
-    with cells(yard, TeamFiles(NOTHING), 1) as made, tempfile.TemporaryFile() as errors:
+    with cells_for(yard, ProgramFiles(NOTHING), 1) as made, tempfile.TemporaryFile() as errors:
         child, listener_of = made[0].start(["true"], 0, errors)
         listener_of().close()
         if child.wait() != 0:

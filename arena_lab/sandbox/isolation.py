@@ -6,11 +6,11 @@ import pathlib
 import subprocess
 from typing import List, Optional, Sequence, Tuple
 
-from arena_lab.course import calls
+from arena_lab.sandbox import calls
 from arena_lab.support.faults import Fault
 from arena_lab.support.missing import DEBIANS_PYTHON
 
-FILTER = pathlib.Path(__file__).resolve().parent / "sandbox_filter.py"
+FILTER = pathlib.Path(__file__).resolve().parent / "filter.py"
 # where a program's folder stands behind walls, where it connects, and who it is there
 HOME, PORT, USER = "/agent", 4000, "1000"
 PATH = "/usr/local/bin:/usr/bin:/bin"
@@ -22,7 +22,7 @@ SETTINGS = ("alternatives", "fonts", "hosts", "java*", "ld.so.*", "localtime", "
             "os-release", "protocols", "python3*", "services", "ssl/certs", "ssl/openssl.cnf")
 # what it sees of /proc besides its processes: the rest tells how busy the machine is
 PROCESSES = {"self", "thread-self", "mounts", "net", "cpuinfo", "filesystems", "version"}
-# in a copy of the system, where the folders stand that a course names as tools, by their numbers
+# in a copy of the system, where the folders stand that are named as tools, by their numbers
 TOOLS = "tools"
 # where it can write, in memory, and how many bytes each of these takes
 SPACES, SPACE = (HOME, "/tmp", "/dev/shm"), 64 << 20
@@ -34,7 +34,7 @@ class NoCell(Fault):
 
 def words(tools: Sequence[str], has_proc: bool, root: str = "") -> List[str]:
     """The command of bubblewrap that puts up walls, up to the command that is to run behind them. These folders are
-    seen besides the system's, and /proc if the course asks for it. Of the system a copy is seen, if there is one."""
+    seen besides the system's, and /proc if it is asked for. Of the system a copy is seen, if there is one."""
     found = ["bwrap", "--unshare-all", "--unshare-user", "--disable-userns", "--uid", USER, "--gid", USER,
              "--hostname", "cell", "--die-with-parent", "--new-session", "--clearenv", "--setenv", "PATH", PATH,
              "--setenv", "TMPDIR", "/tmp", "--setenv", "COUNTED", "yes"]

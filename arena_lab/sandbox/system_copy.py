@@ -2,9 +2,9 @@
 
 The kernel keeps names of files that do not exist, and what it has read of a disk: so a program can leave a note for a
 later one by looking for names, and it sees how much of the disk is free. A file system in memory keeps no such names,
-and nobody writes there. The copy has the files of Debian's packages that own the programs which the commands of a
-course name, of those on which these depend, and of those that the course names as `packages`. The folders that it
-names as `tools` are copied too, if there is room.
+and nobody writes there. The copy has the files of Debian's packages that own the programs which commands name, of those
+on which these depend, and of the `packages` that are named besides. The folders that are named as `tools` are copied
+too, if there is room.
 """
 import contextlib
 import functools
@@ -17,7 +17,7 @@ import sys
 import tempfile
 from typing import Dict, Iterable, Iterator, List, NamedTuple, Sequence, Set
 
-from arena_lab.course.isolation import PATH, SETTINGS, TOOLS
+from arena_lab.sandbox.isolation import PATH, SETTINGS, TOOLS
 
 # where file systems in memory are, and how many bytes of them a copy may take
 PLACES, MOST = ("/dev/shm", os.environ.get("XDG_RUNTIME_DIR", "/dev/shm")), 1 << 30

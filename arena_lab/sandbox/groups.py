@@ -12,7 +12,7 @@ import pathlib
 import time
 from typing import Iterator, List, Optional
 
-from arena_lab.course import watch
+from arena_lab.sandbox import watch
 
 # where groups are, and which is that of this process
 MOUNTS, OWN = ("/sys/fs/cgroup", "/sys/fs/cgroup/unified"), pathlib.Path("/proc/self/cgroup")

@@ -1,0 +1,35 @@
+"""Where the programs that a team hands in run."""
+import contextlib
+import pathlib
+import tempfile
+from typing import Iterator, Sequence
+
+from arena_lab.course.hand_in import NETWORK, HandIn
+from arena_lab.play import programs
+from arena_lab.play.wasm_modules import file_in, is_module
+from arena_lab.rules import networks
+from arena_lab.rules.model import Setup
+from arena_lab.sandbox import calls
+from arena_lab.sandbox.cells import ProgramFiles, Sandbox, cells_for
+
+
+@contextlib.contextmanager
+def grounds_of(yard: Sandbox, handed_in: HandIn, words: str, setup: Setup, count: int
+               ) -> Iterator[Sequence[programs.Ground]]:
+    """Where this number of a team's programs run, which these words start: each in a cell, unless their hand-in is
+    refused. A module needs no cell for its player."""
+    if handed_in.refusal:
+        yield [programs.Nowhere(f"the hand-in is refused: {handed_in.refusal}")] * count
+        return
+    if is_module(words):
+        # it sees nothing but replies, and its memory and steps are bounded
+        with tempfile.TemporaryDirectory(prefix="lab-module-") as folder:
+            handed_in.write_file(file_in(words), pathlib.Path(folder))
+            yield [programs.LocalRunner(folder)] * count
+        return
+    network = networks.text_of(networks.Network(setup.nodes, setup.links)).encode()
+    has_map = "{network}" in words
+    files = handed_in.archive(**({NETWORK: network} if has_map else {}))
+    kept = ProgramFiles(files, {"network": NETWORK} if has_map else {}, calls.language_of(words, handed_in.content_of))
+    with cells_for(yard, kept, count) as made:
+        yield made
