@@ -5,6 +5,10 @@ import multiprocessing
 import os
 import signal
 import sys
+import threading
+import traceback
+import weakref
+from types import FrameType
 from typing import Collection, List, NamedTuple, Optional, Tuple
 
 import arena_lab
@@ -107,9 +111,15 @@ class Terminated(BaseException):
     """The lab is to end. An agent that is playing then does not catch it, as it would an exit."""
 
 
-def end(*_: object) -> None:
-    """Ends the lab, and the processes that play for it, whose matches may take minutes. A second signal does not
-    interrupt that."""
+def end(number: int, frame: Optional[FrameType]) -> None:
+    """Interrupts the lab, or ends it and the processes that play for it, whose matches may take minutes. A second
+    signal does not interrupt that."""
+    if any(it.f_code.co_filename == weakref.__file__ for it, _ in traceback.walk_stack(frame)):
+        # Python drops what is raised in the function that a weak reference calls: the signal comes again behind it
+        threading.Timer(0.01, os.kill, (os.getpid(), number)).start()
+        return
+    if number == signal.SIGINT:
+        raise KeyboardInterrupt
     signal.signal(signal.SIGTERM, signal.SIG_IGN)
     for process in multiprocessing.active_children():
         process.terminate()
@@ -125,6 +135,8 @@ def main(given: Optional[List[str]] = None) -> int:
         words.refuse(f"unrecognized arguments: {' '.join(strange)}")
     # whoever ends the lab ends what it started
     signal.signal(signal.SIGTERM, end)
+    if signal.getsignal(signal.SIGINT) is signal.default_int_handler:
+        signal.signal(signal.SIGINT, end)
     try:
         return int(words.run(words))
     except Terminated:

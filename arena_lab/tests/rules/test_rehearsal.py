@@ -4,12 +4,15 @@ import importlib
 import io
 import os
 import pathlib
+import signal
 import tempfile
+import time
 import unittest
-from typing import List
+import weakref
+from typing import Dict, List
 from unittest import mock
 
-from arena_lab.__main__ import COMMANDS, main
+from arena_lab.__main__ import COMMANDS, end, main
 from arena_lab.rules import networks
 from arena_lab.rules.engines import TOP, EngineRefused, asked, name_of, program_at
 from arena_lab.rules.fixtures import Fixture, fixture_of, read_tournament, write_tournament
@@ -136,6 +139,18 @@ class CommandLine(unittest.TestCase):
             with self.subTest(words), contextlib.chdir(TOP):
                 with mock.patch("arena_lab.support.progress.bar", mock.MagicMock()):
                     self.assertIn(said, self.told(*words))
+
+    def test_an_interrupt_is_not_lost_while_a_weak_reference_ends(self) -> None:
+        class Told(Dict[object, int]):
+            def __delitem__(self, key: object) -> None:
+                os.kill(os.getpid(), signal.SIGINT)
+
+        held: "weakref.WeakKeyDictionary[CommandLine, int]" = weakref.WeakKeyDictionary()
+        held.data = Told()
+        self.addCleanup(signal.signal, signal.SIGINT, signal.signal(signal.SIGINT, end))
+        with self.assertRaises(KeyboardInterrupt):
+            held[CommandLine()] = 1
+            time.sleep(9)
 
     def test_each_command_has_a_help(self) -> None:
         for name in COMMANDS:
