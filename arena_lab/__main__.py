@@ -33,7 +33,7 @@ class Command(NamedTuple):
 
 
 COMMANDS = {
-    "new": Command("arena_lab.commands.new", "begin an agent in Python, JavaScript, Java, C, C++, Rust or Go", ()),
+    "new": Command("arena_lab.commands.new", "begin an agent in one of seven languages or as a module", ()),
     "examples": Command("arena_lab.commands.examples", "say where the examples stand, or copy them", ()),
     "play": Command("arena_lab.commands.play", "be the agents yourself, in the terminal or on a page", PAGES
                     + ("aiohttp",)),
