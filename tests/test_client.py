@@ -1,4 +1,5 @@
 """The client and the search in C over sockets, served by the stand-in with turns that wait."""
+import contextlib
 import pathlib
 import socket
 import subprocess
@@ -25,6 +26,8 @@ quota = {quota}
 board = 64
 keys = ["ka", "kb"]
 """
+# seconds within which an agent ends that is not lost, once the other has ended
+SOON = 2
 
 
 class Served(unittest.TestCase):
@@ -140,9 +143,12 @@ class SearchInC(Served):
                 quiet = {"stdout": subprocess.DEVNULL, "stderr": subprocess.DEVNULL}
                 agents = [subprocess.Popen([*command, port, key, "8"], **quiet)
                           for command, key in zip(commands, ("ka", "kb"))]
-                # one of them accuses and ends; the other may be lost, and then ends with the match
+                # one of them accuses and ends; the other does so soon, or is lost and ends with the match
                 while all(agent.poll() is None for agent in agents):
                     time.sleep(0.01)
+                for agent in agents:
+                    with contextlib.suppress(subprocess.TimeoutExpired):
+                        agent.wait(SOON)
                 self.assertEqual(self.outcome()[1:3], ["red", "solved"])
                 for agent in agents:
                     agent.wait()
