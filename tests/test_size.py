@@ -1,12 +1,14 @@
 """The tree does not grow unseen: its figures may fall, and rise only by an edit of tests/size.toml that says why."""
 import unittest
 
+from tests import needs
 from tools import prose, size
 
 KEPT = '[words]\n# why\n"a.md" = 200\n"gone.md" = 5\n["files that name a command"]\n"Look" = 3  # and why\n'
 
 
 class Size(unittest.TestCase):
+    @needs("git", "git")
     def test_no_figure_has_risen(self) -> None:
         found = size.risen(size.figures(), size.kept())
         self.assertEqual(found, [], "\nmake it smaller, or raise the figure in tests/size.toml with a comment on why")

@@ -339,6 +339,7 @@ class Seen(unittest.TestCase):
 class Commands(unittest.TestCase):
     """The file of a course that `hall new` writes, and backups."""
 
+    @needs("networkx")
     def test_its_times_are_those_of_the_machine(self) -> None:
         with tempfile.TemporaryDirectory() as name:
             folder = pathlib.Path(name)
