@@ -1,21 +1,20 @@
-"""Counts the instructions that programs run on the same inputs. Other work on the machine does not change them.
+"""Counts the instructions that programs run on the same inputs. Other work on the machine does not change the counts.
 
-    tools/build               # proves and builds the program, if that is not done yet
     python3 -m bench.instructions [PROGRAM [OTHER]] [--peer PATH] [--small]
     python3 -m bench.instructions --kept [PROGRAM]
 
-Makes inputs by a seeded generator, of version 1, so that older builds and a peer take them too:
+A seeded generator makes inputs of version 1, which older builds and a peer take too:
 
-- a script of 16 matches of 16 agents: some 30,000 commands and draws by chance;
-- a complete network of 256 nodes;
-- moves: the replay with the most events that version 1 allows, 32,033, of 16 agents that walk by chance;
-- texts: the replay of 16 agents that look at a whiteboard of 1,024 bytes, not all ASCII.
+- A script of 16 matches of 16 agents has some 30,000 commands and draws.
+- A complete network has 256 nodes.
+- The replay `moves` has the most events that version 1 allows, 32,033, of 16 agents that walk by chance.
+- In the replay `texts` 16 agents look at a whiteboard of 1,024 bytes, not all ASCII.
 
 Valgrind's callgrind counts the instructions of `rehearse` on the script, of `check` on the network, and of `judge`,
-`explain` and `twin` on both replays. A row has the millions of PROGRAM; those of OTHER, an older build, if one is
-named; those of the peer, a plain program with the same commands, if --peer names one; and PROGRAM divided by each. With
---small the script is a tenth as long, the network has 64 nodes, and an agent has a tenth of the commands. It needs
-Debian's package valgrind, under which a build without a proof does not run.
+`explain` and `twin` on both replays. A row has the millions of instructions of PROGRAM. If an older build OTHER is
+named, or by --peer a plain program with the same commands, the row has their millions too, and PROGRAM divided by each.
+With --small the script is a tenth as long, the network has 64 nodes, and an agent has a tenth of the commands. The
+program must be built by tools/build, as Valgrind runs no build without a proof; it is Debian's package valgrind.
 
 With --kept the small inputs are counted and compared with bench/instructions.toml. A run that takes 3 % more
 instructions than are kept there fails: make it faster, or raise the number and say why. The last line reads

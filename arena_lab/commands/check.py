@@ -4,15 +4,17 @@
     ./arena-lab check "examples/agents/ring.py {nodes}"
     ./arena-lab check "examples/agents/wasm/ring.wasm:{nodes}"
 
-AGENT is the words that start the program of one agent, with {host}, {port} and {key}; or without {port} a file in
-Python that is written against `client.py`, which plays inside the lab and is checked faster; or a WebAssembly module
-with its arguments. Two of them play a few matches on small networks (rings of 3 to 8 and 12 nodes, unless you name
-others by --network), each under a fair schedule and under one with slow agents. Each agent is repeated alone, as in a
-course; lines that were refused are told. A program is kept waiting for an arrival, longer by the clock than a link
-takes in a contest of the usual delays. Then schedules are drawn and hunted on rings of 5, 6 and 8, for a minute and at
-least 24 draws, and every schedule of a ring of 5 is tried, if that takes three minutes at most. In the end the agent is
-right, and one sentence says on what; or the first thing to mend is told, one fact a line, and how to see it again. The
-exit status is 1 if there is something to mend.
+AGENT is the words that start the program of one agent, with {host}, {port} and {key}. Without {port} it is a file in
+Python that is written against `client.py`: it plays inside the lab and is checked faster. FILE.wasm[:N,..] is a
+WebAssembly module.
+
+Two agents play a few matches on small networks (rings of 3 to 8 and 12 nodes, unless you name others by --network),
+each under a fair schedule and under one with slow agents. Each agent is repeated alone, as in a course, and refused
+lines are reported. A program is kept waiting for an arrival, longer by the clock than a link takes in a contest of the
+usual delays. Then schedules are drawn and hunted on rings of 5, 6 and 8, for a minute and at least 24 draws. Every
+schedule of a ring of 5 is tried, if that takes three minutes at most. In the end one sentence says that the agent is
+right, and on what. Or the command says what to mend first, one fact a line, and how to see it again; then the exit
+status is 1.
 
 Under --network the searches take the smallest three of the networks that you name.
 """

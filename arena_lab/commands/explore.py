@@ -20,15 +20,16 @@ The result holds for the replies that the agents had, and is no theorem about th
 time. So the command checks them, and the last line counts the checks:
 
 - The agents play 20 drawn schedules (--check N: N), and must act as before.
-- Other processes, each with another order of sets, play agents inside the lab alone, by the same replies.
+- Other processes give an agent inside the lab the same replies. Each has another order of sets.
 - On small matches the Python model's search must find the same.
-- If two histories lead to one declared memory, the second agent is played beside the first for some steps.
-- If every schedule solves, the agents of one match are repeated alone, as by `run --repeat`, and a warning names a
+- If two histories lead to one declared memory, both agents are played for some steps and compared.
+- If every schedule solves, the agents of one match are repeated alone, as by `run --repeat`. A warning names a
   difference.
 
-A team may run a WebAssembly module, FILE.wasm[:N,..]. The program then runs it itself (`arena explore --module`), so
-nothing is left to check: what it finds is proved of the module, whose SHA-256 is printed. A schedule that fails is kept
-unless the module sleeps in it; then its turns are printed.
+A team may run a WebAssembly module, FILE.wasm[:N,..]. The program then runs it itself (`arena explore --module`), and
+there are no checks. What it finds is proved of the module, and the SHA-256 of the file is printed. That the module is
+what the file says is tested, not proved. A schedule that fails is kept unless the module sleeps in it; then its turns
+are printed.
 
     ./arena-lab explore --network ring:16 --agent "examples/agents/wasm/ring.wasm:{nodes}"
 

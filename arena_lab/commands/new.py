@@ -4,10 +4,10 @@
     ./arena-lab new java my-agent
     ./arena-lab new wasm my-agent
 
-The folder has a client, which speaks to the server; an agent that searches a ring with it, to be changed into your own;
-a test; and a README with the commands to build, test and play it. `wasm` is an agent in C that is compiled to a
-WebAssembly module, of which `explore` proves what it finds. docs/AGENTS.md says what an agent may do and what it is
-answered.
+The folder has a client, which speaks to the server, and an agent that searches a ring with it: change it into your own.
+It also has a test, and a README with the commands to build, test and play the agent. `wasm` and `wasm-rust` are agents
+in C and Rust that are compiled to WebAssembly modules: what `explore` finds of a module is proved of it.
+docs/AGENTS.md has the commands of agents and their answers.
 """
 import argparse
 import pathlib

@@ -1,4 +1,4 @@
-"""Writes a page on which one can watch a match that has ended, or the pages of a contest.
+"""Writes a page that shows a match that has ended, or the pages of a contest.
 
     ./arena-lab page REPLAY [--out PAGE] [--twin V] [--program PATH | --engine model]
     ./arena-lab page TOURNAMENT PREFIX --out FOLDER [--again FOLDER] [--program PATH | --engine model]

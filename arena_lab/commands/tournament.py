@@ -33,7 +33,7 @@ from typing import Callable, Dict, List, NamedTuple, Optional, Sequence, Tuple, 
 
 from arena_lab.commands.network import add_ports, network_for
 from arena_lab.commands.words import not_negative
-from arena_lab.pages.contest_pages import AGAIN
+from arena_lab.pages.contest_pages import AGAIN, TOURNAMENT
 from arena_lab.rules import networks
 from arena_lab.rules.delays import ADAPTIVE, OBLIVIOUS, ODDS, SCALES, Delays
 from arena_lab.rules.fixtures import Fixture, read_tournament, tournament_text
@@ -44,7 +44,7 @@ from arena_lab.rules.networks import Network, NoNetwork
 ALL, DEGREE = "all", "degree"
 MOST_MATCHES = 64
 MOST_SCALES, MOST_ODDS = 24, 65_535
-TOURNAMENT, NETWORK = "tournament.toml", "network0.toml"
+NETWORK = "network0.toml"
 QUOTA, BOARD = SMALL_QUOTA, SMALL_BOARD
 
 

@@ -10,55 +10,55 @@
     name = "ring of 16"
     network = "ring:16"
 
-    title         what the hall is called
-    host          the name or address of this machine to which teams connect their agents ("127.0.0.1")
-    address       the address on which servers of matches listen ("127.0.0.1"; "0.0.0.0" is every one)
-    ports         the first and the last port for servers of matches ([4100, 4199])
-    names         other names of the machine by which pages may be asked for ([])
-    https         true if a server such as nginx or Caddy stands before the hall and encrypts (false)
-    zone          the time zone of all times ("UTC")
-    language      the language of the pages unless a reader asks for another: "en", "de" or "fr" ("en")
-    database      "postgresql://USER@HOST/NAME" in the place of a file of SQLite
-    minutes       how long a match goes on at most once it has begun (8)
-    gather        how many seconds a match waits for its agents (60)
-    pause         how many milliseconds pass before each turn (5)
-    public        true if everybody may see the standings, and not only who has logged in (false)
-    freeze        the time from which on the standings do not change for teams, such as "2026-12-18 18:00"
+    title         what the hall is called.
+    host          the name or address of this machine to which teams connect their agents ("127.0.0.1").
+    address       the address on which servers of matches listen ("127.0.0.1"; "0.0.0.0" is every one).
+    ports         the first and the last port for servers of matches ([4100, 4199]).
+    names         other names of the machine by which pages may be asked for ([]).
+    https         true if a server such as nginx or Caddy stands before the hall and encrypts (false).
+    zone          the time zone of all times ("UTC").
+    language      the language of the pages unless a reader asks for another: "en", "de" or "fr" ("en").
+    database      "postgresql://USER@HOST/NAME" in the place of a file of SQLite.
+    minutes       how long a match goes on at most once it has begun (8).
+    gather        how many seconds a match waits for its agents (60).
+    pause         how many milliseconds pass before each turn (5).
+    public        true if everybody may see the standings, and not only who has logged in (false).
+    freeze        the time from which on the standings do not change for teams, such as "2026-12-18 18:00".
 
 Each [[team]] has these keys:
 
-    name          1 to 16 characters out of a to z, 0 to 9 and -; the first one is no -
-    display       a name of any script for pages (the name)
+    name          1 to 16 characters out of a to z, 0 to 9 and -; the first one is no -.
+    display       a name of any script for pages (the name).
 
 Each [[network]] has these keys:
 
-    name          what teams call it
-    network       the network, as --network takes it
-    agents        how many agents a team has, or "degree" for one more than the greatest degree (2)
-    holes         how many black holes there are (1)
-    quota         how many commands an agent may use (1000)
-    board         how many bytes a whiteboard holds (4096)
-    labels        "drawn" if each match numbers the ports anew, or "fixed" ("drawn")
-    map           true if teams get the network and the home base (false)
+    name          what teams call it.
+    network       the network, as --network takes it.
+    agents        how many agents a team has, or "degree" for one more than the greatest degree (2).
+    holes         how many black holes there are (1).
+    quota         how many commands an agent may use (1000).
+    board         how many bytes a whiteboard holds (4096).
+    labels        "drawn" if each match numbers the ports anew, or "fixed" ("drawn").
+    map           true if teams get the network and the home base (false).
 
     [limits]
-    at_once       how many matches of a team wait or run at a time (2)
-    a_day         how many matches of practice a team has a day (300)
-    requests      how many requests a team makes a minute (120)
-    disk          how many megabytes the files of a team take (200)
-    matches       how many matches are played at a time (64)
-    gradings      how many programs are graded at a time (2)
+    at_once       how many matches of a team wait or run at a time (2).
+    a_day         how many matches of practice a team has a day (300).
+    requests      how many requests a team makes a minute (120).
+    disk          how many megabytes the files of a team take (200).
+    matches       how many matches are played at a time (64).
+    gradings      how many programs are graded at a time (2).
 
     [hand_ins]
-    command       the words that start the program of one agent, or its module, as in a course of `grade`
-    file          the name of a file that is handed in by itself ("agent.py", or the module that `command` names)
-    networks      networks on which each hand-in is graded at once, as --network takes them
+    command       the words that start the program of one agent, or its module, as in a course of `grade`.
+    file          the name of a file that is handed in by itself ("agent.py", or the module that `command` names).
+    networks      networks on which each hand-in is graded at once, as --network takes them.
     secret        networks on which the last hand-in of each team is graded after the deadline, by one draw for all
-                  teams (the same as `networks`)
-    deadline      a time, such as "2026-12-18 18:00"; after it nothing is taken, and the last hand-ins are graded
-    a_day         how many hand-ins a team has a day (10)
+                  teams (the same as `networks`).
+    deadline      a time, such as "2026-12-18 18:00"; after it nothing is taken, and the last hand-ins are graded.
+    a_day         how many hand-ins a team has a day (10).
     agents, holes, schedulers, seeds
-                  as in a course of `grade` (2, 2, ["fair", "slow-agents"], 2)
+                  as in a course of `grade` (2, 2, ["fair", "slow-agents"], 2).
 
 Without [hand_ins] nothing is handed in, and nobody is ranked. Times are of the zone.
 """

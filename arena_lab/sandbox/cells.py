@@ -71,10 +71,9 @@ class Isolation(enum.Enum):
 
 
 class Sandbox(NamedTuple):
-    """What cells share: what keeps programs apart, which folders they see besides the system's,
-    whether they see /proc, which folder has the copy of the system that they see, if there is one, which calls of the
-    system they may make besides those of their languages, and which control group has those of programs, if there is
-    one."""
+    """What cells share. `walls` keep programs apart. Besides the system's folders programs see `tools`, and /proc if
+    `has_proc`. `root` has the copy of the system that they see, or is empty. They may make `calls` of the system
+    besides those of their languages. `groups` has the control groups of programs, or is empty."""
 
     walls: Isolation
     tools: Tuple[str, ...] = ()
@@ -85,7 +84,7 @@ class Sandbox(NamedTuple):
 
 
 class ProgramFiles(NamedTuple):
-    """What programs have: their files as an archive, what they are told of the network, and their language."""
+    """A program's files as an archive, the facts of the network in its command, and its language."""
 
     files: bytes
     facts: Dict[str, str] = {}
@@ -93,7 +92,7 @@ class ProgramFiles(NamedTuple):
 
 
 class Cell:
-    """A place for one program: its files and what it is told of the network, its user, and what keeps it apart."""
+    """A place in which one program runs, apart from others, with its files and perhaps a user of its own."""
 
     def __init__(self, yard: Sandbox, kept: ProgramFiles, user: Optional[int], place: Optional[pathlib.Path],
                  group: Optional[ControlGroup] = None) -> None:

@@ -10,7 +10,7 @@ from typing import Dict, List, NamedTuple, Tuple
 
 RUNNABLE, READABLE = 0o755, 0o644
 NAME = "arena_lab"
-# where the programs, and what is said of them, stand in the package, and what stands beside the lab there
+# the folder of the programs and of their records in the package, and the folders beside the lab
 PROGRAM, BESIDE = "arena_lab/program/", ("examples/", "experiments/", "docs/")
 
 

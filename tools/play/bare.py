@@ -22,10 +22,11 @@ from typing import List
 
 from tools.play import roots
 from tools.prove.prover import KIT, TOP
+from tools.prove.record import PROGRAMS
 
 # where the repository is in the root, and what is taken of this one besides the commit
 HOME = "home/arena"
-BUILT = ("crates/bhs_main/out", "crates/bhs_bench/out", "tests/out")
+BUILT = (*(f"crates/{name}/out" for name in (*PROGRAMS, "bhs_bench")), "tests/out")
 PROGRAM = "crates/bhs_main/out/bhs_main"
 # where apt-get finds archives, and how many last lines are shown
 SOURCES, LINES = "etc/apt/sources.list", 60
