@@ -129,7 +129,8 @@ def fuelled(stage: Stage) -> None:
 
 @case("an agent is not played whose file is no module, or whose words are not fit")
 def not_played(stage: Stage) -> None:
-    for file, fault in ((b"", "head at byte 0"), (running(b"", "look", "puts"), "import arena.puts at byte 38")):
+    for file, fault in ((b"", "head at byte 0"), (running(b"", "look", "puts"), "import arena.puts at byte 38"),
+                        (running(b"", "\x1b[2J\n"), r"import arena.\u{1b}[2J\n at byte 21")):
         plays(stage, file, Talk([HERE], [], f"agent.wasm: {fault}", BROKEN))
     for word in ("agent.wasm:", "agent.wasm:a", "agent.wasm:-1", "agent.wasm:4294967296"):
         ran = Stage(str(PLAYER), stage.folder).run(["-", "0", "k", "--module", word], b"")

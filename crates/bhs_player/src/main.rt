@@ -57,23 +57,24 @@ fn started(rt: &HostRuntime) -> io::Result<u8> {
     }
 }
 
-// Tells what is wrong with an agent, behind the name of its module's file if it has one.
+// Tells what is wrong with an agent, behind the name of its module's file if it has one. Names in the file are a
+// stranger's: nothing in the line controls a terminal.
 fn tell_of_agent<D: Display + Drop>(
     rt: &HostRuntime,
     entrant: &Entrant<'_>,
     fault: D,
 ) -> io::Result<()> {
-    match &entrant.runs {
-        AgentChoice::Module(module) => eprintln!(rt;
-            "bhs_player: {}: {fault}",
-            module.file.as_str()
-        ),
+    let line = match &entrant.runs {
+        AgentChoice::Module(module) => {
+            format!(in rt.alloc(); "{}: {fault}", module.file.as_str())?
+        }
         AgentChoice::Protocol {
             protocol: _,
             nodes: _,
             side: _,
-        } => eprintln!(rt; "bhs_player: {fault}"),
-    }
+        } => format!(in rt.alloc(); "{fault}")?,
+    };
+    eprintln!(rt; "bhs_player: {}", line.as_str().escape_debug())
 }
 
 // Plays an agent where the words say.
