@@ -22,6 +22,13 @@ DATA = bytes(range(7, 256, 5))
 CALL, DROP, END = b"\x10", b"\x1a", b"\x0b"
 LOOP, AGAIN = b"\x03\x40", b"\x0c\x00"
 SIZE, GROW, STORE8, MULTIPLY, SUBTRACT = b"\x3f\x00", b"\x40\x00", b"\x3a\x00\x00", b"\x6c", b"\x6b"
+# where a module has the text of a whiteboard
+BOARD = 16
+LOAD64 = b"\x29\x00\x00"
+# texts of at most 8 bytes in UTF-8: the least and the greatest character of each length
+TEXTS = [it.encode() for it in ("", "\0\x7f", "\x80\u07ff", "\u0800\ud7ff", "\ue000\uffff", "\U00010000\U0010ffff")]
+# a byte that begins no character, too many bytes for a character, a surrogate, too large a character, a part of one
+NOT_TEXTS = (b"\x80", b"\xc0\x80", b"\xe0\x80\x80", b"\xed\xa0\x80", b"\xf4\x90\x80\x80", b"a\xc3")
 # pages of 64 KiB that an agent asks for at a time
 GROWTH = 100
 STATES = '{"states":%d,"memories":%d,"stances":%d,"boards":1}\n'
@@ -96,6 +103,25 @@ def fails(stage: Stage) -> None:
             ("fuel", running(LOOP + AGAIN + END), 0),
             ("command", running(constant(I32, 65_536) + CALL + b"\x00" + DROP, "depart"), 1)):
         explores(stage, agent, BREAKS, FAILING, f',"failure":"{cause}","function":{function}')
+
+
+@case("agents write and read any text in UTF-8, and fail with bytes that are not UTF-8")
+def texts(stage: Stage) -> None:
+    writes(stage, tri=TRIANGLE, cup=CUP)
+    for text, found in (*((it, b"silent") for it in TEXTS), *((it, b"command") for it in NOT_TEXTS)):
+        (stage.folder / "agent.wasm").write_bytes(writing(text))
+        ran = stage.run(["explore", "cup.toml", "0", "--module", "agent.wasm"], b"")
+        if ran.status != FAILING or found not in ran.printed:
+            raise Wrong(f"{text!r}: {ran.status}: {ran.printed!r} {ran.told!r}")
+
+
+def writing(text: bytes) -> bytes:
+    """A module that writes a text, and traps if the whiteboard does not show it then."""
+    enters, writes_it, looks, shows = (CALL + bytes([place]) for place in range(4))
+    put = constant(I32, 0) * 3 + constant(I32, len(text)) + writes_it + DROP
+    seen = constant(I32, BOARD) * 2 + constant(I32, 8) + shows + DROP + LOAD64 + constant(I32, 0) + LOAD64
+    body = enters + DROP + put + looks + DROP + seen + b"\x52\x04\x40\x00" + END
+    return module([Function([], [], body, "run")], ["enter", "write", "look", "board"], data=text)
 
 
 @case("agents whose memory grows are explored until memory runs out, and no longer")

@@ -3,7 +3,7 @@ it ends. They are skipped where the agents' program is not built."""
 import unittest
 from typing import List, NamedTuple
 
-from tools.play.module_cases import CALL, DROP, END, running
+from tools.play.module_cases import BOARD, CALL, DROP, END, running
 from tools.play.program_cases import CUP, TOP, TRIANGLE, case, writes
 from tools.play.program_rows import DONE, Stage, Wrong, difference, expect
 from tools.play.wasm_modules import I32, constant
@@ -54,7 +54,6 @@ def plays(stage: Stage, file: bytes, talk: Talk, arguments: str = "") -> None:
 
 # It goes by the port before the last, puts one byte more behind what the whiteboard says, and accuses the sum of the
 # port by which it came and its second argument.
-BOARD = 16
 GOES = call("enter") + DROP + call("ports") + constant(I32, 2) + b"\x6b" + CALL + b"\x03" + DROP
 WRITES = (constant(I32, BOARD) + call("board", BOARD, 8) + constant(I32, BOARD) + call("board", BOARD, 8)
           + constant(I32, 1) + b"\x6a" + CALL + b"\x02" + DROP)
@@ -63,10 +62,14 @@ ACCUSES = call("look") + DROP + call("came") + call("argument", 1) + b"\x6a" + C
 
 @case("an agent that runs a module says what the module says of what it hears")
 def said(stage: Stage) -> None:
-    write = '{"do":"write","expect":"ab","put":"ab\\u0000"}'
-    plays(stage, agent(GOES + WRITES + ACCUSES),
-          Talk([HERE, GONE, ARRIVED, '{"ok":"written"}', ARRIVED, NOTED],
-               [ENTER, '{"do":"depart","port":1}', write, LOOK, '{"do":"accuse","port":8}']), "5,7")
+    departs = '{"do":"depart","port":1}'
+    for text in ("ab", "é→", "\U0001d11e"):
+        arrived, write = ARRIVED.replace("ab", text), f'{{"do":"write","expect":"{text}","put":"{text}\\u0000"}}'
+        plays(stage, agent(GOES + WRITES + ACCUSES), Talk([HERE, GONE, arrived, '{"ok":"written"}', arrived, NOTED],
+              [ENTER, departs, write, LOOK, '{"do":"accuse","port":8}']), "5,7")
+    cut = ARRIVED.replace("ab", "→→→")
+    plays(stage, agent(GOES + WRITES), Talk([HERE, GONE, cut], [ENTER, departs],
+                                            f"agent.wasm: command in function {len(IMPORTS)}", BROKEN))
 
 
 @case("an agent that runs a module hears refusals, and goes on")

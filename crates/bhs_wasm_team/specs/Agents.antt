@@ -2,6 +2,7 @@
 use Rattle.std.specs.Prelude.{ℕ, ◌-◌, ◌^◌, Bool, true, false, nat_lt, nat_le, Option, Some, None, List, []}
 use Rattle.std.specs.Prelude.{◌∷◌}
 use Rattle.std.specs.Prelude.{if◌then◌else◌, unwrap_or, ◌&&◌}
+use Rattle.std.specs.Str.{is_utf8}
 use Rattle.bhs_model.specs.declared.commands.Command.TheVariants as commands
 use Rattle.bhs_model.specs.declared.replies.Reply.TheVariants as replies
 use Rattle.bhs_explore.specs.declared.answers.Step.{Step}
@@ -62,25 +63,21 @@ memory_of_saved saved = record {
 
 -- ---- what an agent says
 
--- the bytes, if all are below 128
-unfoldable pub are_ascii : List ℕ → Bool
-are_ascii [] = true
-are_ascii (byte ∷ bytes) = nat_lt byte 128 && are_ascii bytes
-
-abbrev pub ascii : Option (List ℕ) → Option (List ℕ)
-ascii None = None
-ascii (Some bytes) = if are_ascii bytes then Some bytes else None
+-- the bytes, if they are UTF-8
+abbrev pub in_utf8 : Option (List ℕ) → Option (List ℕ)
+in_utf8 None = None
+in_utf8 (Some bytes) = if is_utf8 bytes then Some bytes else None
 
 -- a text in the memory of an instance
 abbrev pub text_in : (at count : ℕ) → State → Option (List ℕ)
-text_in at count state = if nat_le count 65536 then ascii (bytes_in at count state) else None
+text_in at count state = if nat_le count 65536 then in_utf8 (bytes_in at count state) else None
 
 abbrev pub writes : Option (List ℕ) → Option (List ℕ) → Option Step
 writes (Some expect) (Some put) = Some (steps.Says (commands.Write expect put))
 writes expect put = None
 
 -- What an agent does that has called this: it says a command, or sleeps. None if this is no command, the port is no
--- port, or a text lies outside of the memory or is not in ASCII.
+-- port, or a text lies outside of the memory or is not in UTF-8.
 abbrev pub said : HostFunction → State → Option Step
 said imports.Enter state = Some (steps.Says commands.Enter)
 said imports.Look state = Some (steps.Says commands.Look)

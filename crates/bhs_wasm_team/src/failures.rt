@@ -9,7 +9,7 @@ pub enum FailureCause {
     Fuel,
     /// An instruction trapped.
     Trap,
-    /// A port is no port, or a text lies outside of the memory or is not in ASCII.
+    /// A port is no port, or a text lies outside of the memory or is not in UTF-8.
     Command,
 }
 

@@ -1,6 +1,7 @@
 //! What agents say, and what replies tell them.
 
 ghost use Rattle.std.specs.Prelude.{◌≡◌, ℕ, List, IfOk, OnOk, if◌then◌else◌, Some, None};
+ghost use Rattle.std.specs.Str.{is_utf8};
 ghost use Rattle.bhs_explore.specs.Dialogues.{item_with};
 ghost use Rattle.bhs_wasm.specs.States.{state_of};
 ghost use Rattle.bhs_wasm_team.specs.Agents as specs;
@@ -181,26 +182,10 @@ fn text_at(
 }
 
 fn text_of(alloc: Global, bytes: &[u8]) -> Result<Option<Text>, AllocError>
-    ensures { IfOk result (λ text. text ≡ (if specs.are_ascii bytes.now then Some bytes.now else None)) }
+    ensures { IfOk result (λ text. text ≡ (if is_utf8 bytes.now then Some bytes.now else None)) }
 {
-    if !are_ascii(bytes) {
-        return Ok(None);
-    }
     match str::from_utf8(bytes) {
         Ok(text) => Ok(Some(Text::new(alloc, text)?)),
-        Err(_) => Err(AllocError),
+        Err(_) => Ok(None),
     }
-}
-
-// Whether all bytes are below 128.
-#[tactic(auto, unfolding(crate::specs::Agents::are_ascii))]
-fn are_ascii(bytes: &[u8]) -> bool
-    ensures { result ≡ specs.are_ascii bytes.now }
-{
-    for byte in bytes {
-        if *byte >= 128 {
-            return false;
-        }
-    }
-    true
 }

@@ -65,7 +65,8 @@ pub fn look() -> Reply {
     reply(unsafe { host::look() })
 }
 
-/// Puts a text on the whiteboard if it shows the expected one: `Written`; else `Changed`.
+/// Puts a text on the whiteboard if it shows the expected one: `Written`; else `Changed`. Texts are UTF-8; with other
+/// bytes the agent fails.
 pub fn write(expect: &[u8], put: &[u8]) -> Reply {
     reply(unsafe { host::write(expect.as_ptr(), expect.len(), put.as_ptr(), put.len()) })
 }
@@ -100,7 +101,8 @@ pub fn came() -> i32 {
     unsafe { host::came() }
 }
 
-/// The text of the whiteboard, after `Here` and `Changed`: the part of the buffer that it fills.
+/// The text of the whiteboard, after `Here` and `Changed`: the part of the buffer that it fills, or nothing if it does
+/// not fit.
 pub fn board(buffer: &mut [u8]) -> &[u8] {
     let length = unsafe { host::board(buffer.as_mut_ptr(), buffer.len()) };
     buffer.get(..length).unwrap_or(&[])
