@@ -80,11 +80,11 @@ fn tournament(alloc: Global, version: u16, table: &Table) -> Result<Tournament, 
     })
 }
 
-/// Reads a tournament file of version 1, 2 or 3. The first fault is told: the text is no TOML document, then its
-/// version, then in version 3 an unknown key, then `seed`, in version 3 `schedule`, and for the oblivious one
-/// `delay_scales` and `delay_odds`, then `match`, and then match by match in version 3 an unknown key, and then `team`,
-/// `network`, `home`, `holes` and `dark` (`hole` in version 1), `quota`, `board`, `keys` and `held`, whatever the order
-/// in the file. Versions 1 and 2 ignore unknown keys.
+/// Reads a tournament file of version 1, 2 or 3. The fault is the first in this order, whatever the order in the file:
+/// the text is not TOML; `version`; an unknown key; `seed`; `schedule`, and for the oblivious schedule `delay_scales`
+/// and `delay_odds`; `match`. Then match by match: an unknown key; `team`, `network`, `home`, `holes` and `dark` (in
+/// version 1 `hole`), `quota`, `board`, `keys` and `held`. Version 3 alone has a schedule and refuses unknown keys;
+/// versions 1 and 2 ignore them.
 #[tactic(auto, unfolding(crate::specs::Tournaments::tournament_in))]
 pub fn read_tournament(alloc: Global, text: &str) -> Result<Tournament, FileFault>
     ensures { GivesUnlessMemory plan result (tournament_in text.now) }

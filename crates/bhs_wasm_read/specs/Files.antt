@@ -1,4 +1,4 @@
--- A file of a module: its head, and then sections, each a number and a part of so many bytes, in their order.
+-- A module's file: its head, and then sections in order. A section is its number, its length and its bytes.
 use Rattle.std.specs.Prelude.{ℕ, zero, suc, ◌+◌, ◌==◌, ◌≡◌, Bool, true, false, nat_eq, nat_lt, List, [], ◌∷◌}
 use Rattle.std.specs.Prelude.{Option, Some, None, Ok, Err, if◌then◌else◌, position}
 use Rattle.std.specs.List.{starts_with}
@@ -52,7 +52,7 @@ abbrev pub passes : Read ℕ → (ℕ → List ℕ → Bool) → Bool
 passes (Ok x) test = test x.0 x.1
 passes (Err fault) test = false
 
--- so many sections in order, and nothing behind them
+-- `count` sections in order, and nothing behind them
 unfoldable pub are_sections : (count last : ℕ) → List ℕ → Bool
 are_sections zero last [] = true
 are_sections zero last (b ∷ left) = false

@@ -32,7 +32,7 @@ abbrev pub byte : List ℕ → Read ℕ
 byte [] = Err faults.End
 byte (b ∷ rest) = Ok (b, rest)
 
--- so many bytes
+-- the next `count` bytes
 abbrev pub bytes : List ℕ → (count : ℕ) → Read (List ℕ)
 bytes left count = if nat_lt (length left) count then Err faults.End else Ok (take count left, drop count left)
 
@@ -40,16 +40,16 @@ bytes left count = if nat_lt (length left) count then Err faults.End else Ok (ta
 abbrev pub next : List ℕ → Read ℕ
 next left = then_read (byte left) (λ b rest. Ok (b, left))
 
--- A part of so many bytes begins. What is left is the part, and the value is what stands behind it.
+-- The next `count` bytes are a part: they alone are left to be read, and the value is what stands behind them.
 abbrev pub part : List ℕ → (count : ℕ) → Read (List ℕ)
 part left count = then_read (bytes left count) (λ taken rest. Ok (rest, taken))
 
--- A part is read to its end, and its rest is what is left.
+-- The end of a part, of which nothing may be left: what stands behind it is left then.
 abbrev pub rest_behind : (left rest : List ℕ) → Read (Unit {0})
 rest_behind [] rest = Ok (tt, rest)
 rest_behind (b ∷ left) rest = Err faults.Section
 
--- An unsigned number of so many bits, in LEB128. A byte below 2^7 is the last, and is below 2^bits. Any other has the
+-- An unsigned number below 2^bits, in LEB128. A byte below 2^7 is the last, and is below 2^bits. Any other has the
 -- lowest seven bits, and behind it stands a number of seven bits less.
 unfoldable pub unsigned : List ℕ → (bits : ℕ) → Read ℕ
 unsigned [] bits = Err faults.End
@@ -58,8 +58,8 @@ unsigned (b ∷ rest) bits =
     else if nat_lt 7 bits then then_read (unsigned rest (bits - 7)) (λ n left. Ok (2 ^ 7 * n + (b - 2 ^ 7), left))
     else Err faults.Number
 
--- A signed number of so many bits, in LEB128, modulo 2^64. The last byte b is a number from 0 on, or the negative
--- number b - 2^7, and is not below -2^(bits-1), and below 2^(bits-1).
+-- A signed number from -2^(bits-1) to below 2^(bits-1), in LEB128, modulo 2^64. The last byte b is the number b, or the
+-- negative number b - 2^7 if b is not below 2^6, and lies in that range.
 unfoldable pub signed : List ℕ → (bits : ℕ) → Read ℕ
 signed [] bits = Err faults.End
 signed (b ∷ rest) bits =
