@@ -57,24 +57,23 @@ fn started(rt: &HostRuntime) -> io::Result<u8> {
     }
 }
 
-// Tells what is wrong with an agent, behind the name of its module's file if it has one. Names in the file are a
-// stranger's: nothing in the line controls a terminal.
+// Tells what is wrong with an agent, behind the name of its module's file if it has one.
 fn tell_of_agent<D: Display + Drop>(
     rt: &HostRuntime,
     entrant: &Entrant<'_>,
     fault: D,
 ) -> io::Result<()> {
-    let line = match &entrant.runs {
+    match &entrant.runs {
         AgentChoice::Module(module) => {
-            format!(in rt.alloc(); "{}: {fault}", module.file.as_str())?
+            let file = module.file.as_str();
+            eprintln!(rt; "bhs_player: {}: {fault}", file.escape_debug())
         }
         AgentChoice::Protocol {
             protocol: _,
             nodes: _,
             side: _,
-        } => format!(in rt.alloc(); "{fault}")?,
-    };
-    eprintln!(rt; "bhs_player: {}", line.as_str().escape_debug())
+        } => eprintln!(rt; "bhs_player: {fault}"),
+    }
 }
 
 // Plays an agent where the words say.

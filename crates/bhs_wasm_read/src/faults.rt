@@ -71,13 +71,21 @@ pub enum ModuleFault {
     },
 }
 
+/// What an import is named is a stranger's text, and shown escaped.
 impl Display for ModuleFault {
     fn fmt<W: fmt::Write>(&self, f: &mut Formatter<W>) -> fmt::Result {
         match self {
             ModuleFault::Head => f.write_str("head at byte 0"),
             ModuleFault::Inside { kind, at, import } => match *kind {
                 FaultKind::Memory => f.write_str("memory"),
-                FaultKind::Import => write!(f, "import {} at byte {}", import.as_str(), *at),
+                FaultKind::Import => {
+                    write!(
+                        f,
+                        "import {} at byte {}",
+                        import.as_str().escape_debug(),
+                        *at
+                    )
+                }
                 kind => write!(f, "{kind} at byte {}", *at),
             },
         }

@@ -24,15 +24,12 @@ use bhs_net::Memory;
 use bhs_stream::{Output, read_text};
 use bhs_wasm::Module;
 use bhs_wasm_read::{FaultKind, ModuleFault, module_of};
-use bhs_wasm_team::{Agents, FailureCause, ModuleFailure, draw_module, explore_module};
+use bhs_wasm_team::{Agents, FUEL, FailureCause, ModuleFailure, draw_module, explore_module};
 use sha2::{Digest, Sha256};
 use std::alloc::Global;
 use std::fs;
 use std::io::Write;
 use std::rt::Files;
-
-/// How many instructions an agent executes at most from one command to the next; with more it fails.
-pub const FUEL: u32 = 10_000_000;
 
 // Agents that run the module of a file, and the line that names the module, up to how an agent failed.
 #[derive(Drop)]
@@ -101,7 +98,7 @@ fn agents_of<F: Files, E: Write>(
     };
     let program = match module_of(alloc, &file) {
         Ok(program) => program,
-        Err(fault) => return Err(report_module(alloc, name, &fault, errors)),
+        Err(fault) => return Err(report_module(name, &fault, errors)),
     };
     match team_of(alloc, program, &file, agent_module.arguments.all()) {
         Ok(team) => Ok(team),
@@ -171,7 +168,7 @@ fn file_of<F: Files>(alloc: Global, files: &F, name: &str) -> Result<Vec<u8>, Fa
 }
 
 // Reports why a file is no module of agents, and answers the exit status.
-fn report_module<E: Write>(alloc: Global, name: &str, fault: &ModuleFault, errors: &mut E) -> u8
+fn report_module<E: Write>(name: &str, fault: &ModuleFault, errors: &mut E) -> u8
     ensures { IsOfFault result }
 {
     if let ModuleFault::Inside {
@@ -182,14 +179,8 @@ fn report_module<E: Write>(alloc: Global, name: &str, fault: &ModuleFault, error
     {
         return report(name, Fault::Memory, errors);
     }
-    let Ok(told) = format!(in alloc; "{fault}") else {
-        return report(name, Fault::Memory, errors);
-    };
     let place = Shown { name };
-    let told = Shown {
-        name: told.as_str(),
-    };
-    let _ = writeln!(errors, "{place}: {told}");
+    let _ = writeln!(errors, "{place}: {fault}");
     Fault::Text.status()
 }
 
