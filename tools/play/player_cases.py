@@ -4,8 +4,8 @@ import unittest
 from typing import List, NamedTuple
 
 from tools.play.module_cases import BOARD, CALL, DROP, END, running
-from tools.play.program_cases import CUP, TOP, TRIANGLE, case, writes
-from tools.play.program_rows import DONE, Stage, Wrong, difference, expect
+from tools.play.program_cases import TOP, case
+from tools.play.program_rows import DONE, Stage, difference, expect
 from tools.play.wasm_modules import I32, constant
 
 PLAYER = TOP / "crates" / "bhs_player" / "out" / "bhs_player"
@@ -14,8 +14,6 @@ ENTER, LOOK, LEAVE = '{"do":"enter","key":"k"}', '{"do":"look"}', '{"do":"leave"
 HERE = '{"board":"ab","from":null,"ok":"here","ports":3}'
 GONE, NOTED, OVER = '{"ok":"gone"}', '{"ok":"noted"}', '{"ok":"over"}'
 ARRIVED = '{"board":"ab","from":1,"ok":"here","ports":2}'
-# how many rounds of nine instructions use almost all that an agent may execute
-LEAST_ROUNDS = 1_111_110
 # functions that are imported, by their places
 IMPORTS = ("enter", "look", "write", "depart", "accuse", "leave", "sleep", "ports", "came", "board", "argument")
 
@@ -105,29 +103,6 @@ def failed(stage: Stage) -> None:
         plays(stage, agent(call("enter") + DROP + body), Talk([HERE, OVER], [ENTER], told, BROKEN))
         plays(stage, agent(call("accuse", 1) + DROP + body),
               Talk([NOTED], ['{"do":"accuse","port":1}'], told, BROKEN))
-
-
-def is_out_of_fuel(stage: Stage, word: str) -> bool:
-    """Whether `explore` says that a module has executed too many instructions."""
-    writes(stage, tri=TRIANGLE, cup=CUP)
-    return b'"failure":"fuel"' in stage.run(["explore", "cup.toml", "0", "--module", word], b"").printed
-
-
-@case("an agent that is played has as many instructions from one command to the next as one that is explored")
-def fuelled(stage: Stage) -> None:
-    """It counts down from its argument, by nine instructions a round, before it enters."""
-    zero, one, load, store = constant(I32, 0), constant(I32, 1), b"\x28\x02\x00", b"\x36\x02\x00"
-    rounds = b"\x03\x40" + zero + zero + load + one + b"\x6b" + store + zero + load + b"\x0d\x00" + END
-    file = agent(zero + call("argument", 0) + store + rounds + call("enter") + DROP)
-    (stage.folder / "agent.wasm").write_bytes(file)
-    found = []
-    for count in range(LEAST_ROUNDS, LEAST_ROUNDS + 2):
-        found.append(is_out_of_fuel(stage, f"agent.wasm:{count}"))
-        talk = Talk([], [], f"agent.wasm: fuel in function {len(IMPORTS)}", BROKEN) if found[-1] else \
-            Talk([HERE, OVER], [ENTER])
-        plays(stage, file, talk, str(count))
-    if found != [False, True]:
-        raise Wrong(f"found {found}")
 
 
 @case("an agent is not played whose file is no module, or whose words are not fit")

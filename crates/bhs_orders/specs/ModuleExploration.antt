@@ -8,6 +8,7 @@ use Rattle.bhs_lineup.specs.declared.lineups.Lineup.{Lineup}
 use Rattle.bhs_lineup.specs.declared.lineups.Ready.{Ready}
 use Rattle.bhs_command_line.specs.declared.orders.Exploration.{Exploration}
 use Rattle.bhs_wasm.specs.declared.modules.Module.{Module}
+use Rattle.bhs_wasm_team.specs.declared.agents.TheConstants.{FUEL}
 use Rattle.bhs_wasm_team.specs.declared.failures.FailureCause.{FailureCause}
 use Rattle.bhs_wasm_team.specs.declared.failures.FailureCause.TheVariants as causes
 use Rattle.bhs_wasm_team.specs.declared.failures.ModuleFailure.{ModuleFailure}
@@ -17,7 +18,6 @@ use Rattle.bhs_orders.specs.Fault.{status}
 use Rattle.bhs_orders.specs.Showing.{Prints}
 use Rattle.bhs_orders.specs.Summary.{IsAssembled}
 use Rattle.bhs_orders.specs.declared.exploration.discoveries.Discovery.{Discovery}
-use Rattle.bhs_orders.specs.declared.exploration.modules.TheConstants.{FUEL}
 use Rattle.bhs_orders.specs.declared.reporting.faults.Fault.{Fault}
 use Rattle.bhs_orders.specs.declared.reporting.statuses.TheConstants.{DONE}
 

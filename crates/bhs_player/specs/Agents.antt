@@ -1,11 +1,11 @@
 -- Agents that the program plays.
 use Rattle.std.specs.Prelude.{◌≡◌, ◌≤◌, ⊤}
 use Rattle.bhs_explore.specs.Strategies.{Strategy}
+use Rattle.bhs_wasm_team.specs.declared.agents.TheConstants.{FUEL}
 use Rattle.bhs_searcher.specs.Modules.{strategy_of_module}
 use Rattle.bhs_searcher.specs.Protocols.{strategy_of_agent}
 use Rattle.bhs_player.specs.declared.agents.PlayedAgent.{PlayedAgent}
 use Rattle.bhs_player.specs.declared.agents.PlayedAgent.TheVariants as played
-use Rattle.bhs_player.specs.declared.agents.TheConstants.{FUEL}
 use Rattle.bhs_player.specs.declared.words.AgentChoice.{AgentChoice}
 use Rattle.bhs_player.specs.declared.words.AgentChoice.TheVariants as runs
 

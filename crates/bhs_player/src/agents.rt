@@ -9,15 +9,11 @@ use bhs_model::{MAX_TEXT, MAX_TURNS};
 use bhs_searcher::{ModuleAgent, PlayFault, ProtocolAgent};
 use bhs_stream::{ReadFault, read_text};
 use bhs_wasm_read::{ModuleFault, module_of};
-use bhs_wasm_team::{FailureCause, ModuleFailure};
+use bhs_wasm_team::{FUEL, FailureCause, ModuleFailure};
 use std::alloc::{AllocError, Global};
 use std::rt::Files;
 use std::{fs, io};
 use thiserror::Error;
-
-/// How many instructions a module executes at most from one command to the next; with more it fails. `arena explore`
-/// has the same number.
-pub const FUEL: u32 = 10_000_000;
 
 /// An agent that is played.
 #[derive(Drop)]

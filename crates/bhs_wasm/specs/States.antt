@@ -337,6 +337,15 @@ do_call_indirect program function_type state = given (top state) (λ value.
 
 -- ---- calls of the host
 
+-- how many parameters a function of the host has
+abbrev pub parameters_of : HostFunction → ℕ
+parameters_of imports.Write = 4
+parameters_of imports.Board = 2
+parameters_of imports.Depart = 1
+parameters_of imports.Accuse = 1
+parameters_of imports.Argument = 1
+parameters_of function = 0
+
 -- the argument of a number, or 0
 abbrev pub do_argument : State → StepResult
 do_argument state = given (top state) (λ number. pushed (slice_index state.arguments (low number)) (below state))

@@ -1,5 +1,7 @@
 //! The instructions that a module consists of.
 
+ghost use Rattle.std.specs.Prelude.{◌≡◌};
+
 use crate::operators::{Binary, Unary};
 
 /// The functions that a module may import from `arena`. Those up to `Sleep` are commands: the module waits in them for
@@ -17,6 +19,22 @@ pub enum HostFunction {
     Came,
     Board,
     Argument,
+}
+
+impl HostFunction {
+    ghost use Rattle.bhs_wasm.specs.States.{parameters_of};
+
+    /// How many parameters it has. They and its result are integers of 32 bits.
+    pub fn parameters(self) -> u32
+        ensures { result ≡ parameters_of self }
+    {
+        match self {
+            HostFunction::Write => 4,
+            HostFunction::Board => 2,
+            HostFunction::Depart | HostFunction::Accuse | HostFunction::Argument => 1,
+            _ => 0,
+        }
+    }
 }
 
 /// How many bytes an instruction loads or stores.

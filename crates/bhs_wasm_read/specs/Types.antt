@@ -49,20 +49,6 @@ constant wanted left = then_read (byte left) (λ opcode rest.
     else if opcode == 0x43 || opcode == 0x44 then Err faults.Float
     else Err (faults.Opcode opcode))
 
--- how many parameters a function of the host has
-abbrev pub arity : HostFunction → ℕ
-arity imports.Enter = 0
-arity imports.Look = 0
-arity imports.Write = 4
-arity imports.Depart = 1
-arity imports.Accuse = 1
-arity imports.Leave = 0
-arity imports.Sleep = 0
-arity imports.Ports = 0
-arity imports.Came = 0
-arity imports.Board = 2
-arity imports.Argument = 1
-
 abbrev pub host_function : (name : List ℕ) → Option HostFunction
 host_function name =
     if bytes_eq name (codes "enter") then Some imports.Enter

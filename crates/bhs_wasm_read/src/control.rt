@@ -3,7 +3,6 @@
 use crate::blocks::{Block, BlockKind, BlockType, Body, number_of};
 use crate::bytes::Bytes;
 use crate::faults::FaultKind;
-use crate::module_types::parameters_of;
 use crate::opcodes::ValueType;
 use bhs_wasm::Instruction;
 
@@ -215,7 +214,7 @@ impl<'m> Body<'m> {
         let number = bytes.u32()?;
         let imports = self.context.imports;
         if let Some(function) = imports.get(number as usize) {
-            for _ in 0..parameters_of(*function) {
+            for _ in 0..function.parameters() {
                 self.pop(ValueType::I32)?;
             }
             self.push(ValueType::I32)?;

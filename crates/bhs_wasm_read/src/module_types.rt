@@ -71,18 +71,6 @@ pub(crate) fn value_type(byte: u8) -> Result<ValueType, FaultKind>
     }
 }
 
-/// How many parameters a function of the host has. They and the result are integers of 32 bits.
-pub(crate) fn parameters_of(function: HostFunction) -> u32
-    ensures { result ≡ specs.arity function }
-{
-    match function {
-        HostFunction::Write => 4,
-        HostFunction::Board => 2,
-        HostFunction::Depart | HostFunction::Accuse | HostFunction::Argument => 1,
-        _ => 0,
-    }
-}
-
 /// The function of the host that has this name.
 pub(crate) fn host_function_of(name: &str) -> Option<HostFunction>
     ensures { result ≡ specs.host_function name.now }

@@ -6,7 +6,7 @@ ghost use Rattle.bhs_wasm_read.specs.Values.{Gives};
 use crate::blocks::{Body, Context, number_of};
 use crate::bytes::Bytes;
 use crate::faults::FaultKind;
-use crate::module_types::{FunctionType, MAX_LOCALS, host_function_of, parameters_of, value_type};
+use crate::module_types::{FunctionType, MAX_LOCALS, host_function_of, value_type};
 use crate::opcodes::ValueType;
 use bhs_wasm::{Function, HostFunction, Module};
 use std::alloc::Global;
@@ -137,7 +137,7 @@ impl Sections {
         let Some(own) = self.types.get(number as usize) else {
             return Err(FaultKind::Index);
         };
-        if !own.is_of_host(parameters_of(function) as usize) {
+        if !own.is_of_host(function.parameters() as usize) {
             return Err(FaultKind::Import);
         }
         self.imports.push(function)?;

@@ -13,7 +13,7 @@ use Rattle.bhs_wasm.specs.declared.instructions.HostFunction.{HostFunction}
 use Rattle.bhs_wasm.specs.declared.instructions.HostFunction.TheVariants as imports
 use Rattle.bhs_wasm.specs.declared.modules.Module.{Module}
 use Rattle.bhs_wasm.specs.States.{State, StepResult, Continues, Waits, Ends, Traps, run, instantiated, answered}
-use Rattle.bhs_wasm.specs.States.{operand, bytes_in, forgotten}
+use Rattle.bhs_wasm.specs.States.{operand, bytes_in, forgotten, parameters_of}
 use Rattle.bhs_wasm_team.specs.declared.saving.Status.{Status}
 use Rattle.bhs_wasm_team.specs.declared.saving.Status.TheVariants as statuses
 use Rattle.bhs_wasm_team.specs.declared.saving.Saved.{Saved}
@@ -90,13 +90,6 @@ said imports.Accuse state =
 said imports.Leave state = Some (steps.Says commands.Leave)
 said imports.Sleep state = Some steps.Sleeps
 said function state = None
-
--- how many parameters a command has
-abbrev pub parameters_of : HostFunction → ℕ
-parameters_of imports.Write = 4
-parameters_of imports.Depart = 1
-parameters_of imports.Accuse = 1
-parameters_of function = 0
 
 -- ---- the memories of an agent
 

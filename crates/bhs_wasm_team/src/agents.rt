@@ -4,10 +4,14 @@ ghost use Rattle.std.specs.Prelude.{◌≡◌, IfOk, IsSomeAnd};
 
 use crate::failures::{FailureCause, ModuleFailure, function_at};
 use crate::saving::{MemoryTable, Saved, Status};
-use crate::saying::{is_depart, is_gone, number_of, parameters_of, said_by, see};
+use crate::saying::{is_depart, is_gone, number_of, said_by, see};
 use bhs_explore::{Latest, Step, Team, TeamAnswer, TeamFault};
 use bhs_wasm::{HostFunction, Interpreter, Module, Progress};
 use std::alloc::{AllocError, Global};
+
+/// How many instructions an agent executes at most from one command to the next, wherever it plays or is explored; with
+/// more it fails.
+pub const FUEL: u32 = 10_000_000;
 
 /// Agents that run a module with the same arguments. From one command to the next each executes at most `fuel`
 /// instructions.
@@ -159,7 +163,7 @@ impl Agents {
                 if is_depart(function) && is_gone(latest) {
                     self.travels()
                 } else {
-                    self.goes_on(parameters_of(function), latest, shown)
+                    self.goes_on(function.parameters(), latest, shown)
                 }
             }
         }

@@ -8,7 +8,7 @@ mod laws;
 mod saving;
 mod saying;
 
-pub use agents::Agents;
+pub use agents::{Agents, FUEL};
 pub use exploring::{draw_module, explore_module};
 pub use failures::{FailureCause, ModuleFailure};
 pub use laws::{modules_answer, modules_solve};

@@ -52,18 +52,6 @@ pub(crate) fn see(
     }
 }
 
-/// How many parameters a command has.
-pub(crate) fn parameters_of(function: HostFunction) -> u32
-    ensures { result ≡ specs.parameters_of function }
-{
-    match function {
-        HostFunction::Write => 4,
-        HostFunction::Depart => 1,
-        HostFunction::Accuse => 1,
-        _ => 0,
-    }
-}
-
 /// Whether an agent departs by a command.
 pub(crate) fn is_depart(function: HostFunction) -> bool
     ensures { result ≡ specs.is_depart function }
