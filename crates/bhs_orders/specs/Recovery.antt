@@ -1,6 +1,6 @@
 -- What comes of a contest whose server was killed: the replays of its matches by their parts, the turns of their
 -- events, and the table.
-use Rattle.std.specs.Prelude.{◌≡◌, ◌==◌, ◌<◌, ◌+◌, ◌-◌, ◌^◌, min, ℕ, Bool, Option, Some, None, List, [], ◌∷◌, ◌++◌}
+use Rattle.std.specs.Prelude.{◌≡◌, ◌==◌, ◌<◌, ◌+◌, ◌-◌, ◌^◌, min, ℕ, Bool, Option, Some, List, [], ◌∷◌, ◌++◌}
 use Rattle.std.specs.Prelude.{length, take, slice_get, if◌then◌else◌}
 use Rattle.bhs_stream.specs.Streams.{WriteAnswer}
 use Rattle.bhs_model.specs.declared.marks.Kept.{Kept}

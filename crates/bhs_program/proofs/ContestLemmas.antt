@@ -1,7 +1,6 @@
 -- Contests: as many matches end as there were, why one has no table, and the line that says that the program listens.
 use Rattle.std.proofs.Common.{◌≡◌, refl, sym, subst, ◌∙◌, arith, ℕ, ◌+◌, List, [], ◌∷◌, length, map, Bool, true, IfOk}
-use Rattle.std.proofs.Common.{OnErr, Result, Ok, Err, ◌++◌, ap, append_assoc, drop}
-use Rattle.std.proofs.lemmas.List.{length-map, map-append}
+use Rattle.std.proofs.Common.{OnErr, Result, Ok, Err, drop}
 use Rattle.rand_chacha.specs.ChaCha.{ChaCha}
 use Rattle.bhs_time.specs.declared.kinds.ScheduleKind.{ScheduleKind}
 use Rattle.bhs_lineup.specs.declared.lineups.Ready.{Ready}

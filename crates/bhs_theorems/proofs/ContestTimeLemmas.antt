@@ -11,7 +11,6 @@ use Rattle.bhs_time.specs.Schedules.{Schedule, DelayLaw}
 use Rattle.bhs_time.specs.TimedRuns.{TimedState, timed_initial}
 use Rattle.bhs_time.specs.Stamps.{Stamped, happened_at, stamped_run_from, AreInTime}
 use Rattle.bhs_time.proofs.StampLemmas.{IsStamped, initial_stamped, happened_state, happened_stamped}
-use Rattle.bhs_time.specs.TimedLogs.{IsTimedLog}
 use Rattle.bhs_time.proofs.InTimeLogLemmas.{in_time_lemma}
 use Rattle.bhs_time.proofs.LogTimeLemmas.{equal_waits_in_logs_lemma, every_arrival_lemma}
 use Rattle.bhs_match.specs.Matches.{world_in, state_of}

@@ -1,11 +1,11 @@
 -- Sessions that were told all that their agents met, however they ended.
-use Rattle.std.proofs.Common.{◌≡◌, ◌∙◌, ℕ, ◌⊎◌, inl, inr, true, List, [], ◌∷◌, ◌++◌, map, refl, sym, ap, ap₂, subst}
+use Rattle.std.proofs.Common.{◌≡◌, ◌∙◌, ℕ, inl, inr, true, List, [], ◌++◌, map, sym, ap, ap₂, subst}
 use Rattle.std.proofs.Common.{arith, append-nil, append_assoc}
 use Rattle.std.proofs.lemmas.List.{map-append}
 use Rattle.bhs_model.specs.declared.commands.Command.{Command}
 use Rattle.bhs_model.specs.declared.commands.Command.TheVariants as commands
 use Rattle.bhs_model.specs.declared.replies.Reply.TheVariants.{Over}
-use Rattle.bhs_model.specs.Views.{View, Start, Told, Arrived, Nothing, Standing, Away, standing, standing_after, ports}
+use Rattle.bhs_model.specs.Views.{View, Start, Arrived, Standing, Away, standing, standing_after, ports}
 use Rattle.bhs_match.specs.Matches.{state_of}
 use Rattle.bhs_lock.specs.Passes.{kind_of}
 use Rattle.bhs_session.specs.declared.endings.Ended.{Ended}
@@ -13,9 +13,9 @@ use Rattle.bhs_session.specs.declared.endings.Ended.TheVariants as endings
 use Rattle.bhs_session.specs.Texts.{text_of}
 use Rattle.bhs_session.specs.Answering.{MayLack}
 use Rattle.bhs_theorems.specs.Met.{view_of, bytes, takes_commands, AreDue}
-use Rattle.bhs_theorems.specs.ContestMet.{Attended, fed, TookPart, IsLeftAs, IsLeftAway, IsLastOf, IsSentAsMet}
+use Rattle.bhs_theorems.specs.ContestMet.{Attended, fed, TookPart, IsLeftAway, IsLastOf, IsSentAsMet}
 use Rattle.bhs_theorems.specs.ContestMet.{is_whole}
-use Rattle.bhs_theorems.specs.ContestMet.{IsToldAll, EqualPastsAreSentEqualBytes}
+use Rattle.bhs_theorems.specs.ContestMet.{EqualPastsAreSentEqualBytes}
 use Rattle.bhs_theorems.proofs.PastLemmas.{kinds}
 use Rattle.bhs_theorems.proofs.ContestMetLemmas.{sent_as_met_lemma}
 use Rattle.bhs_theorems.proofs.ContestSameLemmas.{kinds_said, same_met, same_bytes, equal_bytes_if_whole}
