@@ -1,3 +1,4 @@
 pub mod Coding
 pub mod Distinct
 pub mod Modules
+pub mod PackingLemmas

@@ -14,6 +14,7 @@ use Rattle.bhs_wasm.specs.declared.instructions.HostFunction.TheVariants as impo
 use Rattle.bhs_wasm.specs.declared.modules.Module.{Module}
 use Rattle.bhs_wasm.specs.States.{State, StepResult, Continues, Waits, Ends, Traps, run, instantiated, answered}
 use Rattle.bhs_wasm.specs.States.{operand, bytes_in, forgotten, parameters_of}
+use Rattle.bhs_wasm_team.specs.Packing.{unpacked}
 use Rattle.bhs_wasm_team.specs.declared.saving.Status.{Status}
 use Rattle.bhs_wasm_team.specs.declared.saving.Status.TheVariants as statuses
 use Rattle.bhs_wasm_team.specs.declared.saving.Saved.{Saved}
@@ -52,7 +53,7 @@ memory_of_saved saved = record {
     frames = saved.frames.items;
     stack = saved.stack.items;
     globals = saved.globals.items;
-    memory = saved.memory.items;
+    memory = unpacked saved.memory.items;
     pages = saved.pages;
     ports = 0;
     came = 0;

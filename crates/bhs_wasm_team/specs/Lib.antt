@@ -2,4 +2,5 @@ pub mod Agents
 pub mod Answering
 pub mod Codes
 pub mod Laws
+pub mod Packing
 pub mod Tables

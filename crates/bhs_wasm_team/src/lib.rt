@@ -5,6 +5,7 @@ mod agents;
 mod exploring;
 mod failures;
 mod laws;
+mod packing;
 mod saving;
 mod saying;
 
