@@ -1,23 +1,25 @@
 -- What a line that spells an event leads to, by what the match answers.
 use Rattle.std.proofs.Common.{◌≡◌, ℕ, ◌+◌, Bool, true, false, not, if◌then◌else◌, bytes_eq, List, [], ◌∷◌}
-use Rattle.std.proofs.Common.{◌++◌, length, get_or, Option, Some, None, refl, sym, ap, ap₂, ◌∙◌}
-use Rattle.std.specs.Prelude.{is_some}
+use Rattle.std.proofs.Common.{◌++◌, length, Option, Some, None, refl, sym, ap, ◌∙◌}
+use Rattle.std.specs.Prelude.{is_some, IsTrue, ◌↔◌}
 use Rattle.std.proofs.lemmas.List.{length-map, map-append}
 use Rattle.bhs_model.specs.declared.events.Event.{Event}
 use Rattle.bhs_model.specs.declared.marks.Mark.{Mark}
 use Rattle.bhs_model.specs.declared.marks.Kept.{Kept}
-use Rattle.bhs_model.specs.Marks.{events_of, read_if}
+use Rattle.bhs_model.specs.Kept.{lost}
+use Rattle.bhs_model.specs.Marks.{events_of}
 use Rattle.bhs_model.specs.Runs.{reply}
 use Rattle.bhs_world.specs.Tables.{keeps_next, log_after}
 use Rattle.bhs_match.specs.Matches.{Play, world_in, state_of}
 use Rattle.bhs_replay.specs.declared.faults.ReplayFault.TheVariants as fault
 use Rattle.bhs_replay.specs.EventLine.{event_line}
-use Rattle.bhs_replay.specs.Stages.{ReadState, Goes, Wrong, after_event}
-
--- the last of a log
-last_of : (log : List Kept) (it one : Kept) → get_or (log ++ it ∷ []) (length log) one ≡ it
-last_of [] it one = refl
-last_of (first ∷ log) it one = last_of log it one
+use Rattle.bhs_model.specs.declared.replies.Reply.{Reply}
+use Rattle.bhs_replay.specs.Played.{IsTyped, ReplyIsText}
+use Rattle.bhs_replay.specs.Spelling.{may_stand, spelled, ReplyFits}
+use Rattle.bhs_replay.specs.Stages.{ReadState, Goes, Wrong, after_event, after_line, after_spelled}
+use Rattle.bhs_replay.proofs.EventReads.{event_utf8}
+use Rattle.bhs_replay.proofs.EveryReplay.{stands}
+use Rattle.bhs_replay.proofs.Spellings.{is_answer, spelled-event_line}
 
 -- whether an event was kept, by its place
 pub kept_by : (keep : Bool) (n : ℕ) (place : Option ℕ) (b none : Bool) → place ≡ (if keep then Some n else None)
@@ -57,12 +59,21 @@ module _ (play : Play) (line : List ℕ) (event : Event) where
         ∙ ap (λ events. Goes play.net play.setup events) (ap events_of log_is
         ∙ map-append (λ (kept : Kept). kept.event) play.log (record { event = event; mark = mark } ∷ []))
 
-    pub last_line : (before log : List Kept) (one : Kept) → before ≡ play.log → log ≡ new.log
-        → one ≡ get_or log (length before) one → read_if new.log mark ≡ reply (world_in play) (state_of play) event
-        → bytes_eq line (event_line one.event (read_if new.log one.mark))
-        ≡ bytes_eq line (event_line event (reply (world_in play) (state_of play) event))
-    last_line before log one was now is replied =
-        let one_is : one ≡ record { event = event; mark = mark } =
-        is ∙ ap₂ (λ (l b : List Kept). get_or l (length b) one) (now ∙ log_is) was ∙ last_of play.log _ one in
-        ap (λ (k : Kept). bytes_eq line (event_line k.event (read_if new.log k.mark))) one_is
-        ∙ ap (λ answer. bytes_eq line (event_line event answer)) replied
+-- ---- the line's reply beside that of the match
+
+pub on_spelled : (play : Play) (line : List ℕ) (found : Event × Option Reply) → spelled line ≡ Some found
+    → after_event play.net play.setup (events_of play.log) line found.0
+    ≡ after_line play.net play.setup (events_of play.log) line
+on_spelled play line found is = sym (ap (after_spelled play.net play.setup (events_of play.log) line) is)
+
+pub is_answered : (play : Play) (line : List ℕ) (event : Event) (seen said : Option Reply)
+    → said ≡ reply (world_in play) (state_of play) event → keeps_next (world_in play) play.log event ≡ true
+    → IsTyped event → ReplyFits said → ReplyIsText said → spelled line ≡ Some (event, seen) → (is : Bool)
+    → (IsTrue is ↔ (seen ≡ said))
+    → is ≡ bytes_eq line (event_line event (reply (world_in play) (state_of play) event))
+is_answered play line event seen said replied kept typed fits texts spells is same =
+    let may : may_stand event said ≡ true = ap (may_stand event) replied ∙ stands (world_in play) (state_of play)
+    (lost (world_in play) (events_of play.log)) event kept in
+    is_answer line event seen said spells (spelled-event_line event said typed.0 fits may
+    (event_utf8 event said typed.0 fits typed.1 texts)) is same
+    ∙ ap (λ answer. bytes_eq line (event_line event answer)) replied

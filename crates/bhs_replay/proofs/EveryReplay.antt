@@ -43,7 +43,7 @@ tell_stands world state agent command is =
     let second = and_parts (not state.closed) _ first.1 in
     rw (first.0, not_true state.closed second.0, second.1, eq-eqb agent agent refl) refl
 
-stands : (world : World) (state : State) (gone : ℕ → Bool) (event : Event) → keeps world state gone event ≡ true
+pub stands : (world : World) (state : State) (gone : ℕ → Bool) (event : Event) → keeps world state gone event ≡ true
     → may_stand event (reply world state event) ≡ true
 stands world state gone (Tell agent command) is = tell_stands world state agent command is
 stands world state gone (Deliver agent) is = refl

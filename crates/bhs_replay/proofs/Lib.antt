@@ -1,4 +1,4 @@
-pub mod ComparingLemmas
+pub mod BeginningLemmas
 pub mod Each
 pub mod Flat
 pub mod LineData

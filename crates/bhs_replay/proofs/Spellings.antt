@@ -1,8 +1,9 @@
 -- A line spells an event and a reply exactly if it is their line.
 use Rattle.std.proofs.Common.{◌≡◌, ℕ, ◌<◌, ◌^◌, Bool, true, false, cond, if◌then◌else◌, ◌&&◌, List, bytes_eq, codes}
 use Rattle.std.proofs.Common.{Option, Some, None, option_and_then, unwrap_or, nat_lt, refl, sym, subst, ap, ◌∙◌}
-use Rattle.std.proofs.lemmas.Bool.{lt-ltb, and_parts}
+use Rattle.std.proofs.lemmas.Bool.{lt-ltb}
 use Rattle.std.specs.Bool.{OnTrue}
+use Rattle.std.specs.Prelude.{IsTrue, ◌↔◌}
 use Rattle.std.proofs.lemmas.Slice.Eq.{bytes_eq-Decides}
 use Rattle.std.specs.Str.{IsUtf8, is_utf8}
 use Rattle.std.proofs.lemmas.Str.{is_utf8-from_IsUtf8, IsUtf8-from_is_utf8}
@@ -89,16 +90,13 @@ spelled-event_line event reply fits answer stands text =
       same_bytes (event_line event reply),
     )
 
--- a line that is compared with theirs, and is the same, spells them
-pub spelled-same : (text : List ℕ) (event : Event) (reply : Option Reply) → EventFits event → ReplyFits reply
-    → IsUtf8 (event_line event reply) → (is : Bool)
-    → is ≡ (may_stand event reply && bytes_eq text (event_line event reply))
+-- a line that is theirs spells them, if the reply may stand there
+pub spelled-seen : (text : List ℕ) (event : Event) (reply : Option Reply) → EventFits event → ReplyFits reply
+    → IsUtf8 (event_line event reply) → text ≡ event_line event reply → (is : Bool) → is ≡ may_stand event reply
     → OnTrue is (spelled text ≡ Some (event, reply))
-spelled-same text event reply fits answer valid true is =
-    let both = and_parts (may_stand event reply) (bytes_eq text (event_line event reply)) (sym is) in
-    ap spelled ((bytes_eq-Decides text (event_line event reply)).0 both.1)
-    ∙ spelled-event_line event reply fits answer both.0 valid
-spelled-same text event reply fits answer valid false is = tt
+spelled-seen text event reply fits answer valid same true is =
+    ap spelled same ∙ spelled-event_line event reply fits answer (sym is) valid
+spelled-seen text event reply fits answer valid same false is = tt
 
 -- ---- what the reading of a line gave
 
@@ -144,3 +142,26 @@ from_value text (Some value) found is = from_event text (answer_in value) (event
 pub event_line-spelled : (text : List ℕ) (event : Event) (reply : Option Reply) → spelled text ≡ Some (event, reply)
     → (text ≡ event_line event reply) × (may_stand event reply ≡ true)
 event_line-spelled text event reply is = from_value text (if is_utf8 text then read text else None) (event, reply) is
+
+-- ---- a line is the line of an answer exactly if its own reply is that answer
+
+told_apart : (line : List ℕ) (event : Event) (seen said : Option Reply) → spelled line ≡ Some (event, seen)
+    → spelled (event_line event said) ≡ Some (event, said) → line ≡ event_line event said → seen ≡ said
+told_apart line event seen said is answer same =
+    ap (λ (found : Option (Event × Option Reply)). (unwrap_or {T = Event × Option Reply} found (event, seen)).1)
+    (sym is ∙ (ap spelled same ∙ answer))
+
+not_so : (same : Bool) → (same ≡ true → ⊥) → false ≡ same
+not_so true no_way = absurd (no_way refl)
+not_so false no_way = refl
+
+pub is_answer : (line : List ℕ) (event : Event) (seen said : Option Reply) → spelled line ≡ Some (event, seen)
+    → spelled (event_line event said) ≡ Some (event, said) → (is : Bool) → (IsTrue is ↔ (seen ≡ said))
+    → is ≡ bytes_eq line (event_line event said)
+is_answer line event seen said spells answer true same =
+    let own = event_line-spelled line event seen spells in
+    sym ((bytes_eq-Decides line (event_line event said)).1 (own.0 ∙ ap (event_line event) (same.0 refl)))
+is_answer line event seen said spells answer false same =
+    not_so (bytes_eq line (event_line event said)) (λ equal.
+    let same_line = (bytes_eq-Decides line (event_line event said)).0 equal in
+    cc (same.1 (told_apart line event seen said spells answer same_line)))

@@ -1,4 +1,3 @@
-pub mod Comparing
 pub mod EventLine
 pub mod EventTokens
 pub mod Head
@@ -7,6 +6,7 @@ pub mod HeadReading
 pub mod HeadSeen
 pub mod Opening
 pub mod Replay
+pub mod Sights
 pub mod Spelling
 pub mod Stages
 pub mod Writing

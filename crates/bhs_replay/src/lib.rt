@@ -1,7 +1,7 @@
 //! Replays: a match that has ended as a text that anyone can read again.
 #![tactic(auto)]
 
-mod comparing;
+mod beginnings;
 mod events;
 mod faults;
 mod head_parts;
@@ -13,7 +13,6 @@ mod opening;
 mod read;
 mod reader;
 mod reading;
-mod same_lines;
 mod sights;
 mod steps;
 mod writing;

@@ -64,7 +64,11 @@ pub(crate) fn lent(reply: &Option<Reply>) -> Option<LentReply<'_>>
     }
 }
 
-fn line_with(alloc: Global, event: &Event, reply: Option<LentReply<'_>>) -> Result<String, Memory>
+pub(crate) fn line_with(
+    alloc: Global,
+    event: &Event,
+    reply: Option<LentReply<'_>>,
+) -> Result<String, Memory>
     ensures { IfOk result (λ text. string_bytes text
         ≡ event_line event.now (option_map reply_of reply.entry)) }
 {

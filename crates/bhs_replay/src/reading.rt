@@ -1,17 +1,15 @@
-ghost use Rattle.std.specs.Prelude.{◌≡◌, ◌&&◌, Some, bytes_eq, option_map, IfOk};
+ghost use Rattle.std.specs.Prelude.{◌≡◌, ◌&&◌, ℕ, List, Some, bytes_eq, option_map, IfOk};
 ghost use Rattle.std.specs.Bool.{OnTrue};
 ghost use Rattle.serde_json.specs.View.{view};
 ghost use Rattle.bhs_wire.specs.First.{text_at, port_at};
 ghost use Rattle.bhs_wire.specs.LentReply.{reply_of};
 ghost use Rattle.bhs_replay.specs.Spelling.{spelled, spelled_in, event_in, event_by, agents_by, command_by, answer_in};
 ghost use Rattle.bhs_replay.specs.Spelling.{reply_in, ok_by, refusal_in, here_in, changed_in, why_by, write_in};
-ghost use Rattle.bhs_replay.specs.Spelling.{may_stand, if_spelled};
+ghost use Rattle.bhs_replay.specs.Spelling.{may_stand};
 ghost use Rattle.bhs_replay.specs.EventLine.{event_line};
 
 use crate::events::{each_event_is_typed, each_reply_is_typed};
-use crate::lines::lent;
-use crate::same_lines::is_line_of;
-use crate::sights::{LentEvent, seen};
+use crate::lines::{lent, line_with};
 use bhs_model::{Command, Event, Reply, Text, Why};
 use bhs_net::Memory;
 use bhs_wire::LentReply;
@@ -21,45 +19,14 @@ use std::alloc::Global;
 /// An event and its reply, as a line spells them.
 pub type Spelled = (Event, Option<Reply>);
 
-/// The event that a line spells, given without its line feed; None if it is the line of none.
-///
-/// Most lines say at first sight what they spell, and a comparison shows that they do. What is not seen at first sight
-/// is read as JSON: texts with escapes, and what is the line of no event.
-pub(crate) fn event_of(alloc: Global, line: &[u8]) -> Result<Option<Event>, Memory>
-    ensures { IfOk result (λ event. event ≡ option_map (λ found. found.0) (spelled line.now)) }
-{
-    if let Some((event, reply)) = seen(line) {
-        let event = owned(alloc, event)?;
-        if spells(line, &event, reply) {
-            return Ok(Some(event));
-        }
-    }
-    match read_event(alloc, line)? {
-        Some((event, _)) => Ok(Some(event)),
-        None => Ok(None),
-    }
-}
-
-fn owned(alloc: Global, event: LentEvent<'_>) -> Result<Event, Memory> {
-    Ok(match event {
-        LentEvent::Write { agent, expect, put } => Event::Tell {
-            agent,
-            command: Command::Write {
-                expect: copied(alloc, expect)?,
-                put: copied(alloc, put)?,
-            },
-        },
-        LentEvent::Other(event) => event,
-    })
-}
-
-// Whether a line spells this event and this reply.
-fn spells(line: &[u8], event: &Event, reply: Option<LentReply<'_>>) -> bool
-    ensures { OnTrue result (spelled line.now ≡ Some (event.now, option_map reply_of reply.entry)) }
+/// Whether a line that is the line of this event and this reply spells them: whether this reply may stand there.
+pub(crate) fn spells(event: &Event, reply: Option<LentReply<'_>>) -> bool
+    ensures { (line : List ℕ) → line ≡ event_line event.now (option_map reply_of reply.entry)
+        → OnTrue result (spelled line ≡ Some (event.now, option_map reply_of reply.entry)) }
 {
     each_event_is_typed(event);
     each_reply_is_typed(reply);
-    is_spelled(line, event, reply)
+    may_stand(event, reply)
 }
 
 /// The event and the reply that a line spells, given without its line feed; None if it is the line of none.
@@ -80,24 +47,27 @@ fn spelled_in(alloc: Global, line: &[u8], value: &Value) -> Result<Option<Spelle
         return Ok(None);
     };
     let reply = answer_in(alloc, value)?;
-    Ok(if_spelled(line, reply, event))
-}
-
-fn if_spelled(line: &[u8], reply: Option<Reply>, event: Event) -> Option<Spelled>
-    ensures { result ≡ if_spelled line.now reply event }
-{
-    if is_spelled(line, &event, lent(&reply)) {
-        return Some((event, reply));
+    if is_spelled(alloc, line, &event, lent(&reply))? {
+        return Ok(Some((event, reply)));
     }
-    None
+    Ok(None)
 }
 
 // Whether a line is that of this event and this reply, and this reply may stand there.
-fn is_spelled(line: &[u8], event: &Event, reply: Option<LentReply<'_>>) -> bool
-    ensures { result ≡ may_stand event.now (option_map reply_of reply.entry)
-        && bytes_eq line.now (event_line event.now (option_map reply_of reply.entry)) }
+fn is_spelled(
+    alloc: Global,
+    line: &[u8],
+    event: &Event,
+    reply: Option<LentReply<'_>>,
+) -> Result<bool, Memory>
+    ensures { IfOk result (λ is. is ≡ (may_stand event.now (option_map reply_of reply.entry)
+        && bytes_eq line.now (event_line event.now (option_map reply_of reply.entry)))) }
 {
-    may_stand(event, reply) && is_line_of(line, event, reply)
+    if !may_stand(event, reply) {
+        return Ok(false);
+    }
+    let text = line_with(alloc, event, reply)?;
+    Ok(line == text.as_bytes())
 }
 
 fn may_stand(event: &Event, reply: Option<LentReply<'_>>) -> bool

@@ -1,144 +1,224 @@
-//! What an event line seems to say, by its parts in the one spelling in which event lines are written.
+//! The event and the reply of a line that is written as event lines are, read part by part.
 //!
-//! Nothing is promised here: whether the line says so is for `is_line_of`. A line in which nothing is seen may still be
-//! that of an event, as one whose texts have escapes.
+//! What is seen in a line is what it says. A line in which nothing is seen may still be the line of an event, as one
+//! whose texts have escapes.
 
-use crate::comparing::after;
+ghost use Rattle.std.specs.Prelude.{◌≡◌, ◌++◌, codes, option_map, IfOk, IfSome, Option};
+ghost use Rattle.bhs_model.specs.declared.commands.Command.TheVariants.{Write};
+ghost use Rattle.bhs_model.specs.declared.replies.Reply.{Reply as ReplyData};
+ghost use Rattle.bhs_wire.specs.LentReply.{reply_of};
+ghost use Rattle.bhs_wire.specs.Reply.{label, line as reply_line};
+ghost use Rattle.bhs_replay.specs.EventLine.{answered, event_line, reply_part, said};
+ghost use Rattle.bhs_replay.specs.Sights.{command_of, event_of};
+
+use crate::beginnings::{after, seen_number, seen_text};
 use crate::reading::why_by;
-use bhs_model::{Command, Event};
+use bhs_model::{Command, Event, Text};
+use bhs_net::Memory;
 use bhs_wire::LentReply;
+use std::alloc::Global;
+
+/// A command whose texts are lent.
+#[derive(Clone, Copy)]
+pub(crate) enum LentCommand<'l> {
+    Enter,
+    Look,
+    Write { expect: &'l str, put: &'l str },
+    Depart { port: u16 },
+    Accuse { port: u16 },
+    Leave,
+    Bad,
+}
 
 /// An event whose texts are lent.
-#[derive(Drop)]
+#[derive(Clone, Copy)]
 pub(crate) enum LentEvent<'l> {
-    Write {
+    Tell {
         agent: u16,
-        expect: &'l str,
-        put: &'l str,
+        command: LentCommand<'l>,
     },
-    Other(Event),
+    Deliver {
+        agent: u16,
+    },
+    Close,
 }
 
-/// The event and the reply that a line seems to have.
-pub(crate) fn seen(line: &[u8]) -> Option<(LentEvent<'_>, Option<LentReply<'_>>)> {
-    let (event, line) = seen_event(line)?;
-    let line = after(line, b",\"reply\":")?;
-    if after(line, b"null").is_some() {
-        return Some((event, None));
+impl LentEvent<'_> {
+    /// The event with texts of its own.
+    pub(crate) fn owned(self, alloc: Global) -> Result<Event, Memory>
+        ensures { IfOk result (λ event. event ≡ event_of self.entry) }
+    {
+        Ok(match self {
+            LentEvent::Tell { agent, command } => Event::Tell {
+                agent,
+                command: command.owned(alloc)?,
+            },
+            LentEvent::Deliver { agent } => Event::Deliver { agent },
+            LentEvent::Close => Event::Close,
+        })
     }
-    let reply = seen_reply(line)?;
-    Some((event, Some(reply)))
 }
 
-fn seen_event(line: &[u8]) -> Option<(LentEvent<'_>, &[u8])> {
+impl LentCommand<'_> {
+    fn owned(self, alloc: Global) -> Result<Command, Memory>
+        ensures { IfOk result (λ command. command ≡ command_of self.entry) }
+    {
+        Ok(match self {
+            LentCommand::Enter => Command::Enter,
+            LentCommand::Look => Command::Look,
+            LentCommand::Write { expect, put } => Command::Write {
+                expect: Text::new(alloc, expect)?,
+                put: Text::new(alloc, put)?,
+            },
+            LentCommand::Depart { port } => Command::Depart { port },
+            LentCommand::Accuse { port } => Command::Accuse { port },
+            LentCommand::Leave => Command::Leave,
+            LentCommand::Bad => Command::Bad,
+        })
+    }
+}
+
+/// The event and the reply of a line, given without its line feed.
+pub(crate) fn seen(line: &[u8]) -> Option<(LentEvent<'_>, Option<LentReply<'_>>)>
+    ensures { IfSome result (λ seen. line.now ≡ event_line (event_of seen.0) (option_map reply_of seen.1)) }
+{
+    let (event, rest) = seen_event(line)?;
+    let rest = after(rest, b",\"reply\":")?;
+    let (reply, rest) = seen_answer(rest)?;
+    if rest == b"}".as_slice() {
+        Some((event, reply))
+    } else {
+        None
+    }
+}
+
+// An event, and what stands behind it.
+fn seen_event(line: &[u8]) -> Option<(LentEvent<'_>, &[u8])>
+    ensures { (reply : Option ReplyData) → IfSome result (λ seen. seen.1.now ≡ reply_part reply
+        → line.now ≡ event_line (event_of seen.0) reply) }
+{
     let Some(line) = after(line, b"{\"agent\":") else {
-        let line = after(line, b"{\"do\":\"close\"")?;
-        return Some((LentEvent::Other(Event::Close), line));
+        let rest = after(line, b"{\"do\":\"close\"")?;
+        return Some((LentEvent::Close, rest));
     };
     let (agent, line) = seen_number(line)?;
-    let line = after(line, b",\"do\":\"")?;
-    if let Some(line) = after(line, b"deliver\"") {
-        return Some((LentEvent::Other(Event::Deliver { agent }), line));
+    if let Some(rest) = after(line, b",\"do\":\"deliver\"") {
+        return Some((LentEvent::Deliver { agent }, rest));
     }
-    if let Some(line) = after(line, b"write\",\"expect\":") {
-        return seen_write(agent, line);
-    }
-    let (command, line) = seen_command(line)?;
-    Some((LentEvent::Other(Event::Tell { agent, command }), line))
+    let (command, rest) = seen_command(after(line, b",\"do\":")?)?;
+    Some((LentEvent::Tell { agent, command }, rest))
 }
 
-fn seen_write(agent: u16, line: &[u8]) -> Option<(LentEvent<'_>, &[u8])> {
+// A command, and what stands behind it.
+fn seen_command(line: &[u8]) -> Option<(LentCommand<'_>, &[u8])>
+    ensures { IfSome result (λ seen. line.now ≡ said (command_of seen.0) ++ seen.1.now) }
+{
+    if let Some(rest) = after(line, b"\"depart\",\"port\":") {
+        let (port, rest) = seen_number(rest)?;
+        return Some((LentCommand::Depart { port }, rest));
+    }
+    if let Some(rest) = after(line, b"\"look\"") {
+        return Some((LentCommand::Look, rest));
+    }
+    if let Some(rest) = after(line, b"\"write\",\"expect\":") {
+        return seen_write(rest);
+    }
+    if let Some(rest) = after(line, b"\"accuse\",\"port\":") {
+        let (port, rest) = seen_number(rest)?;
+        return Some((LentCommand::Accuse { port }, rest));
+    }
+    if let Some(rest) = after(line, b"\"enter\"") {
+        return Some((LentCommand::Enter, rest));
+    }
+    if let Some(rest) = after(line, b"\"leave\"") {
+        return Some((LentCommand::Leave, rest));
+    }
+    let rest = after(line, b"\"bad\"")?;
+    Some((LentCommand::Bad, rest))
+}
+
+// A Write, from its first text on, and what stands behind it.
+fn seen_write(line: &[u8]) -> Option<(LentCommand<'_>, &[u8])>
+    ensures { IfSome result (λ seen. codes "\"write\",\"expect\":" ++ line.now
+        ≡ said (command_of seen.0) ++ seen.1.now) }
+{
     let (expect, line) = seen_text(line)?;
     let line = after(line, b",\"put\":")?;
-    let (put, line) = seen_text(line)?;
-    Some((LentEvent::Write { agent, expect, put }, line))
+    let (put, rest) = seen_text(line)?;
+    Some((LentCommand::Write { expect, put }, rest))
 }
 
-// A command without texts.
-fn seen_command(line: &[u8]) -> Option<(Command, &[u8])> {
-    if let Some(line) = after(line, b"depart\",\"port\":") {
-        let (port, line) = seen_number(line)?;
-        return Some((Command::Depart { port }, line));
+// A reply or null, and what stands behind it.
+fn seen_answer(line: &[u8]) -> Option<(Option<LentReply<'_>>, &[u8])>
+    ensures { IfSome result (λ seen. line.now ≡ answered (option_map reply_of seen.0) ++ seen.1.now) }
+{
+    if let Some(rest) = after(line, b"null") {
+        return Some((None, rest));
     }
-    if let Some(line) = after(line, b"accuse\",\"port\":") {
-        let (port, line) = seen_number(line)?;
-        return Some((Command::Accuse { port }, line));
-    }
-    if let Some(line) = after(line, b"look\"") {
-        return Some((Command::Look, line));
-    }
-    if let Some(line) = after(line, b"enter\"") {
-        return Some((Command::Enter, line));
-    }
-    if let Some(line) = after(line, b"leave\"") {
-        return Some((Command::Leave, line));
-    }
-    let line = after(line, b"bad\"")?;
-    Some((Command::Bad, line))
+    let (reply, rest) = seen_reply(line)?;
+    Some((Some(reply), rest))
 }
 
-fn seen_reply(line: &[u8]) -> Option<LentReply<'_>> {
-    if let Some(line) = after(line, b"{\"board\":") {
-        return seen_board(line);
+// A reply, and what stands behind it.
+fn seen_reply(line: &[u8]) -> Option<(LentReply<'_>, &[u8])>
+    ensures { IfSome result (λ seen. line.now ≡ reply_line (reply_of seen.0) ++ seen.1.now) }
+{
+    if let Some(rest) = after(line, b"{\"board\":") {
+        return seen_board(rest);
     }
-    if let Some(line) = after(line, b"{\"ok\":\"") {
-        return seen_word(line);
+    if let Some(rest) = after(line, b"{\"ok\":\"gone\"}") {
+        return Some((LentReply::Gone, rest));
     }
-    let line = after(line, b"{\"no\":")?;
-    let (word, _) = seen_text(line)?;
-    let why = why_by(word)?;
-    Some(LentReply::No(why))
+    if let Some(rest) = after(line, b"{\"ok\":\"written\"}") {
+        return Some((LentReply::Written, rest));
+    }
+    if let Some(rest) = after(line, b"{\"ok\":\"noted\"}") {
+        return Some((LentReply::Noted, rest));
+    }
+    if let Some(rest) = after(line, b"{\"ok\":\"bye\"}") {
+        return Some((LentReply::Bye, rest));
+    }
+    if let Some(rest) = after(line, b"{\"ok\":\"over\"}") {
+        return Some((LentReply::Over, rest));
+    }
+    seen_refusal(line)
 }
 
-// A reply that shows a whiteboard.
-fn seen_board(line: &[u8]) -> Option<LentReply<'_>> {
+// A reply that shows a whiteboard, from its text on, and what stands behind it.
+fn seen_board(line: &[u8]) -> Option<(LentReply<'_>, &[u8])>
+    ensures { IfSome result (λ seen. codes "{\"board\":" ++ line.now
+        ≡ reply_line (reply_of seen.0) ++ seen.1.now) }
+{
     let (board, line) = seen_text(line)?;
     let Some(line) = after(line, b",\"from\":") else {
-        return Some(LentReply::Changed { board });
+        let rest = after(line, b",\"ok\":\"changed\"}")?;
+        return Some((LentReply::Changed { board }, rest));
     };
     let (came, line) = seen_label(line)?;
     let line = after(line, b",\"ok\":\"here\",\"ports\":")?;
-    let (ports, _) = seen_number(line)?;
-    Some(LentReply::Here { ports, came, board })
+    let (ports, line) = seen_number(line)?;
+    let rest = after(line, b"}")?;
+    Some((LentReply::Here { ports, came, board }, rest))
 }
 
-// A reply of one word, by its first letter.
-fn seen_word(line: &[u8]) -> Option<LentReply<'_>> {
-    Some(match line.first()? {
-        b'w' => LentReply::Written,
-        b'g' => LentReply::Gone,
-        b'n' => LentReply::Noted,
-        b'b' => LentReply::Bye,
-        b'o' => LentReply::Over,
-        _ => return None,
-    })
+// A refusal, and what stands behind it.
+fn seen_refusal(line: &[u8]) -> Option<(LentReply<'_>, &[u8])>
+    ensures { IfSome result (λ seen. line.now ≡ reply_line (reply_of seen.0) ++ seen.1.now) }
+{
+    let line = after(line, b"{\"no\":")?;
+    let (word, line) = seen_text(line)?;
+    let why = why_by(word)?;
+    let rest = after(line, b"}")?;
+    Some((LentReply::No(why), rest))
 }
 
-fn seen_label(line: &[u8]) -> Option<(Option<u16>, &[u8])> {
-    if let Some(line) = after(line, b"null") {
-        return Some((None, line));
+// The label of a link or null, and what stands behind it.
+fn seen_label(line: &[u8]) -> Option<(Option<u16>, &[u8])>
+    ensures { IfSome result (λ seen. line.now ≡ label seen.0 ++ seen.1.now) }
+{
+    if let Some(rest) = after(line, b"null") {
+        return Some((None, rest));
     }
-    let (port, line) = seen_number(line)?;
-    Some((Some(port), line))
-}
-
-fn seen_number(line: &[u8]) -> Option<(u16, &[u8])> {
-    let mut number: u16 = 0;
-    for place in 0..line.len() {
-        let byte = line[place];
-        if !byte.is_ascii_digit() {
-            return Some((number, &line[place..]));
-        }
-        number = number.checked_mul(10)?.checked_add(u16::from(byte - b'0'))?;
-    }
-    None
-}
-
-// A text without escapes.
-fn seen_text(line: &[u8]) -> Option<(&str, &[u8])> {
-    let line = after(line, b"\"")?;
-    let end = memchr::memchr2(b'"', b'\\', line)?;
-    let text = str::from_utf8(&line[..end]).ok()?;
-    let line = after(&line[end..], b"\"")?;
-    Some((text, line))
+    let (port, rest) = seen_number(line)?;
+    Some((Some(port), rest))
 }

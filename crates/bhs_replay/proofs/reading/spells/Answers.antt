@@ -1,14 +1,17 @@
-use Rattle.std.proofs.Common.{option_map}
+use Rattle.std.proofs.Common.{true, ◌&&◌, bytes_eq, option_map, sym, ap, ◌∙◌}
+use Rattle.std.proofs.lemmas.Slice.Eq.{bytes_eq-Decides}
 use Rattle.bhs_wire.specs.LentReply.{reply_of}
+use Rattle.bhs_replay.specs.EventLine.{event_line}
+use Rattle.bhs_replay.specs.Spelling.{may_stand}
 use Rattle.bhs_replay.proofs.EventReads.{event_utf8}
-use Rattle.bhs_replay.proofs.Spellings.{spelled-same}
+use Rattle.bhs_replay.proofs.Spellings.{spelled-seen}
 use Rattle.bhs_replay.proofs.reading.spells.Goals as goal
 
 pub returns : goal.returns
-returns c =
+returns c = λ line is.
     let event = c.args.event.now in
     let reply = option_map reply_of c.args.reply in
     let typed = c.each_event_is_typed.ensures in
     let answer = c.each_reply_is_typed.ensures in
-    spelled-same c.args.line.now event reply typed.0 answer.numbers
-    (event_utf8 event reply typed.0 answer.numbers typed.1 answer.texts) c.is_spelled.result c.is_spelled.ensures
+    spelled-seen line event reply typed.0 answer.numbers
+    (event_utf8 event reply typed.0 answer.numbers typed.1 answer.texts) is c.may_stand.result c.may_stand.ensures
