@@ -2,6 +2,7 @@ pub mod BeginningLemmas
 pub mod Each
 pub mod Flat
 pub mod LineData
+pub mod LineLemmas
 pub mod EventData
 pub mod EventTexts
 pub mod EventReads

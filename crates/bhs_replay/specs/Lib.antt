@@ -1,5 +1,4 @@
 pub mod EventLine
-pub mod EventTokens
 pub mod Head
 pub mod HeadTokens
 pub mod HeadReading

@@ -2,15 +2,18 @@
 
 ghost use Rattle.std.specs.Prelude.{ℕ, List, ◌≡◌, ◌∷◌, ◌++◌, [], string_bytes, IfOk, IfErr, IsOk, OnOk};
 ghost use Rattle.bhs_stream.specs.Sending.{PutsAll};
-ghost use Rattle.bhs_model.specs.Marks.{events_of};
+ghost use Rattle.bhs_model.specs.Marks.{events_of, read_if};
+ghost use Rattle.bhs_replay.specs.EventLine.{event_line};
+ghost use Rattle.bhs_replay.specs.Played.{IsTyped};
 ghost use Rattle.bhs_replay.specs.Replay.{end_line, replay_of};
 ghost use Rattle.bhs_replay.specs.Stages.{Ends, Comes};
 ghost use Rattle.bhs_replay.specs.Writing.{Breaks};
 
 use crate::faults::WritingFault;
 use crate::heads::head_of;
-use crate::lines::line_in;
+use crate::lines::add_line_in;
 use bhs_match::Sealed;
+use bhs_model::Kept;
 use bhs_net::Memory;
 use bhs_stream::{Output, WriteFault, send};
 use json::Writer;
@@ -31,8 +34,9 @@ pub fn write_replay<W: Output>(
 {
     let log = sealed.log();
     send_line(head_of(alloc, sealed.net(), sealed.setup()), writer)?;
+    let mut line = Vec::new(alloc);
     for one in log {
-        send_line(line_in(alloc, sealed, one), writer)?;
+        send_event(alloc, &mut line, sealed, one, writer)?;
     }
     send_line(end_line(alloc, log.len()), writer)
 }
@@ -47,6 +51,30 @@ pub(crate) fn end_line(alloc: Global, count: usize) -> Result<String, Memory>
     out.u64(count as u64)?;
     out.end_object()?;
     Ok(String::from_utf8(out.into_inner()).unwrap())
+}
+
+// Sends the line of an event of the log, with its line feed. The line is put together in the place of the last one.
+fn send_event<W: Output>(
+    alloc: Global,
+    line: &mut Vec<u8>,
+    sealed: &Sealed,
+    one: &Kept,
+    writer: &mut W,
+) -> Result<(), WritingFault>
+    ensures ok { OnOk result (PutsAll W.takes writer.old
+        (event_line one.now.event (read_if sealed.now.log one.now.mark) ++ 10 ∷ []) writer.new) }
+    ensures err { IfErr result (λ fault. Breaks W.takes writer.old
+        (event_line one.now.event (read_if sealed.now.log one.now.mark) ++ 10 ∷ []) fault writer.new) }
+    ensures typed { IsTyped one.now.event }
+{
+    line.clear();
+    if add_line_in(alloc, line, sealed, one).is_err() || line.push(b'\n').is_err() {
+        return Err(WritingFault::Memory);
+    }
+    match send(writer, line) {
+        Ok(()) => Ok(()),
+        Err(WriteFault) => Err(WritingFault::Write),
+    }
 }
 
 // Sends a line, with its line feed, if there was memory to make it.

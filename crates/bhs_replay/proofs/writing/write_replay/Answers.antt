@@ -71,20 +71,19 @@ loop-one-init g c =
       none_typed c.log-log.result.now,
     )
 
-pub returns-in_err-send_line-2-clause-err : goal.returns-in_err-send_line-2-clause-err
-returns-in_err-send_line-2-clause-err g c =
+pub returns-in_err-send_event-clause-err : goal.returns-in_err-send_event-clause-err
+returns-in_err-send_event-clause-err g c =
     let play : Play = c.args.sealed.now in
     let same = c.log-log.ensures.log in
     let log : List Kept = c.log-log.result.now in
     let one : Kept = c.one-item.result in
-    let made = rw (← same) at c.line_in.ensures.line in
     let here = at_event g.W.Output.takes c.args.writer.now _ (replay_of play) log c.loop-one.one-index one
     c.loop-one-test.true c.one-item.is c.loop-one.invariant.0 in
-    fault_is c.from_residual-in_err-send_line-2.result c.in_err-send_line-2.field-0.0 _
-    c.from_residual-in_err-send_line-2.ensures.1
+    fault_is c.from_residual-in_err-send_event.result c.in_err-send_event.field-0.0 _
+    c.from_residual-in_err-send_event.ensures.1
     (breaks_at g.W.Output.takes _ _ _ (replay_of play) (kept_line log one ++ 10 ∷ [])
     (left_of log (drop (c.loop-one.one-index + 1) log)) _ here
-    (c.in_err-send_line-2.ensures.err (kept_line log one) made))
+    (rw (← same) at c.in_err-send_event.ensures.err))
 
 pub loop-one-preserved : goal.loop-one-preserved
 loop-one-preserved g c =
@@ -92,14 +91,13 @@ loop-one-preserved g c =
     let same = c.log-log.ensures.log in
     let log : List Kept = c.log-log.result.now in
     let one : Kept = c.one-item.result in
-    let made = rw (← same) at c.line_in.ensures.line in
     let here = at_event g.W.Output.takes c.args.writer.now _ (replay_of play) log c.loop-one.one-index one
     c.loop-one-test.true c.one-item.is c.loop-one.invariant.0 in (
       sent_more g.W.Output.takes _ _ _ (replay_of play) (kept_line log one ++ 10 ∷ [])
           (left_of log (drop (c.loop-one.one-index + 1) log)) here
-          (c.in_ok-send_line-2.ensures.ok (kept_line log one) made),
+          (rw (← same) at c.in_ok-send_event.ensures.ok),
       one_more log c.loop-one.one-index one c.loop-one-test.true c.one-item.is c.loop-one.invariant.1
-          c.line_in.ensures.typed,
+          c.send_event.ensures.typed,
     )
 
 pub returns-clause-ok : goal.returns-clause-ok
