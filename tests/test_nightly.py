@@ -18,7 +18,7 @@ BY_HAND = {"bent_replays", "bench_counts", "hall_in_browser"}
 class Nightly(unittest.TestCase):
     def told(self, part: "nightly.Part") -> Tuple[object, str]:
         printed = io.StringIO()
-        with contextlib.redirect_stdout(printed), unittest.mock.patch.object(parts, "skipped", []):
+        with contextlib.redirect_stdout(printed), unittest.mock.patch.multiple(parts, skipped=[], failures=[]):
             counts = nightly.counts_of(part, pathlib.Path("/bin/true"))
             nightly.conclude([counts], "")
         return counts, printed.getvalue()
@@ -34,7 +34,15 @@ class Nightly(unittest.TestCase):
     def test_what_a_part_counts(self) -> None:
         counts, said = self.told(nightly.Part("one", ("-c", "print('so'); print('2 passed, 1 failed'); exit(1)")))
         self.assertEqual(counts, (2, 1))
-        self.assertRegex(said, r"--- one\nso\n--- one, \d+ s: 2 passed, 1 failed\n2 passed, 1 failed\n")
+        line = r"--- one, \d+ s: 2 passed, 1 failed\n"
+        self.assertRegex(said, rf"--- one\nso\n{line}failed:\n{line}2 passed, 1 failed\n")
+
+    def test_the_last_lines_name_what_failed(self) -> None:
+        said = ("FAIL: test_it (a.b.C.test_it)", "ERROR: it is no test", "FAILED (failures=1)", "FAILED a row", "ok: b")
+        _, told = self.told(nightly.Part("one", ("-c", f"print({chr(10).join(said)!r}); exit(1)")))
+        last = told.partition("failed:\n")[2].splitlines()
+        self.assertEqual((last[:2], last[3:]), ([said[0], said[3]], ["0 passed, 1 failed"]))
+        self.assertEqual(self.told(nightly.Part("one", ("-c", "")))[1].splitlines()[-1], "1 passed, 0 failed")
 
     def test_a_part_that_lacks_something_is_skipped_and_named(self) -> None:
         with unittest.mock.patch.object(nightly.packages, "missing", lambda names: [*names][:1]):

@@ -15,10 +15,14 @@ COUNTS = re.compile(r"(\d+) passed, (\d+) failed")
 # Debian's Python sees Debian's packages
 PYTHON = DEBIANS_PYTHON if pathlib.Path(DEBIANS_PYTHON).exists() else sys.executable
 
+# begins the line of a test, edit or proof that failed
+FAILURE = re.compile(r"(?:FAIL|ERROR): \w+ \([\w.]+\)|FAILED:? [^(]|edit \S+: (?:NOT|BAD) |rt: \w+ NOT PROVED")
+
 Counts = Tuple[int, int]
 PASSED, FAILED, NONE = (1, 0), (0, 1), (0, 0)
-# what was skipped, and why
+# what was skipped, and why, and what failed
 skipped: List[str] = []
+failures: List[str] = []
 
 
 def is_skipped(line: str) -> bool:
@@ -28,10 +32,16 @@ def is_skipped(line: str) -> bool:
     return line.startswith(SKIPPED)
 
 
+def note(line: str) -> None:
+    """Keeps the line of something that failed for the end, too."""
+    if FAILURE.match(line) and line not in failures:
+        failures.append(line)
+
+
 def run(words: Sequence[str], hear: Callable[[str], None] = lambda line: None, folder: pathlib.Path = TOP,
         **variables: str) -> Tuple[int, Optional[Counts]]:
-    """Runs a command and passes its lines on, but for a last one with counts and those that are kept for the end: gives
-    its status and these counts."""
+    """Runs a command and passes its lines on, but for a last one with counts and those of what was skipped: gives its
+    status and these counts."""
     held = ""
     with subprocess.Popen(words, cwd=folder, stdout=subprocess.PIPE, stderr=subprocess.STDOUT, text=True,
                           errors="replace", env={**os.environ, **variables}) as child:
@@ -41,6 +51,7 @@ def run(words: Sequence[str], hear: Callable[[str], None] = lambda line: None, f
             held = line if COUNTS.fullmatch(line.strip()) else ""
             if not held and not is_skipped(line.strip()):
                 print(line, end="", flush=True)
+                note(line.strip())
             hear(line.strip())
     counts = COUNTS.fullmatch(held.strip())
     return child.returncode, (int(counts[1]), int(counts[2])) if counts else None
@@ -53,12 +64,17 @@ def counted(status: int, counts: Optional[Counts]) -> Counts:
 
 
 def say(name: str, counts: Counts) -> None:
-    print(f"{name}: {counts[0]} passed, {counts[1]} failed", flush=True)
+    """Prints what a command counts. If something failed, the line comes again at the end."""
+    line = f"{name}: {counts[0]} passed, {counts[1]} failed"
+    print(line, flush=True)
+    if counts[1]:
+        failures.append(line)
 
 
 def conclude(found: Iterable[Counts], lacking: str) -> int:
-    """Prints what was skipped, which packages are lacking, and the sum: gives how many failed."""
-    for line in [*([f"{len(skipped)} skipped:", *skipped] if skipped else []), *([lacking] if lacking else [])]:
+    """Prints what was skipped, which packages are lacking, what failed, and the sum: gives how many failed."""
+    for line in [*([f"{len(skipped)} skipped:", *skipped] if skipped else []), *([lacking] if lacking else []),
+                 *(["failed:", *failures] if failures else [])]:
         print(line)
     passed, failed = map(sum, zip(*found))
     print(f"{passed} passed, {failed} failed", flush=True)

@@ -10,8 +10,8 @@ of the proved one. In the root it runs
 - `tools/gate --played` where apt-get reaches no archive: all tests that need a package must be skipped;
 - `tools/gate --played` again, which installs the packages, and skips few.
 
-In each no test may fail. It prints the last lines of each. It needs root and a network. The last line reads `N passed,
-M failed`, and the exit status is 1 if one failed.
+In each no test may fail. It prints which failed, the last lines of each, and the file in out/bare that has all lines.
+It needs root and a network. The last line reads `N passed, M failed`, and the exit status is 1 if one failed.
 """
 import argparse
 import pathlib
@@ -20,6 +20,7 @@ import subprocess
 import sys
 from typing import List
 
+from tools.parts import FAILURE
 from tools.play import roots
 from tools.prove.prover import KIT, TOP
 from tools.prove.record import PROGRAMS
@@ -28,8 +29,8 @@ from tools.prove.record import PROGRAMS
 HOME = "home/arena"
 BUILT = (*(f"crates/{name}/out" for name in (*PROGRAMS, "bhs_bench")), "tests/out")
 PROGRAM = "crates/bhs_main/out/bhs_main"
-# where apt-get finds archives, and how many last lines are shown
-SOURCES, LINES = "etc/apt/sources.list", 60
+# where apt-get finds archives, what keeps all that a command prints, and how many last lines are shown
+SOURCES, LOGS, LINES = "etc/apt/sources.list", TOP / "out" / "bare", 60
 
 
 def clone(place: pathlib.Path, program: str) -> None:
@@ -45,10 +46,15 @@ def clone(place: pathlib.Path, program: str) -> None:
 
 
 def passes(title: str, words: List[str]) -> bool:
-    """Runs a command, and prints its last lines."""
-    ran = subprocess.run(words, stdin=subprocess.DEVNULL, stdout=subprocess.PIPE, stderr=subprocess.STDOUT, text=True,
-                         errors="replace")
-    print(*ran.stdout.splitlines()[-LINES:], f"{'FAILED' if ran.returncode else 'ok'}: {title}", sep="\n", flush=True)
+    """Runs a command, and prints which tests failed and its last lines."""
+    LOGS.mkdir(parents=True, exist_ok=True)
+    log = LOGS / f"{title.replace(' ', '-')}.log"
+    with log.open("wb") as file:
+        ran = subprocess.run(words, stdin=subprocess.DEVNULL, stdout=file, stderr=subprocess.STDOUT)
+    lines = log.read_text(errors="replace").splitlines()
+    before = [line for line in lines[:-LINES] if FAILURE.match(line)]
+    print(*before, *lines[-LINES:], f"all lines are in {log.relative_to(TOP)}",
+          f"{'FAILED' if ran.returncode else 'ok'}: {title}", sep="\n", flush=True)
     return ran.returncode == 0
 
 
