@@ -3,7 +3,7 @@ import os
 import pathlib
 import subprocess
 import tomllib
-from typing import Dict, List, Sequence
+from typing import Dict, List, Optional, Sequence
 
 LIST = pathlib.Path(__file__).resolve().with_name("packages.toml")
 # does not wait for long where there is no network, but for another that installs
@@ -38,10 +38,10 @@ def advice(packages: Sequence[str]) -> str:
     return f"apt-get install {' '.join(packages)}"
 
 
-def apt(*words: str) -> bool:
-    """Runs a command of apt-get, which tells on standard error what it does: whether it succeeded."""
+def apt(*words: str, folder: Optional[pathlib.Path] = None) -> bool:
+    """Runs a command of apt-get in a folder, which tells on standard error what it does: whether it succeeded."""
     try:
-        return subprocess.run([*APT, *words], stdin=subprocess.DEVNULL, stdout=2,
+        return subprocess.run([*APT, *words], cwd=folder, stdin=subprocess.DEVNULL, stdout=2,
                               env={**os.environ, "DEBIAN_FRONTEND": "noninteractive"}).returncode == 0
     except FileNotFoundError:
         return False
@@ -56,3 +56,23 @@ def install(packages: Sequence[str]) -> str:
         apt(*words) or apt("update") and apt(*words)
         absent = missing(packages)
     return f"not installed, and tests that need it are skipped; as root: {advice(absent)}" if absent else ""
+
+
+def fetched(package: str, folder: pathlib.Path) -> Optional[pathlib.Path]:
+    """The archive of a package's sources, fetched into a folder from where this machine has its packages: nothing if it
+    cannot be. No list of apt-get's own is changed."""
+    written = folder / "sources.list"
+    places = {"Dir::State::Lists": folder / "lists", "Dir::Cache": folder / "cache", "Dir::Etc::SourceList": written,
+              "Dir::Etc::SourceParts": "/dev/null", "APT::Sandbox::User": "root"}
+    for place in ("lists/partial", "cache/archives/partial"):
+        (folder / place).mkdir(parents=True)
+    try:
+        ran = subprocess.run([APT[0], "indextargets", "--format", "deb-src $(REPO_URI) $(RELEASE) main",
+                              "Created-By: Packages", "Component: main"], capture_output=True, text=True)
+    except FileNotFoundError:
+        return None
+    written.write_text(ran.stdout.partition("\n")[0])
+    options = [word for name, value in places.items() for word in ("-o", f"{name}={value}")]
+    apt(*options, "update", folder=folder) and apt(*options, "source", "--download-only", "--tar-only", package,
+                                                   folder=folder)
+    return next(folder.glob(f"{package}_*.orig.tar.*"), None)

@@ -15,6 +15,8 @@ HOST = {"enter": 0, "look": 0, "write": 4, "depart": 1, "accuse": 1, "leave": 0,
 # numbers on which instructions differ
 OPERANDS = (0, 1, 2, 31, 32, 33, 63, 64, 0x7f, 0x80, 0xff, 0x7fff, 0x8000, 0xdeadbeef, 0x7fffffff, 0x80000000,
             0xffffffff, 0x0123456789abcdef, 0x7fffffffffffffff, 0x8000000000000000, 0xffffffffffffffff)
+# the sections of a module, the number of data segments before the code
+ORDER = (1, 2, 3, 4, 5, 6, 7, 8, 9, 12, 10, 11)
 NODE = """
 const [file, calls] = [process.argv[1], JSON.parse(require("fs").readFileSync(0))];
 const module = new WebAssembly.Module(require("fs").readFileSync(file));
@@ -91,6 +93,29 @@ def module(functions: Sequence[Function], imports: Sequence[str] = (), source: s
         section(10, vector(bodies)),
         section(11, vector([b"\0" + constant(I32, 0) + b"\x0b" + unsigned(len(data)) + data] if data else [])),
     ))
+
+
+def number_at(data: bytes) -> Tuple[int, bytes]:
+    """The number in LEB128 with which bytes begin, and the bytes behind it."""
+    if data[0] < 0x80:
+        return data[0], data[1:]
+    rest, behind = number_at(data[1:])
+    return data[0] & 0x7f | rest << 7, behind
+
+
+def with_run(file: bytes) -> bytes:
+    """A module that imports nothing, with one function more, `run`, which does nothing."""
+    sections: Dict[int, bytes] = {}
+    data = file[8:]
+    while data:
+        length, behind = number_at(data[1:])
+        sections[data[0]], data = behind[:length], behind[length:]
+    types, functions = (number_at(sections.get(kind, b"\0"))[0] for kind in (1, 3))
+    for kind, item in ((1, type_of([], [])), (3, unsigned(types)), (7, name("run") + b"\0" + unsigned(functions)),
+                       (10, b"\2\0\x0b")):
+        count, items = number_at(sections.get(kind, b"\0"))
+        sections[kind] = unsigned(count + 1) + items + item
+    return file[:8] + b"".join(section(kind, sections[kind]) for kind in ORDER if kind in sections)
 
 
 def numeric() -> Dict[str, Function]:
