@@ -26,7 +26,7 @@ const ROOM: usize = 64 * 1024;
 const UNHEARD_PAUSE: u64 = 1;
 
 // How many bytes are taken from a client at once at most.
-const TAKEN: usize = 16 * 1024;
+const TAKEN: usize = 4 * 1024;
 
 // How many bytes are taken from a client at most until its agent enters: the longest line and some blank lines.
 const FIRST: usize = 128 * 1024;
