@@ -23,8 +23,10 @@ import threading
 import time
 from typing import Any, Dict, List, NamedTuple, Tuple
 
-from bench.inputs import ring
-from bench.servers import MAX_SESSIONS, Failed, free_port, prepare, started, words
+from arena_lab.rules.networks import ring
+from bench.servers import MAX_SESSIONS, prepare, serving
+from tests.support.counts import Wrong
+from tests.support.tournaments import match, write_cup
 from arena_lab.play.agent_files import client_module
 
 client = client_module()
@@ -70,13 +72,6 @@ class Timed(client.Agent):
             return super()._ask(command)
         finally:
             self.waits.append(time.monotonic() - begun)
-
-
-def tournament(rules: Rules, network: pathlib.Path) -> str:
-    rows = "".join(f'\n[[match]]\nteam = "t{team}"\nnetwork = "{network}"\nhome = 0\nholes = [{rules.nodes // 2}]\n'
-                   f'quota = {QUOTA}\nboard = {BOARD}\nkeys = ["{team}-0", "{team}-1"]\nheld = []\n'
-                   for team in range(rules.teams))
-    return f'version = 3\nseed = "{"07" * 32}"\n{rows}'
 
 
 def played(port: int, key: str, nodes: int) -> Waits:
@@ -150,22 +145,21 @@ def heard(client: Any) -> bool:
 
 def contest(rules: Rules, rate: float) -> Tuple[str, float, Waits]:
     """The table of a contest under a flood, how many clients a second it had, and how long the agents waited."""
-    keys = [f"{team}-{agent}" for team in range(rules.teams) for agent in range(2)]
+    keys = [f"t{team}-{agent}" for team in range(rules.teams) for agent in range(2)]
     shares = [keys[place:place + 2 * SHARE] for place in range(0, len(keys), 2 * SHARE)]
     with tempfile.TemporaryDirectory() as folder_name:
         folder = pathlib.Path(folder_name)
-        (folder / "ring.toml").write_text(ring(rules.nodes))
-        (folder / "cup.toml").write_text(tournament(rules, folder / "ring.toml"))
-        port = free_port()
-        command = words(folder / "cup.toml", port, MAX_SESSIONS, rules.turns, rules.pause, folder / "match")
-        with started([*command, "--early"], port, folder / "errors") as server:
+        write_cup(folder, [match(f"t{team}", ring(rules.nodes), [rules.nodes // 2], quota=QUOTA, board=BOARD)
+                           for team in range(rules.teams)], seed="07" * 32)
+        with serving(folder, MAX_SESSIONS, rules.turns, rules.pause, "--early") as server:
+            port = server.port
             stop, count = multiprocessing.Event(), multiprocessing.Value("q", 0)
             flooding = multiprocessing.Process(target=flood, args=(port, rate, stop, count), daemon=True)
             flooding.start()
             time.sleep(1.0 if rate else 0.0)
             begun, before, found = time.monotonic(), count.value, Waits([], [])
             table: List[str] = []
-            reading = threading.Thread(target=lambda: table.append(server.stdout.read()))
+            reading = threading.Thread(target=lambda: table.append(server.child.stdout.read().decode()))
             reading.start()
             with concurrent.futures.ProcessPoolExecutor(len(shares)) as pool:
                 for waits in pool.map(share, [port] * len(shares), [rules.nodes] * len(shares), shares):
@@ -201,7 +195,7 @@ def main(arguments: List[str]) -> int:
     try:
         for rate in (given.rate, 0.0):
             print(told(rules, rate), flush=True)
-    except Failed as fault:
+    except Wrong as fault:
         sys.exit(str(fault))
     return 0
 

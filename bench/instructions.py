@@ -35,6 +35,7 @@ from typing import Callable, Dict, Iterator, List, NamedTuple, Sequence
 from arena_lab.rules.model import AWAY, Match, Object, Setup, spelled
 from bench import compare, rehearse
 from bench.inputs import MAX_QUOTA, MAX_SCRIPT, torus, torus_links, tournament
+from tests.support.counts import concluded
 from tools.play.python_tests import SKIPPED
 
 TOP = pathlib.Path(__file__).resolve().parent.parent
@@ -170,8 +171,7 @@ def compare_kept(program: str) -> int:
     wrong = risen(counts, kept)
     for line in wrong:
         print(f"FAILED {line}")
-    print(f"{len(counts) - len(wrong)} passed, {len(wrong)} failed")
-    return 1 if wrong else 0
+    return concluded(len(counts) - len(wrong), len(wrong))
 
 
 def given_words(words: Sequence[str]) -> argparse.Namespace:
@@ -193,8 +193,8 @@ def main(words: Sequence[str]) -> int:
         if not pathlib.Path(program).exists():
             raise SystemExit(f"there is no program {program}: tools/build builds it")
     if given.kept and not has_valgrind():
-        print(f"{SKIPPED}bench.instructions: Debian's valgrind is not installed\n0 passed, 0 failed")
-        return 0
+        print(f"{SKIPPED}bench.instructions: Debian's valgrind is not installed")
+        return concluded(0, 0)
     if not has_valgrind():
         raise SystemExit("valgrind is missing: install Debian's package valgrind")
     if given.kept:

@@ -16,10 +16,12 @@ import tempfile
 import time
 from typing import Iterator, Tuple
 
-from bench.inputs import peak_so_far, ring
-from bench.servers import Failed, free_port, started, words
+from arena_lab.rules.networks import ring
+from bench.inputs import peak_so_far
+from bench.servers import serving
+from tests.support.counts import Wrong
+from tests.support.tournaments import match, write_cup
 
-HOST, KEY = "127.0.0.1", "ka"
 # the largest quota and whiteboard
 MOST = 65_535
 # about the longest text that fits into a line
@@ -28,24 +30,13 @@ SIZE = 65_490
 TOGETHER = 10
 # the match takes longer than the looks
 TURNS, PAUSE = 4_000_000, 1000
-TOURNAMENT = """version = 3
-seed = "{seed}"
-[[match]]
-team = "red"
-network = "{network}"
-home = 0
-holes = [2]
-quota = {most}
-board = {most}
-keys = ["{key}"]
-"""
 
 
 class Agent:
     """An agent over TCP."""
 
     def __init__(self, port: int) -> None:
-        self.socket = socket.create_connection((HOST, port), 60)
+        self.socket = socket.create_connection(("127.0.0.1", port), 60)
         self.answers = self.socket.makefile("rb")
 
     def say(self, command: dict, times: int = 1, wanted: str = "here") -> None:
@@ -53,30 +44,26 @@ class Agent:
         for _ in range(times):
             answer = json.loads(self.answers.readline() or b"{}")
             if answer.get("ok") != wanted:
-                raise Failed(f"{command['do']} is answered {str(answer)[:60]}")
+                raise Wrong(f"{command['do']} is answered {str(answer)[:60]}")
 
 
 def measured(looks: int, size: int) -> Iterator[Tuple[str, float, float]]:
     """What was done, the most memory in MB that the server has held then, and the seconds since the first look."""
     with tempfile.TemporaryDirectory() as name:
         folder = pathlib.Path(name)
-        (folder / "ring.toml").write_text(ring(3))
-        text = TOURNAMENT.format(seed="0" * 64, network=folder / "ring.toml", most=MOST, key=KEY)
-        (folder / "cup.toml").write_text(text)
-        port = free_port()
-        command = words(folder / "cup.toml", port, 1, TURNS, PAUSE, folder / "cup")
-        with started(command, port, folder / "errors") as server:
-            agent = Agent(port)
-            agent.say({"do": "enter", "key": KEY})
+        write_cup(folder, [match("red", ring(3), [2], agents=1, quota=MOST, board=MOST)])
+        with serving(folder, 1, TURNS, PAUSE) as server:
+            agent = Agent(server.port)
+            agent.say({"do": "enter", "key": "red-0"})
             agent.say({"do": "write", "expect": "", "put": "x" * size}, wanted="written")
-            yield "before the looks", peak_so_far(server) / 1024, 0.0
+            yield "before the looks", peak_so_far(server.child) / 1024, 0.0
             begun, said = time.monotonic(), 0
             for quarter in range(1, 5):
                 while said < looks * quarter // 4:
                     together = min(TOGETHER, looks * quarter // 4 - said)
                     agent.say({"do": "look"}, together)
                     said += together
-                yield f"{said:,} looks", peak_so_far(server) / 1024, time.monotonic() - begun
+                yield f"{said:,} looks", peak_so_far(server.child) / 1024, time.monotonic() - begun
 
 
 def main(words_given: list) -> int:
@@ -88,7 +75,7 @@ def main(words_given: list) -> int:
     try:
         for what, memory, seconds in measured(given.looks, given.size):
             print(f"{what}: {memory:.1f} MB, {seconds:.1f} s", flush=True)
-    except (Failed, OSError, ValueError) as fault:
+    except (Wrong, OSError, ValueError) as fault:
         sys.exit(str(fault))
     return 0
 

@@ -25,7 +25,6 @@ The exit status is 1 if something could not be measured; it says nothing of the 
 names another program than ./arena, as ARENA="./arena-lab". It takes about two minutes.
 """
 import argparse
-import contextlib
 import json
 import os
 import pathlib
@@ -33,10 +32,14 @@ import statistics
 import subprocess
 import sys
 import tempfile
-from typing import Dict, Iterator, List, NamedTuple, Optional
+from typing import Dict, List, NamedTuple, Optional
 
 from bench.inputs import key, peak_so_far, torus, tournament
-from bench.servers import MAX_SESSIONS, TOP, Failed, free_port, prepare, started, words
+from arena_lab.support.ports import free_port
+from bench.servers import MAX_SESSIONS, prepare, serving
+from tests import TOP
+from tests.support.counts import Wrong
+from tests.support.servers import Server
 
 SOURCES = TOP / "bench" / "serve"
 MATCHES = 64
@@ -97,15 +100,13 @@ class Bench(NamedTuple):
             flags = ["-O2", "-Wall", "-Wextra", "-pthread"]
             subprocess.run(["cc", *flags, "-o", str(folder / name), str(SOURCES / f"{name}.c")], check=True)
         (folder / "torus.toml").write_text(torus(SIDE, SIDE))
-        (folder / "t.toml").write_text(tournament(str(folder / "torus.toml"), MATCHES, AGENTS, BOARD))
+        (folder / "cup.toml").write_text(tournament(str(folder / "torus.toml"), MATCHES, AGENTS, BOARD))
         return cls(folder)
 
-    @contextlib.contextmanager
-    def echo(self, mode: str) -> Iterator[int]:
-        """An echo server; answers its port."""
+    def echo(self, mode: str) -> Server:
+        """An echo server."""
         port = free_port()
-        with started([str(self.folder / "echo"), str(port), mode], port, self.folder / "errors"):
-            yield port
+        return Server([self.folder / "echo", port, mode], port=port, errors=self.folder / "errors")
 
     def words_of_load(self, port: int, load: Load) -> List[str]:
         threads = min(load.active, max(1, (os.cpu_count() or 1) // 2))
@@ -117,34 +118,33 @@ class Bench(NamedTuple):
         ran = subprocess.run(self.words_of_load(port, load), input=keys(load), capture_output=True, text=True,
                              timeout=LIMIT)
         if ran.returncode != 0:
-            raise Failed(ran.stderr.strip())
+            raise Wrong(ran.stderr.strip())
         found = json.loads(ran.stdout)
         return Figures(found["commands"] / found["seconds"], found["p50"], found["p99"])
 
-    def words_of_arena(self, port: int, load: Load) -> List[str]:
+    def arena(self, load: Load) -> Server:
+        """A new arena."""
         pause = PAUSES[load.kind]
-        turns = MATCH_SECONDS * 1000 // pause
-        return words(self.folder / "t.toml", port, load.sessions, turns, pause, self.folder / "match")
+        return serving(self.folder, load.sessions, MATCH_SECONDS * 1000 // pause, pause)
 
     def of_arena(self, load: Load) -> Figures:
         """Loads a new arena."""
-        port = free_port()
-        with started(self.words_of_arena(port, load), port, self.folder / "errors"):
-            return self.figures(port, load)
+        with self.arena(load) as server:
+            return self.figures(server.port, load)
 
-    def peaks(self, command: List[str], port: int, load: Load) -> List[int]:
+    def peaks(self, server: Server, load: Load) -> List[int]:
         """The peak memory of a server in KiB, before anybody has come and while all sessions are open."""
-        with started(command, port, self.folder / "errors") as server:
-            before = peak_so_far(server)
-            holder = subprocess.Popen(self.words_of_load(port, load), stdin=subprocess.PIPE, stdout=subprocess.PIPE,
-                                      text=True)
+        with server:
+            before = peak_so_far(server.child)
+            holder = subprocess.Popen(self.words_of_load(server.port, load), stdin=subprocess.PIPE,
+                                      stdout=subprocess.PIPE, text=True)
             try:
                 # it reads all keys before it connects, and prints one line or none
                 holder.stdin.write(keys(load))
                 holder.stdin.close()
                 if holder.stdout.readline() != "open\n":
-                    raise Failed("the sessions could not be opened")
-                return [before, peak_so_far(server)]
+                    raise Wrong("the sessions could not be opened")
+                return [before, peak_so_far(server.child)]
             finally:
                 holder.kill()
                 holder.wait()
@@ -216,11 +216,8 @@ def judged(load: Load, found: Dict[str, Figures]) -> Optional[str]:
 def memory(bench: Bench, count: int) -> List[str]:
     """The peak memory of both servers with this many sessions open."""
     load, lines = Load("looks", "hold", 1, count, 1), []
-    arena_port, echo_port = free_port(), free_port()
-    commands = [("arena", bench.words_of_arena(arena_port, load), arena_port),
-                ("echo", [str(bench.folder / "echo"), str(echo_port), "all"], echo_port)]
-    for name, command, port in commands:
-        before, peak = bench.peaks(command, port, load)
+    for name, start in (("arena", lambda: bench.arena(load)), ("echo", lambda: bench.echo("all"))):
+        before, peak = bench.peaks(start(), load)
         lines.append(f"{name}: peak {peak} KiB with {count} sessions open, {before} KiB before, "
                      f"{(peak - before) / count:.1f} KiB a session")
     return lines
@@ -235,8 +232,8 @@ def run(bench: Bench, loads: List[Load], rounds: int, count: int) -> int:
             if failed == MOST_FAILED:
                 return failed
             try:
-                found = measured(bench, load, {"all": together, "each": apart}, rounds)
-            except (Failed, subprocess.TimeoutExpired) as fault:
+                found = measured(bench, load, {"all": together.port, "each": apart.port}, rounds)
+            except (Wrong, subprocess.TimeoutExpired) as fault:
                 print(f"{load.title}: could not be measured: {fault}", flush=True)
                 failed += 1
                 continue
@@ -244,7 +241,7 @@ def run(bench: Bench, loads: List[Load], rounds: int, count: int) -> int:
             verdicts.append(judged(load, found))
     try:
         verdicts = memory(bench, count) + verdicts
-    except Failed as fault:
+    except Wrong as fault:
         print(f"memory could not be measured: {fault}")
         failed += 1
     print("\n".join(verdict for verdict in verdicts if verdict))

@@ -24,10 +24,13 @@ import threading
 import time
 from typing import Callable, Counter, Dict, List, NamedTuple, Sequence
 
-from bench.inputs import ring
-from bench.servers import MAX_SESSIONS, Failed, free_port, prepare, started, words
+from bench.servers import MAX_SESSIONS, prepare, serving
 from arena_lab.play.agent_files import client_module
 from arena_lab.rules import networks
+from arena_lab.rules.delays import Delays
+from arena_lab.rules.fixtures import Fixture
+from tests.support.counts import Wrong
+from tests.support.tournaments import match, write_cup
 
 client = client_module()
 search = importlib.import_module("ring").search
@@ -39,10 +42,8 @@ TRAP = "t"
 # accuses as soon as its time is up, and visits no other node before
 HASTY = "hasty"
 QUOTA, BOARD = 1000, 64
-SCHEDULES = {
-    "adaptive": "",
-    "oblivious": 'schedule = "oblivious"\ndelay_scales = 10\ndelay_odds = 32\n',
-}
+SCHEDULES = {"adaptive": None, "oblivious": Delays(10, 32)}
+SEED = "07" * 32
 OUTCOMES = ("solved", "guess", "unfinished", "silent", "wrong")
 BACK, AHEAD = 1, 0
 
@@ -70,14 +71,12 @@ def teams(rules: Rules, contests: int) -> List[str]:
     return [f"{kind}-{number}" for number in range(contests) for kind in rules.kinds()]
 
 
-def tournament(rules: Rules, network: pathlib.Path, names: List[str]) -> str:
-    node, rows = rules.nodes // 2, ""
-    ends = [list(place) for place in networks.places_into(networks.named(str(network)).links, (node, node + 1))]
-    for name in names:
-        holes, held = ([], ends) if f"-{TRAP}-" in name else ([node], [])
-        rows += (f'\n[[match]]\nteam = "{name}"\nnetwork = "{network}"\nhome = 0\nholes = {holes}\nquota = {QUOTA}\n'
-                 f'board = {BOARD}\nkeys = ["{name}-a", "{name}-b"]\nheld = {held}\n')
-    return f'version = 3\nseed = "{"07" * 32}"\n{SCHEDULES[rules.schedule]}{rows}'
+def fixtures(rules: Rules, names: List[str]) -> List[Fixture]:
+    """The matches of these teams."""
+    network, node = networks.ring(rules.nodes), rules.nodes // 2
+    ends = networks.places_into(network.links, (node, node + 1))
+    return [match(name, network, [] if is_trap else [node], quota=QUOTA, board=BOARD, held=ends if is_trap else [])
+            for name in names for is_trap in [f"-{TRAP}-" in name]]
 
 
 def step_out(agent: client.Agent, nodes: int) -> None:
@@ -114,7 +113,7 @@ def is_back(agent: client.Agent, seconds: float, every: float) -> bool:
 
 def plays(port: int, rules: Rules, name: str, number: int) -> Callable[[], None]:
     """What an agent of a team does."""
-    key, pause = f"{name}-{'ab'[number]}", rules.pause / 1000
+    key, pause = f"{name}-{number}", rules.pause / 1000
 
     def play() -> None:
         agent = client.Agent.connect("127.0.0.1", port)
@@ -147,15 +146,12 @@ def contest(rules: Rules, contests: int) -> Dict[str, str]:
     names = teams(rules, contests)
     with tempfile.TemporaryDirectory() as folder_name:
         folder = pathlib.Path(folder_name)
-        (folder / "ring.toml").write_text(ring(rules.nodes))
-        (folder / "cup.toml").write_text(tournament(rules, folder / "ring.toml", names))
-        port = free_port()
-        command = words(folder / "cup.toml", port, 2 * len(names), rules.turns, rules.pause, folder / "match")
-        with started([*command, "--early", "--gather", "10000"], port, folder / "errors") as server:
+        write_cup(folder, fixtures(rules, names), SCHEDULES[rules.schedule], SEED)
+        with serving(folder, 2 * len(names), rules.turns, rules.pause, "--early", "--gather", 10_000) as server:
             for name in names:
                 for number in range(2):
-                    threading.Thread(target=plays(port, rules, name, number), daemon=True).start()
-            return table_of(server.stdout.read())
+                    threading.Thread(target=plays(server.port, rules, name, number), daemon=True).start()
+            return table_of(server.child.stdout.read().decode())
 
 
 def main(arguments: List[str]) -> int:
@@ -177,7 +173,7 @@ def main(arguments: List[str]) -> int:
         try:
             for name, outcome in contest(rules, some).items():
                 found[name.rpartition("-")[0]][outcome] += 1
-        except (Failed, OSError) as fault:
+        except (Wrong, OSError) as fault:
             print(fault, file=sys.stderr)
             return 1
         left -= some

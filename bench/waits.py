@@ -17,21 +17,21 @@ import statistics
 import sys
 import tempfile
 import time
-from typing import List, NamedTuple, TextIO
+from typing import Dict, List, NamedTuple, TextIO, Tuple
 
-from bench.inputs import ring
-from bench.servers import Failed, free_port, started, words
+from arena_lab.rules.delays import Delays
+from arena_lab.rules.model import Place
+from arena_lab.rules.networks import ring
+from bench.servers import serving
+from tests.support.counts import Wrong
+from tests.support.tournaments import match, write_cup
 
 NODES = 8
 TURNS = 1_000_000
 LIMIT = 60
 # where the first agent is, with the black hole and the held links of the match
-PLACES = {"stands": (1, "[]"), "destroyed": (1, "[]"), "held": (4, "[[0, 0]]")}
-SCHEDULES = {
-    "adaptive": "",
-    "oblivious": 'schedule = "oblivious"\ndelay_scales = 0\ndelay_odds = 1\n',
-    "with delays": 'schedule = "oblivious"\ndelay_scales = 5\ndelay_odds = 32\n',
-}
+PLACES: Dict[str, Tuple[int, List[Place]]] = {"stands": (1, []), "destroyed": (1, []), "held": (4, [(0, 0)])}
+SCHEDULES = {"adaptive": None, "oblivious": Delays(0, 1), "with delays": Delays(5, 32)}
 
 
 class Agent(NamedTuple):
@@ -47,13 +47,13 @@ class Agent(NamedTuple):
     def hears(self) -> dict:
         line = self.lines.readline()
         if not line:
-            raise Failed("a session ended before its time")
+            raise Wrong("a session ended before its time")
         return json.loads(line)
 
     def goes(self, port: int) -> None:
         """Departs and waits for its arrival."""
         if self.says(do="depart", port=port) != {"ok": "gone"} or self.hears().get("ok") != "here":
-            raise Failed("an agent could not move")
+            raise Wrong("an agent could not move")
 
 
 def entered(port: int, key: str) -> Agent:
@@ -61,26 +61,18 @@ def entered(port: int, key: str) -> Agent:
     connection.setsockopt(socket.IPPROTO_TCP, socket.TCP_NODELAY, 1)
     agent = Agent(connection, connection.makefile("r"))
     if agent.says(do="enter", key=key).get("ok") != "here":
-        raise Failed(f"the agent with the key {key} could not enter")
+        raise Wrong(f"the agent with the key {key} could not enter")
     return agent
-
-
-def tournament(network: pathlib.Path, place: str, schedule: str) -> str:
-    hole, held = PLACES[place]
-    return (f'version = 3\nseed = "{"07" * 32}"\n{SCHEDULES[schedule]}[[match]]\nteam = "red"\nnetwork = "{network}"\n'
-            f'home = 0\nholes = [{hole}]\nquota = 1000\nboard = 8\nkeys = ["a", "b"]\nheld = {held}\n')
 
 
 def waits(place: str, schedule: str, moves: int, pause: int) -> List[float]:
     """How many turns each move of the second agent took."""
     with tempfile.TemporaryDirectory() as name:
         folder = pathlib.Path(name)
-        network, rules = folder / "ring.toml", folder / "cup.toml"
-        network.write_text(ring(NODES))
-        rules.write_text(tournament(network, place, schedule))
-        port = free_port()
-        with started(words(rules, port, 8, TURNS, pause, folder / "match"), port, folder / "errors"):
-            first, second = entered(port, "a"), entered(port, "b")
+        hole, held = PLACES[place]
+        write_cup(folder, [match("red", ring(NODES), [hole], board=8, held=held)], SCHEDULES[schedule], "07" * 32)
+        with serving(folder, 8, TURNS, pause) as server:
+            first, second = entered(server.port, "red-0"), entered(server.port, "red-1")
             if place != "stands":
                 first.says(do="depart", port=0)
                 time.sleep(50 * pause / 1000)
@@ -104,7 +96,7 @@ def main(arguments: List[str]) -> int:
         for place in PLACES:
             try:
                 taken = waits(place, schedule, given.moves, given.pause)
-            except (Failed, OSError) as fault:
+            except (Wrong, OSError) as fault:
                 print(f"{schedule}, {place}: {fault}", file=sys.stderr)
                 return 1
             error = statistics.stdev(taken) / len(taken) ** 0.5

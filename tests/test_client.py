@@ -12,20 +12,11 @@ from typing import List
 
 from examples.agents import client
 from examples.agents.client import Agent, Here, Swap
+from arena_lab.rules import networks
 from tests import TOP, needs
+from tests.support.servers import Server
+from tests.support.tournaments import match, write_cup
 
-TOURNAMENT = """version = 2
-seed = "0707070707070707070707070707070707070707070707070707070707070707"
-
-[[match]]
-team = "red"
-network = "{network}"
-home = 0
-holes = {holes}
-quota = {quota}
-board = 64
-keys = ["ka", "kb"]
-"""
 # seconds within which an agent ends that is not lost, once the other has ended
 SOON = 2
 
@@ -40,25 +31,17 @@ class Served(unittest.TestCase):
 
     def serve(self, network: str, holes: List[int], quota: int, sessions: int, turns: int = 300) -> int:
         """Starts a server, and answers its port. The match is closed after these turns, or when the test says so."""
-        tournament = self.folder / "t.toml"
-        tournament.write_text(TOURNAMENT.format(network=TOP / "examples" / network, holes=holes, quota=quota))
-        with socket.create_server(("127.0.0.1", 0)) as listener:
-            port = listener.getsockname()[1]
-        words = ["serve", tournament, "--port", port, "--sessions", sessions, "--turns", turns, "--pause", 1]
-        command = [sys.executable, "-m", "tests.patient_server", *words, "--replay", self.folder / "match"]
-        self.server = subprocess.Popen([str(word) for word in command], cwd=TOP, stdin=subprocess.PIPE,
-                                       stdout=subprocess.PIPE, text=True)
-        self.addCleanup(self.server.wait)
-        self.addCleanup(self.server.stdout.close)
-        self.addCleanup(self.server.stdin.close)
-        self.addCleanup(self.server.kill)
-        self.assertEqual(self.server.stdout.readline(), f"listening {port}\n")
-        return port
+        cup = write_cup(self.folder, [match("red", networks.in_file(str(TOP / "examples" / network)), holes,
+                                            quota=quota, keys=["ka", "kb"])], seed="07" * 32)
+        words = [sys.executable, "-m", "tests.patient_server", "serve", cup, "--sessions", sessions, "--turns", turns,
+                 "--pause", 1, "--replay", self.folder / "match"]
+        self.server = self.enterContext(Server(words, stdin=subprocess.PIPE))
+        return self.server.port
 
     def outcome(self) -> List[str]:
         """Closes the match, and answers the row of its team in the table: place, team, outcome, moves and lost."""
-        self.server.stdin.close()
-        return self.server.stdout.read().splitlines()[1].split()
+        self.server.child.stdin.close()
+        return self.server.child.stdout.read().decode().splitlines()[1].split()
 
     def connect(self, port: int) -> Agent:
         agent = Agent.connect("127.0.0.1", port)

@@ -12,7 +12,8 @@ from unittest import mock
 from tests import needs
 from bench import serve
 from bench.serve import Bench, Figures, Load, load_of
-from bench.servers import Failed, started
+from tests.support.counts import Wrong
+from tests.support.servers import Server
 
 STAND_IN = f"{sys.executable} -m arena_lab"
 
@@ -78,11 +79,11 @@ class Programs(unittest.TestCase):
 
     def test_each_load_on_the_echo(self) -> None:
         for writes in ("all", "each"):
-            with self.bench.echo(writes) as port:
+            with self.bench.echo(writes) as server:
                 for kind in serve.KINDS:
                     for mode in serve.TOTALS:
                         with self.subTest(kind=kind, mode=mode, writes=writes):
-                            figures = self.bench.figures(port, Load(kind, mode, 4, 12, 10))
+                            figures = self.bench.figures(server.port, Load(kind, mode, 4, 12, 10))
                             self.assertGreater(figures.rate, 0)
                             self.assertEqual(0 < figures.p50 <= figures.p99, mode == "one")
 
@@ -92,16 +93,14 @@ class Programs(unittest.TestCase):
             self.assertGreater(self.bench.of_arena(Load("writes", "many", 2, 66, 4)).rate, 0)
 
     def test_memory_with_sessions_open(self) -> None:
-        port = serve.free_port()
-        command = [str(self.bench.folder / "echo"), str(port), "all"]
-        before, peak = self.bench.peaks(command, port, Load("looks", "hold", 1, 40, 1))
+        before, peak = self.bench.peaks(self.bench.echo("all"), Load("looks", "hold", 1, 40, 1))
         self.assertTrue(100 < before < peak)
 
     def test_another_answer_ends_the_load(self) -> None:
         with socket.create_server(("127.0.0.1", 0)) as listener:
             thread = threading.Thread(target=self.deny, args=(listener,))
             thread.start()
-            with self.assertRaisesRegex(Failed, "another answer"):
+            with self.assertRaisesRegex(Wrong, "another answer"):
                 self.bench.figures(listener.getsockname()[1], Load("looks", "one", 1, 1, 1))
             thread.join()
 
@@ -111,8 +110,8 @@ class Programs(unittest.TestCase):
             client.sendall(b'{"no":"key"}\n')
 
     def test_a_server_that_does_not_listen_has_failed(self) -> None:
-        with self.assertRaisesRegex(Failed, "no such words"):
-            with started(["sh", "-c", "echo no such words >&2; exit 2"], 1, self.bench.folder / "errors"):
+        with self.assertRaisesRegex(Wrong, "no such words"):
+            with Server(["sh", "-c", "echo no such words >&2; exit 2"], port=1, errors=self.bench.folder / "errors"):
                 self.fail("it did not start")
 
 

@@ -8,17 +8,15 @@ import sys
 from typing import Callable, Iterable, List, Optional, Sequence, Tuple
 
 from arena_lab.support.missing import DEBIANS_PYTHON
+from tests.support.counts import Counts, concluded, counts_in
 from tools.play.python_tests import SKIPPED
 
 TOP = pathlib.Path(__file__).resolve().parents[1]
-COUNTS = re.compile(r"(\d+) passed, (\d+) failed")
 # Debian's Python sees Debian's packages
 PYTHON = DEBIANS_PYTHON if pathlib.Path(DEBIANS_PYTHON).exists() else sys.executable
 
 # begins the line of a test, edit or proof that failed
 FAILURE = re.compile(r"(?:FAIL|ERROR): \w+ \([\w.]+\)|FAILED:? [^(]|edit \S+: (?:NOT|BAD) |rt: \w+ NOT PROVED")
-
-Counts = Tuple[int, int]
 PASSED, FAILED, NONE = (1, 0), (0, 1), (0, 0)
 # what was skipped, and why, and what failed
 skipped: List[str] = []
@@ -48,13 +46,12 @@ def run(words: Sequence[str], hear: Callable[[str], None] = lambda line: None, f
         assert child.stdout is not None
         for line in child.stdout:
             print(held, end="", flush=True)
-            held = line if COUNTS.fullmatch(line.strip()) else ""
+            held = line if counts_in(line) else ""
             if not held and not is_skipped(line.strip()):
                 print(line, end="", flush=True)
                 note(line.strip())
             hear(line.strip())
-    counts = COUNTS.fullmatch(held.strip())
-    return child.returncode, (int(counts[1]), int(counts[2])) if counts else None
+    return child.returncode, counts_in(held)
 
 
 def counted(status: int, counts: Optional[Counts]) -> Counts:
@@ -77,5 +74,5 @@ def conclude(found: Iterable[Counts], lacking: str) -> int:
                  *(["failed:", *failures] if failures else [])]:
         print(line)
     passed, failed = map(sum, zip(*found))
-    print(f"{passed} passed, {failed} failed", flush=True)
+    concluded(passed, failed)
     return failed

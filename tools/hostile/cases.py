@@ -5,14 +5,12 @@ import resource
 import tempfile
 from typing import Callable, Dict, Sequence, Tuple
 
+from tests.support.counts import concluded
+
 Case = Callable[[str, pathlib.Path], None]
 # how many descriptors a command may have, if the system lets it: some cases have hundreds of sockets, and run beside
 # each other
 DESCRIPTORS = 65_536
-
-
-class Wrong(Exception):
-    """Something is not as it should be."""
 
 
 def raise_descriptors() -> None:
@@ -60,5 +58,4 @@ class Cases:
             for title, wrong in pool.map(lambda title: self.tried(program, title), chosen):
                 failed += bool(wrong)
                 print(f"{'FAILED' if wrong else 'ok'}: {title}{': ' * bool(wrong)}{wrong}", flush=True)
-        print(f"{len(chosen) - failed} passed, {failed} failed", flush=True)
-        return int(failed != 0)
+        return concluded(len(chosen) - failed, failed)

@@ -22,7 +22,9 @@ import threading
 import time
 from typing import Any, Deque, Dict, List
 
-from arena_lab.support.ports import free_port
+from arena_lab.rules.networks import ring as ring_of
+from tests.support.servers import Server
+from tests.support.tournaments import match, write_cup
 from tools.hostile.cases import raise_descriptors
 
 # agents import their client as it stands beside them
@@ -73,16 +75,6 @@ def flood(port: int, rate: float, over: Any, count: Any) -> None:
     count.value = came
 
 
-def tournament(folder: pathlib.Path) -> None:
-    links = [[node, 0, (node + 1) % NODES, 1] for node in range(NODES)]
-    (folder / "ring.toml").write_text(f"version = 1\nnodes = {NODES}\nlinks = {links}\n")
-    text = f'version = 2\nseed = "{os.urandom(32).hex()}"\n'
-    for team in range(TEAMS):
-        text += (f'[[match]]\nteam = "t{team}"\nnetwork = "ring.toml"\nhome = 0\nholes = [{team % 7 + 1}]\n'
-                 f'quota = 400\nboard = 64\nkeys = ["{team}-0", "{team}-1"]\nheld = []\n')
-    (folder / "cup.toml").write_text(text)
-
-
 def play(port: int, key: str) -> None:
     agent = Timed.connect("127.0.0.1", port)
     time.sleep(SLOW)
@@ -99,19 +91,18 @@ def main(words: List[str]) -> int:
     raise_descriptors()
     program, rate = os.path.abspath(words[0]), float(words[1]) if len(words) > 1 else 3000.0
     with tempfile.TemporaryDirectory() as name:
-        folder, port = pathlib.Path(name), free_port()
-        tournament(folder)
-        told = ["serve", "cup.toml", "--port", str(port), "--sessions", "100", "--gather", "60000", "--early"]
-        server = subprocess.Popen([program, *told], cwd=folder, stdout=subprocess.PIPE, stderr=subprocess.DEVNULL,
-                                  text=True)
-        server.stdout.readline()
+        folder = pathlib.Path(name)
+        write_cup(folder, [match(f"t{team}", ring_of(NODES), [team % 7 + 1], quota=400) for team in range(TEAMS)],
+                  seed=os.urandom(32).hex())
+        words = [program, "serve", "cup.toml", "--sessions", 100, "--gather", 60_000, "--early"]
+        server = Server(words, folder, stderr=subprocess.DEVNULL)
         over, count = multiprocessing.Event(), multiprocessing.Value("l", 0)
-        stranger = multiprocessing.Process(target=flood, args=(port, rate, over, count))
+        stranger = multiprocessing.Process(target=flood, args=(server.port, rate, over, count))
         begun = time.monotonic()
         stranger.start()
         time.sleep(2)
-        agents = [threading.Thread(target=play, args=(port, f"{team}-{agent}"), daemon=True) for team in range(TEAMS)
-                  for agent in (0, 1)]
+        agents = [threading.Thread(target=play, args=(server.port, f"t{team}-{agent}"), daemon=True)
+                  for team in range(TEAMS) for agent in (0, 1)]
         for agent in agents:
             agent.start()
         until = time.monotonic() + PATIENCE
@@ -120,8 +111,8 @@ def main(words: List[str]) -> int:
         over.set()
         stranger.join()
         took = time.monotonic() - begun
-        server.terminate() if any(agent.is_alive() for agent in agents) else None
-        rows = server.communicate(timeout=60)[0].splitlines()[1:]
+        server.child.terminate() if any(agent.is_alive() for agent in agents) else None
+        rows = server.ended().texts()[1].splitlines()[1:]
     solved = sum(row.split()[2] in ("solved", "guess") for row in rows)
     print(f"{count.value} connections in {took:.1f} s; {solved} of {TEAMS} teams solved; {Timed.tries} tries of "
           f"{2 * TEAMS} agents to enter; the slowest answer took {Timed.slowest:.2f} s")

@@ -8,7 +8,6 @@ import pathlib
 import select
 import socket
 import struct
-import subprocess
 import threading
 import time
 from typing import Callable, Dict, List, NamedTuple, Optional, Sequence
@@ -16,6 +15,8 @@ from typing import Callable, Dict, List, NamedTuple, Optional, Sequence
 from bench.inputs import MAX_AGENTS, MAX_BOARD, MIB, key
 from bench.servers import MAX_SESSIONS
 from arena_lab.rules.model import spelled
+from tests.support.counts import Wrong
+from tests.support.servers import Server, enter
 from tools.hostile.session_lines import (BYE, DEPART, HERE, LEAVE, LOOK, LOOKS, NO_ENTER, NO_KEY, NO_LATE, NO_LINE,
                                          NO_TAKEN, WRITTEN)
 
@@ -52,10 +53,6 @@ GARBAGE = [
 LATER = len(GARBAGE) + 1 + FLOODS + DEAF
 
 
-class Wrong(Exception):
-    """Something is not as it should be."""
-
-
 class Sizes(NamedTuple):
     """How large an attack is: the sessions; the turns of a match and the milliseconds before each; the seconds between
     the bytes of a slow client, between the steps of a polite one, and until a server that takes nothing is said to take
@@ -68,10 +65,6 @@ class Sizes(NamedTuple):
     between_steps: float = 0.1
     still: float = 1.0
     flood: int = 10 * MIB
-
-
-def enter_line(who: str) -> bytes:
-    return b'{"do":"enter","key":"%b"}\n' % who.encode()
 
 
 def hear(client: socket.socket, expected: bytes, limit: float = PROMPT) -> None:
@@ -130,9 +123,8 @@ class Siege:
     """A server under attack: how many sessions and hostile agents there were, the agents whose clients vanish before
     the match ends, and the sockets that stay open."""
 
-    def __init__(self, server: subprocess.Popen, port: int, sizes: Sizes) -> None:
-        self.server = server
-        self.port = port
+    def __init__(self, server: Server, sizes: Sizes) -> None:
+        self.server, self.port = server, server.port
         self.sizes = sizes
         self.sessions = 0
         self.agents = 0
@@ -157,7 +149,7 @@ class Siege:
     def enter(self, buffer: int = 0, vanishes: bool = False) -> socket.socket:
         """A new session that enters the hostile match."""
         client = self.connect(buffer)
-        client.sendall(enter_line(key(HOSTILE, self.agents)))
+        client.sendall(enter(key(HOSTILE, self.agents)))
         if vanishes:
             self.vanished.append(self.agents)
         self.agents += 1
@@ -339,7 +331,7 @@ def wrong_keys(siege: Siege) -> str:
     for number in range(count):
         is_taken = number % 10 == 0
         with siege.connect() as client:
-            client.sendall(enter_line(key(POLITE, number // 10 % 2) if is_taken else f"nobody-{number}"))
+            client.sendall(enter(key(POLITE, number // 10 % 2) if is_taken else f"nobody-{number}"))
             hear(client, NO_TAKEN if is_taken else NO_KEY)
             hear_end(client)
     return f"{count} clients with the key of nobody, or of an agent that has entered, were denied"
@@ -351,7 +343,7 @@ def beyond(siege: Siege) -> str:
     for _ in range(count):
         socket.create_connection((HOST, siege.port), PATIENCE).close()
     with siege.connect() as client:
-        client.sendall(enter_line(key(HOSTILE, STRANGER)) + LEAVE)
+        client.sendall(enter(key(HOSTILE, STRANGER)) + LEAVE)
         with client.makefile("rb") as answers:
             heard = answers.readlines()
     if len(heard) != 2 or not heard[0].startswith(b'{"board":') or heard[1] != BYE:

@@ -37,12 +37,13 @@ import time
 from typing import Callable, Iterator, List, NamedTuple, Optional, Sequence
 
 from bench.inputs import MAX_AGENTS, MAX_BOARD, MAX_QUOTA, MIB, key, peak_of_child, peak_so_far, ring, tournament
-from bench.servers import MAX_SESSIONS, Failed, free_port, prepare, started, words
+from bench.servers import MAX_SESSIONS, prepare, serving
 from examples.agents.client import Agent, Lines, Refused
 from arena_lab.play.server import table
 from arena_lab.rules.model import ENDED, Match, judge, played, spelled
+from tests.support.counts import Wrong, concluded
 from tools.hostile.hostile_attacks import (ATTACKS, HOST, HOSTILE, LATER, PATIENCE, POLITE, PROMPT, STRANGER, Attack,
-                                           Siege, Sizes, Wrong, hear)
+                                           Siege, Sizes, hear)
 from tools.hostile.session_lines import DEPART, GONE, HERE, OVER
 
 MATCHES = 4
@@ -149,11 +150,12 @@ def ending_of(siege: Siege, witness: Witness) -> Ending:
     is_over = witness.wait()
     siege.close()
     begin = time.monotonic()
-    late = threading.Timer(END, siege.server.kill)
+    late = threading.Timer(END, siege.server.child.kill)
     late.start()
-    peak = peak_of_child(siege.server)
+    peak = peak_of_child(siege.server.child)
     late.cancel()
-    return Ending(is_over, siege.server.returncode, time.monotonic() - begin, peak, siege.server.stdout.read())
+    return Ending(is_over, siege.server.child.returncode, time.monotonic() - begin, peak,
+                  siege.server.child.stdout.read().decode())
 
 
 @functools.lru_cache(maxsize=None)
@@ -256,7 +258,7 @@ def attack(siege: Siege, attacks: Sequence[Attack], results: Results) -> None:
     """Runs the attacks in turn."""
     for one in attacks:
         results.add(one.__name__.replace("_", " "),
-                    lambda: f"{one(siege)}; peak {peak_so_far(siege.server) / 1024:.1f} MiB")
+                    lambda: f"{one(siege)}; peak {peak_so_far(siege.server.child) / 1024:.1f} MiB")
 
 
 def check(siege: Siege, polite: Sequence[Polite], ending: Ending, folder: pathlib.Path, results: Results) -> None:
@@ -278,12 +280,9 @@ def served(sizes: Sizes, folder: pathlib.Path) -> Iterator[Siege]:
     """A server on a tournament in this folder."""
     (folder / "ring.toml").write_text(ring(NODES))
     matches = tournament(str(folder / "ring.toml"), MATCHES, MAX_AGENTS, MAX_BOARD, holes=HOLES)
-    (folder / "t.toml").write_text(matches)
-    port = free_port()
-    command = [*words(folder / "t.toml", port, sizes.sessions, sizes.turns, sizes.pause, folder / "match"),
-               "--grace", "5000"]
-    with started(command, port, folder / "errors") as server:
-        yield Siege(server, port, sizes)
+    (folder / "cup.toml").write_text(matches)
+    with serving(folder, sizes.sessions, sizes.turns, sizes.pause, "--grace", 5000) as server:
+        yield Siege(server, sizes)
 
 
 def besiege(sizes: Sizes, attacks: Sequence[Attack], folder: pathlib.Path) -> Results:
@@ -320,10 +319,9 @@ def main() -> int:
         try:
             sizes = (QUICK if given.quick else Sizes())._replace(sessions=given.sessions)
             results = besiege(sizes, ATTACKS[given.attack], pathlib.Path(name))
-        except (Failed, Refused, Wrong, OSError) as fault:
+        except (Refused, Wrong, OSError) as fault:
             raise SystemExit(f"hostile_clients: the attack could not begin: {fault}") from fault
-    print(f"{results.count - results.failed} passed, {results.failed} failed")
-    return 1 if results.failed else 0
+    return concluded(results.count - results.failed, results.failed)
 
 
 if __name__ == "__main__":

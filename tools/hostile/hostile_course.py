@@ -29,6 +29,7 @@ import time
 from typing import Any, Dict, List, Sequence
 
 from arena_lab.sweep import tables
+from tests.support.counts import concluded
 
 TOP = pathlib.Path(__file__).resolve().parents[2]
 AGENTS, MUTANT = TOP / "examples" / "agents", TOP / "arena_lab" / "mutants" / "reads_once.py"
@@ -252,8 +253,7 @@ def main() -> int:
         grading.check(f"left: {left or 'nothing'}", not left)
         shutil.rmtree(folder, ignore_errors=True)
         folder.mkdir(exist_ok=True)
-    print(f"{grading.passed} passed, {grading.failed} failed")
-    return 1 if grading.failed else 0
+    return concluded(grading.passed, grading.failed)
 
 
 if __name__ == "__main__":

@@ -18,6 +18,7 @@ import time
 from typing import BinaryIO, Iterator, List, NamedTuple, Tuple
 
 from bench.inputs import MIB, peak_of_child
+from tests.support.counts import concluded
 
 TOP = pathlib.Path(__file__).resolve().parents[2]
 HEAD = (b'{"agents":2,"board":8,"dark":[],"holes":[2],"home":0,"links":[[0,0,1,0],[0,1,2,1],[1,1,2,0]],'
@@ -127,8 +128,7 @@ def main() -> int:
         wrong = "".join(f"; WRONG: {one}" for one in found)
         print(f"{case.name}: {whole.fault}, status {whole.status}; {whole.seconds:.2f} s, {whole.peak:.0f} MiB; "
               f"a quarter {part.seconds:.2f} s, {part.peak:.0f} MiB{wrong}", flush=True)
-    print(f"{len(CASES) - failed} passed, {failed} failed")
-    return 1 if failed else 0
+    return concluded(len(CASES) - failed, failed)
 
 
 if __name__ == "__main__":

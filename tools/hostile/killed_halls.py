@@ -24,6 +24,7 @@ from typing import Any, Dict, List
 from arena_lab.rules.model import judge, played
 from arena_lab.tests.hall import halls
 from arena_lab.tests.hall.halls import Served, play
+from tests.support.counts import concluded
 
 ENDED = ("over", "lost", "cancelled")
 NAMES = ("web", "worker 0", "worker 1")
@@ -124,8 +125,7 @@ def main() -> int:
     for fault in faults:
         print(f"FAILED {fault}")
     print(f"killed {dict(killed)}; attempts {dict(states)}")
-    print(f"{sum(states.values()) - len(faults)} passed, {len(faults)} failed")
-    return 1 if faults else 0
+    return concluded(sum(states.values()) - len(faults), len(faults))
 
 
 if __name__ == "__main__":

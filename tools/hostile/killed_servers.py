@@ -32,36 +32,17 @@ import threading
 import time
 from typing import Dict, List, NamedTuple, Optional
 
-from examples.contest import free_port
-from tools.play.program_cases import TRIANGLE
+from arena_lab.rules.delays import Delays
+from tests.support.counts import Wrong, concluded
+from tests.support.servers import enter, serve
+from tests.support.tournaments import TRIANGLE, match, write_cup
 
-TOP = pathlib.Path(__file__).resolve().parents[2]
-SEED = f"""version = 3
-seed = "{"0" * 64}"
-schedule = "oblivious"
-delay_scales = 3
-delay_odds = 8
-"""
-MATCH = """
-[[match]]
-team = "{team}"
-network = "tri.toml"
-home = 0
-holes = [2]
-quota = 1000
-board = 8
-keys = ["{team}-0"]
-"""
 TEAMS = ["red", "blue"]
 # seconds: how old an event is that must be there, and how long a short and a long contest are killed in at most
 OLD, SHORT, LONG = 2.0, 0.6, 4.0
 SHORT_TURNS, LONG_TURNS, PAUSE = 50, 1_000_000, 5
 WORKERS = 8
 PATIENCE = 30
-
-
-class Wrong(Exception):
-    """A server has left less than it should have."""
 
 
 class Kill(NamedTuple):
@@ -86,7 +67,7 @@ class Client(threading.Thread):
     def run(self) -> None:
         with contextlib.suppress(OSError), socket.create_connection(("127.0.0.1", self.port)) as client:
             answers = client.makefile("rb")
-            lines = itertools.chain([b'{"do":"enter","key":"%b-0"}\n' % self.team.encode()],
+            lines = itertools.chain([enter(f"{self.team}-0")],
                                     itertools.cycle([LOOK, LOOK, GO]))
             for line in lines:
                 client.sendall(line)
@@ -148,20 +129,13 @@ def told_events(replay: bytes) -> int:
 
 def try_kill(program: str, kill: Kill, folder: pathlib.Path) -> None:
     """Serves a contest in this folder, kills the server, and looks at what it has left."""
-    (folder / "tri.toml").write_text(TRIANGLE)
-    (folder / "cup.toml").write_text(SEED + "".join(MATCH.format(team=team) for team in TEAMS))
-    port = free_port()
-    words = ["serve", "cup.toml", "--port", port, "--sessions", 100, "--turns", kill.turns, "--pause", PAUSE,
-             "--grace", 0, "--replay", "match"]
-    with subprocess.Popen([program, *map(str, words)], cwd=folder, stdout=subprocess.PIPE,
-                          stderr=subprocess.DEVNULL) as server:
-        if server.stdout.readline() != f"listening {port}\n".encode():
-            raise Wrong("the server did not start")
-        clients = [Client(port, team) for team in TEAMS]
+    write_cup(folder, [match(team, TRIANGLE, [2], agents=1, board=8) for team in TEAMS], Delays(3, 8))
+    with serve(program, folder, turns=kill.turns, pause=PAUSE, grace=0, stderr=subprocess.DEVNULL) as server:
+        clients = [Client(server.port, team) for team in TEAMS]
         for client in clients:
             client.start()
         time.sleep(kill.after)
-        server.kill()
+        server.child.kill()
         end = time.monotonic()
     for client in clients:
         client.join(PATIENCE)
@@ -202,8 +176,7 @@ def main() -> int:
         if fault:
             print(f"killed after {kill.after:.3f} s of {kill.turns} turns: {fault}")
     failed = len([fault for fault in faults if fault])
-    print(f"{len(faults) - failed} passed, {failed} failed")
-    return 1 if failed else 0
+    return concluded(len(faults) - failed, failed)
 
 
 if __name__ == "__main__":

@@ -14,11 +14,17 @@ import socket
 import subprocess
 import sys
 import time
-from typing import Iterator, List, Sequence, Tuple
+from typing import List, Optional, Sequence, Tuple
 
-from tools.hostile.cases import Cases, Wrong
+from arena_lab.rules.delays import Delays
+from arena_lab.rules.fixtures import Fixture
+from arena_lab.rules.networks import ring
+from tests.support.counts import Wrong, wants
+from tests.support.servers import Server, enter, serve
+from tests.support.tournaments import match, write_cup
+from tools.hostile.cases import Cases
 from tools.hostile.session_lines import BYE, HERE, LOOK, NO_LINE, OVER, WRITTEN
-from tools.hostile.spoilers import TEAMS, WAITING, Server, answer, enter, serving, tournament, wants
+from tools.hostile.spoilers import TEAMS, WAITING, answer, serving, tournament
 
 # turns that no test waits for
 LONG = 1_000_000
@@ -35,14 +41,14 @@ CASES = Cases(BESIDE)
 case = CASES.case
 
 
-def heard(program: str, folder: pathlib.Path, *options: str, **more: object) -> "contextlib.AbstractContextManager":
+def heard(program: str, folder: pathlib.Path, *options: str, **more: object) -> Server:
     """A server whose operator can say something."""
-    return serving(program, folder, *options, says=subprocess.PIPE, **{"turns": LONG, **more})
+    return serving(program, folder, *options, stdin=subprocess.PIPE, **{"turns": LONG, **more})
 
 
 def asked(server: Server, last: str = LAST_ROW) -> str:
     """What the operator is told that asks for the status."""
-    server.hears(b"status\n")
+    server.says(b"status\n")
     return server.tells(last)
 
 
@@ -59,27 +65,16 @@ def found(pattern: str, text: str) -> Tuple[str, ...]:
     return match.groups()
 
 
-@contextlib.contextmanager
-def played(program: str, folder: pathlib.Path, text: str, *options: str, **more: object) -> Iterator[Server]:
-    """A server of the tournament of this text."""
-    tournament(folder)
-    (folder / "cup.toml").write_text(text)
-    server = Server(program, folder, *options, **{"turns": LONG, "says": subprocess.PIPE, **more})
-    try:
-        yield server
-    finally:
-        server.child.kill()
-        server.child.wait()
+def played(program: str, folder: pathlib.Path, matches: Sequence[Fixture], delays: Optional[Delays] = None,
+           **more: object) -> Server:
+    """A server of a tournament of these matches."""
+    write_cup(folder, matches, delays)
+    return serve(program, folder, **{"turns": LONG, "stdin": subprocess.PIPE, **more})
 
 
-def tournament_of(teams: Sequence[str], agents: int = 2, holes: Sequence[int] = (4,)) -> str:
-    """A tournament on the ring of eight nodes with a match for each team; the black holes go round."""
-    text = f'version = 2\nseed = "{"00" * 32}"\n'
-    for match, team in enumerate(teams):
-        keys = ", ".join(f'"{team}-{agent}"' for agent in range(agents))
-        text += (f'[[match]]\nteam = "{team}"\nnetwork = "ring.toml"\nhome = 0\nholes = [{holes[match % len(holes)]}]\n'
-                 f'quota = 1000\nboard = 64\nkeys = [{keys}]\n')
-    return text
+def on_ring(*teams: str, **more: int) -> List[Fixture]:
+    """A match for each team on the ring of eight nodes."""
+    return [match(team, ring(8), [4], **more) for team in teams]
 
 
 # ---- who is cut off
@@ -108,13 +103,11 @@ def denied_in_grace(program: str, folder: pathlib.Path) -> None:
 
 @case("more agents play than may wait to be let in")
 def many_agents(program: str, folder: pathlib.Path) -> None:
-    text = tournament_of([f"t{match}" for match in range(5)], agents=60)
-    with contextlib.ExitStack() as stack:
-        server = stack.enter_context(played(program, folder, text, sessions=1000))
-        for match in range(5):
-            for agent in range(60):
-                client = stack.enter_context(server.connect(enter(f"t{match}-{agent}")))
-                wants(f"agent {agent} of match {match}", answer(client, 7), HERE[:7])
+    matches = on_ring(*(f"t{number}" for number in range(5)), agents=60)
+    with played(program, folder, matches, sessions=1000) as server, contextlib.ExitStack() as stack:
+        for key in [key for one in matches for key in one.keys]:
+            client = stack.enter_context(server.connect(enter(key)))
+            wants(f"agent {key}", answer(client, 7), HERE[:7])
 
 
 @case("a client whose first line never ends is cut off for its bytes")
@@ -168,17 +161,15 @@ def told_cut(program: str, folder: pathlib.Path) -> None:
             told += server.tells("was no command")
         with server.connect(enter("blue-0") + LOOK + LEAVE) as client:
             wants("an agent without such lines", answer(client, len(HERE + HERE + BYE)), HERE + HERE + BYE)
-        server.hears(b"close\n")
-        told += server.ended()[2]
+        server.says(b"close\n")
+        told += server.ended().texts()[2]
     wants("what the operator is told", re.findall(r"serve: session (\d+: .*)", told), [
         f'0: 1 line was no command: "{"ä" * 80}.."', "1: 1 line was no command: more than 65536 bytes"])
 
 
 @case("thousands of looks at a whiteboard of 60,000 bytes keep its text once")
 def looks_keep_one_text(program: str, folder: pathlib.Path) -> None:
-    text = tournament_of(["red"], agents=1).replace("version = 2", "version = 3")
-    text = text.replace("quota = 1000", "quota = 65535").replace("board = 64", "board = 65535")
-    with played(program, folder, text) as server, \
+    with played(program, folder, on_ring("red", agents=1, quota=65_535, board=65_535)) as server, \
             server.connect(enter("red-0")) as client:
         wants("enter", answer(client, len(HERE)), HERE)
         client.sendall(b'{"do":"write","expect":"","put":"%b"}\n' % (b"x" * BOARD))
@@ -201,8 +192,8 @@ def own_numbers(program: str, folder: pathlib.Path) -> None:
             for _ in range(3):
                 with server.connect(b"x\n") as other:
                     wants("a client more", answer(other, len(FULL)), FULL)
-        server.hears(b"close\n")
-        told = server.ended()[2]
+        server.says(b"close\n")
+        told = server.ended().texts()[2]
     wants("the numbers of those who came", re.findall(r"serve: session (\d+) from", told), ["0", "1", "2", "3"])
 
 
@@ -284,8 +275,8 @@ def many_events(program: str, folder: pathlib.Path) -> None:
         answer(client, 201 * len(HERE))
         time.sleep(1)
         now = asked(server)
-        server.hears(b"close\n")
-        _status, printed, told = server.ended()
+        server.says(b"close\n")
+        _status, printed, told = server.ended().texts()
     line = next(line for line in (now + told).splitlines() if "match 0 (red) closed" in line)
     row = next(line for line in printed.splitlines() if " red " in line).split()
     if row[2] not in line:
@@ -301,8 +292,8 @@ def status_once(program: str, folder: pathlib.Path) -> None:
     with heard(program, folder) as server:
         asked(server)
         time.sleep(2.5)
-        server.hears(b"close\n")
-        told = server.ended()[2]
+        server.says(b"close\n")
+        told = server.ended().texts()[2]
     if "serve: sessions" in told:
         raise Wrong(told)
 
@@ -311,7 +302,7 @@ def status_once(program: str, folder: pathlib.Path) -> None:
 def own_verdicts(program: str, folder: pathlib.Path) -> None:
     with heard(program, folder, "--log") as server, server.connect(enter("blue-1") + ACCUSE) as client:
         answer(client, len(HERE) + 14)
-        server.hears(b"close 0\n")
+        server.says(b"close 0\n")
         server.tells("match 0 (red) closed")
         rows = [line.split()[:3] for line in asked(server).splitlines() if re.match(r" +[12] ", line)]
     wants("rows", rows, [["1", "red", "silent"], ["2", "blue", "wrong"]])
@@ -356,7 +347,7 @@ def own_events(program: str, folder: pathlib.Path) -> None:
 def turns_of_a_closed_match(program: str, folder: pathlib.Path) -> None:
     with heard(program, folder, "--log") as server:
         time.sleep(0.5)
-        server.hears(b"close 1\n")
+        server.says(b"close 1\n")
         told = server.tells("match 1 (blue) closed") + asked(server)
     closed = found(r"match 1 \(blue\) closed: turns (\d+) events (\d+)", told)
     wants("turns and events", found(r"match 1 \(blue\) is closed: turns (\d+) events (\d+)", told), closed)
@@ -364,7 +355,7 @@ def turns_of_a_closed_match(program: str, folder: pathlib.Path) -> None:
 
 @case("the status has a line for each of three matches")
 def status_of_three(program: str, folder: pathlib.Path) -> None:
-    with played(program, folder, tournament_of(["red", "blue", "green"])) as server:
+    with played(program, folder, on_ring("red", "blue", "green")) as server:
         told = asked(server, "  3 ")
     wants("matches", told.count(" is open: turns "), 3)
 
@@ -376,7 +367,7 @@ def closed_once(program: str, folder: pathlib.Path) -> None:
             with server.connect(enter(f"blue-{agent}") + LEAVE) as client:
                 answer(client, 200)
         server.tells("match 1 (blue) closed")
-        server.hears(b"close 1\n")
+        server.says(b"close 1\n")
         told = asked(server)
     if "the operator closes match 1" in told:
         raise Wrong(told)
@@ -386,8 +377,8 @@ def closed_once(program: str, folder: pathlib.Path) -> None:
 def times_of_the_log(program: str, folder: pathlib.Path) -> None:
     with heard(program, folder, "--log") as server:
         time.sleep(2.2)
-        server.hears(b"close\n")
-        told = server.ended()[2]
+        server.says(b"close\n")
+        told = server.ended().texts()[2]
     found(r"^(0:00:0[2-9]) serve: the operator closes all", told)
 
 
@@ -411,8 +402,8 @@ def strangers(program: str, folder: pathlib.Path) -> None:
                 answer(client, 100)
         told = server.tells("more clients played nobody")
         time.sleep(11)
-        server.hears(b"close\n")
-        told += server.ended()[2]
+        server.says(b"close\n")
+        told += server.ended().texts()[2]
     lines = told.count("it was denied")
     more = sum(int(count) for count in re.findall(r"serve: (\d+) more clients", told))
     if lines + more != 100:
@@ -423,14 +414,14 @@ def strangers(program: str, folder: pathlib.Path) -> None:
 
 @case("the part of each match has the head of that match")
 def heads_of_parts(program: str, folder: pathlib.Path) -> None:
-    text = tournament_of(TEAMS, holes=[4, 5])
-    with played(program, folder, text) as server, server.connect(enter("blue-0")) as client:
+    matches = [match(team, ring(8), [hole]) for team, hole in zip(TEAMS, (4, 5))]
+    with played(program, folder, matches) as server, server.connect(enter("blue-0")) as client:
         answer(client, len(HERE))
         time.sleep(1)
-    for match, hole in ((0, 4), (1, 5)):
-        recovered = subprocess.run([program, "recover", f"match{match}.jsonl.part"], cwd=folder, text=True,
+    for number, hole in ((0, 4), (1, 5)):
+        recovered = subprocess.run([program, "recover", f"match{number}.jsonl.part"], cwd=folder, text=True,
                                    stdout=subprocess.PIPE).stdout
-        wants(f"the head of match {match}", f'"holes":[{hole}]' in recovered.split("\n")[0], True)
+        wants(f"the head of match {number}", f'"holes":[{hole}]' in recovered.split("\n")[0], True)
 
 
 @case("a part that a killed server has left keeps nobody out, and is kept")
@@ -438,25 +429,25 @@ def part_left_behind(program: str, folder: pathlib.Path) -> None:
     with serving(program, folder, turns=LONG):
         pass
     wants("the part that is left", (folder / "match0.jsonl.part").exists(), True)
-    server = Server(program, folder, turns=1)
+    server = serve(program, folder, turns=1)
     wants("the next server", server.ended()[0], 0)
     wants("the files", sorted(path.name for path in folder.glob("match0*")), ["match0.jsonl", "match0.jsonl.part.old"])
 
 
 @case("two prefixes whose files meet are not served beside each other, and no file is touched")
 def prefixes_that_meet(program: str, folder: pathlib.Path) -> None:
-    with played(program, folder, tournament_of([f"t{match}" for match in range(12)])) as server:
+    with played(program, folder, on_ring(*(f"t{number}" for number in range(12)))) as server:
         with server.connect(enter("t10-0") + LOOK) as client:
             wants("an agent", answer(client, 2 * len(HERE)), HERE + HERE)
             time.sleep(1.5)
             before = (folder / "match10.jsonl.part").read_bytes()
             (folder / "match12.jsonl").write_text("of another evening")
-            status, printed, told = Server(program, folder, prefix="match1", turns=1).ended()
+            status, printed, told = serve(program, folder, prefix="match1", turns=1).ended().texts()
         wants("the second server", (status, printed), (6, ""))
         wants("what it told", told.splitlines()[-1], "match10.jsonl.part: busy")
         wants("the part", (folder / "match10.jsonl.part").read_bytes(), before)
         wants("another file", (folder / "match12.jsonl").read_text(), "of another evening")
-        server.hears(b"close\n")
+        server.says(b"close\n")
         wants("the first server", server.ended()[0], 0)
     wants("the looks of match 10", (folder / "match10.jsonl").read_text().count('"do":"look"'), 1)
 
@@ -465,10 +456,10 @@ def prefixes_that_meet(program: str, folder: pathlib.Path) -> None:
 def replay_at_close(program: str, folder: pathlib.Path) -> None:
     with heard(program, folder) as server, server.connect(enter("red-0") + ACCUSE) as client:
         answer(client, 2 * len(HERE))
-        server.hears(b"close 0\n")
+        server.says(b"close 0\n")
         time.sleep(2)
         wants("the files of match 0", sorted(path.name for path in folder.glob("match0*")), ["match0.jsonl"])
-        other = Server(program, folder, turns=1).ended()[2].splitlines()[-1]
+        other = serve(program, folder, turns=1).ended().texts()[2].splitlines()[-1]
         wants("what another server told", other, "match0.jsonl.part: busy")
     rows = subprocess.run([program, "table", "red=match0.jsonl"], cwd=folder, text=True, stdout=subprocess.PIPE)
     wants("the row of red", rows.stdout.splitlines()[1].split()[1:3], ["red", "wrong"])
@@ -478,10 +469,10 @@ def replay_at_close(program: str, folder: pathlib.Path) -> None:
 def replay_stays(program: str, folder: pathlib.Path) -> None:
     with heard(program, folder) as server, server.connect(enter("red-0") + LOOK * 100 + LEAVE) as client:
         answer(client, 101 * len(HERE))
-        server.hears(b"close 0\n")
+        server.says(b"close 0\n")
         time.sleep(2)
         closed = (folder / "match0.jsonl").read_bytes()
-        server.hears(b"close\n")
+        server.says(b"close\n")
         wants("the status", server.ended()[0], 0)
     wants("the replay at the end", (folder / "match0.jsonl").read_bytes(), closed)
     wants("the files", sorted(path.name for path in folder.glob("match*")), ["match0.jsonl", "match1.jsonl"])
@@ -491,25 +482,23 @@ def replay_stays(program: str, folder: pathlib.Path) -> None:
 def lock_of_the_user(program: str, folder: pathlib.Path) -> None:
     tournament(folder)
     (folder / "match.lock").write_text("mine")
-    wants("the server", Server(program, folder, turns=1).ended()[0], 0)
+    wants("the server", serve(program, folder, turns=1).ended()[0], 0)
     wants("the file", (folder / "match.lock").read_text(), "mine")
 
 
 @case("each match can be appealed with the turns of its number, and earlier turns are kept")
 def turns_of_each_match(program: str, folder: pathlib.Path) -> None:
-    text = tournament_of(TEAMS).replace("version = 2", "version = 3").replace(
-        "[[match]]", 'schedule = "oblivious"\ndelay_scales = 2\ndelay_odds = 2\n[[match]]', 1)
     for _ in range(2):
-        with played(program, folder, text, turns=1500) as server:
+        with played(program, folder, on_ring(*TEAMS), Delays(2, 2), turns=1500) as server:
             for team, steps in (("red", 3), ("blue", 1)):
                 with server.connect(enter(f"{team}-0") + b'{"do":"depart","port":0}\n' * steps + LEAVE) as client:
                     answer(client, 10_000)
             wants("the status", server.ended()[0], 0)
-        for match in range(2):
-            judged = subprocess.run([program, "judge", f"match{match}.jsonl", "--turns", f"match{match}.turns",
-                                     "--tournament", "cup.toml", "--match", str(match)], cwd=folder, text=True,
-                                    stdout=subprocess.PIPE, stderr=subprocess.PIPE)
-            wants(f"the appeal of match {match}", judged.returncode, 0)
+        for number in range(2):
+            judged = subprocess.run([program, "judge", f"match{number}.jsonl", "--turns", f"match{number}.turns",
+                                     "--tournament", "cup.toml", "--match", str(number)], cwd=folder,
+                                    capture_output=True)
+            wants(f"the appeal of match {number}", judged.returncode, 0)
     wants("files of turns", sorted(path.name for path in folder.glob("match*turns*")),
           ["match0.turns", "match0.turns.old", "match1.turns", "match1.turns.old"])
 

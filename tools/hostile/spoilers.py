@@ -19,16 +19,15 @@ import sys
 import termios
 import threading
 import time
-from typing import Callable, Iterator, List, Optional, Sequence, Tuple
+from typing import Callable, Iterator, List, Sequence, Tuple
 
-from arena_lab.support.ports import free_port
-from arena_lab.support.waiting import is_ready
-from tools.hostile.cases import Cases, Wrong
+from arena_lab.rules.networks import ring
+from tests.support.counts import Wrong, wants
+from tests.support.servers import PATIENCE, Server, enter, serve
+from tests.support.tournaments import match, write_cup
+from tools.hostile.cases import Cases
 from tools.hostile.session_lines import HERE, LOOK, NO_FULL, NO_LATE, NO_MEMORY, NO_SPENT, NO_TWICE, OVER
 
-HOST = "127.0.0.1"
-# seconds within which a server answers or ends
-PATIENCE = 20.0
 # how many clients may wait beside each other to be let in, and within how many seconds their first line is to come
 WAITING, FIRST_LINE = 256, 10.0
 # a client keeps its place for at least these seconds; how often the case is tried if the machine is too busy for them
@@ -39,78 +38,24 @@ TEAMS = ("red", "blue")
 
 def tournament(folder: pathlib.Path, quota: int = 1000) -> None:
     """A tournament of two teams, each with two agents on a ring of eight nodes."""
-    links = [[node, 0, (node + 1) % 8, 1] for node in range(8)]
-    (folder / "ring.toml").write_text(f"version = 1\nnodes = 8\nlinks = {links}\n")
-    text = f'version = 2\nseed = "{"00" * 32}"\n'
-    for team in TEAMS:
-        text += (f'[[match]]\nteam = "{team}"\nnetwork = "ring.toml"\nhome = 0\nholes = [4]\nquota = {quota}\n'
-                 f'board = 64\nkeys = ["{team}-0", "{team}-1"]\nheld = []\n')
-    (folder / "cup.toml").write_text(text)
-
-
-def enter(key: str) -> bytes:
-    return b'{"do":"enter","key":"%b"}\n' % key.encode()
-
-
-class Server:
-    """A server of the tournament in a folder."""
-
-    def __init__(self, program: str, folder: pathlib.Path, *options: str, turns: int = 400, sessions: int = 100,
-                 log: Optional[int] = None, before: Callable[[], None] = lambda: None, pause: int = 5,
-                 says: int = subprocess.DEVNULL, grace: int = 300, prefix: str = "match") -> None:
-        self.port = free_port()
-        words = [program, "serve", "cup.toml", "--port", self.port, "--sessions", sessions, "--turns", turns,
-                 "--pause", pause, "--grace", grace, "--replay", prefix, *options]
-        self.begun = time.monotonic()
-        self.child = subprocess.Popen([*map(str, words)], cwd=folder, stdin=says, stdout=subprocess.PIPE,
-                                      preexec_fn=before, stderr=subprocess.PIPE if log is None else log)
-        self.first = self.child.stdout.readline()
-
-    def connect(self, said: bytes = b"", source: str = HOST) -> socket.socket:
-        client = socket.create_connection((HOST, self.port), PATIENCE, (source, 0))
-        client.sendall(said)
-        return client
-
-    def hears(self, said: bytes) -> None:
-        """The operator says something on standard input, and says no end of it."""
-        self.child.stdin.write(said)
-        self.child.stdin.flush()
-
-    def tells(self, wanted: str) -> str:
-        """What it tells until a line has this text."""
-        told, until = "", time.monotonic() + PATIENCE
-        while wanted not in told and time.monotonic() < until:
-            if is_ready(self.child.stderr, 0.1):
-                told += os.read(self.child.stderr.fileno(), 65_536).decode()
-        if wanted not in told:
-            raise Wrong(f"{wanted!r} is not told, but {told!r}")
-        return told
-
-    def goes_on(self, what: str) -> None:
-        """An agent is still answered, and the server has not ended."""
-        with self.connect(enter("blue-1")) as client:
-            wants(f"an agent after {what}", answer(client, len(HERE)), HERE)
-        wants(f"the server after {what}", self.child.poll(), None)
-
-    def ended(self) -> Tuple[int, str, str]:
-        """Its status, what it printed and what it told."""
-        printed, told = self.child.communicate(timeout=3 * PATIENCE)
-        return self.child.returncode, (self.first + printed).decode(), (told or b"").decode(errors="replace")
+    write_cup(folder, [match(team, ring(8), [4], quota=quota) for team in TEAMS])
 
 
 CASES = Cases()
 case = CASES.case
 
 
-@contextlib.contextmanager
-def serving(program: str, folder: pathlib.Path, *options: str, **more: object) -> Iterator[Server]:
+def serving(program: str, folder: pathlib.Path, *options: str, **more: object) -> Server:
+    """A server of the tournament."""
     tournament(folder)
-    server = Server(program, folder, *options, **more)
-    try:
-        yield server
-    finally:
-        server.child.kill()
-        server.child.wait()
+    return serve(program, folder, *options, **more)
+
+
+def goes_on(server: Server, what: str) -> None:
+    """An agent is still answered, and the server has not ended."""
+    with server.connect(enter("blue-1")) as client:
+        wants(f"an agent after {what}", answer(client, len(HERE)), HERE)
+    wants(f"the server after {what}", server.child.poll(), None)
 
 
 def answer(client: socket.socket, count: int) -> bytes:
@@ -125,11 +70,6 @@ def answer(client: socket.socket, count: int) -> bytes:
     return heard
 
 
-def wants(what: str, found: object, wanted: object) -> None:
-    if found != wanted:
-        raise Wrong(f"{what}: {found!r} and not {wanted!r}")
-
-
 # Strangers.
 
 @case("clients that connect and close use up no session")
@@ -139,7 +79,7 @@ def strangers(program: str, folder: pathlib.Path) -> None:
             server.connect().close()
         with server.connect(enter("blue-0")) as client:
             wants("an agent that comes after them", answer(client, len(HERE)), HERE)
-        status, printed, _ = server.ended()
+        status, printed, _ = server.ended().texts()
         wants("the status", status, 0)
 
 
@@ -152,7 +92,7 @@ def unheard(program: str, folder: pathlib.Path) -> None:
         client.sendall(quota * LOOK)
         wants("its commands", answer(client, quota * len(HERE)), quota * HERE)
         waits(client, more, LOOK, NO_SPENT)
-        server.goes_on("commands that use up no quota")
+        goes_on(server, "commands that use up no quota")
 
 
 def waits(client: socket.socket, count: int, said: bytes, wanted: bytes) -> None:
@@ -230,7 +170,7 @@ def told_why(program: str, folder: pathlib.Path) -> None:
         for said in (b"x\n", enter("nobody"), enter("red-0"), enter("red-0")):
             with server.connect(said) as client:
                 answer(client, 10)
-        told = server.ended()[2]
+        told = server.ended().texts()[2]
     for line in ("serve: --sessions 2 is below the number of agents, 4", "since its first line was no enter",
                  "since no agent has its key", "since its key was used before"):
         if line not in told:
@@ -263,7 +203,7 @@ def flooded_end(program: str, folder: pathlib.Path) -> None:
         flood = threading.Thread(target=flooding, args=(server, stop, 60))
         flood.start()
         try:
-            status, _, _ = server.ended()
+            status, _, _ = server.ended().texts()
         finally:
             stop.set()
             flood.join()
@@ -290,7 +230,7 @@ def nearly_full() -> Tuple[int, int]:
 def unread_log(program: str, folder: pathlib.Path) -> None:
     read, write = nearly_full()
     try:
-        with serving(program, folder, "--log", log=write) as server:
+        with serving(program, folder, "--log", stderr=write) as server:
             for _ in range(60):
                 with server.connect(b"x\n") as client:
                     wants("a stranger", answer(client, 100), b'{"no":"enter"}\n')
@@ -321,8 +261,8 @@ def two_servers(program: str, folder: pathlib.Path) -> None:
     with serving(program, folder, turns=2000) as first, first.connect(enter("red-0")) as client:
         wants("an agent", answer(client, len(HERE)), HERE)
         before = sorted((path.name, path.read_bytes()) for path in folder.glob("match*") if path.suffix != ".part")
-        second = Server(program, folder)
-        status, printed, told = second.ended()
+        second = serve(program, folder)
+        status, printed, told = second.ended().texts()
         wants("the status of the second", (status, printed), (REFUSED, ""))
         if "match0.jsonl.part: busy" not in told:
             raise Wrong(f"the second told {told!r}")
@@ -344,15 +284,15 @@ def closed_in(folder: pathlib.Path) -> List[str]:
 
 @case("the operator closes all matches: the replays are written, the table is printed, and the server ends")
 def operator_closes(program: str, folder: pathlib.Path) -> None:
-    with serving(program, folder, turns=LONG, says=subprocess.PIPE) as server, \
+    with serving(program, folder, turns=LONG, stdin=subprocess.PIPE) as server, \
             server.connect(enter("red-0")) as client:
         wants("an agent", answer(client, len(HERE)), HERE)
-        server.hears(b"clo")
+        server.says(b"clo")
         time.sleep(0.3)
-        server.hears(b"se\n")
-        status, printed, told = server.ended()
+        server.says(b"se\n")
+        status, printed, told = server.ended().texts()
     wants("the status", status, 0)
-    wants("the teams of the table", sorted(line.split()[1] for line in printed.splitlines()[2:]), sorted(TEAMS))
+    wants("the teams of the table", sorted(line.split()[1] for line in printed.splitlines()[1:]), sorted(TEAMS))
     wants("the replays", closed_in(folder), ["match0.jsonl", "match1.jsonl"])
     if "serve: the operator closes all matches\n" not in told:
         raise Wrong(f"told was {told!r}")
@@ -360,18 +300,18 @@ def operator_closes(program: str, folder: pathlib.Path) -> None:
 
 def closes_one(program: str, folder: pathlib.Path, game: int) -> None:
     closed, other = TEAMS[game], TEAMS[1 - game]
-    with serving(program, folder, "--log", turns=LONG, says=subprocess.PIPE) as server, \
+    with serving(program, folder, "--log", turns=LONG, stdin=subprocess.PIPE) as server, \
             server.connect(enter(f"{closed}-0")) as ends, server.connect(enter(f"{other}-0")) as stays:
         for client in (ends, stays):
             wants("an agent", answer(client, len(HERE)), HERE)
-        server.hears(b"close %d\n" % game)
+        server.says(b"close %d\n" % game)
         server.tells(f"serve: match {game} ({closed}) closed: ")
         for client, heard in ((ends, OVER), (stays, HERE)):
             client.sendall(LOOK)
             wants("an agent after the close", answer(client, len(heard)), heard)
-        server.hears(b"close %d\n" % (1 - game))
-        status, printed, told = server.ended()
-    wants("the status and the lines of the table", (status, len(printed.splitlines())), (0, 4))
+        server.says(b"close %d\n" % (1 - game))
+        status, printed, told = server.ended().texts()
+    wants("the status and the lines of the table", (status, len(printed.splitlines())), (0, 3))
     if f"serve: match {1 - game} ({other}) closed: " not in told:
         raise Wrong(f"told was {told!r}")
 
@@ -385,10 +325,10 @@ def operator_closes_one(program: str, folder: pathlib.Path) -> None:
 @case("the operator closes matches that still wait for their agents or pause")
 def operator_closes_early(program: str, folder: pathlib.Path) -> None:
     for options, pause in ((["--gather", "1000000"], 5), ([], 1_000_000)):
-        with serving(program, folder, *options, turns=LONG, pause=pause, says=subprocess.PIPE) as server:
-            server.hears(b"close\n")
-            status, printed, _ = server.ended()
-        wants(f"the status with {options}", (status, len(printed.splitlines())), (0, 4))
+        with serving(program, folder, *options, turns=LONG, pause=pause, stdin=subprocess.PIPE) as server:
+            server.says(b"close\n")
+            status, printed, _ = server.ended().texts()
+        wants(f"the status with {options}", (status, len(printed.splitlines())), (0, 3))
 
 
 @case("the operator is told how the contest stands: who is missing, the turns, the events, the teams ranked")
@@ -399,14 +339,14 @@ def operator_asks(program: str, folder: pathlib.Path) -> None:
 
 
 def asks(program: str, folder: pathlib.Path, options: Sequence[str]) -> None:
-    with serving(program, folder, *options, turns=LONG, says=subprocess.PIPE) as server, \
+    with serving(program, folder, *options, turns=LONG, stdin=subprocess.PIPE) as server, \
             server.connect(enter("blue-1") + b'{"do":"accuse","port":1}\n') as client:
         answer(client, 1000)
         with server.connect(enter("red-0")) as stays:
             wants("an agent", answer(stays, len(HERE)), HERE)
-            server.hears(b"status\n")
+            server.says(b"status\n")
             told = server.tells("  2 ")
-            server.hears(b"close 1\nstatus\n")
+            server.says(b"close 1\nstatus\n")
             later = server.tells("  2 ")
     for line in (" serve: sessions 1, agents to come 2, open matches 2\n", " serve: match 0 (red) is open: turns ",
                  f" of {LONG} events 1\n", " serve: match 0 (red) misses agents 1\n",
@@ -420,42 +360,42 @@ def asks(program: str, folder: pathlib.Path, options: Sequence[str]) -> None:
 
 @case("the end of standard input, and a line that it cuts off, close nothing")
 def input_ends(program: str, folder: pathlib.Path) -> None:
-    with serving(program, folder, turns=LONG, says=subprocess.PIPE) as server:
-        server.hears(b"close")
+    with serving(program, folder, turns=LONG, stdin=subprocess.PIPE) as server:
+        server.says(b"close")
         server.child.stdin.close()
         time.sleep(1)
-        server.goes_on("the end of standard input")
+        goes_on(server, "the end of standard input")
 
 
 @case("a line that asks for nothing is told, with what there is to ask for")
 def asks_for_nothing(program: str, folder: pathlib.Path) -> None:
-    with serving(program, folder, turns=LONG, says=subprocess.PIPE) as server:
-        server.hears(b"stop\n\nclose 2\nclose 01\nclose -1\nclose \n" + b"close" * 50 + b"\nClose\n\xff\n")
+    with serving(program, folder, turns=LONG, stdin=subprocess.PIPE) as server:
+        server.says(b"stop\n\nclose 2\nclose 01\nclose -1\nclose \n" + b"close" * 50 + b"\nClose\n\xff\n")
         server.tells("serve: ignored 8 lines of standard input: expected close, close M with M below 2, or status\n")
-        server.goes_on("them")
+        goes_on(server, "them")
 
 
 @case("a flood on standard input holds nothing up, and drops no line of the log")
 def input_floods(program: str, folder: pathlib.Path) -> None:
-    with serving(program, folder, "--log", turns=600, says=subprocess.PIPE) as server:
+    with serving(program, folder, "--log", turns=600, stdin=subprocess.PIPE) as server:
         os.set_blocking(server.child.stdin.fileno(), False)
         until = time.monotonic() + 1
         while time.monotonic() < until:
             with contextlib.suppress(BlockingIOError):
                 os.write(server.child.stdin.fileno(), b"status\nx\n" * 1000)
-        server.goes_on("the flood")
-        status, printed, told = server.ended()
-    wants("the status", (status, len(printed.splitlines())), (0, 4))
+        goes_on(server, "the flood")
+        status, printed, told = server.ended().texts()
+    wants("the status", (status, len(printed.splitlines())), (0, 3))
     if "dropped" in told:
         raise Wrong("lines of the log were dropped")
 
 
 @case("a client is not the operator, where standard input is closed")
 def closed_input(program: str, folder: pathlib.Path) -> None:
-    with serving(program, folder, turns=LONG, before=lambda: os.close(0)) as server:
+    with serving(program, folder, turns=LONG, preexec_fn=lambda: os.close(0)) as server:
         with server.connect(b"close\n" * 10), server.connect(enter("red-0") + b"close\n" * 10):
             time.sleep(1)
-        server.goes_on("lines of clients")
+        goes_on(server, "lines of clients")
 
 
 @contextlib.contextmanager
@@ -475,7 +415,7 @@ def in_terminal(program: str, folder: pathlib.Path, is_behind: bool) -> Iterator
             os.setpgid(0, 0)
 
     try:
-        with serving(program, folder, turns=2000, says=terminal, before=joins) as server:
+        with serving(program, folder, turns=2000, stdin=terminal, preexec_fn=joins) as server:
             yield server, typing
     finally:
         os.close(typing)
@@ -487,7 +427,7 @@ def behind(program: str, folder: pathlib.Path) -> None:
     with in_terminal(program, folder, True) as (server, typing):
         os.write(typing, b"close\n")
         time.sleep(1)
-        server.goes_on("what was typed for others")
+        goes_on(server, "what was typed for others")
         wants("the status", server.ended()[0], 0)
 
 
@@ -520,8 +460,7 @@ def no_threads(program: str, folder: pathlib.Path) -> None:
     if not is_root():
         return
     folder.chmod(0o777)
-    with serving(program, folder, before=threads(4)) as server:
-        status, printed, told = server.ended()
+    status, printed, told = serving(program, folder, preexec_fn=threads(4)).ended().texts()
     wants("the status and what was printed", (status, printed), (NO_THREADS, ""))
     if "serve: threads" not in told:
         raise Wrong(f"it told {told!r}")
@@ -536,7 +475,7 @@ def no_thread_for_a_session(program: str, folder: pathlib.Path) -> None:
     if not is_root():
         return
     folder.chmod(0o777)
-    with serving(program, folder, "--log", turns=1000, before=threads(THREADS)) as server, \
+    with serving(program, folder, "--log", turns=1000, preexec_fn=threads(THREADS)) as server, \
             contextlib.ExitStack() as stack:
         heard = {}
         for key in ("red-0", "red-1", "blue-0", "blue-1"):
@@ -553,8 +492,8 @@ def no_thread_for_a_session(program: str, folder: pathlib.Path) -> None:
         client = stack.enter_context(server.connect(enter(waits[0])))
         wants("the same key once there is a thread", answer(client, len(HERE)), HERE)
         stack.pop_all().close()
-        status, printed, told = server.ended()
-    wants("the status and the lines of the table", (status, len(printed.splitlines())), (0, 4))
+        status, printed, told = server.ended().texts()
+    wants("the status and the lines of the table", (status, len(printed.splitlines())), (0, 3))
     if "it was not served, since memory or threads ran out" not in told:
         raise Wrong(f"told was {told!r}")
 
@@ -564,7 +503,7 @@ def few_descriptors(program: str, folder: pathlib.Path) -> None:
     def limit() -> None:
         resource.setrlimit(resource.RLIMIT_NOFILE, (24, 24))
 
-    with serving(program, folder, turns=4000, before=limit) as server, contextlib.ExitStack() as stack:
+    with serving(program, folder, turns=4000, preexec_fn=limit) as server, contextlib.ExitStack() as stack:
         client = stack.enter_context(server.connect(enter("red-0")))
         wants("an agent", answer(client, len(HERE)), HERE)
         for _ in range(40):
@@ -585,7 +524,7 @@ def part_goes_on(program: str, folder: pathlib.Path) -> None:
         signal.signal(signal.SIGXFSZ, signal.SIG_IGN)
         resource.setrlimit(resource.RLIMIT_FSIZE, (room, resource.RLIM_INFINITY))
 
-    with serving(program, folder, turns=4000, before=limit) as server:
+    with serving(program, folder, turns=4000, preexec_fn=limit) as server:
         with server.connect(enter("red-0") + LOOK * looks) as client:
             answer(client, (1 + looks) * len(HERE))
             time.sleep(1.5)
@@ -603,19 +542,12 @@ def part_goes_on(program: str, folder: pathlib.Path) -> None:
 @case("a tournament alone is served as suits a course")
 def course(program: str, folder: pathlib.Path) -> None:
     tournament(folder)
-    port = free_port()
-    with subprocess.Popen([program, "serve", "cup.toml", "--port", str(port)], cwd=folder, stdout=subprocess.PIPE,
-                          stderr=subprocess.PIPE, text=True) as child:
-        try:
-            wants("the first line", child.stdout.readline(), f"listening {port}\n")
-            for team in TEAMS:
-                for agent in range(2):
-                    with socket.create_connection((HOST, port), PATIENCE) as client:
-                        client.sendall(enter(f"{team}-{agent}") + b'{"do":"leave"}\n')
-                        wants("an agent", answer(client, 1000), HERE + b'{"ok":"bye"}\n')
-            told = child.communicate(timeout=PATIENCE)[1]
-        finally:
-            child.kill()
+    with Server([program, "serve", "cup.toml"], folder) as server:
+        for team in TEAMS:
+            for agent in range(2):
+                with server.connect(enter(f"{team}-{agent}") + b'{"do":"leave"}\n') as client:
+                    wants("an agent", answer(client, 1000), HERE + b'{"ok":"bye"}\n')
+        told = server.ended().texts()[2]
     wants("the replays", sorted(path.name for path in folder.glob("cup*l")), ["cup.toml", "cup0.jsonl", "cup1.jsonl"])
     if "serve: session 0 plays match 0 (red) agent 0" not in told:
         raise Wrong(f"told was {told!r}")

@@ -14,6 +14,9 @@ import sys
 import tempfile
 from typing import Iterator, List, Optional
 
+from tests.support.counts import concluded
+from tests.support.servers import Server
+
 TOP = pathlib.Path(__file__).resolve().parents[2]
 HERE, THERE = "arena-server", "arena-agents"
 PORT = 4000
@@ -58,12 +61,11 @@ def played(program: str, address: Optional[str], target: str) -> str:
         words = ["serve", "examples/contest.toml", "--port", PORT, "--sessions", 2, "--turns", 3000, "--pause", 1,
                  "--gather", 5000, "--grace", 100, "--replay", f"{folder}/match",
                  *(["--address", address] if address else [])]
-        with subprocess.Popen(within(HERE, program, *words), cwd=TOP, stdout=subprocess.PIPE, text=True) as server:
-            server.stdout.readline()
+        with Server(within(HERE, program, *words), port=PORT) as server:
             agents = [subprocess.Popen(within(THERE, sys.executable, "examples/agents/ring.py", target, PORT,
                                               f"red-{number}", 8), cwd=TOP, stdout=subprocess.DEVNULL,
                                        stderr=subprocess.DEVNULL) for number in range(2)]
-            printed, _ = server.communicate(timeout=PATIENCE)
+            printed = server.ended().texts()[1]
             for agent in agents:
                 agent.kill()
                 agent.wait()
@@ -81,8 +83,7 @@ def main() -> int:
                 row = played(program, address, server)
                 results.append(("solved" in row) == (address is not None))
                 print(f"{family}, listening on {address or '127.0.0.1'}: {' '.join(row.split())}", flush=True)
-    print(f"{results.count(True)} passed, {results.count(False)} failed")
-    return 0 if all(results) else 1
+    return concluded(results.count(True), results.count(False))
 
 
 if __name__ == "__main__":

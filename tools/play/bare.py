@@ -20,6 +20,7 @@ import subprocess
 import sys
 from typing import List
 
+from tests.support.counts import concluded
 from tools.parts import FAILURE
 from tools.play import roots
 from tools.prove.prover import KIT, TOP
@@ -87,8 +88,7 @@ def main() -> int:
         if words.root:
             subprocess.run(["cp", "-a", words.root, root], check=True)
         found = results(root, words.program)
-    print(f"{found.count(True)} passed, {found.count(False)} failed", flush=True)
-    return 0 if all(found) else 1
+    return concluded(found.count(True), found.count(False))
 
 
 if __name__ == "__main__":

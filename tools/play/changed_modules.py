@@ -9,6 +9,7 @@ import pathlib
 import sys
 import tempfile
 
+from tests.support.counts import concluded
 from tools.play.module_cases import RING, is_harmless
 from tools.play.program_rows import Stage
 
@@ -24,8 +25,7 @@ def main() -> int:
             if not is_harmless(stage, RING, seed):
                 print(f"FAILED seed {seed}", flush=True)
                 failed += 1
-    print(f"{count - failed} passed, {failed} failed")
-    return 1 if failed else 0
+    return concluded(count - failed, failed)
 
 
 if __name__ == "__main__":

@@ -5,15 +5,16 @@ import re
 import resource
 import signal
 import socket
-import subprocess
 import time
-from typing import Callable, Iterator, List, NamedTuple, Optional, Sequence
+from typing import Callable, List, Optional, Sequence
 
-from examples.contest import free_port
-from tools.hostile.killed_servers import Wrong as Lost, kills, try_kill
+from arena_lab.support.ports import free_port
+from tests.support.counts import Wrong
+from tests.support.servers import Run, Server, enter, serve
+from tools.hostile.killed_servers import kills, try_kill
 from tools.hostile.session_lines import HERE, LEAVE, LOOKS
 from tools.play.program_cases import MATCH, SEED, TABLE_HEAD, TRIANGLE, case, writes
-from tools.play.program_rows import DONE, FAILED_STREAM, PATIENCE, REFUSED_TEXT, Run, Stage, Wrong, expect
+from tools.play.program_rows import DONE, FAILED_STREAM, PATIENCE, REFUSED_TEXT, Stage, expect
 
 TOP = pathlib.Path(__file__).resolve().parents[2]
 TWO_TEAMS = SEED + MATCH.format(network="tri.toml", key="r") + MATCH.format(network="tri.toml", key="b").replace(
@@ -28,51 +29,12 @@ LASTS, GRACE, SOON = 0.2, 0.5, 5.0
 MANY = 40
 
 
-def enter(key: str) -> bytes:
-    return b'{"do":"enter","key":"%b"}\n' % key.encode()
-
-
-class Server(NamedTuple):
-    """A server that listens, and since when."""
-    child: subprocess.Popen
-    port: int
-    begin: float
-
-    def connect(self, lines: bytes = b"") -> socket.socket:
-        """A client that says this."""
-        client = socket.create_connection(("127.0.0.1", self.port), timeout=PATIENCE)
-        client.sendall(lines)
-        return client
-
-    def hears(self, lines: bytes) -> bytes:
-        """All that a client hears that says this and ends its input."""
-        with self.connect(lines) as client:
-            client.shutdown(socket.SHUT_WR)
-            with client.makefile("rb") as answers:
-                return answers.read()
-
-    def ended(self, first: bytes = b"") -> Run:
-        """How it ended, all that it said being put behind this."""
-        printed, told = self.child.communicate(timeout=PATIENCE)
-        return Run(self.child.returncode, first + printed, told)
-
-
-@contextlib.contextmanager
 def served(stage: Stage, *more: str, cup: str = TWO_TEAMS, turns: int = 20, pause: int = 10, sessions: int = 1000,
-           grace: float = GRACE, limit: Optional[Callable[[], None]] = None) -> Iterator[Server]:
+           grace: float = GRACE, limit: Optional[Callable[[], None]] = None) -> Server:
     """A server of this tournament on the triangle, by these options. What is to limit it is called as it starts."""
     writes(stage, cup=cup, tri=TRIANGLE)
-    port = free_port()
-    given = ["serve", "cup.toml", "--port", port, "--sessions", sessions, "--turns", turns, "--pause", pause,
-             "--replay", "match", "--grace", int(grace * 1000), *more]
-    with subprocess.Popen([stage.program, *map(str, given)], cwd=stage.folder, stdout=subprocess.PIPE,
-                          stderr=subprocess.PIPE, preexec_fn=limit) as child:
-        try:
-            if child.stdout.readline() != f"listening {port}\n".encode():
-                raise Wrong(f"the server did not start: {child.communicate()[1]!r}")
-            yield Server(child, port, time.monotonic())
-        finally:
-            child.kill()
+    return serve(stage.program, stage.folder, *more, turns=turns, pause=pause, sessions=sessions,
+                 grace=int(grace * 1000), preexec_fn=limit)
 
 
 def table(*rows: str) -> bytes:
@@ -92,7 +54,7 @@ def holds_up(stage: Stage, attack: Attack) -> None:
         for client in attack(server):
             held.enter_context(client)
         run = server.ended()
-        took = time.monotonic() - server.begin
+        took = time.monotonic() - server.begun
     expect(run, BLUE_GUESSES)
     if not heard.startswith(HERE):
         raise Wrong(f"blue heard {heard!r}")
@@ -140,7 +102,7 @@ def nobody(stage: Stage) -> None:
     with served(stage, sessions=4) as server:
         expect(server.ended(), table("  1 blue             silent          0    0",
                                      "  2 red              silent          0    0"))
-        took = time.monotonic() - server.begin
+        took = time.monotonic() - server.begun
     if took > SOON:
         raise Wrong(f"the server took {took:.1f} s")
 
@@ -220,7 +182,7 @@ def gather(stage: Stage) -> None:
 def gather_ends(stage: Stage) -> None:
     with served(stage, "--gather", "400", turns=1, grace=0) as server:
         server.ended()
-        took = time.monotonic() - server.begin
+        took = time.monotonic() - server.begun
     if not 0.4 <= took <= SOON:
         raise Wrong(f"the server took {took:.1f} s")
 
@@ -465,5 +427,5 @@ def killed_servers(stage: Stage) -> None:
         folder.mkdir()
         try:
             try_kill(stage.program, kill, folder)
-        except Lost as error:
+        except Wrong as error:
             raise Wrong(f"killed after {kill.after:.3f} s: {error}") from error

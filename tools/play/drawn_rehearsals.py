@@ -3,8 +3,10 @@ import collections
 import random
 from typing import Counter, Dict, List, NamedTuple, Sequence, Tuple
 
+from arena_lab.rules.fixtures import Fixture
 from arena_lab.rules.model import Match, Setup, spelled
 from arena_lab.rules.rehearsal import Ready, Sent, Sessions
+from tests.support.tournaments import cup_files
 
 
 class Drawn(NamedTuple):
@@ -41,15 +43,8 @@ def ready_by_chance(game: int, agents: int, chance: random.Random) -> Ready:
 
 def files_of(ready: Sequence[Ready]) -> Dict[str, str]:
     """The tournament and its networks."""
-    files, rows = {}, [f'version = 2\nseed = "{"0" * 64}"\n']
-    for game, (match, held, keys) in enumerate(ready):
-        setup = match.setup
-        links = [list(link) for link in setup.links]
-        files[f"n{game}.toml"] = f"version = 1\nnodes = {setup.nodes}\nlinks = {links}\n"
-        rows.append(f'[[match]]\nteam = "t{game}"\nnetwork = "n{game}.toml"\nhome = {setup.home}\n'
-                    f"holes = {setup.holes}\ndark = {[list(end) for end in setup.dark]}\nquota = {setup.quota}\n"
-                    f"board = {setup.board}\nkeys = {list(keys)}\nheld = {[list(end) for end in held]}\n")
-    return {**files, "cup.toml": "".join(rows)}
+    return cup_files([Fixture(f"t{game}", match.setup, list(keys), list(held))
+                      for game, (match, held, keys) in enumerate(ready)])
 
 
 class ScriptMaker:

@@ -16,6 +16,7 @@ import time
 from typing import Callable, List, Sequence
 
 from arena_lab.support.built import SAID
+from tests.support.counts import concluded
 from tools import version
 
 TOP = pathlib.Path(__file__).resolve().parents[2]
@@ -93,8 +94,7 @@ def main(given: List[str]) -> int:
             except AssertionError as fault:
                 failed += 1
                 print(f"FAILED first look: {case.__name__.replace('_', ' ')}: {fault}")
-    print(f"{len(cases) - failed} passed, {failed} failed", flush=True)
-    return 1 if failed else 0
+    return concluded(len(cases) - failed, failed)
 
 
 if __name__ == "__main__":

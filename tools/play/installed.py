@@ -17,6 +17,7 @@ import sys
 import tempfile
 from typing import Callable, Dict, List, Sequence
 
+from tests.support.counts import Wrong, concluded
 from tools.play import roots
 
 TOP = pathlib.Path(__file__).resolve().parents[2]
@@ -36,22 +37,18 @@ TUTORIAL = (
 )
 
 
-class Failed(Exception):
-    """Something is not as it is to be; says what."""
-
-
 def ran(words: Sequence[object], folder: pathlib.Path, status: int = 0) -> str:
     """What a command says, which is to end with this status."""
     found = subprocess.run([str(word) for word in words], cwd=folder, stdin=subprocess.DEVNULL, text=True,
                            stdout=subprocess.PIPE, stderr=subprocess.STDOUT)
     if found.returncode != status:
-        raise Failed(f"{' '.join(map(str, words))}: status {found.returncode}: {found.stdout[-1500:]}")
+        raise Wrong(f"{' '.join(map(str, words))}: status {found.returncode}: {found.stdout[-1500:]}")
     return found.stdout
 
 
 def wants(said: str, wanted: str) -> None:
     if wanted not in said:
-        raise Failed(f"{wanted!r} is not in {said[-1500:]!r}")
+        raise Wrong(f"{wanted!r} is not in {said[-1500:]!r}")
 
 
 def made(out: pathlib.Path, words: Sequence[str]) -> Dict[str, pathlib.Path]:
@@ -64,10 +61,10 @@ def made(out: pathlib.Path, words: Sequence[str]) -> Dict[str, pathlib.Path]:
 
 def are_alike(one: Dict[str, pathlib.Path], other: Dict[str, pathlib.Path]) -> None:
     if sorted(one) != [".deb", ".gz", ".whl"] or sorted(other) != sorted(one):
-        raise Failed(f"the release has {sorted(path.name for path in one.values())}")
+        raise Wrong(f"the release has {sorted(path.name for path in one.values())}")
     for ending, path in one.items():
         if path.read_bytes() != other[ending].read_bytes():
-            raise Failed(f"{path.name} has other bytes when it is made again")
+            raise Wrong(f"{path.name} has other bytes when it is made again")
 
 
 def plays(lab: Sequence[object], arena: Sequence[object], folder: pathlib.Path, is_proved: bool) -> None:
@@ -98,7 +95,7 @@ def wheel_plays(wheel: pathlib.Path, is_proved: bool, is_system: bool) -> None:
         plays([binaries / "arena-lab"], [binaries / "arena"], folder, is_proved)
         for path in ("man/man1/arena-serve.1", "man/man1/arena-lab-run.1", "bash-completion/completions/arena"):
             if not (folder / "own" / "share" / path).is_file():
-                raise Failed(f"the wheel installs no share/{path}")
+                raise Wrong(f"the wheel installs no share/{path}")
 
 
 def package_plays(package: pathlib.Path, root: pathlib.Path, is_proved: bool) -> None:
@@ -112,7 +109,7 @@ def package_plays(package: pathlib.Path, root: pathlib.Path, is_proved: bool) ->
         ran([*inside, "apt-get", "install", "-y", "--reinstall", "--allow-downgrades", f"/home/{package.name}"], TOP)
         contest = ran([*inside, "python3", "/usr/share/doc/arena/examples/contest.py"], TOP)
         if contest.count(" solved its network\n") != 4:
-            raise Failed(contest)
+            raise Wrong(contest)
         # commands run inside, and files are looked at from outside
         for path in ("small", "first"):
             ran([*inside, "rm", "-rf", path], TOP)
@@ -120,10 +117,10 @@ def package_plays(package: pathlib.Path, root: pathlib.Path, is_proved: bool) ->
         for path in ("usr/share/man/man1/arena-serve.1.gz", "usr/share/man/man1/arena-lab-run.1.gz",
                      "usr/share/bash-completion/completions/arena-lab", "usr/share/doc/arena/README.md"):
             if not (root / path).exists():
-                raise Failed(f"the package installs no {path}")
+                raise Wrong(f"the package installs no {path}")
         ran([*inside, "apt-get", "remove", "-y", "arena"], TOP)
         if (root / "usr" / "lib" / "arena").exists():
-            raise Failed("/usr/lib/arena is left when the package is removed")
+            raise Wrong("/usr/lib/arena is left when the package is removed")
 
 
 def plays_inside(inside: List[object], home: pathlib.Path, is_proved: bool) -> None:
@@ -161,11 +158,10 @@ def main() -> int:
             try:
                 case()
                 print(f"ok: {title}", flush=True)
-            except Failed as fault:
+            except Wrong as fault:
                 failed += 1
                 print(f"FAILED {title}: {fault}", flush=True)
-    print(f"{len(cases) - failed} passed, {failed} failed", flush=True)
-    return 1 if failed else 0
+    return concluded(len(cases) - failed, failed)
 
 
 if __name__ == "__main__":

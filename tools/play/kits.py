@@ -14,6 +14,7 @@ from typing import List
 
 from arena_lab.play.kits import KITS
 from arena_lab.tests.play.kits_played import Played
+from tests.support.counts import concluded
 from tools import packages
 from tools.play.python_tests import SKIPPED
 
@@ -41,8 +42,7 @@ def main(given: List[str]) -> int:
                 continue
         print(f"{language}: built, tested and played in {seconds:.0f} s", flush=True)
         passed += 1
-    print(f"{passed} passed, {failed} failed")
-    return 1 if failed else 0
+    return concluded(passed, failed)
 
 
 if __name__ == "__main__":

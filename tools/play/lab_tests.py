@@ -10,19 +10,17 @@ and the exit status is 1 if one failed.
 import concurrent.futures
 import os
 import pathlib
-import re
 import subprocess
 import sys
 import time
-from typing import Dict, List, Tuple
+from typing import Dict, List
 
 from arena_lab.support.missing import DEBIANS_PYTHON
+from tests.support.counts import Counts, concluded, counts_in
 from tools import packages
 from tools.play.python_tests import SKIPPED
 
 TOP = pathlib.Path(__file__).resolve().parents[2]
-COUNTS = re.compile(r"(\d+) passed, (\d+) failed")
-Counts = Tuple[int, int]
 # runs tools/play/python_tests.py and imports no `tools`: agents of the tests have modules of that name
 RUN = "import runpy; runpy.run_path('tools/play/python_tests.py', run_name='__main__')"
 
@@ -45,8 +43,8 @@ def counts_of(name: str, variables: Dict[str, str]) -> Counts:
     ran = subprocess.run(words, cwd=TOP, env=variables, text=True, errors="replace", stdout=subprocess.PIPE,
                          stderr=subprocess.STDOUT)
     said, _, last = ran.stdout.rstrip("\n").rpartition("\n")
-    found = COUNTS.fullmatch(last)
-    passed, failed = (int(found[1]), int(found[2])) if found else (0, 1)
+    found = counts_in(last)
+    passed, failed = found or (0, 1)
     print(f"{said if found else ran.stdout.rstrip()}\n{name}: {time.monotonic() - begun:.0f} s", flush=True)
     return passed, max(failed, int(ran.returncode != 0))
 
@@ -61,8 +59,7 @@ def main() -> int:
     with concurrent.futures.ThreadPoolExecutor(len(os.sched_getaffinity(0))) as pool:
         found = list(pool.map(lambda name: counts_of(name, variables), names))
     passed, failed = map(sum, zip(*found))
-    print(f"{passed} passed, {failed} failed", flush=True)
-    return 1 if failed else 0
+    return concluded(passed, failed)
 
 
 if __name__ == "__main__":

@@ -20,6 +20,7 @@ import sys
 import tempfile
 from typing import Iterator, List, Tuple
 
+from tests.support.counts import concluded
 from tools.prove.prover import CRATES, KIT, PARTS, TOP, Libraries, libraries_of, words_to_try
 
 TESTS = TOP / "tests" / "library"
@@ -114,11 +115,10 @@ def main(words: List[str]) -> int:
                 shutil.copy(folder / place, path)
             return status
         if words == ["--prove"]:
-            passed, failed = run([str(KIT / "bin" / "rt"), "test"], make_beside_all(room))
+            counts = run([str(KIT / "bin" / "rt"), "test"], make_beside_all(room))
         else:
-            passed, failed = run_unproved(room, program)
-    print(f"{passed} passed, {failed} failed", flush=True)
-    return 1 if failed else 0
+            counts = run_unproved(room, program)
+    return concluded(*counts)
 
 
 if __name__ == "__main__":

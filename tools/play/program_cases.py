@@ -6,13 +6,12 @@ import pathlib
 import random
 import shutil
 import socket
-import subprocess
 import sys
-import threading
-from typing import Callable, Dict, List, NamedTuple, Sequence, Tuple
+from typing import Callable, Dict, NamedTuple, Sequence, Tuple
 
-from tools.play.program_rows import DONE, FAILED_STREAM, PATIENCE, REFUSED_TEXT, SOME_HELP, Run, Stage, Wrong
-from tools.play.program_rows import difference, expect
+from tests.support.counts import Wrong
+from tests.support.servers import enter, serve
+from tools.play.program_rows import DONE, FAILED_STREAM, REFUSED_TEXT, SOME_HELP, Stage, difference, expect
 
 TOP = pathlib.Path(__file__).resolve().parents[2]
 MAX_LINE = 65_536
@@ -414,20 +413,15 @@ for each in EXAMPLES:
 
 # Contests.
 
-def serve(cup: str, port: int) -> List[str]:
-    """The words of a contest of one session, whose matches are closed at once."""
-    return ["serve", cup, "--port", str(port), "--sessions", "1", "--turns", "0", "--pause", "0", "--replay", "hosted"]
-
-
 @case("what keeps a contest from beginning is told")
 def refused_contests(stage: Stage) -> None:
     writes(stage, cup=CUP, tri=TRIANGLE)
     with socket.create_server(("127.0.0.1", 0)) as taken:
-        port = taken.getsockname()[1]
+        given = ["--port", str(taken.getsockname()[1])]
         told = b"serve: listen\n  another program listens on this port: end it, or give another --port\n"
-        expect(stage.run(serve("cup.toml", port)), b"", told, FAILED_STREAM)
-        expect(stage.run(serve("none.toml", port)), b"", b"none.toml: read\n" + ABSENT, FAILED_STREAM)
-        expect(stage.run(serve("tri.toml", port)), b"",
+        expect(stage.run(["serve", "cup.toml", *given]), b"", told, FAILED_STREAM)
+        expect(stage.run(["serve", "none.toml", *given]), b"", b"none.toml: read\n" + ABSENT, FAILED_STREAM)
+        expect(stage.run(["serve", "tri.toml", *given]), b"",
                b"tri.toml: missing seed\n  seed: a text of 64 hexadecimal digits\n", REFUSED_TEXT)
 
 
@@ -435,33 +429,13 @@ def refused_contests(stage: Stage) -> None:
 SIGHT, OVER = HERE.partition(" ")[2].encode(), b'{"ok":"over"}\n'
 
 
-def hears(port: int, line: str) -> bytes:
-    """All that a client hears that says a line and ends its input."""
-    with socket.create_connection(("127.0.0.1", port), timeout=PATIENCE) as client:
-        client.sendall(f"{line}\n".encode())
-        client.shutdown(socket.SHUT_WR)
-        with client.makefile("rb") as answers:
-            return answers.read()
-
-
 @case("a contest is hosted")
 def contest(stage: Stage) -> None:
     writes(stage, cup=CUP, tri=TRIANGLE)
-    with socket.create_server(("127.0.0.1", 0)) as free:
-        port = free.getsockname()[1]
-    words = [stage.program, *serve("cup.toml", port)]
-    with subprocess.Popen(words, cwd=stage.folder, stdout=subprocess.PIPE, stderr=subprocess.PIPE) as child:
-        end = threading.Timer(PATIENCE, child.kill)
-        end.start()
-        try:
-            first = child.stdout.readline()
-            heard = hears(port, ENTER) if first else b""
-            printed, told = child.communicate()
-        finally:
-            end.cancel()
-            child.kill()
+    with serve(stage.program, stage.folder, turns=0, pause=0, sessions=1, prefix="hosted") as server:
+        heard, run = server.hears(enter("ka")), server.ended()
     row = "  1 red              silent          0    0"
-    expect(Run(child.returncode, first + printed, told), f"listening {port}\n{TABLE_HEAD}\n{row}\n".encode())
+    expect(run, f"{TABLE_HEAD}\n{row}\n".encode())
     if heard not in (SIGHT, OVER):
         raise Wrong(f"the client heard {heard!r}")
     replays = sorted(path.name for path in stage.folder.glob("*.jsonl"))

@@ -5,20 +5,22 @@ and one is destroyed. Which turn a delivery was made at depends on the clock, bu
 next word of its match's stream, and the word picks out of the pool, or under the oblivious schedule out of all agents.
 So the log of a match is compared with those words, whenever its clients may have come.
 """
-import contextlib
 import json
 import pathlib
 import socket
-import subprocess
-import threading
-from typing import Callable, Iterator, List, NamedTuple, Optional, Sequence, Set, Tuple
+from typing import Callable, List, NamedTuple, Optional, Sequence, Set, Tuple
 
-from examples.contest import free_port
 from arena_lab.play.server import table
 from arena_lab.rules.chacha8 import word
+from arena_lab.rules.delays import Delays
+from arena_lab.rules.fixtures import Fixture
 from arena_lab.rules.model import AWAY, OVER, Match, Object, Place, begun, judge, objects_of, spelled
+from arena_lab.rules.networks import ring
+from tests.support.counts import Wrong
+from tests.support.servers import Run, Server, enter, serve
+from tests.support.tournaments import match, write_cup
 from tools.play.program_cases import case
-from tools.play.program_rows import PATIENCE, Run, Stage, Wrong, expect
+from tools.play.program_rows import Stage, expect
 
 TOP = pathlib.Path(__file__).resolve().parents[2]
 SEED = bytes(range(32))
@@ -40,14 +42,8 @@ class Side(NamedTuple):
     def key(self, agent: int) -> str:
         return f"{self.team}-{agent}"
 
-    def network(self) -> str:
-        links = [[node, 0, (node + 1) % self.nodes, 1] for node in range(self.nodes)]
-        return f"version = 1\nnodes = {self.nodes}\nlinks = {links}\n"
-
-    def fixture(self) -> str:
-        keys = ", ".join(f'"{self.key(agent)}"' for agent in range(len(self.agents)))
-        return (f'\n[[match]]\nteam = "{self.team}"\nnetwork = "{self.team}.toml"\nhome = 0\nholes = [{self.hole}]\n'
-                f"quota = 20\nboard = 8\nkeys = [{keys}]\nheld = [{list(self.held)}]\n")
+    def fixture(self) -> Fixture:
+        return match(self.team, ring(self.nodes), [self.hole], len(self.agents), quota=20, board=8, held=[self.held])
 
 
 # 0 and 1 are departures by that port, a is an accusation of the link of port 0, l is leave. The last agent is the one
@@ -81,14 +77,13 @@ def picked_blindly(match: Match, held: Set[Place], number: int) -> Optional[int]
 
 
 class Rule(NamedTuple):
-    """A schedule: how its tournament begins, whom a word delivers, and whether the turns of events are written."""
-    head: str
+    """A schedule: its delays, if it has some, whom a word delivers, and whether the turns of events are written."""
+    delays: Optional[Delays]
     delivered: Callable[[Match, Set[Place], int], Optional[int]]
     has_turns: bool
 
 
-ADAPTIVE = Rule("version = 2\n", drawn, False)
-OBLIVIOUS = Rule('version = 3\nschedule = "oblivious"\ndelay_scales = 0\ndelay_odds = 1\n', picked_blindly, True)
+ADAPTIVE, OBLIVIOUS = Rule(None, drawn, False), Rule(Delays(0, 1), picked_blindly, True)
 
 
 def may_be(rule: Rule, match: Match, held: Set[Place], words: Sequence[int], turns: Set[int]) -> Set[int]:
@@ -128,25 +123,9 @@ class Heard(NamedTuple):
     replays: List[str]
 
 
-@contextlib.contextmanager
-def server(stage: Stage, words: Sequence[str]) -> Iterator[Tuple[subprocess.Popen, bytes]]:
-    """A server, and its first line. It is killed if it does not end in time."""
-    with subprocess.Popen([stage.program, *words], cwd=stage.folder, stdout=subprocess.PIPE,
-                          stderr=subprocess.PIPE) as child:
-        end = threading.Timer(PATIENCE, child.kill)
-        end.start()
-        try:
-            yield child, child.stdout.readline()
-        finally:
-            end.cancel()
-            child.kill()
-
-
-def client(port: int, key: str, steps: str) -> socket.socket:
+def client(server: Server, key: str, steps: str) -> socket.socket:
     """A client that has entered and said all that it will say, and has ended its input."""
-    lines = [f'{{"do":"enter","key":"{key}"}}', *(STEPS[step] for step in steps)]
-    made = socket.create_connection(("127.0.0.1", port), timeout=PATIENCE)
-    made.sendall("".join(f"{line}\n" for line in lines).encode())
+    made = server.connect(enter(key) + "".join(f"{STEPS[step]}\n" for step in steps).encode())
     made.shutdown(socket.SHUT_WR)
     return made
 
@@ -156,28 +135,22 @@ def all_heard(made: socket.socket) -> str:
         return answers.read().decode()
 
 
-def played(stage: Stage, port: int) -> Tuple[Run, List[List[str]]]:
+def played(stage: Stage) -> Tuple[Run, List[List[str]]]:
     """Serves the contest to its agents, which all come at once."""
     sessions = sum(len(side.agents) for side in SIDES)
-    words = ["serve", "cup.toml", "--port", str(port), "--sessions", str(sessions), "--turns", str(TURNS), "--pause",
-             str(PAUSE), "--replay", "hosted"]
-    with server(stage, words) as (child, first):
-        if first != f"listening {port}\n".encode():
-            return Run(child.wait(), first, child.stderr.read()), []
-        clients = [[client(port, side.key(agent), steps) for agent, steps in enumerate(side.agents)] for side in SIDES]
+    with serve(stage.program, stage.folder, turns=TURNS, pause=PAUSE, sessions=sessions, grace=10_000,
+               prefix="hosted") as server:
+        clients = [[client(server, side.key(agent), steps) for agent, steps in enumerate(side.agents)]
+                   for side in SIDES]
         heard = [[all_heard(one) for one in of_side] for of_side in clients]
-        printed, told = child.communicate()
-    return Run(child.returncode, printed, told), heard
+        return server.ended(), heard
 
 
 def contest(stage: Stage, rule: Rule) -> Heard:
-    for side in SIDES:
-        (stage.folder / f"{side.team}.toml").write_text(side.network())
-    fixtures = "".join(side.fixture() for side in SIDES)
-    (stage.folder / "cup.toml").write_text(f'{rule.head}seed = "{SEED.hex()}"\n{fixtures}')
+    write_cup(stage.folder, [side.fixture() for side in SIDES], rule.delays, SEED.hex())
     for old in stage.folder.glob("*.jsonl"):
         old.unlink()
-    run, heard = played(stage, free_port())
+    run, heard = played(stage)
     expect(run, run.printed)
     names = sorted(path.name for path in stage.folder.glob("*.jsonl"))
     if names != [f"hosted{number}.jsonl" for number in range(len(SIDES))]:

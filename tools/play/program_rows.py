@@ -39,6 +39,9 @@ import tempfile
 import unittest
 from typing import Any, Callable, Dict, Iterator, List, NamedTuple, Sequence, Tuple, Union
 
+from tests.support.counts import Wrong
+from tests.support.servers import Run
+
 PATIENCE = 60
 # how much of a line is shown if it is not the line that was wanted
 SHOWN = 160
@@ -51,17 +54,6 @@ DONE, REFUSED_TEXT, FAILED_STREAM = 0, 3, 6
 SOME_HELP = b"  ..\n"
 
 Word = Union[str, bytes]
-
-
-class Wrong(Exception):
-    """Something else came than was wanted."""
-
-
-class Run(NamedTuple):
-    """What came of a run."""
-    status: int
-    printed: bytes
-    told: bytes
 
 
 class Stage:

@@ -16,6 +16,7 @@ import sys
 import unittest
 from typing import Iterator, NamedTuple, Sequence, Union
 
+from tests.support.counts import concluded
 from tools.play import (contest_cases, exploring_cases, interactive_cases, module_cases, player_cases,
                         program_contests, program_rehearsals, replay_cases, serving_cases, traced_files)
 from tools.play.program_cases import CASES, Trial
@@ -69,7 +70,7 @@ def try_all(program: str, tests: Sequence[Test]) -> int:
         if is_skipped or it:
             print(f"{SKIPPED if is_skipped else 'FAILED '}{test.place}: {test.title}: {it}")
     failed = sum(map(bool, found)) - sum(skipped)
-    print(f"{len(found) - failed - sum(skipped)} passed, {failed} failed", flush=True)
+    concluded(len(found) - failed - sum(skipped), failed)
     return failed
 
 

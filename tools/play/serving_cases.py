@@ -8,10 +8,12 @@ import socket
 import time
 from typing import Iterator, List
 
+from tests.support.counts import Wrong
+from tests.support.servers import Server, enter
 from tools.hostile.session_lines import BYE, DEPART, GONE, HERE, LEAVE, LOOK, OVER
-from tools.play.contest_cases import LONG, Server, enter, full_disk, served, wait_for
+from tools.play.contest_cases import LONG, full_disk, served, wait_for
 from tools.play.program_cases import MATCH, SEED, case
-from tools.play.program_rows import PATIENCE, Stage, Wrong
+from tools.play.program_rows import PATIENCE, Stage
 
 # one match on the triangle, whose agents may give many commands and write long texts
 ROOMY = SEED + MATCH.format(network="tri.toml", key="r").replace("quota = 10", "quota = 1000").replace(

@@ -3,16 +3,14 @@ import contextlib
 import itertools
 import re
 import shutil
-import socket
-import subprocess
 import unittest
 from typing import Dict, Iterator, List, NamedTuple, Tuple
 
-from examples.contest import free_port
+from tests.support.counts import Wrong
+from tests.support.servers import enter, serve
 from tools.hostile.session_lines import LEAVE, LOOK
-from tools.play.contest_cases import enter
 from tools.play.program_cases import MATCH, SEED, TRIANGLE, case, writes
-from tools.play.program_rows import DONE, PATIENCE, Stage, Wrong
+from tools.play.program_rows import DONE, Stage
 
 CALLS = "write,writev,pwrite64,fsync,fdatasync,rename,renameat,renameat2,unlink,unlinkat"
 # `12 fsync(7</folder/name>) = 0` and `12 rename("name", "other") = 0`, 12 being the thread; a call that another thread
@@ -70,21 +68,18 @@ def traced(stage: Stage, cup: str, turns: int, *says: bytes, prefix: str = "matc
     if not shutil.which("strace"):
         raise unittest.SkipTest("Debian's strace is not installed")
     writes(stage, cup=cup, tri=TRIANGLE)
-    port = free_port()
-    given = ["serve", "cup.toml", "--port", port, "--sessions", max(1, len(says)), "--turns", turns, "--pause", 20,
-             "--grace", 0, "--replay", prefix]
-    words = ["strace", "-f", "-y", "-o", "trace", "-e", f"trace={CALLS}", stage.program, *map(str, given)]
-    with subprocess.Popen(words, cwd=stage.folder, stdout=subprocess.PIPE, stderr=subprocess.PIPE) as child:
-        child.stdout.readline()
+    front = ["strace", "-f", "-y", "-o", "trace", "-e", f"trace={CALLS}"]
+    with serve(stage.program, stage.folder, turns=turns, pause=20, sessions=max(1, len(says)), grace=0, prefix=prefix,
+               front=front) as server:
         with contextlib.ExitStack() as stack:
-            clients = [stack.enter_context(socket.create_connection(("127.0.0.1", port), PATIENCE)) for _ in says]
+            clients = [stack.enter_context(server.connect()) for _ in says]
             for client, said in zip(clients, says):
                 client.sendall(said)
             for client in clients:
                 stack.enter_context(client.makefile("rb")).read()
-        _, told = child.communicate(timeout=PATIENCE)
-    if child.returncode != DONE:
-        raise Wrong(f"the server ended with {child.returncode}: {told!r}")
+        run = server.ended()
+    if run.status != DONE:
+        raise Wrong(f"the server ended with {run}")
     return list(calls_in((stage.folder / "trace").read_text(), str(stage.folder)))
 
 

@@ -21,6 +21,7 @@ import sys
 import tempfile
 from typing import Dict, Iterator, List, NamedTuple, Optional, Sequence, Tuple
 
+from tests.support.counts import concluded
 from tools.prove.prover import CRATES, PARTS, Libraries, below, libraries_of, may_be_used, words_of, workers
 
 # what a check of a crate that is proved ends with, and one that is not
@@ -279,8 +280,7 @@ def main(words: List[str]) -> int:
         # those with the most edits first, since a crate's are tried in turn
         longest = sorted((it for it in edits.items() if it[1]), key=lambda it: -len(it[1]))
         answers = [it for found in pool.map(lambda it: list(tried(libraries, *it)), longest) for it in found]
-    print(f"{sum(answers)} passed, {len(answers) - sum(answers)} failed", flush=True)
-    return 0 if all(answers) else 1
+    return concluded(sum(answers), len(answers) - sum(answers))
 
 
 if __name__ == "__main__":

@@ -7,11 +7,10 @@ import tempfile
 import unittest
 
 from arena_lab.rules.engines import TOP
-from arena_lab.rules.fixtures import fixture_of, tournament_text
-from arena_lab.rules.model import Setup
-from arena_lab.rules.networks import ring, text_of
+from arena_lab.rules.networks import ring
 from arena_lab.support.ports import free_port
 from arena_lab.tests.playing import program
+from tests.support.tournaments import match, write_cup
 
 UNIT = (TOP / "examples" / "arena.service").read_text(encoding="utf-8")
 
@@ -26,10 +25,8 @@ def command(name: str) -> str:
 class TestService(unittest.TestCase):
     def test_a_contest_that_is_stopped_has_its_results(self) -> None:
         with tempfile.TemporaryDirectory() as name:
-            folder, network = pathlib.Path(name), ring(4)
-            (folder / "ring.toml").write_text(text_of(network))
-            fixture = fixture_of(Setup(4, network.links, 0, [2], 1, 10, 8))
-            (folder / "cup.toml").write_text(tournament_text("00" * 32, [(fixture, "ring.toml")]))
+            folder = pathlib.Path(name)
+            write_cup(folder, [match("red", ring(4), [2], agents=1)])
             (folder / "arena").symlink_to(program())
             how = {"cwd": folder, "env": {**os.environ, "PATH": f"{folder}:{os.environ['PATH']}"}}
             subprocess.run(["sh", "-c", command("ExecStartPre")], check=True, **how)

@@ -13,20 +13,11 @@ from typing import Any, Callable, Dict, List
 
 from examples.contest import free_port
 from arena_lab.rules.engines import TOP
-from arena_lab.rules.model import Match, Setup, spelled
-from arena_lab.rules.networks import ring, text_of
+from arena_lab.rules.model import Match, spelled
+from arena_lab.rules.networks import ring
 from arena_lab.tests.playing import InFolder
+from tests.support.tournaments import match, write_cup
 
-MATCH = """
-[[match]]
-team = "{team}"
-network = "ring.toml"
-home = 0
-holes = [2]
-quota = 100
-board = 40
-keys = ["{team}0", "{team}1"]
-"""
 SECONDS = 20.0
 TEXT = "</script><b>bold</b>"
 
@@ -34,11 +25,9 @@ TEXT = "</script><b>bold</b>"
 class Watching(InFolder):
     def setUp(self) -> None:
         super().setUp()
-        network = ring(4)
-        (self.folder / "ring.toml").write_text(text_of(network), encoding="utf-8")
-        head = 'version = 2\nseed = "' + "0" * 64 + '"\n'
-        (self.folder / "cup.toml").write_text(head + MATCH.format(team="red") + MATCH.format(team="blue"))
-        self.matches = [Match(Setup(4, network.links, 0, [2], 2, 100, 40)) for _ in range(2)]
+        fixtures = [match(team, ring(4), [2], quota=100, board=40) for team in ("red", "blue")]
+        write_cup(self.folder, fixtures, name="ring")
+        self.matches = [Match(fixture.setup) for fixture in fixtures]
         self.written = [0, 0]
         self.port = free_port()
 

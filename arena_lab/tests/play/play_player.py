@@ -12,13 +12,14 @@ from arena_lab.play import schedulers
 from arena_lab.play.matches import PlayedMatch, play
 from arena_lab.play.schedulers import Choice, MatchView, Scheduler
 from arena_lab.play.teams import OUTSIDE, AgentWords, Together
-from arena_lab.rules.fixtures import Fixture, fixture_of, tournament_text
+from arena_lab.rules.fixtures import Fixture, fixture_of
 from arena_lab.rules.model import Setup
-from arena_lab.rules.networks import Network, flipped_ring, ring, text_of
+from arena_lab.rules.networks import Network, flipped_ring, ring
 from arena_lab.rules.rehearsal import Rehearsal
-from arena_lab.support.ports import free_port
 from arena_lab.tests.play.play_halves import SEARCHES, fixture, team
 from arena_lab.tests.playing import TOP, InFolder, program
+from tests.support.servers import HOST, Server
+from tests.support.tournaments import write_cup
 
 PLAYER = TOP / "crates" / "bhs_player" / "out" / "bhs_player"
 MODULE = TOP / "examples" / "agents" / "wasm" / "ring.wasm"
@@ -79,10 +80,7 @@ def following(schedule: Sequence[int]) -> Scheduler:
 @unittest.skipUnless(PLAYER.exists(), "the agents' program is not built: `rt ci` builds it")
 class Players(InFolder):
     def write(self, games: Sequence[Game]) -> None:
-        for number, game in enumerate(games):
-            (self.folder / f"network{number}.toml").write_text(text_of(game.network))
-        rows = [(game.fixture, f"network{number}.toml") for number, game in enumerate(games)]
-        (self.folder / "cup.toml").write_text(tournament_text("7" * 64, rows))
+        write_cup(self.folder, [game.fixture for game in games], seed="7" * 64)
 
     def found(self, game: Game, *words: str) -> Dict[str, Any]:
         """What `explore` finds of a match whose agents run the module."""
@@ -151,18 +149,14 @@ class Players(InFolder):
 
     def serve(self, games: Sequence[Game]) -> None:
         """Serves the matches of a tournament to the agents' program. An agent that is not lost ends with 0."""
-        port = free_port()
-        words = [program(), "serve", "cup.toml", "--port", str(port), "--pause", "1"]
-        with subprocess.Popen(words, cwd=self.folder, stdout=subprocess.PIPE, stderr=subprocess.PIPE) as server:
-            assert server.stdout
-            server.stdout.readline()
-            started = [subprocess.Popen([PLAYER, "127.0.0.1", str(port), key, *runs.split()])
+        with Server([program(), "serve", "cup.toml", "--pause", 1], self.folder) as server:
+            started = [subprocess.Popen([PLAYER, HOST, str(server.port), key, *runs.split()])
                        for game in games for runs, key in zip(game.runs, game.fixture.keys)]
             try:
-                self.assertEqual(server.wait(PATIENCE), 0)
+                self.assertEqual(server.child.wait(PATIENCE), 0)
                 self.assertEqual({child.wait(PATIENCE) for child in started}, {0})
             finally:
-                for child in [server, *started]:
+                for child in started:
                     child.kill()
 
 

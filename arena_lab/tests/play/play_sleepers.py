@@ -11,8 +11,10 @@ from unittest import mock
 
 from arena_lab.__main__ import main, parser
 from arena_lab.commands.words import games_of
+from arena_lab.rules.networks import ring
 from arena_lab.search import explore
 from arena_lab.tests.playing import FAULTY, RING
+from tests.support.tournaments import match, write_cup
 
 # The black hole of ring:3 is node 1. One agent walks by node 2, writes x and then y at home, and accuses.
 AGENTS = FAULTY + '''
@@ -99,21 +101,6 @@ def sleeps_before_it_enters(agent, key, sleep):
     agent.leave()
 '''
 
-HELD = """version = 2
-seed = "{seed}"
-
-[[match]]
-team = "red"
-network = "{network}"
-home = 0
-holes = [1]
-quota = 10
-board = 8
-keys = ["a", "b"]
-held = [[0, 1]]
-"""
-
-
 # sleepers wake once after each change alone
 WITHOUT_NAPS = ("--spurious-wakeups", "0")
 
@@ -149,9 +136,9 @@ class Sleepers(unittest.TestCase):
                   "closes": ("solves", False), "wants_news_at_each_wake": ("touches", False),
                   "sleeps_before_it_enters": ("touches", False)}
         for name, (other, fails) in agents.items():
-            for match in (["--hole", "1"], ["--home", "1", "--hole", "2"]):
-                with self.subTest(name, match=match):
-                    words = ["--network", "ring:3", *match]
+            for place in (["--hole", "1"], ["--home", "1", "--hole", "2"]):
+                with self.subTest(name, place=place):
+                    words = ["--network", "ring:3", *place]
                     self.assertEqual(self.worst([name, other], *words).has_failed, fails)
                     self.assertEqual(self.has_failed([name, other], *words), fails)
 
@@ -169,10 +156,7 @@ class Sleepers(unittest.TestCase):
                     self.assertEqual(self.has_failed([name, "touches"], *words), fails)
 
     def test_nobody_arrives_over_a_held_link(self) -> None:
-        (self.folder / "ring.toml").write_text(
-            "version = 1\nnodes = 3\nlinks = [[0,0,1,1],[1,0,2,1],[2,0,0,1]]\n", encoding="utf-8")
-        cup = self.folder / "cup.toml"
-        cup.write_text(HELD.format(seed="0" * 64, network=self.folder / "ring.toml"), encoding="utf-8")
+        cup = write_cup(self.folder, [match("red", ring(3), [1], quota=10, board=8, held=[(0, 1)])])
         end = self.worst(["goes", "goes"], "--tournament", str(cup))
         self.assertEqual((end.verdict.outcome, end.verdict.moves), ("silent", 2))
 

@@ -3,7 +3,6 @@
 agent, a delay, or a turn of departure that is another one delivers in another order; so does the adaptive schedule."""
 import contextlib
 import pathlib
-import subprocess
 import threading
 import time
 import unittest
@@ -11,16 +10,15 @@ from types import ModuleType
 from typing import List
 
 from examples.agents import client
-from examples.contest import free_port
 from arena_lab.play.matches import play
 from arena_lab.play.schedulers import Oblivious, Scheduler, fair
 from arena_lab.play.teams import INSIDE, AgentWords, Together
 from arena_lab.rules.delays import Delays
-from arena_lab.rules.fixtures import Fixture, fixture_of, tournament_text
-from arena_lab.rules.model import Setup
-from arena_lab.rules.networks import ring, text_of
+from arena_lab.rules.networks import ring
 from arena_lab.rules.rehearsal import Rehearsal
 from arena_lab.tests.playing import InFolder, program
+from tests.support.servers import serve
+from tests.support.tournaments import match, write_cup
 
 SEED = 7
 DELAYS = Delays(3, 6)
@@ -38,17 +36,11 @@ def walks(agent, key, number):
             agent.depart(int(step))
     agent.leave()
 """
-PAUSE, TURNS, LIMIT = 40, 220, 60
+PAUSE, TURNS = 40, 220
 # how long an agent may take until it is on a link, before the next is started
 SETTLES = 0.3
 # on a busy machine an agent may answer a turn late
 TRIES = 3
-
-
-def match() -> Fixture:
-    network = ring(7)
-    setup = Setup(network.nodes, network.links, 0, [2], len(STEPS), 100, 8)
-    return fixture_of(setup)._replace(held=[(6, 1)])
 
 
 def walks_of(agents: ModuleType, port: int, number: int, key: str) -> None:
@@ -59,29 +51,22 @@ def walks_of(agents: ModuleType, port: int, number: int, key: str) -> None:
 class ObliviousTest(InFolder):
     def setUp(self) -> None:
         super().setUp()
-        self.fixture = match()
+        self.fixture = match("red", ring(7), [2], len(STEPS), quota=100, board=8, held=[(6, 1)])
         self.file = self.folder / "walks.py"
         self.file.write_text(WALKS)
-        (self.folder / "network.toml").write_text(text_of(ring(7)))
-        rows = [(self.fixture, "network.toml")]
-        (self.folder / "cup.toml").write_text(tournament_text(f"{SEED:064x}", rows, DELAYS))
+        write_cup(self.folder, [self.fixture], DELAYS, f"{SEED:064x}")
 
     def served(self) -> bytes:
         """The replay of a contest over TCP. Turns begin once the last agent has entered."""
-        port, agents = free_port(), ModuleType("walks")
+        agents = ModuleType("walks")
         exec(WALKS, agents.__dict__)
-        words = [program(), "serve", "cup.toml", "--port", str(port), "--sessions", str(len(STEPS)), "--turns",
-                 str(TURNS), "--pause", str(PAUSE), "--replay", "m", "--gather", "30000", "--grace", "1000"]
-        with subprocess.Popen(words, cwd=self.folder, stdout=subprocess.PIPE, stderr=subprocess.DEVNULL) as server:
-            stop = threading.Timer(LIMIT, server.kill)
-            stop.start()
-            server.stdout.readline()
+        with serve(program(), self.folder, "--gather", 30_000, turns=TURNS, pause=PAUSE, sessions=len(STEPS),
+                   grace=1000) as server:
             for number, key in enumerate(self.fixture.keys):
-                threading.Thread(target=walks_of, args=(agents, port, number, key), daemon=True).start()
+                threading.Thread(target=walks_of, args=(agents, server.port, number, key), daemon=True).start()
                 time.sleep(SETTLES if number + 1 < len(STEPS) else 0)
-            server.wait()
-            stop.cancel()
-        return pathlib.Path(self.folder, "m0.jsonl").read_bytes()
+            server.ended()
+        return pathlib.Path(self.folder, "match0.jsonl").read_bytes()
 
     def inside(self, scheduler: Scheduler) -> bytes:
         """The replay of a match in the lab."""

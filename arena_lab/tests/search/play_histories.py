@@ -8,6 +8,7 @@ from arena_lab.rules import networks
 from arena_lab.search import explore
 from arena_lab.tests.search.exploring import InExplore
 from arena_lab.tests.playing import RING
+from tests.support.tournaments import match, write_cup
 
 
 class Hides(NamedTuple):
@@ -131,12 +132,9 @@ class Histories(InExplore):
 
     def test_a_held_link_that_leads_to_a_black_hole(self) -> None:
         """How many are lost is a bound then, which `replay` need not come to."""
-        (self.folder / "ring.toml").write_text(networks.text_of(networks.ring(3)), encoding="utf-8")
-        (self.folder / "t.toml").write_text(
-            f'version = 1\nseed = "{"0" * 64}"\n[[match]]\nteam = "red"\nnetwork = "{self.folder}/ring.toml"\n'
-            'home = 0\nhole = 1\nquota = 100\nboard = 100\nkeys = ["k0"]\nheld = [[0, 0]]\n', encoding="utf-8")
+        cup = write_cup(self.folder, [match("red", networks.ring(3), [1], agents=1, held=[(0, 0)])])
         (self.folder / "hides.py").write_text(ROLES, encoding="utf-8")
-        status = self.command("--tournament", self.folder / "t.toml", "--match", 0, "--agent",
+        status = self.command("--tournament", cup, "--match", 0, "--agent",
                               f"{self.folder}/hides.py:goes")
         self.assertEqual(status, 1, self.said)
         self.assertIn("silent moves 1 lost at most 1\n", self.said)
