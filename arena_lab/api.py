@@ -32,28 +32,25 @@ from arena_lab.play.agent_files import NoAgent, client_module
 from arena_lab.play.bounds import LIMIT
 from arena_lab.play.games import Asked, Record, Row, SchedulerName, rows_of
 from arena_lab.play.schedulers import NAMED as SCHEDULERS
-from arena_lab.play.schedules import schedule_of
+from arena_lab.play.schedules import Schedule
 from arena_lab.play.teams import BOARD, INSIDE, NAPS, OUTSIDE, QUOTA, AgentWords, Game, agent_named, filled
 from arena_lab.rules import networks
 from arena_lab.rules.engines import MODEL, PROGRAM, name_of, program_at
-from arena_lab.rules.fixtures import Fixture
 from arena_lab.rules.model import Place, Verdict
 from arena_lab.rules.networks import Network
-from arena_lab.search import program_search, explore as exploring, hunt as hunting
-from arena_lab.search.program_search import BREAKS, COMES, SOLVES, SampleRequest
-from arena_lab.search.checking import Counted
+from arena_lab.search import explore as exploring, hunt as hunting
 from arena_lab.search.capacity import OF_MODEL, OF_PROGRAM, fitting
+from arena_lab.search.checking import Counted
+from arena_lab.search.driver import CHECKED, ExploreJob, Search
+from arena_lab.search.findings import Exceeds, Solves, name_of as kind_of, turns_of
 from arena_lab.search.history_tree import NoFunction
-from arena_lab.search.machines import Machines
-from arena_lab.search.proving import CHECKED, FOUND, Proving, MatchResult, choices_of, found_in, unkept
+from arena_lab.search.match_results import MatchResult, told_in, told_schedule, unkept
+from arena_lab.search.program_search import SampleRequest
 from arena_lab.support.built import NoProgram
 from arena_lab.support.progress import bar
 
 __all__ = ["SCHEDULERS", "Exploration", "Game", "HuntResult", "Network", "Record", "Row", "SampleRequest",
            "SearchResult", "client", "engine_name", "explore", "game", "hunt", "play", "program"]
-
-# what is found of a match that was tried as a whole
-WHOLE = (SOLVES, COMES, *FOUND)
 
 AgentLike = Union[str, AgentWords, Callable[..., None]]
 NetworkLike = Union[str, Network, Any]
@@ -177,12 +174,12 @@ class SearchResult(NamedTuple):
 
     @property
     def is_whole(self) -> bool:
-        return all(row["found"] in WHOLE for row in self.rows)
+        return all(row["found"] not in (None, kind_of(Exceeds)) for row in self.rows)
 
     @property
     def solves(self) -> bool:
         """Whether every schedule of these matches was tried, and none fails."""
-        return all(row["found"] == SOLVES for row in self.rows)
+        return all(row["found"] == kind_of(Solves) for row in self.rows)
 
     @property
     def states(self) -> int:
@@ -238,7 +235,7 @@ def explore(network: Union[NetworkLike, Sequence[NetworkLike]], agents: Union[Ag
     all_asked, path = [game(one, agents, **more) for one in networks_in(network)], path_of(engine)
     if path is not None:
         most = exploring.MOST_STATES if draws is not None else fitting(OF_PROGRAM)
-        return by_program(all_asked, path, SearchOptions(states or most, draws, check))
+        return by_program([ExploreJob(one, path, states or most, check, draws) for one in all_asked], draws is not None)
     if draws is not None:
         raise ValueError("draws need a program: name it by engine, or hunt")
     with bar(None, "state") as shown:
@@ -259,61 +256,40 @@ def networks_in(network: Union[NetworkLike, Sequence[NetworkLike]]) -> List[Netw
     return list(networks.in_range(network)) if isinstance(network, str) else [network]
 
 
-class SearchOptions(NamedTuple):
-    """How many states of a match are visited, which schedules are drawn instead of trying all, and how many are played
-    as a check."""
-
-    states: int
-    draws: Optional[SampleRequest]
-    check: int
-
-
-def by_program(games: Sequence[Game], path: str, wanted: SearchOptions) -> SearchResult:
+def by_program(jobs: Sequence[ExploreJob[Game]], is_drawn: bool) -> SearchResult:
     """What the program finds of the schedules of games, up to the first match that fails or is not tried as a whole."""
-    def one(machines: Machines, fixture: Fixture, shown: Any) -> MatchResult:
-        return MatchResult(fixture, program_search.asked(path, fixture, machines, wanted.states, shown.update,
-                                           shown.set_postfix_str, wanted.draws))
-    rows, counted = [], Counted()
-    for given in games:
-        proving = Proving(given, wanted.check)
+    rows, counted, worst = [], Counted(), None
+    for job in jobs:
+        search = Search(job)
         with bar(None, "answer") as shown:
-            rows += [row_of(given, tried) for tried in proving.tried(one, shown)]
-        counted, last = counted.more(proving.checks.counted()), proving.tries[-1]
+            rows += [row_of(job.game, tried) for tried in search.tried(shown)]
+        counted, last = counted.more(search.checks), search.tries[-1]
         if last.has_failed():
-            return SearchResult(rows, str(counted), failure(given, last, path), wanted.draws is not None)
-        if not last.is_whole():
+            schedule = failing(job.game, last)
+            worst = Record(schedule, kept_matches.played_again(schedule, job.program), job.program)
+        if last.has_failed() or not last.is_whole():
             break
-    return SearchResult(rows, str(counted), None, wanted.draws is not None)
+    return SearchResult(rows, str(counted), worst, is_drawn)
 
 
-def failure(given: Game, tried: MatchResult, path: str) -> Record:
-    """The match that fails under the schedule that the program tells, as the agents play it."""
-    found = found_in(tried)
-    turns, breaks = found["schedule"] + found.get("round", []), found["agent"] if found["found"] == BREAKS else None
+def failing(given: Game, tried: MatchResult) -> Schedule:
+    """The schedule that fails, as the agents play it."""
     try:
-        choices = choices_of(tried.fixture, given.agents, turns, breaks, given.limit)
+        return told_schedule(given, tried)
     except NoFunction:
         if not tried.answered.module:
             raise
-        raise NoFunction(f"a schedule fails; {unkept(turns)}") from None
-    schedule = schedule_of(tried.fixture, given.agents, f"explore{given.origin}", choices, given.limit)
-    return Record(schedule, kept_matches.played_again(schedule, path), path)
+        raise NoFunction(f"a schedule fails; {unkept(turns_of(told_in(tried)))}") from None
 
 
 def row_of(given: Game, tried: MatchResult) -> Dict[str, Any]:
     """A match that was tried, as a row: what was found, in how many states, and the most moves and lost agents. What
     the program does not say is None."""
-    setup, answered, found = tried.fixture.setup, tried.answered, tried.answered.found or {}
+    setup, answered, found, drawn = tried.fixture.setup, tried.answered, tried.answered.found, tried.answered.drawn
     return {"network": given.name, "nodes": setup.nodes, "home": setup.home, "holes": setup.holes,
-            "found": found.get("found"),
-            "states": answered.counts.get("states"), "moves": found.get("moves"), "lost": found.get("lost"),
-            "turns": found.get("turns"), "drawn": drawn_of(answered.counts), "seconds": answered.seconds,
-            "why": answered.why}
-
-
-def drawn_of(counts: Dict[str, Any]) -> Optional[int]:
-    """How many schedules were drawn, if some were."""
-    return counts["solved"] + counts["failed"] if "solved" in counts else None
+            "found": found and kind_of(type(found)), "states": answered.states,
+            **{name: getattr(found, name, None) for name in ("moves", "lost", "turns")},
+            "drawn": drawn and drawn.solved + drawn.failed, "seconds": answered.seconds, "why": answered.why}
 
 
 class HuntResult(NamedTuple):

@@ -18,14 +18,15 @@ import resource
 import subprocess
 import tempfile
 import time
-from typing import List, NamedTuple, Tuple
+from typing import List, NamedTuple, Optional, Tuple
 from unittest import mock
 
 from arena_lab.__main__ import parser
 from arena_lab.commands.words import games_of
 from arena_lab.rules.fixtures import Fixture, write_tournament
-from arena_lab.search import program_search
+from arena_lab.search.findings import Finding, Solves, finding_of
 from arena_lab.search.machines import Machines
+from arena_lab.search.program_search import ProgramRun, asked, program_words
 
 TOP = pathlib.Path(__file__).resolve().parents[1]
 PROGRAM = os.environ.get("ARENA", str(TOP / "arena"))
@@ -69,9 +70,8 @@ def alone(fixture: Fixture, answers: Answers, states: int) -> Tuple[float, float
         write_tournament(fixture, folder)
         (folder / "answers").write_bytes(b"".join(answers.lines))
         with (folder / "answers").open("rb") as lines:
-            words = [PROGRAM, "explore", "tournament.toml", "0", "--max-states", str(states), "--spurious-wakeups",
-                     str(fixture.naps)]
-            return watched(subprocess.Popen(words, cwd=name, stdin=lines, stdout=subprocess.DEVNULL))
+            return watched(subprocess.Popen(program_words(PROGRAM, fixture, states), cwd=name, stdin=lines,
+                                            stdout=subprocess.DEVNULL))
 
 
 def by_module(fixture: Fixture, module: str, states: int) -> Taken:
@@ -79,15 +79,19 @@ def by_module(fixture: Fixture, module: str, states: int) -> Taken:
     started = time.monotonic()
     with tempfile.TemporaryDirectory(prefix="bench-") as name, tempfile.TemporaryFile() as printed:
         write_tournament(fixture, pathlib.Path(name))
-        words = [PROGRAM, "explore", "tournament.toml", "0", "--module", module, "--max-states", str(states),
-                 "--spurious-wakeups", str(fixture.naps)]
+        words = [*program_words(PROGRAM, fixture, states), "--module", module]
         program, memory = watched(subprocess.Popen(words, cwd=name, stdin=subprocess.DEVNULL, stdout=printed))
         printed.seek(0)
-        found, counts = (json.loads(line) for line in printed.read().splitlines()[:2])
-    if found["found"] != program_search.SOLVES:
+        told, counts = (json.loads(line) for line in printed.read().splitlines()[:2])
+    found, whole = solved(finding_of(told)), time.monotonic() - started
+    return Taken(counts["states"], found.moves, found.lost, whole, program, program, memory)
+
+
+def solved(found: Optional[Finding]) -> Solves:
+    """What is found of a match, if it is that every schedule solves it."""
+    if not isinstance(found, Solves):
         raise SystemExit(f"{PROGRAM} does not say that every schedule solves it: {found}")
-    whole = time.monotonic() - started
-    return Taken(counts["states"], found["moves"], found["lost"], whole, program, program, memory)
+    return found
 
 
 def watched(child: "subprocess.Popen[bytes]") -> Tuple[float, float]:
@@ -115,16 +119,12 @@ def processor_seconds() -> float:
 
 def tried(fixture: Fixture, machines: Machines, states: int) -> Taken:
     """What one match takes, all schedules of which solve it."""
-    answers, started, before, plain = Answers(), time.monotonic(), processor_seconds(), program_search.ProgramRun.answer
-    with mock.patch.object(program_search.ProgramRun, "answer", lambda run, question: answers.noted(plain(run,
-                                                                                                          question))):
-        answered = program_search.asked(PROGRAM, fixture, machines, states, lambda count: None)
+    answers, started, before, plain = Answers(), time.monotonic(), processor_seconds(), ProgramRun.answer
+    with mock.patch.object(ProgramRun, "answer", lambda run, question: answers.noted(plain(run, question))):
+        answered = asked(PROGRAM, fixture, machines, states)
     whole, processor = time.monotonic() - started, processor_seconds() - before
-    found = answered.found
-    if found is None or found["found"] != program_search.SOLVES:
-        raise SystemExit(f"{PROGRAM} does not say that every schedule solves it: {found}")
-    return Taken(answered.counts["states"], found["moves"], found["lost"], whole, processor,
-                 *alone(fixture, answers, states))
+    found = solved(answered.found)
+    return Taken(answered.states or 0, found.moves, found.lost, whole, processor, *alone(fixture, answers, states))
 
 
 def words_of(agent: str) -> str:

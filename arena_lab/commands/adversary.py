@@ -19,7 +19,7 @@ from typing import Optional
 
 from arena_lab.commands.words import add_engine, add_match, game_of, program_of
 from arena_lab.play import kept_matches
-from arena_lab.search.adversary import Adversary, Arcs, Fails, Phase
+from arena_lab.search.adversary import Adversary, Arcs, Beaten, Phase
 from arena_lab.search.ring_bounds import least_moves
 
 
@@ -36,7 +36,7 @@ def run(words: argparse.Namespace) -> int:
     adversary = Adversary(game_of(words))
     try:
         arcs = played(adversary)
-    except Fails as fault:
+    except Beaten as fault:
         return report_failure(adversary, fault, words.keep, program)
     return report_moves(adversary, arcs, words.keep, program)
 
@@ -60,7 +60,7 @@ def line_of(phase: Phase, before: Optional[Arcs]) -> str:
     return f"{said}: agent {phase.agent} came back over {phase.back} of {before.explored} explored nodes and went on"
 
 
-def report_failure(adversary: Adversary, fault: Fails, keep: pathlib.Path, program: Optional[str]) -> int:
+def report_failure(adversary: Adversary, fault: Beaten, keep: pathlib.Path, program: Optional[str]) -> int:
     """Says why the team fails, and keeps the schedule."""
     played, schedule = adversary.at_rest(fault.hole, fault.turns)
     print(f"the team fails with the black hole at node {fault.hole}: {fault.why}; {played.verdict()}")

@@ -82,13 +82,13 @@ from typing import List, Optional
 from arena_lab.commands import explore_samples, explore_program
 from arena_lab.commands.words import add_engine, add_match, at_least_one, games_of, not_negative, program_of
 from arena_lab.play import kept_matches
+from arena_lab.play.parallel import Parallelism
 from arena_lab.play.teams import Game
 from arena_lab.rules.engines import MODEL, PROGRAM, program_at
 from arena_lab.search.program_search import SampleRequest
 from arena_lab.search.explore import MOST_STATES, check_inside, tried
 from arena_lab.search.capacity import OF_MODEL, OF_PROGRAM, fitting
-from arena_lab.search.proving import CHECKED
-from arena_lab.search.parallel import Parallelism
+from arena_lab.search.driver import CHECKED
 from arena_lab.support.faults import Fault
 from arena_lab.support.missing import check
 from arena_lab.support.progress import bar

@@ -3,24 +3,20 @@
 Where
 the program says nothing, as an agent may use more than its quota, the Python model's search takes over, and says so."""
 import pathlib
-import time
-from typing import Any, Callable, Iterator, List, NamedTuple, Optional, Sequence, Tuple, Union
+from typing import Any, Callable, List, NamedTuple, Optional, Sequence, Tuple
 
 from arena_lab.play import kept_matches, games
-from arena_lab.play.schedulers import Choice
-from arena_lab.play.schedules import schedule_of
+from arena_lab.play.parallel import Parallelism
 from arena_lab.play.teams import INSIDE, Game
 from arena_lab.rules.engines import name_of
-from arena_lab.rules.fixtures import Fixture
-from arena_lab.rules.model import Verdict
-from arena_lab.search.program_search import (BREAKS, ENDLESS, EXCEEDS, FAILS, SOLVES, ExploreAnswer, SampleRequest,
-                                             asked)
-from arena_lab.search.explore import Explored, explored
 from arena_lab.search.capacity import OF_MODEL, fitting
-from arena_lab.search.machines import Machines
+from arena_lab.search.driver import ExploreJob, Search
+from arena_lab.search.explore import Explored, explored
+from arena_lab.search.findings import (Breaks, Endless, Exceeds, ExploreAnswer, Fails, Solves, turns_of,
+                                       verdict_of)
 from arena_lab.search.history_tree import NoFunction
-from arena_lab.search.proving import After, Proving, MatchResult, bounds_of, choices_of, found_in, unkept
-from arena_lab.search.parallel import ParallelMatches, Parallelism, ExploreJob
+from arena_lab.search.match_results import MatchResult, told_in, told_schedule, unkept
+from arena_lab.search.program_search import SampleRequest
 from arena_lab.support import built
 from arena_lab.support.progress import bar
 
@@ -56,18 +52,14 @@ class ExploreRequest(NamedTuple):
     before: Sequence[MatchResult] = ()
     write: Optional[Callable[[MatchResult], None]] = None
 
-    def work(self, draws: Optional[SampleRequest] = None) -> ExploreJob:
+    def job(self, draws: Optional[SampleRequest] = None) -> ExploreJob[Game]:
         """What a process needs to try the matches."""
         return ExploreJob(self.game, self.program, self.states, self.check, draws)
 
-
-class Search(NamedTuple):
-    """The matches that were tried, up to the first that fails or is not tried as a whole, what was checked of how their
-    agents were taken for machines, and the seconds that passed."""
-
-    tries: List[MatchResult]
-    checks: str
-    seconds: float
+    def elsewhere(self) -> Optional[Parallelism]:
+        """Who else tries them, if this process does not. What is written is tried by a process that reads no other
+        files."""
+        return None if self.way.is_here() and not self.write else self.way
 
 
 def run(all_wanted: Sequence[ExploreRequest]) -> int:
@@ -80,7 +72,7 @@ def tried_one(wanted: ExploreRequest) -> Tuple[int, Search]:
     def after(tried: MatchResult, shown: Any) -> MatchResult:
         shown.clear()
         return beside(wanted, tried, shown)
-    search = all_tried(wanted, wanted.work(), after, line_of)
+    search = all_tried(wanted, Search(wanted.job(), wanted.elsewhere(), wanted.before, after), line_of)
     return report_matches(wanted, search), search
 
 
@@ -103,10 +95,14 @@ def in_turn(all_wanted: Sequence[ExploreRequest], one: Callable[[ExploreRequest]
 
 def cells_of(name: str, search: Search) -> Tuple[str, ...]:
     """A row of the table: what the matches on a network came to."""
-    moves, lost = zip(*(bounds_of(tried) for tried in search.tries))
-    answered = [tried.answered for tried in search.tries]
-    return (name, str(len(answered)), str(sum(it.counts.get("states", 0) for it in answered)), str(max(moves)),
-            str(max(lost)), f"{search.seconds:.1f}")
+    moves, lost = zip(*(tried.bounds() for tried in search.tries))
+    return (name, str(len(search.tries)), str(states_of(search)), str(max(moves)), str(max(lost)),
+            f"{search.seconds:.1f}")
+
+
+def states_of(search: Search) -> int:
+    """How many states were visited of all matches."""
+    return sum(tried.answered.states or 0 for tried in search.tries)
 
 
 def table_of(rows: Sequence[Sequence[str]]) -> List[str]:
@@ -116,39 +112,24 @@ def table_of(rows: Sequence[Sequence[str]]) -> List[str]:
             for row in rows]
 
 
-def all_tried(wanted: ExploreRequest, work: ExploreJob, after: After, line: Callable[[MatchResult], str]) -> Search:
+def all_tried(wanted: ExploreRequest, search: Search, line: Callable[[MatchResult], str]) -> Search:
     """Tries the matches of a game, and prints a line for each."""
-    started = time.monotonic()
     for tried in wanted.before:
         print(f"{line(tried)}, as it was written before", flush=True)
-    # what is written is checked first, as other processes do
-    is_here = wanted.way.is_here() and not wanted.write
-    search: Union[Proving, ParallelMatches] = (Proving(wanted.game, wanted.check) if is_here else
-                                      ParallelMatches(work, wanted.way, wanted.before))
-    with bar(None, "answer" if is_here else "match") as shown:
-        for tried in tries_of(search, work, after, shown):
+    with bar(None, "match" if wanted.elsewhere() else "answer") as shown:
+        for tried in search.tried(shown):
             print(line(tried), flush=True)
             if wanted.write and tried.is_whole() and not tried.has_failed():
                 wanted.write(tried)
-    return Search(search.tries, str(search.checks), time.monotonic() - started)
-
-
-def tries_of(search: Union[Proving, ParallelMatches], work: ExploreJob, after: After,
-             shown: Any) -> Iterator[MatchResult]:
-    """The matches as they are tried, by this process or by others."""
-    def one(machines: Machines, fixture: Fixture, shown: Any) -> MatchResult:
-        return after(MatchResult(fixture, asked(work.program, fixture, machines, work.states, shown.update,
-                                          shown.set_postfix_str, work.draws)), shown)
-    return search.tried(after, shown) if isinstance(search, ParallelMatches) else search.tried(one, shown)
+    return search
 
 
 def beside(wanted: ExploreRequest, tried: MatchResult, shown: Any) -> MatchResult:
     """The match with what the Python model's search says of it, if the program says nothing."""
-    found = tried.answered.found
-    if found is None or found["found"] != EXCEEDS:
+    found, game = tried.answered.found, wanted.game
+    if not isinstance(found, Exceeds):
         return tried
-    why = f"agent {found['agent']} may use {found['commands']} commands"
-    game = wanted.game
+    why = f"agent {found.agent} may use {found.commands} commands"
     if any(agent.kind != INSIDE for agent in game.agents):
         raise NoFunction(f"{why}, and the Python model's search, which takes over then, plays agents inside the lab "
                          "alone")
@@ -160,35 +141,33 @@ def beside(wanted: ExploreRequest, tried: MatchResult, shown: Any) -> MatchResul
         shown.clear()
 
 
-def failure_of(answered: ExploreAnswer) -> str:
+def failure_of(found: Breaks, answered: ExploreAnswer) -> str:
     """Which agent fails under a schedule, and how."""
-    found, module = answered.found or {}, answered.module
-    how = f": {MODULE_FAILURES[module['failure']]} in function {module['function']}" if "failure" in module else ""
-    return f"agent {found['agent']} {FAILURES[found['failure']]}{how}"
+    module = answered.module
+    how = f": {MODULE_FAILURES[module.failure]} in function {module.function}" if module and module.failure else ""
+    return f"agent {found.agent} {FAILURES[found.failure]}{how}"
 
 
 def line_of(tried: MatchResult) -> str:
     """What was found of one match."""
     if tried.beside is not None:
         return by_model(tried.beside)
-    setup, (found, counts, seconds, why, *_) = tried.fixture.setup, tried.answered
-    if found is None:
-        said = why
-    elif found["found"] == ENDLESS:
-        said = f"{counts['states']} states, a schedule goes on for ever, " + FAIRNESS[found["fair"]]
-    elif found["found"] == BREAKS:
-        said = f"{counts['states']} states, under a schedule {failure_of(tried.answered)}"
-    else:
-        said = f"{counts['states']} states, " + ("every schedule solves, most" if found["found"] == SOLVES else
-                                                 "a schedule fails, its") + f" moves {found['moves']}"
-    return f"home {setup.home} holes {setup.holes}: {said}, {seconds:.1f} s"
+    setup, answered, found = tried.fixture.setup, tried.answered, tried.answered.found
+    said = f"{answered.states} states, " if found else answered.why
+    if isinstance(found, Endless):
+        said += f"a schedule goes on for ever, {FAIRNESS[found.fair]}"
+    elif isinstance(found, Breaks):
+        said += f"under a schedule {failure_of(found, answered)}"
+    elif isinstance(found, (Solves, Fails)):
+        said += ("every schedule solves, most" if isinstance(found, Solves) else "a schedule fails, its"
+                 ) + f" moves {found.moves}"
+    return f"home {setup.home} holes {setup.holes}: {said}, {answered.seconds:.1f} s"
 
 
 def report_matches(wanted: ExploreRequest, search: Search) -> int:
     """Says what was found of all matches, and writes the schedule that fails."""
     tries, last = search.tries, search.tries[-1]
-    states = sum(tried.answered.counts.get("states", 0) for tried in tries)
-    counts = f"{states} states in {search.seconds:.1f} s"
+    counts = f"{states_of(search)} states in {search.seconds:.1f} s"
     if last.beside is not None and (last.has_failed() or not last.is_whole()):
         return told_by_model(wanted.game, [last.beside], wanted.keep, wanted.engine)
     if not last.is_whole():
@@ -206,8 +185,9 @@ def report_matches(wanted: ExploreRequest, search: Search) -> int:
     apart = told_apart(wanted.game, last.answered)
     said = "no schedule fails, in part of the Python model" if says_less else f"{solved}, {apart}"
     print(f"{counts}: {said}{by}; {search.checks}")
-    moves, lost = zip(*(bounds_of(tried) for tried in tries))
-    naps, turns = wanted.game.naps, [found_in(tried)["turns"] for tried in tries if tried.beside is None]
+    moves, lost = zip(*(tried.bounds() for tried in tries))
+    naps, found = wanted.game.naps, [tried.answered.found for tried in tries]
+    turns = [one.turns for one in found if isinstance(one, Solves)]
     more = "" if says_less else f", most turns {max(turns)}, if agents nap at most {naps} times"
     # an agent on a held link does not arrive where it would be lost
     most = "no more agents lost than" if last.fixture.held else "most agents lost"
@@ -223,7 +203,7 @@ def report_matches(wanted: ExploreRequest, search: Search) -> int:
 def told_apart(game: Game, answered: ExploreAnswer) -> str:
     """By what the states of agents are told apart."""
     if answered.module:
-        return f"by memories of the module with the SHA-256 {answered.module['module']}"
+        return f"by memories of the module with the SHA-256 {answered.module.module}"
     kinds = (OF_STEPS if agent.is_step() else OF_PYTHON if agent.kind == INSIDE else OF_PROGRAMS
              for agent in game.agents)
     return f"by {' and '.join(dict.fromkeys(kinds))}"
@@ -235,48 +215,33 @@ def do_not_repeat(game: Game) -> List[str]:
 
 
 def shown_failure(wanted: ExploreRequest, tried: MatchResult) -> int:
-    """Writes the schedule that fails, once the agents have played it."""
-    found, setup = found_in(tried), tried.fixture.setup
-    turns, breaks = found["schedule"] + found.get("round", []), found["agent"] if found["found"] == BREAKS else None
-    if found["found"] == ENDLESS:
-        print(f"home {setup.home} holes {setup.holes}: after {len(found['schedule'])} choices, the last "
-              f"{len(found['round'])} of the schedule may be repeated for ever, {FAIRNESS[found['fair']]}")
-    elif found["found"] == FAILS:
+    """Says what the schedule that fails comes to, and writes it."""
+    found, setup = tried.answered.found, tried.fixture.setup
+    if isinstance(found, Endless):
+        print(f"home {setup.home} holes {setup.holes}: after {len(found.schedule)} choices, the last "
+              f"{len(found.round)} of the schedule may be repeated for ever, {FAIRNESS[found.fair]}")
+    elif isinstance(found, Fails):
         # an agent on a held link does not arrive where it would be lost
         most = "at most " if tried.fixture.held else ""
-        print(f"it comes to: home {setup.home} holes {setup.holes}, {found['outcome']} moves {found['moves']} lost "
-              f"{most}{found['lost']}")
-    verdict = Verdict(found["outcome"], found["moves"], found["lost"]) if found["found"] == FAILS else None
-    keep(wanted, tried, turns, breaks, verdict)
+        print(f"it comes to: home {setup.home} holes {setup.holes}, {found.outcome} moves {found.moves} lost "
+              f"{most}{found.lost}")
+    keep(wanted, tried)
     return 1
 
 
-def shown_schedule(wanted: ExploreRequest, tried: MatchResult, verdict: Verdict) -> None:
-    """Writes the schedule that the program tells, once the agents have played it to this verdict."""
-    keep(wanted, tried, found_in(tried)["schedule"], None, verdict)
-
-
-def keep(wanted: ExploreRequest, tried: MatchResult, turns: List[int], breaks: Optional[int],
-         verdict: Optional[Verdict]) -> None:
-    """Writes the schedule of these turns, once the agents have played it."""
-    game = wanted.game
+def keep(wanted: ExploreRequest, tried: MatchResult) -> None:
+    """Writes the schedule that the program tells, once the agents have played it to what the program says."""
+    found, same = told_in(tried), 2 if tried.fixture.held else 3
+    verdict = verdict_of(found)
     try:
-        played_again(wanted, tried, choices_of(tried.fixture, game.agents, turns, breaks, game.limit), verdict)
+        played = kept_matches.keep(wanted.keep, told_schedule(wanted.game, tried), wanted.engine)
+        if isinstance(found, Breaks) and not played.faults or verdict and played.verdict()[:same] != verdict[:same]:
+            raise NoFunction("played again it comes to something else: explore needs agents that are functions of "
+                             "what they are told")
     except NoFunction:
         if not tried.answered.module:
             raise
-        print(unkept(turns))
-
-
-def played_again(wanted: ExploreRequest, tried: MatchResult, choices: List[Choice], verdict: Optional[Verdict]) -> None:
-    """Has the agents play a schedule to this verdict, and writes it."""
-    game, found = wanted.game, found_in(tried)
-    schedule = schedule_of(tried.fixture, game.agents, f"explore{game.origin}", choices, game.limit)
-    played = kept_matches.keep(wanted.keep, schedule, wanted.engine)
-    come_to, same = played.verdict(), 2 if tried.fixture.held else 3
-    if found["found"] == BREAKS and not played.faults or verdict and come_to[:same] != verdict[:same]:
-        raise NoFunction("played again it comes to something else: explore needs agents that are functions of what "
-                         "they are told")
+        print(unkept(turns_of(found)))
 
 
 # what the Python model's search found

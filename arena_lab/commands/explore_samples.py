@@ -3,15 +3,13 @@ agents do (arena_lab/search/program_search.py). The worst schedule is kept, and 
 import statistics
 from typing import List, NamedTuple, Sequence, Tuple
 
-from arena_lab.commands.explore_program import (ExploreRequest, Search, all_tried, failure_of, in_turn, shown_failure,
-                                                shown_schedule)
+from arena_lab.commands.explore_program import ExploreRequest, all_tried, failure_of, in_turn, keep, shown_failure
 from arena_lab.rules.engines import Differs
-from arena_lab.rules.model import SOLVED, Object, Verdict
-from arena_lab.search.program_search import BREAKS, EXCEEDS, SampleRequest
+from arena_lab.search.driver import Search
+from arena_lab.search.findings import Breaks, Exceeds, Pairs, SampleCounts, verdict_of
 from arena_lab.search.history_tree import NoFunction
-from arena_lab.search.proving import FOUND, MatchResult, found_in
-
-Pairs = List[Tuple[int, int]]
+from arena_lab.search.match_results import MatchResult, told_in
+from arena_lab.search.program_search import SampleRequest
 
 
 class MoveStatistics(NamedTuple):
@@ -44,41 +42,38 @@ def at(pairs: Pairs, place: int) -> int:
 def run(all_wanted: Sequence[ExploreRequest], draws: SampleRequest) -> int:
     """Draws schedules of all matches of some games, up to the first game in which one fails."""
     def drawn(wanted: ExploreRequest) -> Tuple[int, Search]:
-        search = all_tried(wanted, wanted.work(draws), lambda tried, shown: tried, line_of)
+        search = all_tried(wanted, Search(wanted.job(draws), wanted.elsewhere()), line_of)
         return report_samples(wanted, draws, search), search
     return in_turn(all_wanted, drawn)
 
 
 def line_of(tried: MatchResult) -> str:
     """What the drawn schedules of one match come to."""
-    setup, (found, counts, seconds, why, *_) = tried.fixture.setup, tried.answered
-    if found is None:
-        return f"home {setup.home} holes {setup.holes}: {why}, {seconds:.1f} s"
-    if found["found"] == EXCEEDS:
-        said = f"under a schedule agent {found['agent']} uses {found['commands']} commands, and its quota is less"
-    else:
-        moves, speed = moves_of(counts["moves"]), counts["turns"] / max(seconds, 1e-9)
-        said = (f"{counts['solved']} solved, {counts['failed']} failed, moves least {moves.least} "
-                f"mean {moves.mean:.1f} median {moves.median:g} most {moves.most}, {counts['turns']} steps, "
-                f"{speed:.0f} a second")
-    if found["found"] == BREAKS:
-        said += f", under a schedule {failure_of(tried.answered)}"
+    setup, answered, found = tried.fixture.setup, tried.answered, tried.answered.found
+    said, seconds = answered.why, answered.seconds
+    if isinstance(found, Exceeds):
+        said = f"under a schedule agent {found.agent} uses {found.commands} commands, and its quota is less"
+    elif answered.drawn:
+        drawn, moves, speed = answered.drawn, moves_of(answered.drawn.moves), answered.drawn.turns / max(seconds, 1e-9)
+        said = (f"{drawn.solved} solved, {drawn.failed} failed, moves least {moves.least} mean {moves.mean:.1f} "
+                f"median {moves.median:g} most {moves.most}, {drawn.turns} steps, {speed:.0f} a second")
+    if isinstance(found, Breaks):
+        said += f", under a schedule {failure_of(found, answered)}"
     return f"home {setup.home} holes {setup.holes}: {said}, {seconds:.1f} s"
 
 
 def report_samples(wanted: ExploreRequest, draws: SampleRequest, search: Search) -> int:
     """Says what the drawn schedules of all matches come to, and keeps the worst."""
     tries, last = search.tries, search.tries[-1]
-    solved, failed, turns = (sum(tried.answered.counts.get(what, 0) for tried in tries)
-                             for what in ("solved", "failed", "turns"))
+    solved, failed, turns = map(sum, zip(*((tried.answered.drawn or SampleCounts(0, 0, 0))[:3] for tried in tries)))
     counts = f"{solved + failed} drawn schedules, {turns} steps in {search.seconds:.1f} s"
     if last.answered.found is None:
         print(f"{counts}: stopped before all were drawn; no schedule failed until then")
         return 130
-    if last.answered.found["found"] == EXCEEDS:
+    if isinstance(last.answered.found, Exceeds):
         raise NoFunction("an agent uses more commands than its quota under a drawn schedule, of which the program says "
                          "nothing: give a larger --quota")
-    if last.answered.found["found"] in FOUND:
+    if last.has_failed():
         print(f"{counts}: a schedule fails")
         return shown_failure(wanted, last)
     if failed:
@@ -90,15 +85,8 @@ def report_samples(wanted: ExploreRequest, draws: SampleRequest, search: Search)
 
 def shown_worst(wanted: ExploreRequest, draws: SampleRequest, tries: List[MatchResult]) -> None:
     """Writes the schedule with the most moves, or with the most agents lost, once the agents have played it."""
-    worst = max(tries, key=lambda tried: measure_of(draws, found_in(tried)))
-    found, setup = found_in(worst), worst.fixture.setup
-    what = "agents lost" if draws.hunt == "lost" else "moves"
-    verdict = Verdict(SOLVED, found["moves"], found["lost"])
-    print(f"most {what}: home {setup.home} holes {setup.holes}, {verdict}")
-    shown_schedule(wanted, worst, verdict)
-
-
-def measure_of(draws: SampleRequest, found: Object) -> Tuple[int, int]:
-    """By what a kept schedule is the worst."""
-    moves, lost = found["moves"], found["lost"]
-    return (lost, moves) if draws.hunt == "lost" else (moves, lost)
+    is_lost = draws.hunt == "lost"
+    worst = max(tries, key=lambda tried: tried.bounds()[::-1] if is_lost else tried.bounds())
+    setup, what = worst.fixture.setup, "agents lost" if is_lost else "moves"
+    print(f"most {what}: home {setup.home} holes {setup.holes}, {verdict_of(told_in(worst))}")
+    keep(wanted, worst)

@@ -33,11 +33,12 @@ import pathlib
 
 from arena_lab.commands.words import add_engine, add_workers, at_least_one, program_of
 from arena_lab.play.games import maker_of
+from arena_lab.play.parallel import Parallelism
 from arena_lab.rules.engines import program_at
 from arena_lab.support.faults import Fault
 from arena_lab.support.missing import check
 from arena_lab.sweep import grid, verify
-from arena_lab.sweep.sweeping import Parallelism, SweepJob, made_of, swept, verified
+from arena_lab.sweep.sweeping import SweepJob, SweepRequest, made_of, swept, verified
 from arena_lab.sweep.tables import alone_in, prepared
 
 # what a report is made by, without which a sweep would stop at its end
@@ -66,12 +67,13 @@ def run(words: argparse.Namespace) -> int:
     for name in spec.schedulers:
         maker_of(name)
     cases = list(spec.cases())
-    made, way = made_of(spec, text, work.program), Parallelism(words.out, words.workers, words.cluster, words.explore)
+    made = made_of(spec, text, work.program)
+    wanted = SweepRequest(words.out, Parallelism(words.workers, words.cluster), words.explore)
     if words.explore and (work.program is None or words.verify is not None):
         raise Fault("--explore needs the program as the engine: leave --engine model out" if work.program is None else
                     "--verify plays runs again, and tries no schedules: leave --explore out")
     if words.verify is not None:
-        return verified(work, cases, made, way, words.verify)
+        return verified(work, cases, made, wanted, words.verify)
     keeper = work._replace(program=work.program or (program_at(words.program) if words.program else None))
     with alone_in(words.out):
-        return swept(work, keeper, cases, prepared(words.out, made), way)
+        return swept(work, keeper, cases, prepared(words.out, made), wanted)

@@ -14,15 +14,17 @@ import subprocess
 import sys
 import time
 from concurrent.futures.process import BrokenProcessPool
-from typing import Any, Dict, Generator, Iterable, List, NamedTuple, Protocol, Sequence
+from typing import Any, Dict, Generator, Iterable, List, NamedTuple, Optional, Protocol, Sequence
 
 from arena_lab.play.imports import digest_named, digest_of
 from arena_lab.support.built import TOP
 from arena_lab.support.faults import Fault
 from arena_lab.support.missing import needed
 
-# how many matches a Dask worker takes at a time, and how many seconds its scheduler may take to answer
-BATCH, SECONDS_TO_ANSWER = 20, 20
+# how many matches a process takes at a time and a Dask worker, if they are short or long
+AT_A_TIME, BATCH = {False: 4, True: 1}, {False: 20, True: 4}
+# how many seconds the scheduler may take to answer
+SECONDS_TO_ANSWER = 20
 # seconds in which a process ends that is asked to
 SECONDS_TO_END = 3.0
 # of Linux: asks for a signal when the parent ends
@@ -64,6 +66,22 @@ class NoCluster(Fault):
     """No Dask scheduler answers, or its workers cannot play; says what to change."""
 
 
+class Parallelism(NamedTuple):
+    """Who plays matches: this number of processes, or the workers of a Dask scheduler."""
+
+    workers: int = 1
+    cluster: Optional[str] = None
+
+    def is_here(self) -> bool:
+        return self.workers == 1 and self.cluster is None
+
+    def results(self, job: Job, cases: Sequence[NumberedTask], is_long: bool = False) -> Generator[Result, None, None]:
+        """The results of all matches, in order."""
+        if cases:
+            yield from (over_cluster(job, cases, self.cluster, is_long) if self.cluster else
+                        over_processes(job, cases, self.workers, is_long))
+
+
 def result_of(job: Job, case: NumberedTask) -> Result:
     if is_over is not None and is_over.is_set():
         return Result(None, f"run {case.number}: it is not played any more")
@@ -94,14 +112,15 @@ def end_with(parent: int) -> None:
         os._exit(1)
 
 
-def over_processes(job: Job, cases: Sequence[NumberedTask], workers: int, at_a_time: int = 4, is_cut_short: bool = False
+def over_processes(job: Job, cases: Sequence[NumberedTask], workers: int, is_long: bool = False
                    ) -> Generator[Result, None, None]:
-    """The results of all matches, in order, by this number of processes, each of which takes some at a time. If it is
-    cut short, what they play when no more results are taken is not waited for."""
+    """The results of all matches, in order, by this number of processes, each of which takes some at a time. If they
+    are long, what is played when no more results are taken is not waited for."""
+    is_cut_short = is_long
     over = multiprocessing.Event()
     pool = concurrent.futures.ProcessPoolExecutor(workers, initializer=begin, initargs=(over, os.getpid()))
     try:
-        yield from pool.map(functools.partial(result_of, job), cases, chunksize=at_a_time)
+        yield from pool.map(functools.partial(result_of, job), cases, chunksize=AT_A_TIME[is_long])
         is_cut_short = False
     except BrokenProcessPool:
         yield Result(None, KILLED.format(workers=workers))
@@ -124,15 +143,15 @@ def end_all(processes: Sequence[Any]) -> None:
         process.kill()
 
 
-def over_cluster(job: Job, cases: Sequence[NumberedTask], address: str, at_a_time: int = BATCH
+def over_cluster(job: Job, cases: Sequence[NumberedTask], address: str, is_long: bool = False
                  ) -> Generator[Result, None, None]:
     """The results of all matches, in order, by the workers of a Dask scheduler.
 
     A worker plays a batch in a process of its own, as agents inside the lab need a main thread. So a worker needs
     nothing of the lab but its folder, at the same path, and the same Python.
     """
-    client = client_at(address)
-    batches = [cases[at:at + at_a_time] for at in range(0, len(cases), at_a_time)]
+    client, size = client_at(address), BATCH[is_long]
+    batches = [cases[at:at + size] for at in range(0, len(cases), size)]
     files = {**job.digests(), **own_digests()}
     futures = [client.submit(subprocess.run, [sys.executable, "-c", PLAY], input=pickle.dumps((job, batch, files)),
                              cwd=os.getcwd(), capture_output=True, pure=False) for batch in batches]

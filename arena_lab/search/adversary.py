@@ -154,7 +154,7 @@ class Phase(NamedTuple):
     arcs: Arcs
 
 
-class Fails(Exception):
+class Beaten(Exception):
     """The team does not find this black hole: why, and after whose turns."""
 
     def __init__(self, why: str, hole: int, turns: Sequence[int]) -> None:
@@ -202,7 +202,7 @@ class Adversary:
         return played, schedule_of(self.fixture(hole), self.game.agents, origin, played.choices, self.game.limit)
 
     def phases(self) -> Iterator[Phase]:
-        """Plays until two nodes are new. Raises Fails if the team does not find some black hole."""
+        """Plays until two nodes are new. Raises Beaten if the team does not find some black hole."""
         arcs = self.begun()
         yield Phase(arcs.agent, 0, arcs)
         while arcs.new > 2:
@@ -218,7 +218,7 @@ class Adversary:
         away = [number for number, agent in enumerate(match.agents) if agent.standing == AWAY]
         if not away:
             spared = next(it for it in self.around[1:] if not any(self._far[v][p][0] == it for v, p in match.accused))
-            raise Fails("no agent departs", spared, departure.turns)
+            raise Beaten("no agent departs", spared, departure.turns)
         agent = match.agents[away[0]]
         first = self._far[agent.node][agent.port][0]
         others = self.around[1:][::-1] if first == self.around[1] else self.around[1:]
@@ -232,13 +232,13 @@ class Adversary:
         match = self.played(hole, arcs.turns, alone).match
         turns = arcs.turns + (arcs.agent,) * len(alone.spots)
         if [self._far[v][p][0] for v, p in match.accused] != [hole]:
-            raise Fails(f"agent {arcs.agent} alone does not accuse node {hole}, to which the other agent is on its way",
-                        hole, turns)
+            raise Beaten(f"agent {arcs.agent} alone does not accuse node {hole}, to which the other agent is on its "
+                         "way", hole, turns)
         found = self._ways_of(arcs, alone.spots)
         missed = [place for place in range(arcs.explored, self.nodes - 1) if place not in found]
         if missed:
-            raise Fails(f"agent {arcs.agent} accuses node {hole} before node {arcs.line[missed[0]]} was reached",
-                        arcs.line[missed[0]], turns)
+            raise Beaten(f"agent {arcs.agent} accuses node {hole} before node {arcs.line[missed[0]]} was reached",
+                         arcs.line[missed[0]], turns)
         return found
 
     def _ways_of(self, arcs: Arcs, spots: Sequence[Spot]) -> Dict[int, WayOut]:
@@ -261,8 +261,8 @@ class Adversary:
         for place in range(arcs.explored + 1, self.nodes - 1):
             way, other_way = ways[place], other_ways[self.nodes - 1 + arcs.explored - place]
             if way.back + other_way.back >= arcs.explored:
-                raise Fails(f"both agents come to links to node {arcs.line[place]}, and neither can know of the other",
-                            arcs.line[place], arcs.after(place, way).turns + (other.agent,) * other_way.turns)
+                raise Beaten(f"both agents come to links to node {arcs.line[place]}, and neither can know of the other",
+                             arcs.line[place], arcs.after(place, way).turns + (other.agent,) * other_way.turns)
         place = arcs.explored + steps_of(arcs.new)
         found = [Phase(side.agent, arcs.explored - way.back, side.after(place, way))
                  for side, way in ((arcs, ways[place]), (other, other_ways[place]))]

@@ -6,8 +6,8 @@ from typing import Any, FrozenSet, List, NamedTuple, Optional, Protocol
 from arena_lab.play.teams import INSIDE, AgentWords
 from arena_lab.rules.engines import Differs
 from arena_lab.rules.fixtures import Fixture
-from arena_lab.search.program_search import BREAKS, COMES, ENDLESS, FAILS, SOLVES, Found
 from arena_lab.search.explore import Explored, explored
+from arena_lab.search.findings import FAILED, SOLVED, Comes, Finding, Solves
 from arena_lab.search.sampled_runs import follow
 from arena_lab.search.machines import Machines
 from arena_lab.search.history_tree import NoFunction
@@ -77,7 +77,7 @@ class Matches(Protocol):
 
 
 class Checks:
-    """What was checked of a search. `str` says what, and that it agreed."""
+    """What was checked of a search."""
 
     def __init__(self, machines: Machines, game: Matches, schedules: int, matches: int) -> None:
         """Of this many schedules each match gets its part."""
@@ -90,19 +90,18 @@ class Checks:
         # whether the Python model's search of each match has come to an end in time so far
         self._is_small = all(agent.kind == INSIDE for agent in game.agents)
 
-    def check(self, fixture: Fixture, found: Optional[Found], shown: Any, number: int) -> None:
+    def check(self, fixture: Fixture, found: Optional[Finding], shown: Any, number: int) -> None:
         """Checks the match of a number, of which the program has found this."""
         self._seen += 1
         if not self._wanted or found is None:
             return
-        if found["found"] in (SOLVES, COMES):
+        if isinstance(found, SOLVED):
             self._play_apart(fixture, number)
-        if found["found"] in (SOLVES, COMES):
             first, last = (self._wanted * it // self._matches for it in (number, number + 1))
             for seed in range(first, last):
                 follow(fixture, self._game.agents, self._machines, seed, self._game.limit)
             self._schedules += last - first
-        if found["found"] != COMES and self._is_small:
+        if not isinstance(found, Comes) and self._is_small:
             self._is_small = self._is_searched(fixture, found, shown)
             self._searched += self._is_small
 
@@ -114,13 +113,13 @@ class Checks:
             seed = 1 + number + place * self._matches
             self._apart += play_apart(fixture, self._game.agents, self._game.limit, histories, seed)
 
-    def _is_searched(self, fixture: Fixture, found: Found, shown: Any) -> bool:
+    def _is_searched(self, fixture: Fixture, found: Finding, shown: Any) -> bool:
         """Whether the Python model's search comes to an end in time; then it must come to the same."""
         try:
             beside = explored(fixture, self._game.agents, shown, STATES, self._game.limit, SECONDS)
         except NoFunction:
             # it refuses agents that enter as another one, of which the program says that they fail
-            if found["found"] == SOLVES:
+            if isinstance(found, Solves):
                 raise
             return False
         finally:
@@ -133,21 +132,18 @@ class Checks:
         return Counted(beside.checked, beside.merged, self._schedules, self._searched, self._seen, bool(self._wanted),
                        self._apart, self._machines.seen(), self._machines.module is not None)
 
-    def __str__(self) -> str:
-        return str(self.counted())
 
-
-def compared(fixture: Fixture, found: Found, beside: Explored) -> bool:
+def compared(fixture: Fixture, found: Finding, beside: Explored) -> bool:
     """Whether the Python model's search was as far as to be compared with what the program found; they must agree."""
     worst = beside.explorer.worst
-    has_failed, fails = worst is not None and worst.has_failed, found["found"] in (FAILS, BREAKS, ENDLESS)
+    has_failed, fails = worst is not None and worst.has_failed, isinstance(found, FAILED)
     if not beside.is_whole and not has_failed:
         return False
     if has_failed != fails:
         raise Differs(f"home {fixture.setup.home} holes {fixture.setup.holes}: {'a' if fails else 'no'} schedule fails "
                       f"by the program, and {'one' if has_failed else 'none'} by the Python model's search: {ODD}")
     most = (worst.verdict.moves if worst else 0, 0 if fixture.held else beside.explorer.most_lost)
-    told = (found["moves"], 0 if fixture.held else found["lost"]) if found["found"] == SOLVES else most
+    told = (found.moves, 0 if fixture.held else found.lost) if isinstance(found, Solves) else most
     if not fails and most != told:
         raise Differs(f"home {fixture.setup.home} holes {fixture.setup.holes}: by the program the most moves and lost "
                       f"agents are {told}, and {most} by the Python model's search: {ODD}")

@@ -13,17 +13,18 @@ from arena_lab.play.players import WAKES
 from arena_lab.play.wasm_modules import word_of
 from arena_lab.rules.engines import EngineRefused, text_of_fault
 from arena_lab.rules.fixtures import Fixture, write_tournament
-from arena_lab.search.machines import Machines
+from arena_lab.rules.model import Object
 from arena_lab.search.agent_processes import SAYS, SLEEP
+from arena_lab.search.findings import ExploreAnswer, answer_of
+from arena_lab.search.machines import Machines
+from arena_lab.support.progress import NO_PROGRESS
 
-SOLVES, COMES, FAILS, BREAKS, ENDLESS, EXCEEDS = "solves", "comes", "fails", "breaks", "endless", "exceeds"
 TOO_MANY = "states"
 # how the program's questions begin
 BEGIN, ASK = b'{"begin":', b'{"ask":'
 QUESTIONS = BEGIN, ASK
 STOPPED, MORE = "stopped", "more states than were to be visited"
 LONGER = "a drawn schedule has more turns than --max-states allows"
-Found = Dict[str, Any]
 # seconds between two looks at the program while it works
 PAUSE = 1.0
 
@@ -40,20 +41,6 @@ class SampleRequest(NamedTuple):
         """The words by which the program draws them."""
         words = ["--draws", str(self.schedules), "--seed", str(self.seed), "--scheduler", self.scheduler]
         return [*words, "--objective", self.hunt] if self.hunt else words
-
-
-class ExploreAnswer(NamedTuple):
-    """What the program found in one match, how much it visited, and in how many seconds. If `found` is None, it was
-    stopped before all was visited, and `why` says why. `unwoken` counts the memories that sleep and go on to something
-    that was never asked, if they wake once more and see the same: agents that hold them have napped as often as they
-    may. `module` is what the program says of the module that the agents run, if they run one."""
-
-    found: Optional[Found]
-    counts: Found
-    seconds: float
-    why: str = ""
-    unwoken: int = 0
-    module: Found = {}
 
 
 class ProgramRun:
@@ -114,7 +101,7 @@ class ProgressWatch:
         self._ended.set()
         self._thread.join()
 
-    def visited(self, told: Found) -> None:
+    def visited(self, told: Object) -> None:
         """Takes what the program tells of how far it is."""
         states, speed = told["visited"], told["visited"] / max(time.monotonic() - self._started, 1e-9)
         self._far = f": {states:,} states, {speed:,.0f} a second, {told['depth']} turns on the path"
@@ -134,30 +121,32 @@ def megabytes_of(pid: int) -> int:
     return next((int(line.split()[1]) // 1024 for line in status.splitlines() if line.startswith("VmRSS")), 0)
 
 
-def silent(_text: str) -> None:
-    """Shows nothing."""
+def program_words(program: str, fixture: Fixture, most: int) -> List[str]:
+    """The words by which a program tries the schedules of a match in the folder of its tournament, and visits at most
+    so many states."""
+    return [program, "explore", "tournament.toml", "0", "--max-states", str(most), "--spurious-wakeups",
+            str(fixture.naps)]
 
 
-def asked(program: str, fixture: Fixture, machines: Machines, most: int, shown: Callable[[int], None],
-          said: Callable[[str], None] = silent, draws: Optional[SampleRequest] = None) -> ExploreAnswer:
+def asked(program: str, fixture: Fixture, machines: Machines, most: int, shown: Any = NO_PROGRESS,
+          draws: Optional[SampleRequest] = None) -> ExploreAnswer:
     """Lets the program try all schedules of a match, or draw some, and answers its questions. Ctrl-C stops it."""
     started, run, last = time.monotonic(), ProgramRun(machines), []
     # of a module the program says there how far it is, which nobody reads meanwhile
     with tempfile.TemporaryDirectory(prefix="lab-") as name, tempfile.TemporaryFile() as errors:
         write_tournament(fixture, pathlib.Path(name))
-        words = [program, "explore", "tournament.toml", "0", "--max-states", str(most), "--spurious-wakeups",
-                 str(fixture.naps)]
+        words = program_words(program, fixture, most)
         words += ["--module", word_of(machines.module, fixture.setup)] if machines.module else []
         words += draws.words() if draws else []
         child = subprocess.Popen(words, cwd=name, stdin=subprocess.PIPE, stdout=subprocess.PIPE, stderr=errors)
         assert child.stdin and child.stdout
         try:
-            with ProgressWatch(child, said) as watch:
+            with ProgressWatch(child, shown.set_postfix_str) as watch:
                 for line in child.stdout:
                     if line.startswith(QUESTIONS):
                         child.stdin.write(run.answer(line))
                         child.stdin.flush()
-                        shown(1)
+                        shown.update()
                         continue
                     told = json.loads(line)
                     if "visited" in told:
@@ -169,7 +158,7 @@ def asked(program: str, fixture: Fixture, machines: Machines, most: int, shown: 
             # the program has ended, and says why
             child.communicate()
         except KeyboardInterrupt:
-            return ExploreAnswer(None, {}, time.monotonic() - started, STOPPED)
+            return ExploreAnswer(None, time.monotonic() - started, why=STOPPED)
         finally:
             if child.poll() is None:
                 child.kill()
@@ -177,9 +166,9 @@ def asked(program: str, fixture: Fixture, machines: Machines, most: int, shown: 
         errors.seek(0)
         # behind what it said of how far it was; the second line of a fault is indented
         fault = re.split(r"\n(?! )", text_of_fault(errors.read()))[-1]
+    seconds = time.monotonic() - started
     if len(last) >= 2:
-        return ExploreAnswer(last[0], last[1], time.monotonic() - started, unwoken=run.unwoken(),
-                             module=last[2] if machines.module else {})
+        return answer_of(last[0], last[1], last[2] if machines.module else None, seconds, run.unwoken())
     if fault.endswith(f": {TOO_MANY}"):
-        return ExploreAnswer(None, {}, time.monotonic() - started, LONGER if draws else MORE)
+        return ExploreAnswer(None, seconds, why=LONGER if draws else MORE)
     raise EngineRefused(fault, child.returncode)

@@ -7,6 +7,22 @@ from arena_lab.support.missing import needed
 Item = TypeVar("Item")
 
 
+class NoProgress:
+    """Shows nothing."""
+
+    def update(self, _count: int = 1) -> None:
+        pass
+
+    def set_postfix_str(self, _said: str) -> None:
+        pass
+
+    def clear(self) -> None:
+        pass
+
+
+NO_PROGRESS = NoProgress()
+
+
 def bar(total: Optional[int], unit: str) -> Any:
     """A bar of Debian's python3-tqdm. It is silent if standard error is no terminal."""
     return needed("tqdm").tqdm(total=total, unit=unit, disable=not sys.stderr.isatty(), leave=False)

@@ -2,18 +2,16 @@
 and choice of black holes, and each such match has a row."""
 import contextlib
 import pathlib
-from typing import Dict, List, NamedTuple, Optional, Sequence, Tuple
+from typing import Dict, List, NamedTuple, Sequence, Tuple
 
 from arena_lab.play.agent_files import digests
-from arena_lab.play.parallel import over_cluster, over_processes
+from arena_lab.play.parallel import Parallelism
 from arena_lab.play.teams import NAPS, AgentWords
 from arena_lab.rules.engines import Differs, name_of
 from arena_lab.rules.fixtures import Fixture
-from arena_lab.search import parallel
-from arena_lab.search.program_search import BREAKS, ENDLESS, FAILS, SOLVES
+from arena_lab.search import driver
 from arena_lab.search.checking import ODD
-from arena_lab.search.proving import CHECKED
-from arena_lab.search.parallel import AT_A_TIME, ExploreJobResult
+from arena_lab.search.findings import FAILED, ExploreAnswer, Solves, name_of as kind_of
 from arena_lab.support.progress import along
 from arena_lab.sweep import grid
 from arena_lab.sweep.grid import Case, Grid, NoSweep
@@ -27,7 +25,7 @@ COLUMNS = ("match", "network", "nodes", "links", "home", "hole", "team", "agents
            "lost", "turns", "asleep", "check")
 # what is found where there are more states than were to be visited
 LIMIT = "limit"
-HAS_FAILED = (FAILS, BREAKS, ENDLESS)
+SOLVES, HAS_FAILED = kind_of(Solves), list(map(kind_of, FAILED))
 
 
 class SweepMatch(NamedTuple):
@@ -68,8 +66,8 @@ class SweepExploreJob(NamedTuple):
         spec = grid.grid_of(self.text)
         fixtures = tuple(spec.fixture(case)._replace(naps=NAPS) for case in match.cases)
         team = SweepTeam([match.case.team.words] * fixtures[0].setup.agents, fixtures, self.limit)
-        done = parallel.here(parallel.ExploreJob(team, self.program, self.states, CHECKED)).done(match.place)
-        return row_of(match, fixtures[match.place], done, self.states)
+        done = driver.here(driver.ExploreJob(team, self.program, self.states, driver.CHECKED)).done(match.place)
+        return row_of(match, fixtures[match.place], done.tried.answered, self.states)
 
     def digests(self) -> Dict[str, str]:
         """The SHA-256 of each file that rows depend on."""
@@ -92,14 +90,12 @@ def asked_of(match: SweepMatch, fixture: Fixture) -> List[str]:
                           case.team.name, setup.agents, NAPS)))
 
 
-def row_of(match: SweepMatch, fixture: Fixture, done: ExploreJobResult, states: int) -> List[str]:
+def row_of(match: SweepMatch, fixture: Fixture, answered: ExploreAnswer, states: int) -> List[str]:
     """The row of a match that was tried, with up to this many states."""
-    answered = done.tried.answered
-    found, most = answered.found, ["", "", "", ""]
-    if found is not None and found["found"] == SOLVES:
-        most = [str(it) for it in (found["moves"], found["lost"], found["turns"], answered.unwoken)]
-    kind, visited = (found["found"], answered.counts["states"]) if found else (LIMIT, states)
-    return checked([*asked_of(match, fixture), kind, str(visited), *most], COLUMNS)
+    found = answered.found
+    kind, visited = (kind_of(type(found)), answered.states) if found else (LIMIT, states)
+    most = (found.moves, found.lost, found.turns, answered.unwoken) if isinstance(found, Solves) else [""] * 4
+    return checked([*asked_of(match, fixture), kind, *map(str, (visited, *most))], COLUMNS)
 
 
 class SweepRows:
@@ -133,14 +129,10 @@ class SweepRows:
         part.replace(self.path)
 
 
-def try_all(work: SweepExploreJob, rows: SweepRows, workers: int, cluster: Optional[str]) -> None:
+def try_all(work: SweepExploreJob, rows: SweepRows, way: Parallelism) -> None:
     """Tries the matches that are left, and writes their rows as they come."""
     matches = rows.left(work.states)
-    if not matches:
-        return
-    results = (over_cluster(work, matches, cluster, AT_A_TIME) if cluster else
-               over_processes(work, matches, workers, 1, is_cut_short=True))
-    with contextlib.closing(results):
+    with contextlib.closing(way.results(work, matches, is_long=True)) as results:
         # the results first, so that they come to their end and all processes have ended
         for result, match in zip(along(results, len(matches), "match"), matches):
             if result.fault:

@@ -6,8 +6,8 @@ from typing import Any, Dict, Iterable, List, NamedTuple, Sequence, Tuple
 from arena_lab.play.agent_files import digests
 from arena_lab.play.teams import Game, digests_of
 from arena_lab.rules.fixtures import Fixture
-from arena_lab.search.program_search import SOLVES, ExploreAnswer
-from arena_lab.search.proving import MatchResult, found_in
+from arena_lab.search.findings import ExploreAnswer, Solves
+from arena_lab.search.match_results import MatchResult
 from arena_lab.sweep.grid import BOUNDS
 from arena_lab.sweep.report import COLOURS, POINTS, moves_up, new_figure, over_nodes, svg_of
 from arena_lab.sweep.tables import NoTable, cells_in, checked, line_of, made_by, note_read, prepared
@@ -64,8 +64,9 @@ class Folder:
         if tried.beside is not None:
             raise NoTable("an agent may use more commands than its quota, of which the program finds nothing, and "
                           "--out writes what it finds alone: give a larger --quota")
-        found, answered = found_in(tried), tried.answered
-        came_to = answered.counts["states"], found["moves"], found["lost"], found["turns"], answered.unwoken
+        answered, found = tried.answered, tried.answered.found
+        assert isinstance(found, Solves), "a row is written of a match that every schedule solves"
+        came_to = answered.states, found.moves, found.lost, found.turns, answered.unwoken
         cells = [*self._asked[self._count], *map(str, came_to)]
         note_read(self._path, tried.read)
         with (self._path / MATCHES).open("a", encoding="utf-8", newline="") as file:
@@ -82,8 +83,7 @@ class Folder:
 def tried_of(fixture: Fixture, row: Sequence[str]) -> MatchResult:
     """A match as its row has it. What it took is not in it."""
     states, moves, lost, turns, asleep = (int(dict(zip(COLUMNS, row))[name]) for name in FOUND)
-    found = {"found": SOLVES, "moves": moves, "lost": lost, "turns": turns}
-    return MatchResult(fixture, ExploreAnswer(found, {"states": states}, 0.0, unwoken=asleep))
+    return MatchResult(fixture, ExploreAnswer(Solves(moves, lost, turns), 0.0, states, unwoken=asleep))
 
 
 def made_of(games: Sequence[Game], program: str) -> Dict[str, Any]:

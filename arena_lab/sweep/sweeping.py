@@ -10,7 +10,7 @@ from arena_lab.play.games import maker_of
 from arena_lab.play.matches import PlayedMatch, play
 from arena_lab.play.foreign_files import watch
 from arena_lab.play.schedules import Schedule, schedule_of
-from arena_lab.play.parallel import Result, over_cluster, over_processes
+from arena_lab.play.parallel import Parallelism, Result
 from arena_lab.play.summaries import Summary, summary_of
 from arena_lab.play.teams import Together
 from arena_lab.rules.engines import NAMES, Differs, name_of
@@ -98,45 +98,43 @@ def made_of(spec: Grid, text: str, program: Optional[str]) -> Dict[str, Any]:
     return {**made_by(program), "files": spec.files(), "sweep": hashlib.sha256(text.encode()).hexdigest()}
 
 
-class Parallelism(NamedTuple):
-    """Where a sweep is written, who plays it: this number of processes, or the workers of a Dask scheduler; and up to
-    how many states of each match every schedule is tried, if it is."""
+class SweepRequest(NamedTuple):
+    """Where a sweep is written, who plays it, and up to how many states of each match every schedule is tried, if it
+    is."""
 
     out: pathlib.Path
-    workers: int
-    cluster: Optional[str] = None
+    way: Parallelism
     states: Optional[int] = None
 
 
-def swept(work: SweepJob, keeper: SweepJob, cases: List[Case], done: int, way: Parallelism) -> int:
+def swept(work: SweepJob, keeper: SweepJob, cases: List[Case], done: int, wanted: SweepRequest) -> int:
     """Plays the runs that are not done yet, and writes everything. The keeper plays what is kept once more."""
-    spec = grid.grid_of(work.text)
-    check_rows(spec, cases, way.out)
-    rows = every.SweepRows(way.out, spec)
+    spec, out, is_explored = grid.grid_of(work.text), wanted.out, wanted.states is not None
+    check_rows(spec, cases, out)
+    rows = every.SweepRows(out, spec)
     try:
-        write_rows(noted(results(work, cases[done:], way), way.out), len(cases) - done, way.out)
-        if way.states is not None and work.program is not None:
-            every.try_all(every.SweepExploreJob(work.text, work.program, way.states, LIMIT), rows, way.workers,
-                          way.cluster)
+        write_rows(noted(wanted.way.results(work, cases[done:]), out), len(cases) - done, out)
+        if wanted.states is not None and work.program is not None:
+            every.try_all(every.SweepExploreJob(work.text, work.program, wanted.states, LIMIT), rows, wanted.way)
     except KeyboardInterrupt:
-        more = f", and {len(rows.rows())} of {len(rows.matches)} matches were tried" if way.states is not None else ""
-        print(f"interrupted; {done_in(way.out / RUNS)} of {len(cases)} runs are done{more}: the same command goes on "
-              "there")
+        more = f", and {len(rows.rows())} of {len(rows.matches)} matches were tried" if is_explored else ""
+        print(f"interrupted; {done_in(out / RUNS)} of {len(cases)} runs are done{more}: the same command goes on there")
         return 130
-    status = write_summary(work, keeper, cases, rows, way.out)
+    status = write_summary(work, keeper, cases, rows, out)
     return max(status, every.report_status(rows, str(work.program))) if rows.rows() else status
 
 
-def verified(work: SweepJob, cases: List[Case], made: Dict[str, Any], way: Parallelism, wanted: int) -> int:
-    """Plays rows of the folder again, whoever made them, and compares them."""
-    for name in changed_in(way.out, made):
+def verified(work: SweepJob, cases: List[Case], made: Dict[str, Any], wanted: SweepRequest, count: int) -> int:
+    """Plays so many rows of the folder again, whoever made them, and compares them."""
+    out = wanted.out
+    for name in changed_in(out, made):
         print(f"arena-lab: {name} is other than when the rows were made", file=sys.stderr)
-    check_rows(grid.grid_of(work.text), cases, way.out)
-    rows = cells_in(way.out / RUNS)
-    numbers = verify.chosen(len(rows), wanted)
-    again = results(work, [cases[number] for number in numbers], way)
+    check_rows(grid.grid_of(work.text), cases, out)
+    rows = cells_in(out / RUNS)
+    numbers = verify.chosen(len(rows), count)
+    again = wanted.way.results(work, [cases[number] for number in numbers])
     found = verify.compared(numbers, rows, (it._replace(found=it.found and it.found.row) for it in again))
-    others = other_texts(grid.grid_of(work.text), way.out) if len(rows) == len(cases) else []
+    others = other_texts(grid.grid_of(work.text), out) if len(rows) == len(cases) else []
     for name in others:
         print(f"{name} is not what is made of the rows", file=sys.stderr)
     print(f"by {name_of(work.program)}: ", end="")
@@ -159,15 +157,6 @@ def write_rows(results: Iterable[Result], total: int, folder: pathlib.Path) -> N
                 raise NoSweep(result.fault)
             file.write(line_of(result.found))
             file.flush()
-
-
-def results(work: SweepJob, cases: List[Case], way: Parallelism) -> Iterator[Result]:
-    """The results of runs, by processes or by a cluster."""
-    if not cases:
-        return iter([])
-    if way.cluster:
-        return over_cluster(work, cases, way.cluster)
-    return over_processes(work, cases, way.workers)
 
 
 def write_summary(work: SweepJob, keeper: SweepJob, cases: List[Case], tried: every.SweepRows,

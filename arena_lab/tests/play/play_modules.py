@@ -18,7 +18,7 @@ from arena_lab.rules.fixtures import fixture_of
 from arena_lab.rules.model import Setup
 from arena_lab.rules.networks import ring
 from arena_lab.search.history_tree import NoFunction
-from arena_lab.search.proving import unkept
+from arena_lab.search.match_results import unkept
 from arena_lab.support import built
 from arena_lab.tests.playing import AGENTS, InFolder, program
 from arena_lab.tests.wasm_modules import MODULE, SLEEPER, play_by_stand_in

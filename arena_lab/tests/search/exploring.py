@@ -1,15 +1,17 @@
 """What the tests of `explore` share: the command, a game with one match, and what the program answers of it."""
 import contextlib
 import io
-from typing import Callable, List, Optional, Tuple
+from typing import Any, List, Optional, Tuple
 
 from arena_lab.__main__ import main, parser
 from arena_lab.commands.words import games_of
 from arena_lab.play.teams import AgentWords, Game
 from arena_lab.rules.fixtures import Fixture
-from arena_lab.search.program_search import ExploreAnswer, SampleRequest, asked, silent
-from arena_lab.search.sampled_runs import follow
+from arena_lab.search.findings import ExploreAnswer
 from arena_lab.search.machines import Machines
+from arena_lab.search.program_search import SampleRequest, asked
+from arena_lab.search.sampled_runs import follow
+from arena_lab.support.progress import NO_PROGRESS
 from arena_lab.tests.playing import InFolder, program
 
 
@@ -33,12 +35,12 @@ class InExplore(InFolder):
         return game, fixture
 
     def answered(self, fixture: Fixture, agents: List[AgentWords], *, draws: Optional[SampleRequest] = None,
-                 said: Callable[[str], None] = silent, check: int = 0) -> ExploreAnswer:
+                 shown: Any = NO_PROGRESS, check: int = 0) -> ExploreAnswer:
         """What the program answers of all schedules, or of drawn ones. Then this many drawn schedules are followed."""
         machines = Machines(fixture, agents, 5)
         machines.start()
         try:
-            answered = asked(program(), fixture, machines, 1_000_000, lambda count: None, said, draws)
+            answered = asked(program(), fixture, machines, 1_000_000, shown, draws)
             for seed in range(check):
                 follow(fixture, agents, machines, seed, 5)
             return answered

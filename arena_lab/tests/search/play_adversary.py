@@ -8,7 +8,7 @@ from typing import List, Tuple
 from arena_lab.__main__ import main
 from arena_lab.play.teams import INSIDE, AgentWords, Game
 from arena_lab.rules.networks import Network, complete, flipped_ring, ring
-from arena_lab.search.adversary import Adversary, Fails, NotARing, Phase, steps_of
+from arena_lab.search.adversary import Adversary, Beaten, NotARing, Phase, steps_of
 from arena_lab.search.ring_bounds import least_moves
 from arena_lab.tests.playing import AGENTS, RING, InFolder
 
@@ -93,12 +93,12 @@ class RightTeams(InFolder):
 
 
 class WrongTeams(InFolder):
-    def wrong(self, name: str, nodes: int) -> Tuple[Adversary, Fails]:
+    def wrong(self, name: str, nodes: int) -> Tuple[Adversary, Beaten]:
         path = self.folder / "wrong.py"
         path.write_text(WRONG, encoding="utf-8")
         agents = [AgentWords(INSIDE, f"{path}:{name} {{nodes}} {side}") for side in (0, 1)]
         adversary = Adversary(game(ring(nodes), agents))
-        with self.assertRaises(Fails) as caught:
+        with self.assertRaises(Beaten) as caught:
             list(adversary.phases())
         return adversary, caught.exception
 

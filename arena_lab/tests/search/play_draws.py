@@ -1,14 +1,15 @@
 """What `explore --draws` finds by the program. No drawn schedule has more moves than a search of all schedules finds, a
 hunt finds the most moves on small rings, and the agents play the kept schedule to the same verdict."""
 import statistics
-from typing import Optional
+from typing import Optional, Tuple
 from unittest import main as run_tests
 
 from arena_lab import api as lab
 from arena_lab.__main__ import main
 from arena_lab.commands.explore_samples import moves_of
 from arena_lab.commands.explore import SCHEDULERS
-from arena_lab.search.program_search import ExploreAnswer, SampleRequest
+from arena_lab.search.findings import Comes, ExploreAnswer, SampleCounts, Solves
+from arena_lab.search.program_search import SampleRequest
 from arena_lab.tests.search.exploring import InExplore
 from arena_lab.tests.playing import RING, RING_STEP, program
 from tools.play.mutants import FOLDER
@@ -20,44 +21,48 @@ class Drawing(InExplore):
         game, fixture = self.game("--network", network, "--hole", str(hole), "--agent", RING_STEP.words)
         return self.answered(fixture, game.agents, draws=draws)
 
+    def drawn(self, network: str, hole: int, draws: SampleRequest) -> Tuple[Comes, SampleCounts]:
+        """The worst of schedules that are drawn, none of which fails, and the counts of all."""
+        answered = self.on_ring(network, hole, draws)
+        assert isinstance(answered.found, Comes) and answered.drawn
+        return answered.found, answered.drawn
+
     def test_drawn_schedules_lie_within_what_is_proved(self) -> None:
         for network, hole in (("ring:4", 2), ("ring:5", 3)):
             proved = self.on_ring(network, hole, None).found
-            assert proved is not None
+            assert isinstance(proved, Solves)
             for scheduler in SCHEDULERS:
                 with self.subTest(network=network, hole=hole, scheduler=scheduler):
-                    found, counts, *_ = self.on_ring(network, hole, SampleRequest(200, 1, scheduler, None))
-                    assert found is not None
-                    self.assertEqual((found["found"], counts["solved"], counts["failed"]), ("comes", 200, 0))
-                    self.assertEqual([sum(times for _, times in counts[what]) for what in ("moves", "lost")],
-                                     [200, 200])
-                    self.assertEqual(found["moves"], counts["moves"][-1][0])
-                    self.assertLessEqual(found["moves"], proved["moves"])
-                    self.assertLessEqual(len(found["schedule"]), proved["turns"])
-                    self.assertLessEqual(counts["turns"], 200 * proved["turns"])
-                    self.assertLessEqual(counts["lost"][-1][0], proved["lost"])
+                    found, drawn = self.drawn(network, hole, SampleRequest(200, 1, scheduler, None))
+                    self.assertEqual((drawn.solved, drawn.failed), (200, 0))
+                    self.assertEqual([sum(times for _, times in of) for of in (drawn.moves, drawn.lost)], [200, 200])
+                    self.assertEqual(found.moves, drawn.moves[-1][0])
+                    self.assertLessEqual(found.moves, proved.moves)
+                    self.assertLessEqual(len(found.schedule), proved.turns)
+                    self.assertLessEqual(drawn.turns, 200 * proved.turns)
+                    self.assertLessEqual(drawn.lost[-1][0], proved.lost)
 
     def test_a_hunt_comes_to_the_most_moves(self) -> None:
         for network, hole, scheduler in (("ring:5", 2, "fair"), ("ring:6", 4, "slow-agents")):
             with self.subTest(network=network, hole=hole):
-                proved, hunted = (self.on_ring(network, hole, draws).found
-                                  for draws in (None, SampleRequest(2000, 2, scheduler, "moves")))
-                assert proved is not None and hunted is not None
-                self.assertEqual(hunted["moves"], proved["moves"])
+                proved = self.on_ring(network, hole, None).found
+                hunted, _ = self.drawn(network, hole, SampleRequest(2000, 2, scheduler, "moves"))
+                assert isinstance(proved, Solves)
+                self.assertEqual(hunted.moves, proved.moves)
 
     def test_schedules_are_drawn_as_the_schedulers_of_the_lab_draw(self) -> None:
         for scheduler in SCHEDULERS:
             with self.subTest(scheduler=scheduler):
-                _, counts, *_ = self.on_ring("ring:6", 3, SampleRequest(2000, 3, scheduler, None))
+                _, drawn = self.drawn("ring:6", 3, SampleRequest(2000, 3, scheduler, None))
                 rows = lab.play("ring:6", RING.words, scheduler, count=2, holes=[3], seeds=300, engine="model")
                 moves = [row["moves"] for row in rows]
                 error = statistics.stdev(moves) / len(moves) ** 0.5
-                self.assertAlmostEqual(moves_of(counts["moves"]).mean, statistics.fmean(moves), delta=5 * error + 0.01)
+                self.assertAlmostEqual(moves_of(drawn.moves).mean, statistics.fmean(moves), delta=5 * error + 0.01)
 
     def test_what_is_drawn_is_a_function_of_the_seed(self) -> None:
-        runs = [self.on_ring("ring:6", 3, SampleRequest(100, seed, "slow-agents", None)) for seed in (1, 1, 2)]
-        self.assertEqual((runs[0].found, runs[0].counts), (runs[1].found, runs[1].counts))
-        self.assertNotEqual(runs[0].counts["turns"], runs[2].counts["turns"])
+        runs = [self.drawn("ring:6", 3, SampleRequest(100, seed, "slow-agents", None)) for seed in (1, 1, 2)]
+        self.assertEqual(runs[0], runs[1])
+        self.assertNotEqual(runs[0][1].turns, runs[2][1].turns)
 
     def test_the_agents_play_what_is_kept(self) -> None:
         status = self.command("--network", "ring:5", "--agent", RING_STEP.words, "--draws", 200, "--objective",

@@ -12,8 +12,9 @@ from arena_lab.__main__ import main
 from arena_lab.play.matches import STUCK
 from arena_lab.play.teams import Game
 from arena_lab.rules.fixtures import Fixture
-from arena_lab.search.program_search import Found, asked
 from arena_lab.search.explore import End, explored
+from arena_lab.search.findings import Breaks, Fails, Finding, Solves, name_of
+from arena_lab.search.program_search import asked
 from arena_lab.search.sampled_runs import follow
 from arena_lab.search.machines import Machines
 from arena_lab.search.history_tree import NoFunction
@@ -28,7 +29,7 @@ import time
 for states in (262144, 524288):
     print(f'{{"visited":{states},"depth":37}}', flush=True)
     time.sleep(0.3)
-print('{"found":"solves"}')
+print('{"found":"solves","moves":1,"lost":0,"turns":4}')
 print('{"states":600000}')
 '''
 # how many drawn ends, and drawn machines, are compared
@@ -305,21 +306,21 @@ class Exploring(InExplore):
 
     def test_it_is_told_how_long_the_program_works(self) -> None:
         game, fixture = self.game("--network", "ring:6", "--hole", "1", "--agent", RING.words)
-        told = mock.Mock()
+        shown = mock.Mock()
         with mock.patch("arena_lab.search.program_search.PAUSE", 0.01):
-            self.answered(fixture, game.agents, said=told)
-        self.assertRegex(told.call_args.args[0], r"^the program works for \d+ s and takes \d+ MB$")
+            self.answered(fixture, game.agents, shown=shown)
+        self.assertRegex(shown.set_postfix_str.call_args.args[0], r"^the program works for \d+ s and takes \d+ MB$")
 
     def test_it_is_told_how_far_a_long_search_is(self) -> None:
         _, fixture = self.game("--network", "ring:3", "--hole", "1", "--agent", RING.words)
         long = self.folder / "long"
         long.write_text(LONG, encoding="utf-8")
         long.chmod(0o755)
-        told, machines = mock.Mock(), mock.Mock(module=None)
+        shown, machines = mock.Mock(), mock.Mock(module=None)
         with mock.patch("arena_lab.search.program_search.PAUSE", 0.01):
-            answered = asked(str(long), fixture, machines, 1_000_000, lambda count: None, told)
-        self.assertEqual(answered.counts["states"], 600_000)
-        all_told = [call.args[0] for call in told.call_args_list]
+            answered = asked(str(long), fixture, machines, 1_000_000, shown)
+        self.assertEqual(answered.states, 600_000)
+        all_told = [call.args[0] for call in shown.set_postfix_str.call_args_list]
         for states in ("262,144", "524,288"):
             far = re.compile(rf" MB: {states} states, [\d,]+ a second, 37 turns on the path$")
             self.assertTrue(any(map(far.search, all_told)), states)
@@ -343,8 +344,7 @@ class Exploring(InExplore):
         match = ["--network", "ring:3", "--hole", "2", "--agents", "1"]
         game, fixture = self.game(*match, *self.odd("knows"))
         answered = self.answered(fixture._replace(held=[(0, 0)]), game.agents)
-        self.assertEqual(answered.found, {"found": "fails", "outcome": "silent", "moves": 1, "lost": 0,
-                                          "schedule": [0, 0]})
+        self.assertEqual(answered.found, Fails("silent", 1, 0, (0, 0)))
 
     def test_an_agent_that_is_no_function_is_found_by_drawn_schedules(self) -> None:
         game, fixture = self.game("--network", "ring:3", "--hole", "1", *self.odd("hides"))
@@ -372,11 +372,11 @@ class Exploring(InExplore):
                                       *self.odd("knows"),
                                       *self.odd(f"ends {seed}"))
             found, beside = self.both(game, fixture, check=2)
-            kinds[found["found"]] = kinds.get(found["found"], 0) + 1
-            self.assertEqual(found["found"] != "solves", beside.has_failed, (seed, found, beside))
+            kinds[name_of(type(found))] = kinds.get(name_of(type(found)), 0) + 1
+            self.assertEqual(not isinstance(found, Solves), beside.has_failed, (seed, found, beside))
         self.assertLessEqual({"solves", "breaks", "fails"}, set(kinds), kinds)
 
-    def both(self, game: Game, fixture: Fixture, check: int = 0) -> Tuple[Found, End]:
+    def both(self, game: Game, fixture: Fixture, check: int = 0) -> Tuple[Finding, End]:
         """What the program finds, and the worst end by the Python model."""
         found = self.answered(fixture, game.agents, check=check).found
         beside = explored(fixture, game.agents, mock.Mock()).explorer.worst
@@ -401,12 +401,12 @@ class Exploring(InExplore):
         match += ["--quota", str(chance.randrange(3, 9)), "--spurious-wakeups", str(chance.randrange(3))]
         game, fixture = self.game(*match, *(word for it in machines for word in self.odd(it)))
         found, beside = self.both(game, fixture)
-        if found["found"] in ("fails", "breaks"):
+        if isinstance(found, (Fails, Breaks)):
             self.assertTrue(beside.has_failed, (seed, found, beside))
-        elif found["found"] == "solves":
+        elif isinstance(found, Solves):
             self.assertFalse(beside.has_failed, (seed, found, beside))
-            self.assertEqual((beside.verdict.outcome, beside.verdict.moves), ("solved", found["moves"]), (seed, beside))
-        return found["found"]
+            self.assertEqual((beside.verdict.outcome, beside.verdict.moves), ("solved", found.moves), (seed, beside))
+        return name_of(type(found))
 
 
 if __name__ == "__main__":

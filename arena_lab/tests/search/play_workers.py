@@ -7,8 +7,8 @@ from typing import List, Tuple
 from unittest import mock
 
 from arena_lab.__main__ import main
-from arena_lab.search.program_search import ExploreAnswer
-from arena_lab.search.proving import MatchResult
+from arena_lab.search.findings import Exceeds, ExploreAnswer
+from arena_lab.search.match_results import MatchResult
 from arena_lab.sweep import proofs
 from arena_lab.sweep.tables import NoTable
 from arena_lab.tests.search.exploring import InExplore
@@ -106,7 +106,7 @@ class Workers(InExplore):
         game, fixture = self.game(*words, "--hole", "1")
         folder = proofs.Folder(self.folder / "few", [game], program())
         with self.assertRaisesRegex(NoTable, "writes what it finds alone"):
-            folder.add(MatchResult(fixture, ExploreAnswer({"found": "exceeds"}, {"states": 1}, 1.0), mock.Mock()))
+            folder.add(MatchResult(fixture, ExploreAnswer(Exceeds(0, 11), 1.0, states=1), mock.Mock()))
 
     def test_words_that_do_not_belong_together(self) -> None:
         for words, why in ((["--out", "x", "--draws", 5], "--out is for all schedules"),

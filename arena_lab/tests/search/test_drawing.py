@@ -6,28 +6,26 @@ from typing import Any, List
 from unittest import mock
 
 from arena_lab.commands import explore_samples
-from arena_lab.commands.explore_program import Search
 from arena_lab.rules.engines import Differs
 from arena_lab.rules.fixtures import Fixture
 from arena_lab.rules.model import Setup
 from arena_lab.rules.networks import ring
-from arena_lab.search.program_search import ExploreAnswer, SampleRequest
-from arena_lab.search.proving import MatchResult
+from arena_lab.search.findings import Comes, ExploreAnswer, SampleCounts
+from arena_lab.search.match_results import MatchResult
+from arena_lab.search.program_search import SampleRequest
 
 
 def tried(hole: int, moves: int, lost: int, solved: int = 7, failed: int = 0) -> MatchResult:
     """A match whose drawn schedules come to this."""
     fixture = Fixture("lab", Setup(3, ring(3).links, 0, [hole], 1, 10, 8), ["k"], [])
-    found = {"found": "comes", "moves": moves, "lost": lost, "schedule": []}
-    return MatchResult(fixture, ExploreAnswer(found, {"solved": solved, "failed": failed, "turns": 9}, 1.0))
+    return MatchResult(fixture, ExploreAnswer(Comes(moves, lost, ()), 1.0, drawn=SampleCounts(solved, failed, 9)))
 
 
 class Drawing(unittest.TestCase):
     def told(self, tries: List[MatchResult], hunt: Any = None) -> str:
-        said, checks = io.StringIO(), mock.Mock(__str__=lambda _: "checked")
-        wanted: Any = None
-        with contextlib.redirect_stdout(said), mock.patch.object(explore_samples, "shown_schedule"):
-            search, draws = Search(tries, checks, 1.25), SampleRequest(7, 1, "fair", hunt)
+        said, wanted = io.StringIO(), mock.Mock()
+        with contextlib.redirect_stdout(said), mock.patch.object(explore_samples, "keep"):
+            search, draws = mock.Mock(tries=tries, checks="checked", seconds=1.25), SampleRequest(7, 1, "fair", hunt)
             self.assertEqual(explore_samples.report_samples(wanted, draws, search), 0)
         return said.getvalue()
 

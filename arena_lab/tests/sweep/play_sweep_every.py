@@ -88,7 +88,7 @@ class Every(InFolder):
         self.assertTrue(limited and len(limited) < 10)
         self.assertEqual({row[10] for row in self.rows() if row[9] == every.LIMIT}, {"60"})
         self.assertEqual(self.found()["ring:4", "right"], ["too many states", "", ""])
-        with mock.patch.object(every, "over_processes", side_effect=every.over_processes) as over:
+        with mock.patch.object(parallel, "over_processes", side_effect=parallel.over_processes) as over:
             self.comes_to(1, "--explore", "100000")
         tried = [match.number for match in over.call_args.args[1]]
         self.assertEqual(tried, limited)
@@ -114,8 +114,8 @@ class Every(InFolder):
     def test_a_team_whose_agents_are_no_functions_is_told(self) -> None:
         text = TEXT.partition("[[team]]")[0].replace('"ring:3", "ring:4"', '"ring:3"')
         self.file.write_text(text + TEXT[TEXT.index("[[team]]"):].replace('"right"', '"odd"'))
-        with mock.patch.object(every.parallel, "here", side_effect=NoFunction("it is none")), \
-                mock.patch.object(every, "over_processes", lambda work, matches, *_, **__: (
+        with mock.patch.object(every.driver, "here", side_effect=NoFunction("it is none")), \
+                mock.patch.object(parallel, "over_processes", lambda work, matches, *_, **__: (
                     parallel.result_of(work, match) for match in matches)):
             status, said = self.swept("--explore", "100")
         self.assertEqual(status, 2, said)
