@@ -13,6 +13,7 @@ import sys
 import sysconfig
 import time
 import uuid
+from importlib.machinery import PathFinder
 from types import ModuleType
 from typing import Any, Callable, Dict, Iterator, List, Optional, Set, Tuple
 
@@ -153,8 +154,15 @@ def read_in(of_program: Notes) -> Dict[str, str]:
         files = (source_of(os.path.abspath(file)) for file in notes.files)
         found.update(named(pathlib.Path(file)) for file in files
                      if not file.startswith(NOT_READ) and os.path.isfile(file))
-        found.update(f"{PACKAGE}{name}" for name in notes.modules if package_digest(name))
+        found.update(f"{PACKAGE}{name}" for name in notes.modules if is_installed(name))
     return {name: digest_named(name) for name in sorted(found)}
+
+
+def is_installed(name: str) -> bool:
+    """Whether a module belongs to an installed package. One that stands beside an agent is a file that it has read."""
+    spec = PathFinder.find_spec(name) if package_digest(name) else None
+    return spec is not None and any(place.startswith(NOT_READ) for place in (
+        spec.origin or "", *(spec.submodule_search_locations or ())))
 
 
 def source_of(file: str) -> str:

@@ -2,6 +2,8 @@
 import contextlib
 import io
 import re
+import subprocess
+import sys
 import unittest
 from typing import List, Tuple
 from unittest import mock
@@ -13,7 +15,7 @@ from arena_lab.sweep import proofs
 from arena_lab.sweep.tables import NoTable
 from arena_lab.tests.search.exploring import InExplore
 from arena_lab.tests.search.play_cluster import HAS_DASK, Clusters
-from arena_lab.tests.playing import RING, program
+from arena_lab.tests.playing import RING, RING_STEP, program
 
 # the numbers of a line that tells of a match or of all: without seconds, and what was checked
 TELLS = re.compile(r"^home .*, (?=[\d.]+ s)|^most moves.*", re.MULTILINE)
@@ -76,6 +78,15 @@ class Workers(InExplore):
         self.assertEqual(self.explored(*words, "--workers", 2, "--max-states", 50_000), (0, told))
         self.assertEqual(self.said.count("as it was written before"), 3)
         self.assertEqual(self.rows(), rows)
+
+    def test_rows_of_an_agent_whose_modules_stand_beside_it_are_taken_up(self) -> None:
+        """By a process of its own, which has not played the agent before."""
+        words = ["--network", "ring:3", "--agent", RING_STEP.words, "--program", program(), "--out",
+                 str(self.folder / "out")]
+        for is_known in (False, True):
+            ran = subprocess.run([sys.executable, "-m", "arena_lab", "explore", *words], capture_output=True, text=True)
+            self.assertEqual(ran.returncode, 0, ran.stderr)
+            self.assertEqual("as it was written before" in ran.stdout, is_known)
 
     def test_rows_of_other_matches_or_another_quota_are_refused(self) -> None:
         words = ["--network", "ring:3", "--out", self.folder / "out"]
