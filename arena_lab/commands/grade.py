@@ -83,7 +83,7 @@ def run(words: argparse.Namespace) -> int:
     read = course.read(path, "")
     course.check_networks(read)
     own = [file for files in read.files.values() for file in files]
-    course.check_walls(strongest, [path.parent, words.out, *own], read.tools)
+    course.check_walls(strongest, [path.parent, words.out, *own], read.terms.tools)
     for name in read.grid.schedulers:
         read.maker(name)
     if strongest is not Isolation.ALL:
@@ -93,7 +93,7 @@ def run(words: argparse.Namespace) -> int:
     with tables.alone_in(words.out):
         handed_in = hand_ins(words.out, read)
         secret = course.secret_in(words.out, words.secret, handed_in)
-        yard = Sandbox(strongest, read.tools, read.has_proc, calls=read.calls)
+        yard = Sandbox(strongest, read.terms.tools, read.terms.has_proc, calls=read.terms.calls)
         graded = GradingRun(read.text, path.parent, secret, program, yard, words.out, not words.no_repeat,
                         forgets=words.drop_caches, export=wanted)
         return graded_in(graded, words.workers, handed_in)

@@ -68,24 +68,28 @@ from arena_lab.play.agent_files import digests
 from arena_lab.play.games import maker_of
 from arena_lab.play.programs import HOST
 from arena_lab.play.schedulers import Maker
-from arena_lab.play.teams import OUTSIDE
+from arena_lab.play.teams import OUTSIDE, agent_named
 from arena_lab.play.wasm_modules import is_module
 from arena_lab.rules import networks
 from arena_lab.rules.fixtures import Fixture
 from arena_lab.sandbox import calls, isolation
 from arena_lab.sandbox.cells import Isolation
+from arena_lab.support import fields
+from arena_lab.support.fields import Field, WrongFile, is_text, is_texts
 from arena_lab.sweep import grid, tables
-from arena_lab.sweep.grid import Case, Grid, NoSweep, is_count, is_text, is_texts, taken
+from arena_lab.sweep.grid import Case, Grid, TeamRow
 
 FILES = "files"
-KEYS = grid.KEYS - {"bound"} | {"limit", "match_limit", "team_limit", "match_space", "team_space", "tries", "tools",
-                                   "packages", "proc", "calls", "points"}
-TEAM_KEYS = {"name", "agents", OUTSIDE, FILES}
-LIMIT, TRIES = 20, 100
-# seconds of a match, of all matches of a team, and of these for each match
-MATCH_LIMIT, TEAM_LIMIT, FOR_A_MATCH = 60, 600, 5
-# MB of lines of a match, of what is written of all matches of a team, and of these for each match
-MATCH_SPACE, TEAM_SPACE, SPACE_FOR_A_MATCH = 8, 256, 2
+# seconds and MB of a match, if that is more for all matches of a team
+FOR_A_MATCH, SPACE_FOR_A_MATCH = 5, 2
+FIELDS = {
+    "limit": fields.count(20, "seconds"), "match_limit": fields.count(60, "seconds"),
+    "team_limit": fields.count(600, "seconds"), "match_space": fields.count(8, "MB"),
+    "team_space": fields.count(256, "MB"), "tools": fields.MAYBE_NAMES._replace(wanted="a list of folders"),
+    "proc": fields.FLAG, "team": grid.FIELDS["team"], "packages": fields.MAYBE_NAMES, "calls": fields.MAYBE_NAMES,
+    "tries": Field(fields.is_number, "a whole number", 100),
+    **{name: field for name, field in grid.FIELDS.items() if name != "bound"}, "points": fields.table("points", {}),
+}
 SECRET, GIVEN = "secret.txt", "given"
 WORDS = ("host", "port", "key", "nodes", "links", "home", "network")
 NEEDED = ("port", "key")
@@ -113,12 +117,8 @@ class CourseFile(NamedTuple):
     draws: CourseDraws
     grid: Grid
     files: Dict[str, List[pathlib.Path]]
-    limits: "ProgramLimits"
+    terms: "Terms"
     tries: int
-    tools: Tuple[str, ...]
-    has_proc: bool
-    packages: Tuple[str, ...] = ()
-    calls: Tuple[str, ...] = ()
     # which of `home` and `ports` the file has
     named: FrozenSet[str] = frozenset()
     points: Optional[Points] = None
@@ -194,8 +194,8 @@ def read(path: pathlib.Path, secret: str) -> CourseFile:
     """The course of a file."""
     try:
         return course_of(grid.text_in(path), path.parent, secret)
-    except NoSweep as fault:
-        raise NoSweep(f"{path}: {fault}") from None
+    except WrongFile as fault:
+        raise WrongFile(f"{path}: {fault}") from None
 
 
 def secret_in(out: pathlib.Path, given: Optional[pathlib.Path], handed_in: Mapping[str, str] = {}) -> str:
@@ -206,7 +206,7 @@ def secret_in(out: pathlib.Path, given: Optional[pathlib.Path], handed_in: Mappi
     if path.exists():
         kept = grid.text_in(path).strip()
         if said not in (None, kept):
-            raise NoSweep(f"{path} is another secret than {given}: name another folder by --out, or remove this one")
+            raise WrongFile(f"{path} is another secret than {given}: name another folder by --out, or remove this one")
         return kept
     out.mkdir(parents=True, exist_ok=True)
     said = said or secrets.token_hex(32)
@@ -220,7 +220,7 @@ def secret_given(given: pathlib.Path, handed_in: Mapping[str, str]) -> str:
     another one: what the team was shown of its matches is not to help it."""
     said = grid.text_in(given).strip()
     if len(said) < 16:
-        raise NoSweep(f"{given}: a secret has at least 16 characters, or it could be guessed")
+        raise WrongFile(f"{given}: a secret has at least 16 characters, or it could be guessed")
     before = tables.record_in(given.parent).get("files", {}) if (given.parent / tables.MADE).exists() else {}
     others = sorted(name for name, digest in handed_in.items() if before.get(name, digest) != digest)
     if not others:
@@ -233,18 +233,16 @@ def secret_given(given: pathlib.Path, handed_in: Mapping[str, str]) -> str:
 @functools.lru_cache(maxsize=4)
 def course_of(text: str, folder: pathlib.Path, secret: str) -> CourseFile:
     """The course that a text says, whose files are looked for in the folder."""
-    found = grid.table_of(text)
-    grid.check_keys(found, KEYS, "a course")
-    terms = terms_in(found)
-    tries = taken(found, "tries", grid.is_number, "a whole number", TRIES)
-    files = {row["name"]: files_of(row.pop(FILES), row["name"], folder) for row in found["team"]}
-    named = frozenset({"home", "ports"} & set(found))
-    if found.get("ports") == GIVEN:
-        del found["ports"]
-    played = grid.grid_in(found, folder)
-    limits = for_matches(terms.limits, sum(1 for _ in played.cases()) // len(played.teams), found)
-    return CourseFile(text, folder, CourseDraws(secret), played, files, limits, tries, terms.tools, terms.has_proc,
-                  terms.packages, terms.calls, named, points_in(found, played))
+    found = fields.table_of(text)
+    said = fields.values_of(found, FIELDS, "a course")
+    rows = fields.unlike(list(map(team_in, said["team"])), "team")
+    files = {row["name"]: files_of(row[FILES], row["name"], folder) for row in rows}
+    teams = [TeamRow(row["name"], row["agents"], agent_named(OUTSIDE, row[OUTSIDE])) for row in rows]
+    played = grid.grid_in({**said, "ports": None if said["ports"] == GIVEN else said["ports"]}, teams, folder)
+    terms = terms_in(said, rows)
+    limits = for_matches(terms.limits, sum(1 for _ in played.cases()) // len(teams), found)
+    return CourseFile(text, folder, CourseDraws(secret), played, files, terms._replace(limits=limits), said["tries"],
+                      frozenset({"home", "ports"} & set(found)), points_in(said["points"], played))
 
 
 def for_matches(limits: ProgramLimits, matches: int, found: Dict[str, Any]) -> ProgramLimits:
@@ -254,56 +252,51 @@ def for_matches(limits: ProgramLimits, matches: int, found: Dict[str, Any]) -> P
     return limits._replace(team=time, team_space=space)
 
 
-def terms_in(found: Dict[str, Any]) -> Terms:
-    """The terms that a file's table says."""
-    limits = ProgramLimits(*(taken(found, name, is_count, f"a whole number of {unit} from 1", usual) for name, unit,
-                             usual in (
-        ("limit", "seconds", LIMIT), ("match_limit", "seconds", MATCH_LIMIT), ("team_limit", "seconds", TEAM_LIMIT),
-        ("match_space", "MB", MATCH_SPACE), ("team_space", "MB", TEAM_SPACE))))
-    tools = tools_of(taken(found, "tools", lambda it: it == [] or is_texts(it), "a list of folders", []))
-    has_proc = taken(found, "proc", lambda it: isinstance(it, bool), "true or false", False)
-    teams = taken(found, "team", grid.is_tables, "given: write [[team]] and its keys below it")
-    commands = {check_team(row): str(row[OUTSIDE]) for row in teams}
-    packages = tuple(taken(found, "packages", lambda it: it == [] or is_texts(it), "a list of names", []))
-    return Terms(limits, commands, tools, has_proc, packages, calls_in(found))
+def terms_in(said: Dict[str, Any], rows: Sequence[Dict[str, Any]]) -> Terms:
+    """The terms that a file says, with these teams."""
+    limits = (said[name] for name in ("limit", "match_limit", "team_limit", "match_space", "team_space"))
+    return Terms(ProgramLimits(*limits), {row["name"]: row[OUTSIDE] for row in rows}, tools_of(said["tools"]),
+                 said["proc"], tuple(said["packages"]), calls_of(said["calls"]))
+
+
+def calls_of(names: List[str]) -> Tuple[str, ...]:
+    """The calls that a course allows its programs."""
+    for name in names:
+        why = calls.never(name)
+        if why:
+            raise WrongFile(f"calls has {name}, which no course may allow: {why}")
+    return tuple(names)
 
 
 @functools.lru_cache(maxsize=4)
 def terms_of(text: str, matches: int) -> Terms:
     """The terms of a course that has this text, in which each team has this number of matches."""
-    found = grid.table_of(text)
-    terms = terms_in(found)
+    found = fields.table_of(text)
+    said = fields.values_of(found, FIELDS, "a course")
+    terms = terms_in(said, list(map(team_in, said["team"])))
     return terms._replace(limits=for_matches(terms.limits, matches, found))
-
-
-def calls_in(found: Dict[str, Any]) -> Tuple[str, ...]:
-    """The calls that a course allows its programs."""
-    names = tuple(taken(found, "calls", lambda it: it == [] or is_texts(it), "a list of names", []))
-    for name in names:
-        why = calls.never(name)
-        if why:
-            raise NoSweep(f"calls has {name}, which no course may allow: {why}")
-    return names
 
 
 def tools_of(names: List[str]) -> Tuple[str, ...]:
     """Folders that programs see, besides the system's."""
     for name in names:
         if not os.path.isabs(name) or not os.path.isdir(name) or len(pathlib.Path(name).parts) < 3:
-            raise NoSweep(f"tools has {name}, which is no folder that programs may see: write one like /opt/jdk-21")
+            raise WrongFile(f"tools has {name}, which is no folder that programs may see: write one like /opt/jdk-21")
     return tuple(names)
 
 
-def check_team(row: Dict[str, Any]) -> str:
-    """Refuses a team that cannot play; gives its name."""
-    grid.check_keys(row, TEAM_KEYS, "a team of a course")
-    name: str = taken(row, "name", lambda it: isinstance(it, str) and bool(re.fullmatch("[a-z0-9-]{1,16}", it)),
-                      "given for each team, of 1 to 16 characters out of a to z, 0 to 9 and -")
-    command = taken(row, OUTSIDE, is_text, f"given for team {name}: the words that start the program of one agent, "
-                    "such as \"python3 agent.py {host} {port} {key} {nodes}\"")
-    taken(row, FILES, is_texts, f"given for team {name}: a list of its files and folders, such as [\"teams/{name}\"]")
-    check_command(command, name)
-    return name
+def team_in(row: Dict[str, Any]) -> Dict[str, Any]:
+    """What a team's table says."""
+    of = f"given for team {row.get('name')}:"
+    said = fields.values_of(row, {
+        "name": Field(lambda it: isinstance(it, str) and bool(re.fullmatch("[a-z0-9-]{1,16}", it)),
+                      "given for each team, of 1 to 16 characters out of a to z, 0 to 9 and -"),
+        OUTSIDE: Field(is_text, f"{of} the words that start the program of one agent, such as "
+                       "\"python3 agent.py {host} {port} {key} {nodes}\""),
+        FILES: Field(is_texts, f"{of} a list of its files and folders, such as [\"teams/{row.get('name')}\"]"),
+        "agents": grid.AGENTS}, "a team of a course")
+    check_command(said[OUTSIDE], said["name"])
+    return said
 
 
 def check_command(command: str, team: str) -> None:
@@ -314,10 +307,11 @@ def check_command(command: str, team: str) -> None:
     except (KeyError, IndexError, ValueError) as fault:
         why = f"has {fault}" if isinstance(fault, KeyError) else f"cannot be read: {fault}"
         known = ", ".join(f"{{{name}}}" for name in WORDS)
-        raise NoSweep(f"the command of team {team} {why}; it may have {known}, and a brace is written twice") from None
+        raise WrongFile(f"the command of team {team} {why}; it may have {known}, and a brace is written twice"
+                        ) from None
     for name in NEEDED if not is_module(command) else ():
         if f"<{name}>" not in said:
-            raise NoSweep(f"the command of team {team} has no {{{name}}}: the program is to connect to {HOST} at "
+            raise WrongFile(f"the command of team {team} has no {{{name}}}: the program is to connect to {HOST} at "
                           "{port}, and to enter with {key}")
 
 
@@ -326,7 +320,7 @@ def files_of(names: List[str], team: str, folder: pathlib.Path) -> List[pathlib.
     found = [folder / name for name in names]
     for name, path in zip(names, found):
         if not path.exists():
-            raise NoSweep(f"files of team {team} has {name}, and there is no {path}")
+            raise WrongFile(f"files of team {team} has {name}, and there is no {path}")
     return found
 
 
@@ -335,7 +329,7 @@ def check_walls(strongest: Isolation, paths: Sequence[pathlib.Path], tools: Sequ
     for path in paths:
         seen = isolation.seen_at(path, tools) if strongest is Isolation.ALL else None
         if seen:
-            raise NoSweep(f"{path}: teams' programs see {seen}, to find what they run by: name a folder elsewhere")
+            raise WrongFile(f"{path}: teams' programs see {seen}, to find what they run by: name a folder elsewhere")
 
 
 def check_networks(course: CourseFile) -> None:
@@ -343,5 +337,5 @@ def check_networks(course: CourseFile) -> None:
     for name, network in course.grid.networks.items():
         cut = networks.cut_of(network)
         if cut:
-            raise NoSweep(f"networks has {name}, which is not biconnected: {cut}; take another, as no team can solve "
+            raise WrongFile(f"networks has {name}, which is not biconnected: {cut}; take another, as no team can solve "
                           "each match on it")

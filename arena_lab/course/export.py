@@ -16,7 +16,7 @@ from typing import Dict, List, Mapping, NamedTuple, Optional, Sequence, Tuple
 
 from arena_lab.course import league
 from arena_lab.course.points import Mark, Points, number, text
-from arena_lab.sweep.grid import NoSweep
+from arena_lab.support.fields import WrongFile
 from arena_lab.sweep.report import is_solved
 from arena_lab.sweep.tables import line_of
 
@@ -71,19 +71,20 @@ def students_in(path: pathlib.Path, teams: Sequence[str]) -> List[Student]:
             rows = list(csv.DictReader(file))
             heads = [name for name in IDENTITIES if rows and name in rows[0]]
     except FileNotFoundError:
-        raise NoSweep(f"{path}: there is no such file; write a table with the columns team and idnumber or email, or "
+        raise WrongFile(f"{path}: there is no such file; write a table with the columns team and idnumber or email, or "
                       "name one by --students") from None
     except (UnicodeDecodeError, csv.Error) as fault:
-        raise NoSweep(f"{path}: it is no CSV in UTF-8: {fault}") from None
+        raise WrongFile(f"{path}: it is no CSV in UTF-8: {fault}") from None
     if not heads or "team" not in rows[0]:
-        raise NoSweep(f"{path}: its first line must have the columns team and idnumber or email, and a student follow")
+        raise WrongFile(f"{path}: its first line must have the columns team and idnumber or email, and a student "
+                        "follow")
     found = [Student(heads[0], (row[heads[0]] or "").strip(), (row["team"] or "").strip()) for row in rows]
     names = [it.name for it in found]
     for line, it in enumerate(found, 2):
         if it.team not in teams:
-            raise NoSweep(f"{path}: line {line} has team {it.team}, which the course does not have")
+            raise WrongFile(f"{path}: line {line} has team {it.team}, which the course does not have")
         if not it.name or names.count(it.name) > 1:
-            raise NoSweep(f"{path}: line {line} has no {heads[0]} of its own")
+            raise WrongFile(f"{path}: line {line} has no {heads[0]} of its own")
     return found
 
 

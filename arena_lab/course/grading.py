@@ -34,10 +34,11 @@ from arena_lab.rules.model import SOLVED, Verdict
 from arena_lab.sandbox import cells, isolation
 from arena_lab.sandbox.cells import Isolation, Sandbox
 from arena_lab.search.minimising import Cut, Runs, in_words, noted, runs_of
+from arena_lab.support.fields import WrongFile
 from arena_lab.support.missing import Missing
 from arena_lab.support.progress import along
 from arena_lab.sweep import report, sweeping, tables
-from arena_lab.sweep.grid import Case, NoSweep
+from arena_lab.sweep.grid import Case
 from arena_lab.sweep.report import Row
 
 HANGS = "a program lets the lab wait, and what happens then depends on the machine"
@@ -113,7 +114,7 @@ class GradingRun(NamedTuple):
 
     def repeating(self) -> Repeating:
         """What repeats agents of solved matches."""
-        return Repeating(self.out, self.text, self.course.draws, self.yard, self.course.limits, self.forgets)
+        return Repeating(self.out, self.text, self.course.draws, self.yard, self.course.terms.limits, self.forgets)
 
     def digests(self) -> Dict[str, str]:
         """The SHA-256 of each file that rows depend on."""
@@ -139,7 +140,7 @@ class GradingRun(NamedTuple):
 
     def match(self, case: Case, scheduler: Scheduler, program: Optional[str]) -> Tuple[Schedule, PlayedMatch]:
         """Plays a match by this scheduler."""
-        fixture, limits = self.course.fixture(case), self.course.limits
+        fixture, limits = self.course.fixture(case), self.course.terms.limits
         agents = [case.team.words] * fixture.setup.agents
         files = self._take(case.team.name).files
         origin = f"{case.scheduler} {self.course.seed(case)} on {case.network}"
@@ -220,7 +221,7 @@ class Cutting(NamedTuple):
             raise NotSmaller(DIFFERS)
 
         def is_late() -> bool:
-            return time.monotonic() - began > asked.limits.match
+            return time.monotonic() - began > asked.terms.limits.match
         cut = Cut(runs_of(numbers), lambda runs: self._fails(case, runs), asked.tries, is_late)
         schedule, played = graded.match(case, in_runs(cut.runs), graded.program)
         if not played.has_failed():
@@ -255,7 +256,7 @@ def graded_in(graded: GradingRun, workers: int, handed_in: Optional[Dict[str, st
     cases = graded.course.cases()
     commands = [team.words.words for team in graded.course.grid.teams]
     try:
-        with cells.furnished(graded.yard, commands, graded.course.packages) as yard:
+        with cells.furnished(graded.yard, commands, graded.course.terms.packages) as yard:
             graded = graded._replace(yard=yard)
             prepare(graded)
             budget = budget_of(graded, cases)
@@ -282,7 +283,7 @@ def tell_changes(before: Dict[str, str], now: Dict[str, str]) -> None:
 
 def budget_of(graded: GradingRun, cases: Sequence[Case]) -> Budget:
     """The time and the space that teams have for their matches."""
-    limits, names = graded.course.limits, {case.team.name for case in cases}
+    limits, names = graded.course.terms.limits, {case.team.name for case in cases}
     return Budget(limits.team, dict.fromkeys(names, 0.0), limits.team_space, written(graded.out, cases))
 
 
@@ -424,7 +425,7 @@ def cut_down(graded: GradingRun, failed: List[Case], rows: List[Row], workers: i
                                           "network: see there") for case in failed}
     for result in along(cut_in_time(cutting, list(first.values()), workers, budget), len(first), "failed match"):
         if result.fault:
-            raise NoSweep(result.fault)
+            raise WrongFile(result.fault)
         found[result.found.number] = result.found
     return found
 

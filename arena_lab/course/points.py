@@ -21,11 +21,11 @@ A match that is not solved, or does not repeat, has no points, and none has fewe
 import math
 from typing import Any, Dict, List, Mapping, NamedTuple, Sequence, Union
 
-from arena_lab.sweep import grid
-from arena_lab.sweep.grid import BOUNDS, Grid, NoSweep, taken
+from arena_lab.support import fields
+from arena_lab.support.fields import Field, WrongFile
+from arena_lab.sweep.grid import BOUNDS, Grid
 from arena_lab.sweep.report import FAULTS, Row, is_solved
 
-KEYS = {"network", "moves", "bound", "lost", "visibility"}
 # points of a network if nothing else is said
 USUAL = 10
 VISIBLE = ("visible", "hidden", "after_due_date", "after_published")
@@ -65,19 +65,6 @@ class Mark(NamedTuple):
         return f"match {self.number}: {self.row['network']}, {self.row['scheduler']} {self.row['seed']}"
 
 
-def points_in(found: Dict[str, Any], played: Grid) -> Points:
-    """The points that a course's file gives."""
-    table = taken(found, "points", lambda it: isinstance(it, dict), "a table: write [points] and its keys below it", {})
-    grid.check_keys(table, KEYS, "[points]")
-    bound = taken(table, "bound", is_bound, f"a number of moves or one of {', '.join(BOUNDS)}", None)
-    moves = taken(table, "moves", lambda it: is_amount(it) and it <= 1, "a part from 0 to 1", 0)
-    if moves and bound is None:
-        raise NoSweep("[points] has moves, and no bound of which they are: write for example bound = \"2 n log2 n\"")
-    lost = taken(table, "lost", is_amount, "a number from 0", 0)
-    seen = taken(table, "visibility", lambda it: it in VISIBLE, f"one of {', '.join(VISIBLE)}", VISIBLE[0])
-    return Points(of_networks(table, played), moves, bound, lost, seen, len(played.dark))
-
-
 def is_amount(value: Any) -> bool:
     return isinstance(value, (int, float)) and not isinstance(value, bool) and 0 <= value <= 1e6
 
@@ -90,13 +77,29 @@ def is_bound(value: Any) -> bool:
     return isinstance(value, str) and value in BOUNDS or is_amount(value) and value > 0 or value is None
 
 
-def of_networks(table: Dict[str, Any], played: Grid) -> Dict[str, int]:
+FIELDS = {
+    "network": Field(are_amounts, 'a number of points from 0, or a table such as {"ring:8" = 5}', USUAL),
+    "moves": Field(lambda it: is_amount(it) and it <= 1, "a part from 0 to 1", 0),
+    "bound": Field(is_bound, f"a number of moves or one of {', '.join(BOUNDS)}", None),
+    "lost": Field(is_amount, "a number from 0", 0), "visibility": fields.one_of(VISIBLE, VISIBLE[0]),
+}
+
+
+def points_in(table: Dict[str, Any], played: Grid) -> Points:
+    """The points that a table of a course's file gives."""
+    said = fields.values_of(table, FIELDS, "[points]")
+    if said["moves"] and said["bound"] is None:
+        raise WrongFile("[points] has moves, and no bound of which they are: write for example bound = \"2 n log2 n\"")
+    return Points(of_networks(said["network"], played), said["moves"], said["bound"], said["lost"], said["visibility"],
+                  len(played.dark))
+
+
+def of_networks(said: Any, played: Grid) -> Dict[str, int]:
     """The points of each network, in hundredths."""
-    said = taken(table, "network", are_amounts, 'a number of points from 0, or a table such as {"ring:8" = 5}', USUAL)
     if isinstance(said, dict):
         for name in said:
             if name not in played.names:
-                raise NoSweep(f"[points] has points for {name}, which is not in networks")
+                raise WrongFile(f"[points] has points for {name}, which is not in networks")
     return {name: round(CENTS * (said.get(name, USUAL) if isinstance(said, dict) else said)) for name in played.names}
 
 

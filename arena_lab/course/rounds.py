@@ -25,10 +25,10 @@ from arena_lab.sandbox.cells import Sandbox
 from arena_lab.sandbox.isolation import NoCell
 from arena_lab.sandbox.users import NoUser
 from arena_lab.support.built import NoProgram
+from arena_lab.support.fields import WrongFile
 from arena_lab.support.missing import Missing
 from arena_lab.support.progress import along
 from arena_lab.sweep import report
-from arena_lab.sweep.grid import NoSweep
 from arena_lab.sweep.report import Row
 from arena_lab.sweep.tables import NoTable
 
@@ -129,7 +129,7 @@ def repeated(job: Repeating, solved: Sequence[Solved], workers: int, chance: ran
 
     for result in along(results(), sum(it.agents for it in solved), "repetition"):
         if result.fault:
-            raise NoSweep(result.fault)
+            raise WrongFile(result.fault)
         number, said = result.found
         if said:
             found[number] = said

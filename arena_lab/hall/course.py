@@ -66,27 +66,76 @@ import datetime
 import functools
 import pathlib
 import re
-import tomllib
 import zoneinfo
-from typing import Any, Dict, List, NamedTuple, Optional, Tuple, Union
+from typing import Any, Dict, List, NamedTuple, Optional, Sequence, Tuple
 
 from arena_lab.course.course import check_command
 from arena_lab.play.wasm_modules import file_in, is_module
 from arena_lab.rules import networks
-from arena_lab.rules.limits import MOST_AGENTS, MOST_BOARD, MOST_QUOTA, SMALL_BOARD, SMALL_QUOTA
+from arena_lab.rules.limits import MOST_BOARD, MOST_QUOTA, SMALL_BOARD, SMALL_QUOTA
 from arena_lab.rules.networks import Network, NoNetwork
+from arena_lab.support import fields
 from arena_lab.support.faults import Fault
-from arena_lab.sweep.grid import DEGREE, NoSweep, is_count, is_number, is_text, is_texts, taken
+from arena_lab.support.fields import Field, WrongFile, is_count, is_number, is_text, is_texts
+from arena_lab.sweep.grid import AGENTS, DEGREE, MAY_BE_TEXT
 
 LANGUAGES = ("en", "de", "fr")
 DRAWN, FIXED = "drawn", "fixed"
 # a table of earlier files, which is passed over
 RATED = "rated"
 TEAM = re.compile("[a-z0-9][a-z0-9-]{0,15}")
-KEYS = {"title", "host", "address", "ports", "names", "https", "zone", "language", "database", "minutes", "gather",
-        "pause", "freeze", "public", "team", "network", RATED, "limits", "hand_ins"}
-NET_KEYS = {"name", "network", "agents", "holes", "quota", "board", "labels", "map"}
 TIMES = "a time such as \"2026-12-18 18:00\""
+
+
+def is_ports(value: Any) -> bool:
+    is_pair = isinstance(value, list) and len(value) == 2 and all(map(is_count, value))
+    return is_pair and value[0] <= value[1] < 65_536
+
+
+def is_zone(value: Any) -> bool:
+    return isinstance(value, str) and value in zoneinfo.available_timezones() | {"UTC"}
+
+
+TIME = Field(lambda it: it is None or isinstance(it, (str, datetime.datetime)), TIMES, None)
+# those that a hall has as they stand, and the others
+PLAIN = {
+    "title": fields.TEXT, "host": fields.TEXT._replace(usual="127.0.0.1"),
+    "address": fields.TEXT._replace(usual="127.0.0.1"),
+    "names": fields.MAYBE_NAMES, "https": fields.FLAG,
+    "zone": Field(is_zone, "a time zone such as \"Europe/Berlin\"", "UTC"), "language": fields.one_of(LANGUAGES, "en"),
+    "database": fields.TEXT._replace(usual="sqlite"), "minutes": fields.count(8), "gather": fields.count(60),
+    "pause": fields.count(5), "public": fields.FLAG,
+}
+FIELDS = {
+    **PLAIN, "ports": Field(is_ports, "a first and a last port, such as [4100, 4199]", [4100, 4199]), "freeze": TIME,
+    "team": fields.tables("team", []), "network": fields.tables("network"),
+    RATED: Field(lambda it: True, "", None), "limits": fields.table("limits", {}),
+    "hand_ins": fields.table("hand_ins", None),
+}
+LIMITS = {"at_once": fields.count(2), "a_day": fields.count(300), "requests": fields.count(120),
+          "disk": fields.count(200), "matches": fields.count(64), "gradings": fields.count(2)}
+MEMBER = {
+    "name": Field(lambda it: isinstance(it, str) and bool(TEAM.fullmatch(it)), "given for each team, of 1 to 16 "
+                  "characters out of a to z, 0 to 9 and -, which does not come first"),
+    "display": MAY_BE_TEXT,
+}
+HOLES = "a whole number less than the nodes"
+NET = {
+    "name": Field(lambda it: is_text(it) and len(it) <= 60, "given for each network: a text of at most 60 characters, "
+                  "such as \"ring of 16\""),
+    "agents": AGENTS,
+    "holes": Field(is_number, HOLES, 1), "quota": fields.up_to(MOST_QUOTA, SMALL_QUOTA),
+    "board": fields.up_to(MOST_BOARD, SMALL_BOARD, 0),
+    "labels": Field(lambda it: it in (DRAWN, FIXED), f'"{DRAWN}" or "{FIXED}"', DRAWN), "map": fields.FLAG,
+}
+HAND_INS = {
+    "command": Field(is_text, "given in [hand_ins]: the words that start the program of one agent"),
+    "file": Field(lambda it: is_text(it) and bool(re.fullmatch(r"\w[\w.-]{0,60}", it)), "the name of a file",
+                  "agent.py"),
+    "networks": Field(is_texts, "a list of names, such as [\"ring:8\"]"), "secret": fields.MAYBE_NAMES,
+    "deadline": TIME, "a_day": fields.count(10), "agents": fields.count(2), "holes": fields.count(2),
+    "schedulers": Field(is_texts, "a list of names", ["fair", "slow-agents"]), "seeds": fields.count(2),
+}
 
 
 class NoHall(Fault):
@@ -179,32 +228,23 @@ def read(path: pathlib.Path, kept: Optional[pathlib.Path] = None) -> Hall:
         raise NoHall(f"{path}: there is no such file: `arena-lab hall new FILE` writes one") from None
     except UnicodeDecodeError:
         raise NoHall(f"{path}: it is no text in UTF-8") from None
-    except (NoSweep, NoNetwork) as fault:
+    except (WrongFile, NoNetwork) as fault:
         raise NoHall(f"{path}: {fault}") from None
 
 
 @functools.lru_cache(maxsize=4)
 def hall_of(text: str, path: pathlib.Path) -> Hall:
     """The hall that a text says."""
-    try:
-        found = tomllib.loads(text)
-    except tomllib.TOMLDecodeError as fault:
-        raise NoSweep(f"it is no TOML: {fault}") from None
-    check_keys(found, KEYS, "a hall")
-    nets = nets_of(found, path.parent)
-    check_ports(ports_of(found), limits_of(table(found, "limits")))
-    zone = taken(found, "zone", is_zone, "a time zone such as \"Europe/Berlin\"", "UTC")
-    minutes, gather, pause = numbers(found, {"minutes": 8, "gather": 60, "pause": 5})
-    return Hall(
-        path=path, title=taken(found, "title", is_text, "a text"), host=text_in(found, "host", "127.0.0.1"),
-        address=text_in(found, "address", "127.0.0.1"), ports=ports_of(found),
-        names=taken(found, "names", lambda it: it == [] or is_texts(it), "a list of names", []),
-        https=taken(found, "https", is_bool, "true or false", False), zone=zone,
-        language=taken(found, "language", lambda it: it in LANGUAGES, f"one of {', '.join(LANGUAGES)}", "en"),
-        database=text_in(found, "database", "sqlite"), minutes=minutes, gather=gather, pause=pause,
-        public=taken(found, "public", is_bool, "true or false", False), freeze=time_of(found, "freeze", zone),
-        teams=teams_of(found), nets=nets, limits=limits_of(table(found, "limits")),
-        hand_ins=hand_ins_of(found["hand_ins"], zone) if "hand_ins" in found else None, notes=notes_of(found))
+    found = fields.table_of(text)
+    said = fields.values_of(found, FIELDS, "a hall")
+    nets = nets_of(said["network"], path.parent)
+    limits = TeamLimits(**fields.values_of(said["limits"], LIMITS, "limits"))
+    check_ports(said["ports"], limits)
+    zone = said["zone"]
+    return Hall(**{name: said[name] for name in PLAIN}, path=path, ports=(said["ports"][0], said["ports"][1]),
+                freeze=time_of(said, "freeze", zone), teams=teams_of(said["team"]), nets=nets, limits=limits,
+                hand_ins=None if said["hand_ins"] is None else hand_ins_of(said["hand_ins"], zone),
+                notes=notes_of(found))
 
 
 def notes_of(found: Dict[str, Any]) -> List[str]:
@@ -217,129 +257,56 @@ def notes_of(found: Dict[str, Any]) -> List[str]:
     return notes
 
 
-def text_in(found: Dict[str, Any], name: str, usual: str) -> str:
-    return str(taken(found, name, is_text, "a text", usual))
-
-
-def limits_of(found: Dict[str, Any]) -> TeamLimits:
-    """What a team may take."""
-    check_keys(found, TeamLimits._fields, "limits")
-    return TeamLimits(*numbers(found, {"at_once": 2, "a_day": 300, "requests": 120, "disk": 200, "matches": 64,
-                                   "gradings": 2}))
-
-
-def check_keys(found: Dict[str, Any], keys: Any, name: str) -> None:
-    """Refuses a table that has other keys than these."""
-    unknown = sorted(set(found) - set(keys))
-    if unknown:
-        raise NoSweep(f"{name} has no key {unknown[0]}; its keys are {', '.join(sorted(keys))}")
-
-
-def table(found: Dict[str, Any], name: str) -> Dict[str, Any]:
-    """A table of the file, which may be absent."""
-    return dict(taken(found, name, lambda it: isinstance(it, dict), f"a table: write [{name}] and its keys", {}))
-
-
-def numbers(found: Dict[str, Any], usual: Dict[str, int]) -> List[int]:
-    """Whole numbers from 1, by the names of their keys."""
-    return [taken(found, name, is_count, "a whole number from 1", number) for name, number in usual.items()]
-
-
-def is_bool(value: Any) -> bool:
-    return isinstance(value, bool)
-
-
-def is_team(value: Any) -> bool:
-    return isinstance(value, str) and bool(TEAM.fullmatch(value))
-
-
-def is_zone(value: Any) -> bool:
-    return isinstance(value, str) and value in zoneinfo.available_timezones() | {"UTC"}
-
-
-def ports_of(found: Dict[str, Any]) -> Tuple[int, int]:
-    """The ports of matches."""
-    def is_range(value: Any) -> bool:
-        is_pair = isinstance(value, list) and len(value) == 2 and all(map(is_count, value))
-        return is_pair and value[0] <= value[1] < 65_536
-    first, last = taken(found, "ports", is_range, "a first and a last port, such as [4100, 4199]", [4100, 4199])
-    return first, last
-
-
-def check_ports(ports: Tuple[int, int], limits: TeamLimits) -> None:
+def check_ports(ports: Sequence[int], limits: TeamLimits) -> None:
     """Refuses a hall that could play more matches than it has ports for."""
     count = ports[1] - ports[0] + 1
     if limits.matches > count:
-        raise NoSweep(f"[limits] has matches = {limits.matches}, and there are only {count} ports: name more by ports")
+        raise WrongFile(f"[limits] has matches = {limits.matches}, and there are only {count} ports: name more by "
+                        "ports")
 
 
-def time_of(found: Dict[str, Any], name: str, zone: str) -> Optional[datetime.datetime]:
+def time_of(said: Dict[str, Any], name: str, zone: str) -> Optional[datetime.datetime]:
     """A time of the zone."""
-    said = taken(found, name, lambda it: it is None or isinstance(it, (str, datetime.datetime)), TIMES, None)
     try:
-        found_time = datetime.datetime.fromisoformat(said) if isinstance(said, str) else said
+        found = datetime.datetime.fromisoformat(said[name]) if isinstance(said[name], str) else said[name]
     except ValueError:
-        raise NoSweep(f"{name} must be {TIMES}") from None
-    if found_time is None or found_time.tzinfo is not None:
-        return found_time
-    return found_time.replace(tzinfo=zoneinfo.ZoneInfo(zone))
+        raise WrongFile(f"{name} must be {TIMES}") from None
+    return found if found is None or found.tzinfo is not None else found.replace(tzinfo=zoneinfo.ZoneInfo(zone))
 
 
-def teams_of(found: Dict[str, Any]) -> List[Member]:
+def teams_of(tables: List[Dict[str, Any]]) -> List[Member]:
     """The teams, which may be none: the teacher may add them later."""
-    made = []
-    for row in taken(found, "team", lambda it: isinstance(it, list), "given as [[team]]", []):
-        check_keys(row, {"name", "display"}, "a team")
-        name = taken(row, "name", is_team, "given for each team, of 1 to 16 characters out of a to z, 0 to 9 and -, "
-                     "which does not come first")
-        made.append(Member(name, taken(row, "display", is_text, "a text", name)))
-    if len({it.name for it in made}) < len(made):
-        raise NoSweep("two teams have the same name")
-    return made
+    rows = fields.unlike([fields.values_of(table, MEMBER, "a team") for table in tables], "team")
+    return [Member(row["name"], row["display"] or row["name"]) for row in rows]
 
 
-def nets_of(found: Dict[str, Any], folder: pathlib.Path) -> Dict[str, Net]:
+def nets_of(tables: List[Dict[str, Any]], folder: pathlib.Path) -> Dict[str, Net]:
     """The networks by their names."""
-    made = [net_of(row, folder) for row in taken(
-        found, "network", lambda it: isinstance(it, list) and it != [], "given: write [[network]] and its keys below")]
-    if len({it.name for it in made}) < len(made):
-        raise NoSweep("two networks have the same name")
-    return {it.name: it for it in made}
+    rows = []
+    for table in tables:
+        word = Field(is_text, f"given for {table.get('name')}, such as \"ring:16\"")
+        rows.append(fields.values_of(table, {**NET, "network": word}, "a network"))
+    return {row["name"]: net_of(row, folder) for row in fields.unlike(rows, "network")}
 
 
 def net_of(row: Dict[str, Any], folder: pathlib.Path) -> Net:
-    """The network of a [[network]] table."""
-    check_keys(row, NET_KEYS, "a network")
-    name = taken(row, "name", lambda it: is_text(it) and len(it) <= 60, "given for each network: a text of at most 60 "
-                 "characters, such as \"ring of 16\"")
-    word = taken(row, "network", is_text, f"given for {name}, such as \"ring:16\"")
+    """The network that a [[network]] table says."""
+    word, agents = row["network"], row["agents"]
     word = word if ":" in word else str(folder / word)
     network = networks.biconnected(word)
-    agents: Union[int, str] = taken(row, "agents", lambda it: it == DEGREE or is_count(it) and it <= MOST_AGENTS,
-                                    f'1 to {MOST_AGENTS}, or "{DEGREE}"', 2)
-    return Net(
-        name, word, network, max(network.degrees()) + 1 if isinstance(agents, str) else agents,
-        taken(row, "holes", lambda it: is_number(it) and it < network.nodes, "a whole number less than the nodes", 1),
-        taken(row, "quota", lambda it: is_count(it) and it <= MOST_QUOTA, f"1 to {MOST_QUOTA}", SMALL_QUOTA),
-        taken(row, "board", lambda it: is_number(it) and it <= MOST_BOARD, f"0 to {MOST_BOARD}", SMALL_BOARD),
-        taken(row, "labels", lambda it: it in (DRAWN, FIXED), f'"{DRAWN}" or "{FIXED}"', DRAWN),
-        taken(row, "map", is_bool, "true or false", False))
+    if row["holes"] >= network.nodes:
+        raise WrongFile(f"holes must be {HOLES}")
+    return Net(row["name"], word, network, max(network.degrees()) + 1 if agents == DEGREE else agents, row["holes"],
+               row["quota"], row["board"], row["labels"], row["map"])
 
 
-def hand_ins_of(found: Any, zone: str) -> HandInRules:
+def hand_ins_of(table: Dict[str, Any], zone: str) -> HandInRules:
     """How programs are handed in."""
-    if not isinstance(found, dict):
-        raise NoSweep("hand_ins must be a table: write [hand_ins] and its keys")
-    check_keys(found, HandInRules._fields, "hand_ins")
-    command = taken(found, "command", is_text, "given in [hand_ins]: the words that start the program of one agent")
-    check_command(command, "of the hall")
-    file = taken(found, "file", lambda it: is_text(it) and bool(re.fullmatch(r"\w[\w.-]{0,60}", it)),
-                 "the name of a file", file_in(command) if is_module(command) else "agent.py")
-    names = taken(found, "networks", is_texts, "a list of names, such as [\"ring:8\"]")
-    secret = taken(found, "secret", lambda it: it == [] or is_texts(it), "a list of names", [])
-    for name in [*names, *secret]:
+    command = str(table.get("command"))
+    usual = {"file": file_in(command)} if is_module(command) else {}
+    said = fields.values_of({**usual, **table}, HAND_INS, "hand_ins")
+    check_command(said["command"], "of the hall")
+    for name in [*said["networks"], *said["secret"]]:
         networks.biconnected(name)
-    a_day, agents, holes, seeds = numbers(found, {"a_day": 10, "agents": 2, "holes": 2, "seeds": 2})
-    schedulers = taken(found, "schedulers", is_texts, "a list of names", ["fair", "slow-agents"])
-    return HandInRules(command, file, names, secret or names, time_of(found, "deadline", zone), a_day, agents, holes,
-                       schedulers, seeds)
+    return HandInRules(**{**said, "secret": said["secret"] or said["networks"],
+                          "deadline": time_of(said, "deadline", zone)})

@@ -12,9 +12,10 @@ from arena_lab.rules.fixtures import Fixture
 from arena_lab.search import driver
 from arena_lab.search.checking import ODD
 from arena_lab.search.findings import FAILED, ExploreAnswer, Solves, name_of as kind_of
+from arena_lab.support.fields import WrongFile
 from arena_lab.support.progress import along
 from arena_lab.sweep import grid
-from arena_lab.sweep.grid import Case, Grid, NoSweep
+from arena_lab.sweep.grid import Case, Grid
 from arena_lab.sweep.report import Row, is_solved
 from arena_lab.sweep.tables import NoTable, cells_in, checked, line_of
 
@@ -137,7 +138,7 @@ def try_all(work: SweepExploreJob, rows: SweepRows, way: Parallelism) -> None:
         for result, match in zip(along(results, len(matches), "match"), matches):
             if result.fault:
                 case, why = match.case, result.fault.removeprefix(f"run {match.number}: ")
-                raise NoSweep(f"{case.team.name} on {case.network} with black hole {case.hole}: {why}; the report is "
+                raise WrongFile(f"{case.team.name} on {case.network} with black hole {case.hole}: {why}; the report is "
                               "written without --explore")
             rows.put(match.number, result.found)
 

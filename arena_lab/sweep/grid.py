@@ -36,17 +36,17 @@ import functools
 import math
 import pathlib
 import random
-import tomllib
-from typing import Any, Callable, Dict, Iterable, Iterator, List, NamedTuple, Optional, Tuple, Union
+from typing import Any, Callable, Dict, Iterator, List, NamedTuple, Optional, Tuple, Union
 
 from arena_lab.play.agent_files import digests
 from arena_lab.play.teams import BOARD, INSIDE, OUTSIDE, QUOTA, AgentWords, agent_named, digests_of
 from arena_lab.rules import networks
 from arena_lab.rules.fixtures import Fixture, NoMatch, checked, fixture_of
-from arena_lab.rules.limits import MOST_BOARD, MOST_QUOTA
+from arena_lab.rules.limits import MOST_AGENTS, MOST_BOARD, MOST_QUOTA
 from arena_lab.rules.model import Place, Setup
 from arena_lab.rules.networks import Network, NoNetwork
-from arena_lab.support.faults import Fault
+from arena_lab.support import fields
+from arena_lab.support.fields import Field, WrongFile, is_count, is_number, is_text, is_texts
 
 BY_SEED, DRAWN, ALL, DEGREE = "by seed", "drawn", "all", "degree"
 BOUNDS: Dict[str, Callable[[float], float]] = {
@@ -54,12 +54,32 @@ BOUNDS: Dict[str, Callable[[float], float]] = {
     "n log2 n": lambda nodes: nodes * math.log2(nodes),
     "n^2": lambda nodes: nodes ** 2,
 }
-KEYS = {"title", "networks", "ports", "home", "holes", "dark", "schedulers", "seeds", "quota", "board", "bound", "team"}
-TEAM_KEYS = {"name", "agents", INSIDE, OUTSIDE}
+HOLES_ARE = f'"{BY_SEED}", "{DRAWN}", "{ALL}", how many to draw, or a list of nodes and of lists of nodes'
+PORTS_ARE = '"shuffled:SEED" with a whole number, such as "shuffled:3"'
 
 
-class NoSweep(Fault):
-    """A file is no sweep, or its folder has another; says what to change."""
+def is_holes(value: Any) -> bool:
+    return value in (BY_SEED, DRAWN, ALL) or is_count(value) or isinstance(value, list) and value != [] and all(
+        is_number(it) or isinstance(it, list) and all(map(is_number, it)) for it in value)
+
+
+def is_dark(value: Any) -> bool:
+    return isinstance(value, list) and all(
+        isinstance(it, list) and len(it) == 2 and all(map(is_number, it)) for it in value)
+
+
+FIELDS = {
+    "title": fields.TEXT, "networks": Field(is_texts, 'a list of names, such as ["ring:8"]'),
+    "ports": Field(lambda it: it is None or is_text(it), PORTS_ARE, None), "home": Field(is_number, "a node", 0),
+    "holes": Field(is_holes, HOLES_ARE, BY_SEED),
+    "dark": Field(is_dark, "a list of nodes with ports, such as [[0, 1]]", []),
+    "schedulers": Field(is_texts, 'a list of names, such as ["fair"]', ["fair"]), "seeds": fields.count(1),
+    "quota": fields.up_to(MOST_QUOTA, QUOTA), "board": fields.up_to(MOST_BOARD, BOARD, 0),
+    "bound": fields.one_of(list(BOUNDS), None), "team": fields.tables("team"),
+}
+AGENTS = Field(lambda it: it == DEGREE or is_count(it) and it <= MOST_AGENTS, f'1 to {MOST_AGENTS}, or "{DEGREE}"', 2)
+MAY_BE_TEXT = Field(lambda it: it is None or is_text(it), "a text", None)
+TEAM = {"name": fields.TEXT, "agents": AGENTS, INSIDE: MAY_BE_TEXT, OUTSIDE: MAY_BE_TEXT}
 
 
 class TeamRow(NamedTuple):
@@ -147,8 +167,8 @@ def read(path: pathlib.Path) -> Grid:
     """The grid of a sweep's file."""
     try:
         return grid_of(text_in(path))
-    except NoSweep as fault:
-        raise NoSweep(f"{path}: {fault}") from None
+    except WrongFile as fault:
+        raise WrongFile(f"{path}: {fault}") from None
 
 
 def text_in(path: pathlib.Path) -> str:
@@ -156,66 +176,36 @@ def text_in(path: pathlib.Path) -> str:
     try:
         return path.read_text(encoding="utf-8")
     except FileNotFoundError:
-        raise NoSweep("there is no such file") from None
+        raise WrongFile("there is no such file") from None
     except UnicodeDecodeError:
-        raise NoSweep("it is no text in UTF-8") from None
+        raise WrongFile("it is no text in UTF-8") from None
 
 
 @functools.lru_cache(maxsize=4)
 def grid_of(text: str) -> Grid:
     """The grid that a sweep's text says."""
-    found = table_of(text)
-    check_keys(found, KEYS, "it")
-    return grid_in(found)
+    said = fields.values_of(fields.table_of(text), FIELDS, "it")
+    rows = fields.unlike([fields.values_of(row, TEAM, "a team") for row in said["team"]], "team")
+    return grid_in(said, list(map(team_of, rows)))
 
 
-def table_of(text: str) -> Dict[str, Any]:
-    """The keys of a file, and what they say."""
-    try:
-        return tomllib.loads(text)
-    except tomllib.TOMLDecodeError as fault:
-        raise NoSweep(f"it is no TOML: {fault}") from None
-
-
-def check_keys(table: Dict[str, Any], keys: Iterable[str], name: str) -> None:
-    """Refuses a table that has other keys than these."""
-    unknown = sorted(set(table) - set(keys))
-    if unknown:
-        raise NoSweep(f"{name} has no key {unknown[0]}; its keys are {', '.join(sorted(keys))}")
-
-
-def grid_in(found: Dict[str, Any], folder: pathlib.Path = pathlib.Path()) -> Grid:
-    """The grid that these keys say. Files of networks are looked for in the folder."""
-    title = taken(found, "title", is_text, "a text")
-    names = taken(found, "networks", is_texts, "a list of names, such as [\"ring:8\"]")
-    ports = ports_in(found)
+def grid_in(said: Dict[str, Any], teams: List[TeamRow], folder: pathlib.Path = pathlib.Path()) -> Grid:
+    """The grid of these values and teams. Files of networks are looked for in the folder."""
+    ports = ports_in(said["ports"])
     grid = Grid(
-        title, names, {name: numbered(name, ports, folder) for name in names},
-        taken(found, "home", is_number, "a node", 0), holes_of(taken(found, "holes", is_holes, HOLES_ARE, BY_SEED)),
-        [(v, p) for v, p in taken(found, "dark", is_dark, "a list of nodes with ports, such as [[0, 1]]", [])],
-        taken(found, "schedulers", is_texts, "a list of names, such as [\"fair\"]", ["fair"]),
-        taken(found, "seeds", is_count, "a whole number from 1", 1),
-        taken(found, "quota", lambda it: is_count(it) and it <= MOST_QUOTA, f"1 to {MOST_QUOTA}", QUOTA),
-        taken(found, "board", lambda it: is_number(it) and it <= MOST_BOARD, f"0 to {MOST_BOARD}", BOARD),
-        taken(found, "bound", lambda it: it in [None, *BOUNDS], f"one of {', '.join(BOUNDS)}", None),
-        [team_of(row) for row in taken(found, "team", is_tables, "given: write [[team]] and its keys below it")])
+        names=said["networks"], networks={name: numbered(name, ports, folder) for name in said["networks"]},
+        holes=holes_of(said["holes"]), dark=[(v, p) for v, p in said["dark"]], bound=said.get("bound"), teams=teams,
+        **{name: said[name] for name in ("title", "home", "schedulers", "seeds", "quota", "board")})
     check_nodes(grid)
     return grid
 
 
-HOLES_ARE = f'"{BY_SEED}", "{DRAWN}", "{ALL}", how many to draw, or a list of nodes and of lists of nodes'
-
-
-def ports_in(found: Dict[str, Any]) -> Optional[int]:
+def ports_in(said: Optional[str]) -> Optional[int]:
     """The seed by which ports are numbered anew, if there is one."""
-    said = taken(found, "ports", lambda it: it is None or is_text(it), PORTS_ARE, None)
     try:
         return None if said is None else networks.ports_seed(said)
     except NoNetwork:
-        raise NoSweep(f"ports must be {PORTS_ARE}, and not {said}") from None
-
-
-PORTS_ARE = '"shuffled:SEED" with a whole number, such as "shuffled:3"'
+        raise WrongFile(f"ports must be {PORTS_ARE}, and not {said}") from None
 
 
 def numbered(name: str, ports: Optional[int], folder: pathlib.Path) -> Network:
@@ -223,7 +213,7 @@ def numbered(name: str, ports: Optional[int], folder: pathlib.Path) -> Network:
     try:
         network = networks.named(name if ":" in name else str(folder / name))
     except (KeyError, TypeError, ValueError):
-        raise NoSweep(f"networks has {name}, which is no network file: `arena check` says what is wrong") from None
+        raise WrongFile(f"networks has {name}, which is no network file: `arena check` says what is wrong") from None
     return network if ports is None else networks.shuffled(network, ports)
 
 
@@ -232,14 +222,12 @@ def check_nodes(grid: Grid) -> None:
     listed = [hole for holes in grid.holes for hole in holes] if isinstance(grid.holes, list) else []
     for name, network in grid.networks.items():
         if grid.home >= network.nodes:
-            raise NoSweep(f"home is {grid.home}, and {name} has the nodes 0 to {network.nodes - 1}")
+            raise WrongFile(f"home is {grid.home}, and {name} has the nodes 0 to {network.nodes - 1}")
         for hole in listed:
             if hole >= network.nodes or hole == grid.home:
-                raise NoSweep(f"holes has {hole}, and a black hole of {name} is a node up to {network.nodes - 1} other "
-                              "than the home base")
+                raise WrongFile(f"holes has {hole}, and a black hole of {name} is a node up to {network.nodes - 1} "
+                                "other than the home base")
         check_setups(grid, name, network)
-    if len({team.name for team in grid.teams}) < len(grid.teams):
-        raise NoSweep("two teams have the same name")
 
 
 def check_setups(grid: Grid, name: str, network: Network) -> None:
@@ -248,61 +236,17 @@ def check_setups(grid: Grid, name: str, network: Network) -> None:
         try:
             checked(Setup(network.nodes, network.links, grid.home, list(holes), 1, grid.quota, grid.board, grid.dark))
         except NoMatch as fault:
-            raise NoSweep(f"{name}: {fault}") from None
+            raise WrongFile(f"{name}: {fault}") from None
 
 
 def team_of(row: Dict[str, Any]) -> TeamRow:
     """The team of a [[team]] table."""
-    check_keys(row, TEAM_KEYS, "a team")
-    kinds = [kind for kind in (INSIDE, OUTSIDE) if kind in row]
+    kinds = [kind for kind in (INSIDE, OUTSIDE) if row[kind] is not None]
     if len(kinds) != 1:
-        raise NoSweep(f"each team needs either {INSIDE} or {OUTSIDE}, the words that play an agent")
-    agents = taken(row, "agents", lambda it: it == DEGREE or is_count(it) and it <= 64, '1 to 64, or "degree"', 2)
-    words = agent_named(kinds[0], taken(row, kinds[0], is_text, "a text"))
-    return TeamRow(taken(row, "name", is_text, "a text"), agents, words)
-
-
-NEEDED = object()
-
-
-def taken(table: Dict[str, Any], key: str, is_right: Callable[[Any], bool], wanted: str, usual: Any = NEEDED) -> Any:
-    """The value of a key, or the default if it is absent."""
-    value = table.get(key, usual)
-    if value is NEEDED or not is_right(value):
-        raise NoSweep(f"{key} must be {wanted}")
-    return value
-
-
-def is_text(value: Any) -> bool:
-    return isinstance(value, str) and value != "" and "\n" not in value
-
-
-def is_texts(value: Any) -> bool:
-    return isinstance(value, list) and value != [] and all(map(is_text, value)) and len(set(value)) == len(value)
-
-
-def is_number(value: Any) -> bool:
-    return isinstance(value, int) and not isinstance(value, bool) and value >= 0
-
-
-def is_count(value: Any) -> bool:
-    return is_number(value) and value > 0
-
-
-def is_holes(value: Any) -> bool:
-    return value in (BY_SEED, DRAWN, ALL) or is_count(value) or isinstance(value, list) and value != [] and all(
-        is_number(it) or isinstance(it, list) and all(map(is_number, it)) for it in value)
+        raise WrongFile(f"each team needs either {INSIDE} or {OUTSIDE}, the words that play an agent")
+    return TeamRow(row["name"], row["agents"], agent_named(kinds[0], row[kinds[0]]))
 
 
 def holes_of(value: Any) -> Any:
     """Black holes as the grid has them: for each match all of them."""
     return [tuple(sorted(it)) if isinstance(it, list) else (it,) for it in value] if isinstance(value, list) else value
-
-
-def is_dark(value: Any) -> bool:
-    return isinstance(value, list) and all(
-        isinstance(it, list) and len(it) == 2 and all(map(is_number, it)) for it in value)
-
-
-def is_tables(value: Any) -> bool:
-    return isinstance(value, list) and value != [] and all(isinstance(row, dict) for row in value)

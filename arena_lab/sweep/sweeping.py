@@ -15,9 +15,10 @@ from arena_lab.play.summaries import Summary, summary_of
 from arena_lab.play.teams import Together
 from arena_lab.rules.engines import NAMES, Differs, name_of
 from arena_lab.rules.fixtures import Fixture
+from arena_lab.support.fields import WrongFile
 from arena_lab.support.progress import along
 from arena_lab.sweep import every, grid, report, verify
-from arena_lab.sweep.grid import Case, Grid, NoSweep
+from arena_lab.sweep.grid import Case, Grid
 from arena_lab.sweep.tables import (COLUMNS, RUNS, NoTable, cells_in, changed_in, checked, done_in, line_of, made_by,
                               note_read, rows_in)
 
@@ -154,7 +155,7 @@ def write_rows(results: Iterable[Result], total: int, folder: pathlib.Path) -> N
     with (folder / RUNS).open("a", encoding="utf-8", newline="") as file:
         for result in along(results, total, "run"):
             if result.fault:
-                raise NoSweep(result.fault)
+                raise WrongFile(result.fault)
             file.write(line_of(result.found))
             file.flush()
 

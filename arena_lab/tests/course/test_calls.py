@@ -12,11 +12,11 @@ import tempfile
 import unittest
 from typing import Any, Dict, List
 
-from arena_lab.course.course import calls_in
+from arena_lab.course.course import calls_of
 from arena_lab.course.hand_in import HandInEntry, HandIn
 from arena_lab.sandbox import calls, isolation
+from arena_lab.support.fields import WrongFile
 from arena_lab.support.missing import DEBIANS_PYTHON
-from arena_lab.sweep.grid import NoSweep
 
 # what programs have used to talk past the network and the whiteboards, to leave notes, or to see what others do
 ATTACKS = """io_setup io_submit io_uring_setup io_uring_enter io_uring_register pidfd_open pidfd_getfd pidfd_send_signal
@@ -71,11 +71,11 @@ class TestTable(unittest.TestCase):
         self.assertFalse(by_arguments & calls.allowed(calls.ANY))
 
     def test_a_course_may_allow_more_but_no_attack(self) -> None:
-        self.assertEqual(calls_in({"calls": ["setpriority"]}), ("setpriority",))
+        self.assertEqual(calls_of(["setpriority"]), ("setpriority",))
         for name, why in (("flock", "calls has flock, which no course may allow: locks on files"),
                           ("socket", "calls has socket, which no course may allow: it is allowed by its arguments")):
-            with self.assertRaisesRegex(NoSweep, why):
-                calls_in({"calls": [name]})
+            with self.assertRaisesRegex(WrongFile, why):
+                calls_of([name])
 
     @WITH_SECCOMP
     def test_a_course_may_allow_no_call_that_is_none(self) -> None:

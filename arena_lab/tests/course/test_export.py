@@ -12,7 +12,7 @@ from arena_lab.course import export, league
 from arena_lab.course.course import course_of
 from arena_lab.course.export import Export, Marks, Student, export_of, students_in
 from arena_lab.course.points import Points, marks, text
-from arena_lab.sweep.grid import NoSweep
+from arena_lab.support.fields import WrongFile
 from arena_lab.tests.course.test_grade import HEAD, SECRET, TEAM, Folder, row
 
 HOSTILE = "=cmd|' /C calc'!A0\x1b[2J\x00<b>\"&]]>\ufffe\ud800é"
@@ -96,10 +96,10 @@ class GivenPoints(Given):
                             ("bound = 0", "bound must be a number"), ("lost = -1", "lost must be a number from 0"),
                             ("visibility = 'x'", "visibility must be one of visible, hidden,"),
                             ("solved = 1", "[points] has no key solved; its keys are bound,")):
-            with self.subTest(table), self.assertRaises(NoSweep) as fault:
+            with self.subTest(table), self.assertRaises(WrongFile) as fault:
                 self.points(f"[points]\n{table}")
             self.assertIn(said, str(fault.exception))
-        with self.assertRaisesRegex(NoSweep, "points must be a table"):
+        with self.assertRaisesRegex(WrongFile, "points must be a table"):
             course_of(f"points = 1\n{HEAD}{TEAM}", self.folder, SECRET)
 
     def test_points_as_a_text(self) -> None:
@@ -180,9 +180,9 @@ class Students(unittest.TestCase):
                             ("team,email\nash,a\n", "line 2 has team ash, which"),
                             ("team,email\namber\n", "line 2 has no email"),
                             ("team,email\namber,a\nbirch,a\n", "line 2 has no email of its own")):
-            with self.subTest(given), self.assertRaisesRegex(NoSweep, said):
+            with self.subTest(given), self.assertRaisesRegex(WrongFile, said):
                 self.read(given)
-        with self.assertRaisesRegex(NoSweep, "students.csv: there is no such file; write a table"):
+        with self.assertRaisesRegex(WrongFile, "students.csv: there is no such file; write a table"):
             export_of(["moodle"], None, pathlib.Path("/nosuch"), ["amber"])
         self.assertEqual(export_of(["csv", "csv"], None, pathlib.Path("/nosuch"), []), Export(("csv",)))
 

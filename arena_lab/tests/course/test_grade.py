@@ -18,8 +18,8 @@ from arena_lab.search.minimising import Cut, Runs, in_words, runs_of, tidy
 from arena_lab.rules import networks
 from arena_lab.sandbox import users
 from arena_lab.sandbox.cells import Isolation
+from arena_lab.support.fields import WrongFile
 from arena_lab.sweep import tables
-from arena_lab.sweep.grid import NoSweep
 
 HEAD = 'title = "T"\nnetworks = ["ring:4", "ring:5"]\n'
 TEAM = '[[team]]\nname = "a"\nfiles = ["agent.py"]\ncommand = "python3 agent.py {port} {key}"\n'
@@ -96,35 +96,36 @@ class Files(Folder):
                 ("", TEAM.replace("{port}", "{prot}"), "the command of team a has 'prot'; it may have {host}, {port},"),
                 ("", TEAM.replace("{port}", "{"), "the command of team a cannot be read"),
                 ("", TEAM + "agents = 65\n", "agents must be 1 to 64")):
-            with self.subTest(said), self.assertRaises(NoSweep) as fault:
+            with self.subTest(said), self.assertRaises(WrongFile) as fault:
                 self.course(middle, team)
             self.assertIn(said, str(fault.exception))
 
     def test_files_that_cannot_be_read(self) -> None:
         path = self.folder / "course.toml"
-        with self.assertRaisesRegex(NoSweep, "course.toml: there is no such file"):
+        with self.assertRaisesRegex(WrongFile, "course.toml: there is no such file"):
             course.read(path, SECRET)
         path.write_bytes(b"\xff")
-        with self.assertRaisesRegex(NoSweep, "it is no text in UTF-8"):
+        with self.assertRaisesRegex(WrongFile, "it is no text in UTF-8"):
             course.read(path, SECRET)
         (self.folder / "net.toml").write_text("nodes = 3\n")
         path.write_text(HEAD.replace("ring:4", "net.toml") + TEAM)
-        with self.assertRaisesRegex(NoSweep, "networks has net.toml, which is no network file"):
+        with self.assertRaisesRegex(WrongFile, "networks has net.toml, which is no network file"):
             course.read(path, SECRET)
 
     def test_results_and_a_course_where_programs_look(self) -> None:
         """Results that programs can read show them the black holes and other teams' rows."""
         tools = [str(self.folder)]
         for path in ("/usr/share/course", "/lib/course", self.folder / "out"):
-            with self.subTest(path), self.assertRaisesRegex(NoSweep, "teams' programs see .*: name a folder elsewhere"):
+            with self.subTest(path), self.assertRaisesRegex(WrongFile, "teams' programs see .*: name a folder else"):
                 course.check_walls(Isolation.ALL, [pathlib.Path("/srv"), pathlib.Path(path)], tools)
         course.check_walls(Isolation.ALL, [self.folder], [])
         course.check_walls(Isolation.NONE, [pathlib.Path("/usr/share/course")], tools)
 
     def test_limits_grow_with_the_matches(self) -> None:
-        self.assertEqual(self.course().limits, (20, 60, 600, 8, 256))
-        self.assertEqual(self.course("seeds = 100\n").limits, (20, 60, 1000, 8, 400))
-        self.assertEqual(self.course("seeds = 100\nlimit = 1\nmatch_limit = 2\nteam_limit = 3\n").limits[:3], (1, 2, 3))
+        self.assertEqual(self.course().terms.limits, (20, 60, 600, 8, 256))
+        self.assertEqual(self.course("seeds = 100\n").terms.limits, (20, 60, 1000, 8, 400))
+        given = self.course("seeds = 100\nlimit = 1\nmatch_limit = 2\nteam_limit = 3\n")
+        self.assertEqual(given.terms.limits[:3], (1, 2, 3))
 
 
 class Places(Folder):
@@ -191,10 +192,10 @@ class Secrets(Folder):
         self.assertEqual(course.secret_in(out, None), secret)
         self.assertNotEqual(course.secret_in(other, None), secret)
         self.assertEqual(course.secret_in(self.folder / "again", out / course.SECRET), secret)
-        with self.assertRaisesRegex(NoSweep, "is another secret than"):
+        with self.assertRaisesRegex(WrongFile, "is another secret than"):
             course.secret_in(other, out / course.SECRET)
         (self.folder / "short").write_text("guess me\n")
-        with self.assertRaisesRegex(NoSweep, "at least 16 characters"):
+        with self.assertRaisesRegex(WrongFile, "at least 16 characters"):
             course.secret_in(self.folder / "new", self.folder / "short")
 
 

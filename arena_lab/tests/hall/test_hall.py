@@ -26,7 +26,7 @@ from arena_lab.hall.place import HallFolder
 from arena_lab.hall.standings.rules import GradedTeam, league
 from arena_lab.rules.model import Match, Setup, spelled
 from arena_lab.rules.networks import ring
-from arena_lab.sweep.grid import NoSweep
+from arena_lab.support.fields import WrongFile
 from arena_lab.tests.hall.work_model import EVENTS, STATES, JobState, after, rows
 from arena_lab.tests.needing import needs
 
@@ -136,10 +136,15 @@ class Courses(unittest.TestCase):
         self.assertEqual(len(notes), 1)
         self.assertIn("[rated] is passed over", notes[0])
 
+    def test_tables_that_are_none_are_refused(self) -> None:
+        for name in ("team", "network"):
+            with self.assertRaisesRegex(WrongFile, rf"{name} must be given: write \[\[{name}\]\] and its keys below"):
+                self.read(f'title = "x"\n{name} = [1]\n')
+
     def test_a_name_that_begins_with_a_hyphen_is_refused(self) -> None:
         """A program for tables would take such a team's token for a formula."""
         self.assertEqual([it.name for it in self.read(COURSE + '[[team]]\nname = "a-b"\n').teams], ["a-b"])
-        with self.assertRaisesRegex(NoSweep, "which does not come first"):
+        with self.assertRaisesRegex(WrongFile, "which does not come first"):
             self.read(COURSE + '[[team]]\nname = "-a"\n')
 
     def test_hand_ins_without_a_deadline_are_told(self) -> None:
@@ -153,7 +158,7 @@ class Courses(unittest.TestCase):
         given = self.read(COURSE + HAND_INS.replace("python3 agent.py {host} {port} {key}", words))
         self.assertEqual(given.hand_ins[:2], (words, "agent.wasm"))
         for other, why in (("agent.wasm:{ports}", "has 'ports'; it may"), ("/agent.wasm", "file must be the name")):
-            with self.assertRaisesRegex(NoSweep, why):
+            with self.assertRaisesRegex(WrongFile, why):
                 self.read(COURSE + HAND_INS.replace("python3 agent.py {host} {port} {key}", other))
 
 

@@ -8,8 +8,9 @@ from typing import Dict, List
 from unittest import mock
 
 from arena_lab.play.parallel import Result
+from arena_lab.support.fields import WrongFile
 from arena_lab.sweep import report, statistic, tables, verify
-from arena_lab.sweep.grid import Grid, NoSweep, grid_of
+from arena_lab.sweep.grid import Grid, grid_of
 from arena_lab.sweep.tables import NoTable
 
 HEAD = 'title = "T"\nnetworks = ["ring:4", "ring:5"]\n'
@@ -84,7 +85,7 @@ class Files(unittest.TestCase):
                             (text(team=TEAM + "command = 'x'\n"), "needs either agent or command"),
                             (text(team=TEAM + "agents = 65\n"), "agents must be 1 to 64"),
                             (text(team=TEAM + "size = 1\n"), "a team has no key size")):
-            with self.subTest(said), self.assertRaises(NoSweep) as fault:
+            with self.subTest(said), self.assertRaises(WrongFile) as fault:
                 grid_of(given)
             self.assertIn(said, str(fault.exception))
 
