@@ -1,12 +1,11 @@
 """How tools/prove/again.py compares two programs."""
-import contextlib
-import io
 import pathlib
 import sys
 import tempfile
 import unittest
 
 from tests import needs
+from tests.support.output import ran
 from tools.prove import again
 
 
@@ -19,11 +18,9 @@ class Compared(unittest.TestCase):
         self.one.write_bytes(self.bytes)
 
     def told(self) -> str:
-        said = io.StringIO()
-        with contextlib.redirect_stdout(said):
-            status = again.told(self.one, self.other)
-        self.assertEqual(status, 0 if "the same program" in said.getvalue() else 1)
-        return said.getvalue()
+        status, said, _ = ran(again.told, self.one, self.other)
+        self.assertEqual(status, 0 if "the same program" in said else 1)
+        return said
 
     def test_equal_programs(self) -> None:
         self.other.write_bytes(self.bytes)

@@ -3,8 +3,9 @@ packages: an active environment's, or else Debian's."""
 import os
 import pathlib
 import subprocess
-import tempfile
 import unittest
+
+from tests.support.output import InTemporary
 
 TOP = pathlib.Path(__file__).resolve().parent.parent
 # stands for the Python of an environment: says whether it has packages, or which words it was given
@@ -15,12 +16,7 @@ echo "{name}: $* path=$PYTHONPATH"
 """
 
 
-class Command(unittest.TestCase):
-    def setUp(self) -> None:
-        folder = tempfile.TemporaryDirectory()
-        self.addCleanup(folder.cleanup)
-        self.folder = pathlib.Path(folder.name)
-
+class Command(InTemporary):
     def environment(self, name: str, has_packages: bool) -> str:
         python = self.folder / name / "bin" / "python3"
         python.parent.mkdir(parents=True)

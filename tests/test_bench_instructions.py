@@ -10,6 +10,7 @@ import unittest.mock
 
 from arena_lab.rules.model import judge, played
 from bench import instructions
+from tests.support.output import ran
 
 
 class Inputs(unittest.TestCase):
@@ -76,9 +77,9 @@ class Counts(unittest.TestCase):
         for number, last in ((2, "8 passed, 0 failed"), (1, "0 passed, 8 failed")):
             kept.write_text("".join(f'"{title}" = {number}\n' for title in titles))
             with unittest.mock.patch.multiple(instructions, KEPT=kept, VALGRIND=valgrind):
-                with contextlib.redirect_stdout(io.StringIO()) as told:
-                    self.assertEqual(instructions.main([self.made("one", "exit"), "--kept"]), number == 1)
-            self.assertEqual(told.getvalue().splitlines()[-1], last)
+                status, told, _ = ran(instructions.main, [self.made("one", "exit"), "--kept"])
+                self.assertEqual(status, number == 1)
+            self.assertEqual(told.splitlines()[-1], last)
 
     def test_a_program_that_fails_ends_it(self) -> None:
         for said in ("exit 6", "echo nothing"):

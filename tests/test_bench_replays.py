@@ -1,5 +1,4 @@
 """The replays that the benchmarks write."""
-import contextlib
 import io
 import pathlib
 import stat
@@ -11,6 +10,7 @@ from tests import needs
 from bench import inputs
 from bench import replays
 from arena_lab.rules.model import judge, played
+from tests.support.output import ran
 
 
 class LargeReplays(unittest.TestCase):
@@ -59,10 +59,8 @@ class TwoPrograms(unittest.TestCase):
 
     def compared(self, twin: str) -> "tuple[bool, str]":
         programs = [self.program("one", "echo twin"), self.program("two", twin)]
-        told = io.StringIO()
-        with contextlib.redirect_stdout(told):
-            right = replays.beside(programs, self.KIND, 2, self.folder)
-        return right, told.getvalue()
+        right, told, _ = ran(replays.beside, programs, self.KIND, 2, self.folder)
+        return right, told
 
     def test_programs_that_print_the_same(self) -> None:
         right, told = self.compared("echo twin")

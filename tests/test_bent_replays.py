@@ -1,13 +1,12 @@
 """The replays that tools/hostile/bent_replays.py makes, and how it compares two programs."""
 import collections
-import pathlib
 import random
 import stat
-import tempfile
 import unittest
 from unittest import mock
 
 from arena_lab.rules.model import played
+from tests.support.output import InTemporary
 from tools.hostile import bent_replays
 
 REPLAY = b'{"nodes":3}\n{"agent":0,"do":"look","reply":{"no":"away"}}\n{"do":"close","reply":null}\n{"end":2}\n'
@@ -49,12 +48,7 @@ class Bends(unittest.TestCase):
         self.assertNotEqual(made, [bent_replays.bent(number, 4, [REPLAY]) for number in range(30)])
 
 
-class Programs(unittest.TestCase):
-    def setUp(self) -> None:
-        folder = tempfile.TemporaryDirectory()
-        self.addCleanup(folder.cleanup)
-        self.folder = pathlib.Path(folder.name)
-
+class Programs(InTemporary):
     def program(self, name: str, other: str) -> str:
         made = self.folder / name
         made.write_text(PROGRAM.replace("{other}", other))

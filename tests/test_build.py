@@ -11,6 +11,7 @@ import unittest.mock
 
 from tests import TOP
 from tests.test_gate import module
+from tests.support.output import ran
 from tools import version
 from tools.prove import bar
 from tools.prove import prover
@@ -127,10 +128,9 @@ class Build(unittest.TestCase):
 
     def test_words_prove_nothing(self) -> None:
         for words, status in ((["--help"], 0), (["-h"], 0), (["bhs_net"], 2)):
-            said = io.StringIO()
-            with contextlib.redirect_stdout(said):
-                self.assertEqual(self.build.main(words), status)
-            self.assertIn("tools/build", said.getvalue())
+            found, said, _ = ran(self.build.main, words)
+            self.assertEqual(found, status)
+            self.assertIn("tools/build", said)
         self.assertFalse((self.crates / "low" / "out").exists())
 
     def test_what_is_built_is_not_proved_again(self) -> None:

@@ -2,7 +2,6 @@
 import ast
 import contextlib
 import fcntl
-import io
 import os
 import resource
 import unittest
@@ -10,6 +9,7 @@ from typing import Iterator
 
 from arena_lab.support.waiting import is_ready
 from tests import TOP
+from tests.support.output import ran
 from tools.hostile.cases import Cases, raise_descriptors
 from tools.hostile.commands import Lab
 from tools.play.program_rows import fault_of
@@ -27,10 +27,9 @@ class Dying(unittest.TestCase):
         cases = Cases(2)
         cases.case("one dies")(dies)
         cases.case("another passes")(lambda program, folder: None)
-        printed = io.StringIO()
-        with contextlib.redirect_stdout(printed):
-            self.assertEqual(cases.command("usage", ["program"]), 1)
-        self.assertEqual(printed.getvalue(), "FAILED: one dies: KeyError: 'who dies'\nok: another passes\n"
+        status, printed, _ = ran(cases.command, "usage", ["program"])
+        self.assertEqual(status, 1)
+        self.assertEqual(printed, "FAILED: one dies: KeyError: 'who dies'\nok: another passes\n"
                          "1 passed, 1 failed\n")
 
     def test_a_row_that_dies_is_one_failure(self) -> None:

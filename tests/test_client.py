@@ -1,10 +1,8 @@
 """The client and the search in C over sockets, served by the stand-in with turns that wait."""
 import contextlib
-import pathlib
 import socket
 import subprocess
 import sys
-import tempfile
 import threading
 import time
 import unittest
@@ -14,6 +12,7 @@ from examples.agents import client
 from examples.agents.client import Agent, Here, Swap
 from arena_lab.rules import networks
 from tests import TOP, needs
+from tests.support.output import InTemporary
 from tests.support.servers import Server
 from tests.support.tournaments import match, write_cup
 
@@ -21,13 +20,8 @@ from tests.support.tournaments import match, write_cup
 SOON = 2
 
 
-class Served(unittest.TestCase):
+class Served(InTemporary):
     """A server of one match, whose turns wait until an agent is on a link."""
-
-    def setUp(self) -> None:
-        folder = tempfile.TemporaryDirectory()
-        self.addCleanup(folder.cleanup)
-        self.folder = pathlib.Path(folder.name)
 
     def serve(self, network: str, holes: List[int], quota: int, sessions: int, turns: int = 300) -> int:
         """Starts a server, and answers its port. The match is closed after these turns, or when the test says so."""

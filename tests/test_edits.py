@@ -1,6 +1,4 @@
 """How tools/prove/edits.py reads edits, finds the function that one changes, and takes the prover's answers."""
-import contextlib
-import io
 import os
 import pathlib
 import sys
@@ -8,6 +6,7 @@ import tempfile
 import unittest
 import unittest.mock
 
+from tests.support.output import ran
 from tools.prove import edits
 from tools.prove import prover
 
@@ -140,10 +139,9 @@ class Answers(unittest.TestCase):
         self.enterContext(unittest.mock.patch.object(edits, "CRATES", folder))
         self.enterContext(unittest.mock.patch.object(edits, "read_edit", lambda *_: edit))
         self.enterContext(unittest.mock.patch.object(edits, "words_of", lambda *_: [sys.executable, "-c", PROVER]))
-        with contextlib.redirect_stdout(io.StringIO()) as printed:
-            answers = list(edits.tried({"low": []}, "low", [pathlib.Path("one.edit")]))
-        self.assertEqual(answers, ["refused: " in printed.getvalue()])
-        return printed.getvalue().strip()
+        answers, printed, _ = ran(list, edits.tried({"low": []}, "low", [pathlib.Path("one.edit")]))
+        self.assertEqual(answers, ["refused: " in printed])
+        return printed.strip()
 
     def test_the_function_is_refused(self) -> None:
         self.assertEqual(self.told("./src/lib.rt:9:5: error: it is not proved\nonly=1 proved=0", "logic=proved"),

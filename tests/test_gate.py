@@ -12,6 +12,7 @@ import unittest.mock
 from typing import List, Tuple
 
 from tests import TOP
+from tests.support.output import ran
 from tools import parts
 from tools.prove import prover
 
@@ -33,10 +34,8 @@ def files_of(folder: pathlib.Path) -> List[str]:
 
 class Gate(unittest.TestCase):
     def told(self, text: str) -> Tuple[Tuple, str]:
-        printed = io.StringIO()
-        with contextlib.redirect_stdout(printed):
-            found = gate.run([sys.executable, "-c", text])
-        return found, printed.getvalue()
+        found, printed, _ = ran(gate.run, [sys.executable, "-c", text])
+        return found, printed
 
     def test_the_last_line_is_held_back(self) -> None:
         text = "print('1 passed, 0 failed'); print('more'); print('2 passed, 3 failed'); exit(1)"
@@ -136,9 +135,9 @@ class Gate(unittest.TestCase):
                 self.assertEqual(gate.words_of_ci(["--anew"])[-1], last)
 
     def test_other_words_run_nothing(self) -> None:
-        with contextlib.redirect_stdout(io.StringIO()) as said:
-            self.assertEqual(gate.main(["anew"]), 2)
-        self.assertIn("tools/gate [--anew | --played]", said.getvalue())
+        status, said, _ = ran(gate.main, ["anew"])
+        self.assertEqual(status, 2)
+        self.assertIn("tools/gate [--anew | --played]", said)
 
 
 if __name__ == "__main__":

@@ -1,5 +1,4 @@
 """The attack by hostile clients, on the stand-in, and what its checks find."""
-import contextlib
 import io
 import os
 import pathlib
@@ -10,6 +9,7 @@ import unittest
 from unittest import mock
 
 from arena_lab.rules.model import Match, Setup
+from tests.support.output import ran
 from tools.hostile import hostile_clients
 from tools.hostile.hostile_attacks import ATTACKS, Sizes, Wrong, has_heard, hear, hear_end, wait_for_lines
 from tools.hostile.hostile_clients import (LEAST_SESSIONS, Ending, check_end, check_memory, check_replays,
@@ -26,11 +26,10 @@ class Attacks(unittest.TestCase):
         for attacks in ATTACKS.values():
             printed = io.StringIO()
             with tempfile.TemporaryDirectory() as name, mock.patch.dict(os.environ, ARENA=STAND_IN):
-                with contextlib.redirect_stdout(printed):
-                    results = hostile_clients.besiege(SMALL, attacks, pathlib.Path(name))
-            self.assertEqual(results.failed, 0, printed.getvalue())
+                results, printed, _ = ran(hostile_clients.besiege, SMALL, attacks, pathlib.Path(name))
+            self.assertEqual(results.failed, 0, printed)
             self.assertEqual(results.count, len(attacks) + CHECKS)
-            self.assertEqual(printed.getvalue().count("\n"), results.count)
+            self.assertEqual(printed.count("\n"), results.count)
 
 
 class Hearing(unittest.TestCase):

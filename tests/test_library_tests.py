@@ -1,6 +1,4 @@
 """How tools/play/library_tests.py makes a crate of the files of tests/library, and counts what its tests say."""
-import contextlib
-import io
 import pathlib
 import subprocess
 import sys
@@ -8,6 +6,7 @@ import tempfile
 import unittest
 
 from tests import TOP, needs
+from tests.support.output import ran
 from tools.play import library_tests
 
 LINES = "print('test a ... ok'); print('test result: ok. {passed} passed; {failed} failed; 0 ignored'); exit({status})"
@@ -60,9 +59,8 @@ class LibraryTests(unittest.TestCase):
 
     def counted(self, passed: int, failed: int, status: int):
         words = [sys.executable, "-c", LINES.format(passed=passed, failed=failed, status=status)]
-        with contextlib.redirect_stdout(io.StringIO()) as said:
-            counts = library_tests.run(words, self.folder)
-        self.assertIn("test a ... ok\n", said.getvalue())
+        counts, said, _ = ran(library_tests.run, words, self.folder)
+        self.assertIn("test a ... ok\n", said)
         return counts
 
     def test_tests_are_counted(self) -> None:

@@ -1,13 +1,10 @@
 """The rows that play the program: how they are read, and that a row that fails is told."""
-import contextlib
-import io
-import pathlib
 import sys
-import tempfile
 import unittest
 import unittest.mock
 from typing import List
 
+from tests.support.output import InTemporary, ran
 from tools.play import program_cases
 from tools.play import program_tests
 from tools.play.program_rows import Step, fault_of, play, rows_of
@@ -58,11 +55,9 @@ $ tell 'a b' "" c=d
 """
 
 
-class Played(unittest.TestCase):
+class Played(InTemporary):
     def setUp(self) -> None:
-        folder = tempfile.TemporaryDirectory()
-        self.addCleanup(folder.cleanup)
-        self.folder = pathlib.Path(folder.name)
+        super().setUp()
         self.program = self.folder / "program"
         self.program.write_text(PROGRAM)
         self.program.chmod(0o755)
@@ -92,10 +87,8 @@ class Played(unittest.TestCase):
 
     def test_failures_are_printed_and_counted(self) -> None:
         (self.folder / "some.rows").write_text(RIGHT.replace("? 4", "? 3"))
-        printed = io.StringIO()
-        with contextlib.redirect_stdout(printed):
-            failed = program_tests.try_all(str(self.program), [*program_tests.tests_of(self.folder)])
-        lines = printed.getvalue().splitlines()
+        failed, printed, _ = ran(program_tests.try_all, str(self.program), [*program_tests.tests_of(self.folder)])
+        lines = printed.splitlines()
         self.assertEqual((failed, lines[-1]), (1, "1 passed, 1 failed"))
         self.assertTrue(lines[0].startswith("FAILED some.rows: Words are quoted, and what is printed is kept.: $ tell"))
 

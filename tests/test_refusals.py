@@ -1,6 +1,4 @@
 """Tests of tools/hostile/refusals.py and of its library, with programs in C that stand in."""
-import contextlib
-import io
 import pathlib
 import subprocess
 import tempfile
@@ -8,6 +6,7 @@ import unittest
 import unittest.mock
 
 from tests import needs
+from tests.support.output import ran
 from tools.hostile import commands
 from tools.hostile import refusals
 from tools.hostile.commands import COMMANDS, Lab, Run
@@ -195,9 +194,8 @@ class CommandTest(InFolder):
         """What a command of the program that is built with these options does otherwise."""
         lab = Lab(built(self.folder, "prints", PRINTS, *options), self.folder)
         trials = refusals.Trials(lab, refusals.Shim.built(self.folder), 0, 0, 2)
-        with contextlib.redirect_stdout(io.StringIO()) as said:
-            refusals.refuse_command(trials, COMMANDS[0])
-        self.said = said.getvalue()
+        said = ran(refusals.refuse_command, trials, COMMANDS[0]).said
+        self.said = said
         return lab.faults
 
     def test_a_program_that_tells_its_faults(self):
@@ -235,9 +233,8 @@ class TestsTest(InFolder):
         lab = Lab(built(self.folder, "prints", PRINTS), self.folder)
         self.kept = self.folder / "kept"
         tests = built(self.folder, "tests", TESTS, f'-DKEPT="{self.kept}"', *self.LINKED, *options)
-        with contextlib.redirect_stdout(io.StringIO()) as said:
-            refusals.refuse_tests(refusals.Trials(lab, refusals.Shim(), 0, 0, 2), tests)
-        self.said = said.getvalue()
+        said = ran(refusals.refuse_tests, refusals.Trials(lab, refusals.Shim(), 0, 0, 2), tests).said
+        self.said = said
         return lab.faults
 
     def test_calls_that_are_made_again(self):

@@ -1,6 +1,4 @@
 """What a release has, that it says whether its program is proved, and that its bytes are the same each time."""
-import contextlib
-import io
 import os
 import pathlib
 import subprocess
@@ -14,6 +12,7 @@ from arena_lab.support import built
 from tests import TOP, needs
 from tests.test_built import write
 from tests.test_gate import module
+from tests.support.output import ran
 from tools import version
 from tools.prove import prover
 
@@ -69,10 +68,9 @@ class Repositories(unittest.TestCase):
 class Releases(Repositories):
     def made(self, *words: str, status: int = 0) -> Tuple[str, str]:
         """What making a release says on standard output and on standard error."""
-        said, errors = io.StringIO(), io.StringIO()
-        with contextlib.redirect_stdout(said), contextlib.redirect_stderr(errors):
-            self.assertEqual(release.main([*words, "--out", str(self.top / "out" / "release")]), status)
-        return said.getvalue(), errors.getvalue()
+        found, said, errors = ran(release.main, [*words, "--out", str(self.top / "out" / "release")])
+        self.assertEqual(found, status)
+        return said, errors
 
     def unpacked(self, name: str) -> Dict[str, Tuple[str, int]]:
         """The texts and modes of the files of an archive, by their paths."""

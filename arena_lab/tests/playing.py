@@ -1,9 +1,7 @@
 """What the tests that play share: the program, and matches of the sample agents."""
+import contextlib
 import os
-import pathlib
 import random
-import tempfile
-import unittest
 from typing import Any
 
 from arena_lab.play import schedulers
@@ -14,6 +12,7 @@ from arena_lab.rules.fixtures import Fixture, fixture_of
 from arena_lab.rules.model import Setup
 from arena_lab.rules.networks import Network, drawn, flipped_ring, ring
 from arena_lab.rules.rehearsal import Rehearsal
+from tests.support.output import InTemporary
 
 AGENTS = TOP / "examples" / "agents"
 RING = AgentWords(INSIDE, f"{AGENTS / 'ring.py'} {{nodes}}")
@@ -84,12 +83,9 @@ def played(given: Fixture, agent: AgentWords, seed: int, maker: schedulers.Maker
     return play(engine(given), Together([agent] * given.setup.agents, given, 5), maker(seed), given)
 
 
-class InFolder(unittest.TestCase):
+class InFolder(InTemporary):
     """Tests that run at the top of the repository, each with a folder of its own."""
 
     def setUp(self) -> None:
-        folder = tempfile.TemporaryDirectory()
-        self.addCleanup(folder.cleanup)
-        self.addCleanup(os.chdir, os.getcwd())
-        os.chdir(TOP)
-        self.folder = pathlib.Path(folder.name)
+        super().setUp()
+        self.enterContext(contextlib.chdir(TOP))

@@ -7,14 +7,13 @@ import shutil
 import subprocess
 from typing import Any, Callable, Counter, List, NamedTuple, Optional, Sequence, Set
 
-from examples.contest import free_port
 from tools.play.program_rows import DONE, FAILED_STREAM, REFUSED_TEXT
 
 TOP = pathlib.Path(__file__).resolve().parents[2]
 
 
 __all__ = ["COMMANDS", "Command", "DONE", "FAILED_STREAM", "Lab", "NO_MEMORY", "NO_THREADS", "PATIENCE", "REFUSED_TEXT",
-           "Run", "SERVED", "TOP", "WHOLE_OF_PART", "command_named", "ended", "free_port"]
+           "Run", "SERVED", "TOP", "WHOLE_OF_PART", "command_named", "ended"]
 
 NO_MEMORY, NO_THREADS = 5, 7
 # seconds within which a run must end

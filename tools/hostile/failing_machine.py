@@ -14,16 +14,15 @@ import os
 import pathlib
 import re
 import resource
-import socket
-import subprocess
 import sys
 import tempfile
 import threading
 from typing import Callable, Counter
 
 from bench.inputs import MIB
-from tools.hostile.commands import (COMMANDS, DONE, FAILED_STREAM, NO_MEMORY, NO_THREADS, PATIENCE, REFUSED_TEXT,
-                                    SERVED, WHOLE_OF_PART, Lab, Run, command_named, ended, free_port)
+from tests.support.servers import Server
+from tools.hostile.commands import (COMMANDS, DONE, FAILED_STREAM, NO_MEMORY, NO_THREADS, REFUSED_TEXT, SERVED,
+                                    WHOLE_OF_PART, Lab, Run, command_named, ended)
 
 # of a server; fewer than connections that the system keeps waiting for it
 SESSIONS = 100
@@ -129,22 +128,14 @@ def feed(fifo: pathlib.Path, whole: bytes, cut: int) -> None:
 
 def served(lab: Lab, sessions: int, limit: Callable[[], None]) -> Run:
     """Serves the first tournament with a limit, to clients that connect and close."""
-    port = free_port()
-    words = [SERVED, "examples/first.toml", "--port", port, "--sessions", sessions, "--turns", 10, "--pause", 1,
-             "--replay", "served"]
     lab.runs += 1
-    child = subprocess.Popen([lab.program, *map(str, words)], cwd=lab.folder, preexec_fn=limit, stdout=subprocess.PIPE,
-                             stderr=subprocess.PIPE)
-    first = child.stdout.readline()
-    clients = []
-    if first:
-        with contextlib.suppress(OSError):
-            for _ in range(sessions):
-                clients.append(socket.create_connection(("127.0.0.1", port), timeout=PATIENCE))
-        for client in clients:
-            client.close()
-    run = ended(child)
-    return run._replace(printed=first + run.printed)
+    server = Server([lab.program, SERVED, "examples/first.toml", "--sessions", sessions, "--turns", 10, "--pause", 1,
+                     "--replay", "served"], lab.folder, preexec_fn=limit)
+    with contextlib.ExitStack() as clients, contextlib.suppress(OSError):
+        for _ in range(sessions if server.first else 0):
+            clients.enter_context(server.connect())
+    run = ended(server.child)
+    return run._replace(printed=server.first + run.printed)
 
 
 # each part takes a descriptor while a contest goes on; without one the replay is whole nevertheless

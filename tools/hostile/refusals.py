@@ -45,8 +45,9 @@ import tempfile
 import time
 from typing import Callable, Dict, Iterable, Iterator, List, NamedTuple, Optional, Sequence, Set, Tuple
 
+from tests.support.servers import Server
 from tools.hostile.commands import (COMMANDS, DONE, FAILED_STREAM, NO_MEMORY, NO_THREADS, SERVED, WHOLE_OF_PART,
-                                    Command, Lab, Run, ended, free_port)
+                                    Command, Lab, Run, ended)
 from tools.hostile.session_lines import HERE, OVER
 from tools.play.program_cases import CUP, REFUSED_WORDS, TRIANGLE
 
@@ -359,18 +360,12 @@ def hears(port: int, said: bytes) -> bytes:
 
 def hosted(program: str, folder: pathlib.Path, variables: Dict[str, str]) -> Contest:
     """Serves a contest in a folder to two clients, one behind the other. What is printed has N for the port."""
-    port = free_port()
-    words = [SERVED, "cup.toml", "--port", str(port), "--sessions", "2", "--turns", "40", "--pause", "5", "--replay",
-             "kept"]
-    began = time.monotonic()
-    child = subprocess.Popen([program, *words], cwd=folder, env=variables, stdout=subprocess.PIPE,
-                             stderr=subprocess.PIPE)
-    assert child.stdout
-    first = child.stdout.readline()
-    heard = [hears(port, said) if first.endswith(b"\n") else b"" for said in SAID]
-    run = ended(child)
-    seconds = time.monotonic() - began
-    printed = (first + run.printed).replace(b"listening %d\n" % port, b"listening N\n")
+    words = [program, SERVED, "cup.toml", "--sessions", 2, "--turns", 40, "--pause", 5, "--replay", "kept"]
+    server = Server(words, folder, env=variables)
+    heard = [hears(server.port, said) if server.first.endswith(b"\n") else b"" for said in SAID]
+    run = ended(server.child)
+    seconds = time.monotonic() - server.begun
+    printed = (server.first + run.printed).replace(b"listening %d\n" % server.port, b"listening N\n")
     return Contest(run._replace(printed=printed), heard, replays_in(folder), {}, seconds)
 
 

@@ -21,6 +21,7 @@ from selenium.common.exceptions import WebDriverException
 from selenium.webdriver.support.ui import WebDriverWait
 
 from examples import contest
+from tests.support.servers import Server
 
 TOP = pathlib.Path(__file__).resolve().parents[2]
 SIZES = {"wide": (1600, 1000), "tablet": (800, 1000), "phone": (400, 850)}
@@ -65,13 +66,10 @@ def main() -> int:
     shots = pathlib.Path(sys.argv[2] if len(sys.argv) == 3 else tempfile.mkdtemp())
     shots.mkdir(parents=True, exist_ok=True)
     with tempfile.TemporaryDirectory() as name:
-        folder, port, web = pathlib.Path(name), contest.free_port(), contest.free_port()
+        folder, web = pathlib.Path(name), contest.free_port()
         subprocess.run(["cc", "-O2", "-o", folder / "ring", contest.AGENTS / "ring.c"], check=True)
-        serves = [program, "serve", contest.TOURNAMENT, "--port", port, "--sessions", 100, "--turns", 20_000,
-                  "--pause", 2, "--replay", folder / "m", "--gather", 10_000, "--early"]
-        server = subprocess.Popen(list(map(str, serves)), cwd=TOP, stdout=subprocess.PIPE, text=True)
-        assert server.stdout is not None
-        server.stdout.readline()
+        server = Server([program, "serve", contest.TOURNAMENT, "--sessions", 100, "--turns", 20_000, "--pause", 2,
+                         "--replay", folder / "m", "--gather", 10_000, "--early"])
         watches = [sys.executable, "-m", "arena_lab", "watch", contest.TOURNAMENT, str(folder / "m"), "--port",
                    str(web),
                    "--turns", "20000", "--pause", "2"]
@@ -83,13 +81,13 @@ def main() -> int:
             page.get(f"http://127.0.0.1:{web}/")
             WebDriverWait(page, SECONDS).until(lambda it: len(rows(it)) == 4)
             shoot(page, shots, "begins")
-            agents = [subprocess.Popen(contest.command_of(agent, f"{team}-{number}", port, folder))
+            agents = [subprocess.Popen(contest.command_of(agent, f"{team}-{number}", server.port, folder))
                       for team, members in contest.TEAMS.items() for number, agent in enumerate(members)]
             WebDriverWait(page, SECONDS).until(lambda it: any(row[4].startswith("2 of") for row in rows(it)))
             shoot(page, shots, "runs")
             WebDriverWait(page, SECONDS).until(lambda it: "4 of 4" in it.find_element("id", "about").text)
             shoot(page, shots, "over")
-            table = [line.split() for line in server.communicate(timeout=SECONDS)[0].splitlines()[1:]]
+            table = [line.split() for line in server.ended().texts()[1].splitlines()[1:]]
             found = sorted([row[1], *row[3].split(), row[5], row[6]] for row in rows(page))
             if found != sorted(row[1:] for row in table):
                 sys.exit(f"the page shows {found}, and the table is {table}")
@@ -106,7 +104,7 @@ def main() -> int:
                 agent.wait()
         finally:
             page.quit()
-            for child in (watch, server):
+            for child in (watch, server.child):
                 child.kill()
                 child.wait()
     print(f"the standings are those of the table; screenshots are in {shots}")

@@ -1,15 +1,14 @@
 """The commands of the lessons do what the sheets say, in the order in which they stand there."""
 import os
-import pathlib
 import re
 import shlex
 import subprocess
 import sys
-import tempfile
 import unittest
 from typing import List
 
 from arena_lab.rules.engines import TOP
+from tests.support.output import InTemporary
 
 LESSONS = TOP / "examples" / "lessons"
 COMMAND = re.compile(r" {7}(./arena-lab .*)")
@@ -36,11 +35,9 @@ def commands(sheet: str) -> List[List[str]]:
     return [shlex.split(it) for it in COMMAND.findall(text)]
 
 
-class TestLessons(unittest.TestCase):
+class TestLessons(InTemporary):
     def setUp(self) -> None:
-        folder = tempfile.TemporaryDirectory()
-        self.addCleanup(folder.cleanup)
-        self.folder = pathlib.Path(folder.name)
+        super().setUp()
         for name in ("examples", "arena_lab"):
             (self.folder / name).symlink_to(TOP / name)
 

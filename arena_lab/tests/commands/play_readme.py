@@ -1,6 +1,4 @@
 """The commands of arena_lab/README.md and docs/PROVING.md say what stands below them."""
-import contextlib
-import io
 import os
 import pathlib
 import re
@@ -15,6 +13,7 @@ from arena_lab.__main__ import main
 from arena_lab.rules.engines import TOP, name_of
 from arena_lab.support import built
 from arena_lab.tests.playing import program
+from tests.support.output import ran
 
 README = TOP / "arena_lab" / "README.md"
 PAGES = (README, TOP / "docs" / "PROVING.md")
@@ -68,10 +67,8 @@ class Readme(unittest.TestCase):
             words += ["--database", str(folder / "database")]
         if words[0] not in NO_PROGRAM:
             words += ["--program", program()]
-        said = io.StringIO()
-        with contextlib.redirect_stdout(said):
-            main(words)
-        return said.getvalue()
+        said = ran(main, words).said
+        return said
 
 
 if __name__ == "__main__":

@@ -1,6 +1,4 @@
 """Examples that were copied run where they stand, by the lab that copied them."""
-import contextlib
-import io
 import json
 import os
 import pathlib
@@ -12,14 +10,14 @@ import unittest
 from arena_lab.__main__ import main
 from arena_lab.rules.engines import TOP
 from arena_lab.tests.needing import needs
+from tests.support.output import ran
 
 
 @needs("greenlet", "jinja2", "networkx", "numpy", "scipy", "tqdm")
 class Copies(unittest.TestCase):
     def setUp(self) -> None:
         self.folder = pathlib.Path(self.enterContext(tempfile.TemporaryDirectory())) / "mine"
-        with contextlib.redirect_stdout(io.StringIO()):
-            self.assertEqual(main(["examples", str(self.folder)]), 0)
+        self.assertEqual(ran(main, ["examples", str(self.folder)]).status, 0)
 
     def said(self, *words: str) -> str:
         """What a Python prints that knows no lab but the one of the copies."""
@@ -37,9 +35,9 @@ class Copies(unittest.TestCase):
 
     def test_the_search_of_the_kit_is_what_the_lab_calls(self) -> None:
         agent = str(self.folder / "examples" / "agents" / "python" / "careful.py")
-        with contextlib.redirect_stdout(io.StringIO()) as said:
-            main(["run", "--network", "ring:6", "--agent", f"{agent} {{nodes}}", "--engine", "model", "--runs", "5"])
-        self.assertIn("5 schedules: solved 5; failed 0", said.getvalue())
+        said = ran(main, ["run", "--network", "ring:6", "--agent", f"{agent} {{nodes}}", "--engine", "model", "--runs",
+                          "5"]).said
+        self.assertIn("5 schedules: solved 5; failed 0", said)
 
 
 if __name__ == "__main__":

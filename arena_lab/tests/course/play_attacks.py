@@ -59,6 +59,7 @@ from arena_lab.support.missing import DEBIANS_PYTHON
 from arena_lab.sweep import tables
 from arena_lab.tests.play.play_programs import running
 from arena_lab.tests.playing import AGENTS
+from tests.support.output import ran
 
 HAS_WALLS = cells.strongest() is Isolation.ALL
 IS_ROOT = os.geteuid() == 0
@@ -125,9 +126,8 @@ class Course(unittest.TestCase):
         """Grades a course by the command, and gives the rows of each team."""
         file = self.folder / "course.toml"
         file.write_text(text)
-        with contextlib.redirect_stdout(io.StringIO()), contextlib.redirect_stderr(io.StringIO()):
-            self.assertEqual(main(["grade", str(file), "--out", str(self.folder / out), "--engine", "model",
-                                   "--workers", "2"]), status)
+        self.assertEqual(ran(main, ["grade", str(file), "--out", str(self.folder / out), "--engine", "model",
+                                    "--workers", "2"]).status, status)
         found: Dict[str, List[Dict[str, Any]]] = {}
         for row in tables.rows_in(self.folder / out / tables.RUNS):
             found.setdefault(row["team"], []).append(row)
@@ -630,10 +630,9 @@ os._exit(0)
         (self.folder / "it.py").write_text(code + "\n")
         told = set()
         for _ in range(3):
-            with contextlib.redirect_stdout(io.StringIO()) as out:
-                main(["run", "--network", "ring:4", "--agents", "1", "--engine", "model", "--command",
-                      f"python3 {self.folder}/it.py {{port}} {{key}}"])
-            told.add(out.getvalue())
+            out = ran(main, ["run", "--network", "ring:4", "--agents", "1", "--engine", "model", "--command",
+                             f"python3 {self.folder}/it.py {{port}} {{key}}"]).said
+            told.add(out)
         self.assertEqual(len(told), 1)
 
 

@@ -1,8 +1,6 @@
 """A graded course is written for gradebooks, and the files of examples/course/autograder grade one team as far as they
 run here: what installs the package is left out."""
-import contextlib
 import csv
-import io
 import json
 import os
 import pathlib
@@ -19,6 +17,7 @@ from arena_lab.__main__ import main
 from arena_lab.course.export import KINDS
 from arena_lab.rules.engines import TOP
 from arena_lab.tests.playing import AGENTS, InFolder
+from tests.support.output import ran
 
 AUTOGRADER = TOP / "examples" / "course" / "autograder"
 COURSE = ('title = "T"\nnetworks = ["ring:4"]\nholes = [2]\n[points]\nnetwork = 7\n[[team]]\nname = "a"\n'
@@ -38,9 +37,8 @@ class Exports(InFolder):
         (self.folder / "dies.py").write_text("raise SystemExit('no map')\n")
         course = self.folder / "course.toml"
         course.write_text(COURSE)
-        with contextlib.redirect_stdout(io.StringIO()) as said, contextlib.redirect_stderr(io.StringIO()) as errors:
-            status = main(["grade", str(course), "--out", str(self.out), "--engine", "model", *more])
-        return said.getvalue() if status == 0 else errors.getvalue()
+        status, said, errors = ran(main, ["grade", str(course), "--out", str(self.out), "--engine", "model", *more])
+        return said if status == 0 else errors
 
     def test_all_kinds_at_once(self) -> None:
         (self.folder / "students.csv").write_text("team,idnumber\nb,12\na,007\n")

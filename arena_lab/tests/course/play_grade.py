@@ -22,6 +22,7 @@ from arena_lab.sandbox.cells import Cell, ProgramFiles, Isolation, Sandbox
 from arena_lab.sweep import tables
 from arena_lab.tests.play.play_programs import running
 from arena_lab.tests.playing import AGENTS, InFolder, program
+from tests.support.output import ran
 
 EXAMPLE = TOP / "examples" / "course" / "course.toml"
 # from which the league table of the page of the examples comes
@@ -70,9 +71,9 @@ def league_in(page: pathlib.Path) -> List[str]:
 class Grading(InFolder):
     def graded(self, file: pathlib.Path, out: str, *more: str) -> str:
         """Grades a course; gives what is said."""
-        with contextlib.redirect_stdout(io.StringIO()) as said, contextlib.redirect_stderr(io.StringIO()):
-            self.assertEqual(main(["grade", str(file), "--out", str(self.folder / out), *more]), 0)
-        return said.getvalue()
+        status, said, _ = ran(main, ["grade", str(file), "--out", str(self.folder / out), *more])
+        self.assertEqual(status, 0)
+        return said
 
     def check_same(self, one: Dict[str, bytes], other: Dict[str, bytes]) -> None:
         """That two folders have the same files; names those that differ, since how pages differ takes long to say."""
@@ -126,9 +127,9 @@ class Grading(InFolder):
         for path in (AGENTS / "client.py", AGENTS / "ring.py", MUTANT, EXAMPLE.parent / "cedar" / "hasty.py"):
             shutil.copy(path, own)
         os.chdir(own)
-        with contextlib.redirect_stdout(io.StringIO()) as said:
-            self.assertEqual(main(["replay", str(match), "--engine", "model"]), 0)
-        self.assertIn("the replay is the same, byte for byte", said.getvalue())
+        status, said, _ = ran(main, ["replay", str(match), "--engine", "model"])
+        self.assertEqual(status, 0)
+        self.assertIn("the replay is the same, byte for byte", said)
 
     def test_who_breaks_the_rules_fails_alone(self) -> None:
         teams = [team(how, [str(TESTS / "play" / "rude.py")], RUDE.format(how=how)) for how in FAULTS]

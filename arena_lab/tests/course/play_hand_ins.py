@@ -16,6 +16,7 @@ from arena_lab.play import schedules
 from arena_lab.sweep import tables
 from arena_lab.tests.course.play_attacks import EVIL, HEAD, HONEST, Course, team
 from arena_lab.tests.playing import AGENTS
+from tests.support.output import ran
 
 RING = "python3 ring.py {host} {port} {key} {nodes}"
 # writes texts of odd characters on a whiteboard until it is ended, and as odd ones to standard error
@@ -139,14 +140,13 @@ class Again(Course):
         file = self.folder / "course.toml"
         file.write_text('title = "A trial"\nnetworks = ["complete:4"]\nholes = 1\nseeds = 4\ntries = 0\n'
                         + team("evil", ["evil"], EVIL))
-        with contextlib.redirect_stdout(io.StringIO()), contextlib.redirect_stderr(io.StringIO()) as errors:
-            status = main(["grade", str(file), "--out", str(self.folder / out), "--engine", "model", "--workers", "1",
-                           *more])
-        self.assertEqual(status, 0, errors.getvalue())
+        status, _, errors = ran(main, ["grade", str(file), "--out", str(self.folder / out), "--engine", "model",
+                                       "--workers", "1", *more])
+        self.assertEqual(status, 0, errors)
         found: Dict[str, List[Dict[str, Any]]] = {}
         for row in tables.rows_in(self.folder / out / tables.RUNS):
             found.setdefault(row["team"], []).append(row)
-        return found, errors.getvalue()
+        return found, errors
 
     def table(self, out: str) -> Dict[str, Tuple[int, int, int]]:
         """What the failed matches show: by its key the home base and the black hole, and a port that leads there."""

@@ -1,6 +1,4 @@
 """Agents are repeated alone at home, in hunts and searches, and for a graded course that was copied elsewhere."""
-import contextlib
-import io
 import pathlib
 import shutil
 from typing import List, Tuple
@@ -8,6 +6,7 @@ from typing import List, Tuple
 from arena_lab.__main__ import main
 from arena_lab.rules.engines import TOP
 from arena_lab.tests.playing import AGENTS, InFolder, program
+from tests.support.output import ran
 
 EXAMPLE = TOP / "examples" / "course"
 # how an agent chooses what it writes, and whether it says the same when it is told the same again
@@ -38,9 +37,8 @@ SAYS_OTHERWISE = "says something else when it is told the same again, at command
 class Commands(InFolder):
     def said(self, *words: str) -> Tuple[int, str]:
         """The status of a command, and what it prints."""
-        with contextlib.redirect_stdout(io.StringIO()) as said, contextlib.redirect_stderr(io.StringIO()) as errors:
-            status = main(list(words))
-        return status, said.getvalue() + errors.getvalue()
+        status, said, errors = ran(main, list(words))
+        return status, said + errors
 
 
 class Repeats(Commands):

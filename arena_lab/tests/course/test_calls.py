@@ -1,8 +1,6 @@
 """The calls of the system that programs behind walls may make: the table, the filter that is made of it, and what is
 said of a trace."""
-import contextlib
 import errno
-import io
 import json
 import os
 import pathlib
@@ -17,6 +15,7 @@ from arena_lab.course.hand_in import HandInEntry, HandIn
 from arena_lab.sandbox import calls, isolation
 from arena_lab.support.fields import WrongFile
 from arena_lab.support.missing import DEBIANS_PYTHON
+from tests.support.output import ran
 
 # what programs have used to talk past the network and the whiteboards, to leave notes, or to see what others do
 ATTACKS = """io_setup io_submit io_uring_setup io_uring_enter io_uring_register pidfd_open pidfd_getfd pidfd_send_signal
@@ -163,10 +162,9 @@ clone(child_stack=NULL, flags=0x1000|17) = 3
                                         (["--help"], 0, "strace -f -X raw"), (["cobol", str(trace)], 2, "Languages"),
                                         (["every", str(trace)], 0, "of 1 calls that were traced 0 are refused"),
                                         (["every", os.path.join(folder, "no")], 1, "No such file")):
-                out = io.StringIO()
-                with contextlib.redirect_stdout(out), contextlib.redirect_stderr(out):
-                    self.assertEqual(calls.main(given), status)
-                self.assertIn(said, out.getvalue())
+                found, out, errors = ran(calls.main, given)
+                self.assertEqual(found, status)
+                self.assertIn(said, out + errors)
 
 
 if __name__ == "__main__":

@@ -5,7 +5,6 @@ import io
 import os
 import pathlib
 import stat
-import tempfile
 import unittest
 from typing import Any, Dict, List
 from unittest import mock
@@ -20,6 +19,7 @@ from arena_lab.sandbox import users
 from arena_lab.sandbox.cells import Isolation
 from arena_lab.support.fields import WrongFile
 from arena_lab.sweep import tables
+from tests.support.output import InTemporary
 
 HEAD = 'title = "T"\nnetworks = ["ring:4", "ring:5"]\n'
 TEAM = '[[team]]\nname = "a"\nfiles = ["agent.py"]\ncommand = "python3 agent.py {port} {key}"\n'
@@ -34,11 +34,9 @@ def row(run: int, team: str, moves: int, outcome: str = "solved", *faults: str) 
     return {**dict(zip(tables.COLUMNS, map(str, values))), "faults": list(faults)}
 
 
-class Folder(unittest.TestCase):
+class Folder(InTemporary):
     def setUp(self) -> None:
-        folder = tempfile.TemporaryDirectory()
-        self.addCleanup(folder.cleanup)
-        self.folder = pathlib.Path(folder.name)
+        super().setUp()
         (self.folder / "agent.py").write_text("pass")
 
     def course(self, middle: str = "", team: str = TEAM) -> CourseFile:

@@ -2,16 +2,15 @@
 import contextlib
 import io
 import json
-import pathlib
 import re
 import sys
-import tempfile
 import unittest
 from unittest import mock
 
 from arena_lab.__main__ import main
 from arena_lab.pages import page
 from arena_lab.rules.model import Match, Setup
+from tests.support.output import InTemporary
 
 TRIANGLE = [(0, 0, 1, 0), (1, 1, 2, 0), (2, 1, 0, 1)]
 HOSTILE = "</script><b>\u202e{{title}}"
@@ -37,11 +36,9 @@ def ended() -> Match:
     return match
 
 
-class Pages(unittest.TestCase):
+class Pages(InTemporary):
     def setUp(self) -> None:
-        folder = tempfile.TemporaryDirectory()
-        self.addCleanup(folder.cleanup)
-        self.folder = pathlib.Path(folder.name)
+        super().setUp()
         self.program = self.folder / "arena"
         self.program.write_text(ARENA)
         self.program.chmod(0o755)

@@ -1,6 +1,4 @@
 """A find is never lost: its limit is part of the schedule, and a mended program follows it as far as it goes along."""
-import contextlib
-import io
 import shutil
 import unittest
 from typing import Tuple
@@ -9,6 +7,7 @@ from arena_lab.__main__ import main
 from arena_lab.play.schedules import read
 from arena_lab.tests.playing import AGENTS, InFolder
 from arena_lab.support.built import TOP
+from tests.support.output import ran
 
 # computes for a second of the processor's time, and then searches
 SLOW = """
@@ -33,9 +32,8 @@ class Follows(InFolder):
             shutil.copy(AGENTS / name, self.folder)
 
     def said(self, *words: str) -> Tuple[int, str]:
-        with contextlib.redirect_stdout(io.StringIO()) as said, contextlib.redirect_stderr(io.StringIO()):
-            status = main([*words, "--engine", "model"])
-        return status, said.getvalue()
+        status, said, _ = ran(main, [*words, "--engine", "model"])
+        return status, said
 
     def test_what_is_found_with_a_limit_is_kept_with_it(self) -> None:
         self.agent.write_text(SLOW)

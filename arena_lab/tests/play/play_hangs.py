@@ -1,12 +1,11 @@
 """Programs that hang cost a course little time, and are told what they may have forgotten."""
-import contextlib
-import io
 import unittest
 from typing import Dict, List
 
 from arena_lab.__main__ import main
 from arena_lab.sweep import tables
 from arena_lab.tests.playing import AGENTS, InFolder
+from tests.support.output import ran
 
 # enters and hangs on the ring of 4 nodes, and searches on others
 HANGS = """
@@ -28,8 +27,7 @@ class Hangs(InFolder):
                           f'name = "a"\nfiles = ["{AGENTS}/client.py", "{AGENTS}/ring.py", "hangs.py"]\n'
                           'command = "python3 hangs.py {host} {port} {key} {nodes}"\n')
         (self.folder / "hangs.py").write_text(HANGS)
-        with contextlib.redirect_stdout(io.StringIO()), contextlib.redirect_stderr(io.StringIO()):
-            main(["grade", str(course), "--out", str(self.folder / "out"), "--engine", "model", "--no-repeat", *more])
+        ran(main, ["grade", str(course), "--out", str(self.folder / "out"), "--engine", "model", "--no-repeat", *more])
         found: Dict[str, List[str]] = {}
         for row in tables.rows_in(self.folder / "out" / tables.RUNS):
             found.setdefault(row["network"], []).append(row["fault"])

@@ -1,7 +1,5 @@
 """WebAssembly modules as agents: they play as programs, and `arena explore --module` tries every schedule of them."""
-import contextlib
 import csv
-import io
 import re
 import shutil
 import unittest
@@ -22,6 +20,7 @@ from arena_lab.search.match_results import unkept
 from arena_lab.support import built
 from arena_lab.tests.playing import AGENTS, InFolder, program
 from arena_lab.tests.wasm_modules import MODULE, SLEEPER, play_by_stand_in
+from tests.support.output import ran
 
 RING = AGENTS / "wasm" / "ring.wasm"
 SWEEP = f'''
@@ -66,9 +65,8 @@ class Modules(InFolder):
 
     def command(self, *words: object) -> Tuple[int, str]:
         """The status of a command, and what it says."""
-        with contextlib.redirect_stdout(io.StringIO()) as said, contextlib.redirect_stderr(said):
-            status = main([*map(str, words)])
-        return status, said.getvalue()
+        status, said, errors = ran(main, [*map(str, words)])
+        return status, said + errors
 
     def explored(self, *words: object) -> Tuple[int, List[str]]:
         """The status of an exploration, and what it says but for seconds."""

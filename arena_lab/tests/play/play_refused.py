@@ -1,12 +1,11 @@
 """Lines of agents that were refused are told by `run`, `replay`, `grade` and pages, and change nothing of a match."""
-import contextlib
-import io
 import json
 import sys
 import unittest
 
 from arena_lab.__main__ import main
 from arena_lab.tests.playing import InFolder
+from tests.support.output import ran
 
 LINES = ["debug: here", '{"do":"depart","port":"0"}', '{"do":"move","port":0}', '{"do":"depart","port":7}',
          "at \x1b[31m<b>port</b>"]
@@ -34,9 +33,8 @@ class Refused(InFolder):
         return f"{sys.executable} {self.agent} {{host}} {{port}} {{key}} '{sent}' '{tail}'"
 
     def said(self, *words: str) -> str:
-        with contextlib.redirect_stdout(io.StringIO()) as said, contextlib.redirect_stderr(io.StringIO()):
-            main([*words, "--engine", "model"])
-        return said.getvalue()
+        said = ran(main, [*words, "--engine", "model"]).said
+        return said
 
     def played(self, *lines: str, tail: str = "", more: "tuple[str, ...]" = ()) -> str:
         return self.said("run", "--network", "ring:4", "--hole", "2", "--agents", "1", "--command",

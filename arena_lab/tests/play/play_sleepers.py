@@ -3,8 +3,6 @@ forgets a wake or a nap, that wakes nobody at a write, or that crosses a held li
 import argparse
 import contextlib
 import io
-import pathlib
-import tempfile
 import unittest
 from typing import Dict, List
 from unittest import mock
@@ -14,6 +12,7 @@ from arena_lab.commands.words import games_of
 from arena_lab.rules.networks import ring
 from arena_lab.search import explore
 from arena_lab.tests.playing import FAULTY, RING
+from tests.support.output import InTemporary
 from tests.support.tournaments import match, write_cup
 
 # The black hole of ring:3 is node 1. One agent walks by node 2, writes x and then y at home, and accuses.
@@ -105,11 +104,9 @@ def sleeps_before_it_enters(agent, key, sleep):
 WITHOUT_NAPS = ("--spurious-wakeups", "0")
 
 
-class Sleepers(unittest.TestCase):
+class Sleepers(InTemporary):
     def setUp(self) -> None:
-        folder = tempfile.TemporaryDirectory()
-        self.addCleanup(folder.cleanup)
-        self.folder = pathlib.Path(folder.name)
+        super().setUp()
         (self.folder / "agents.py").write_text(AGENTS, encoding="utf-8")
 
     def agents(self, names: List[str]) -> List[str]:

@@ -1,22 +1,14 @@
 """Kits are copied whole, to new folders, and their READMEs name the commands that `./arena-lab new` names."""
-import contextlib
-import io
-import pathlib
-import tempfile
 import unittest
 
 from arena_lab.__main__ import main
 from arena_lab.play.agent_files import AGENTS
 from arena_lab.play.kits import KITS, MADE, played, write_kit
 from arena_lab.support.faults import Fault
+from tests.support.output import InTemporary, ran
 
 
-class Kits(unittest.TestCase):
-    def setUp(self) -> None:
-        folder = tempfile.TemporaryDirectory()
-        self.addCleanup(folder.cleanup)
-        self.folder = pathlib.Path(folder.name)
-
+class Kits(InTemporary):
     def test_a_kit_is_copied_without_what_building_made(self) -> None:
         for language, kit in KITS.items():
             with self.subTest(language):
@@ -40,12 +32,11 @@ class Kits(unittest.TestCase):
                     self.assertIn(" ".join(command.split()), " ".join(text).replace('"', ""))
 
     def test_it_says_how_to_go_on(self) -> None:
-        told = io.StringIO()
-        with contextlib.redirect_stdout(told):
-            self.assertEqual(0, main(["new", "c", str(self.folder / "my agent")]))
+        status, told, _ = ran(main, ["new", "c", str(self.folder / "my agent")])
+        self.assertEqual(status, 0)
         for wanted in (f"cd '{self.folder / 'my agent'}'\n", "    make\n", "    make test\n",
                        '--command "./careful {host} {port} {key} {nodes}"\n'):
-            self.assertIn(wanted, told.getvalue())
+            self.assertIn(wanted, told)
 
 
 if __name__ == "__main__":

@@ -3,13 +3,13 @@ import contextlib
 import io
 import os
 import pathlib
-import tempfile
 import unittest
 from typing import List
 from unittest import mock
 
 from arena_lab import __main__ as lab
 from arena_lab.play.tournament_notes import IGNORED, MOST_LINES, SCHEDULE, main
+from tests.support.output import InTemporary
 
 MATCH = ('team = "red"\nnetwork = "tri.toml"\nhome = 0\nholes = [1]\ndark = []\nquota = 9\nboard = 9\nkeys = ["a"]\n'
          "held = [[0, 1], [2, 0]]\n")
@@ -21,12 +21,7 @@ def tournament(version: int = 3, more: str = DELAYS, match: str = MATCH, mark: s
     return f'version = {version}\nseed = "{"0" * 64}"\n{more}{mark}\n{match}'
 
 
-class Notes(unittest.TestCase):
-    def setUp(self) -> None:
-        folder = tempfile.TemporaryDirectory()
-        self.addCleanup(folder.cleanup)
-        self.folder = pathlib.Path(folder.name)
-
+class Notes(InTemporary):
     def said(self, text: str, what: str = IGNORED) -> List[str]:
         """The lines of a tournament, without its name."""
         path = self.folder / "cup.toml"

@@ -1,11 +1,9 @@
 """The engines agree, what a schedule says is played again byte for byte, and a wrong engine is found out."""
 import contextlib
 import io
-import pathlib
 import random
 import re
 import subprocess
-import tempfile
 import unittest
 from unittest import mock
 
@@ -17,6 +15,7 @@ from arena_lab.rules.engines import Differs, Program
 from arena_lab.rules.networks import ring
 from arena_lab.rules.rehearsal import Rehearsal
 from arena_lab.tests.playing import AGENTS, MAP, RING, fixture, network_fixture, played, program
+from tests.support.output import InTemporary
 from tools.play import compare
 
 MATCHES = 60
@@ -72,12 +71,7 @@ class Engines(unittest.TestCase):
                     self.assertEqual(proved.choices, tried.choices)
 
 
-class Schedules(unittest.TestCase):
-    def setUp(self) -> None:
-        folder = tempfile.TemporaryDirectory()
-        self.addCleanup(folder.cleanup)
-        self.folder = pathlib.Path(folder.name)
-
+class Schedules(InTemporary):
     def command(self, *words: str) -> int:
         self.said = io.StringIO()
         with contextlib.redirect_stdout(self.said), contextlib.redirect_stderr(self.said):

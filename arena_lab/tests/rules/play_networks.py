@@ -1,6 +1,5 @@
 """The program takes each network and tournament that the lab writes, and the lab refuses what it would not take."""
 import contextlib
-import io
 import os
 import pathlib
 import stat
@@ -14,6 +13,7 @@ from arena_lab.__main__ import main
 from arena_lab.rules.fixtures import read_tournament
 from arena_lab.rules.networks import Network, cut_of
 from arena_lab.tests.playing import program
+from tests.support.output import ran
 
 NAMES = ("ring:32", "grid:4x5", "wheel:7", "petersen:5x2", "torus:5x5", "hypercube:4", "complete:8", "ccc:3",
          "random:40:deg4:seed7", "random:12:deg3:seed1", "random:5")
@@ -21,10 +21,8 @@ NAMES = ("ring:32", "grid:4x5", "wheel:7", "petersen:5x2", "torus:5x5", "hypercu
 
 def lab(*words: str) -> Tuple[int, str, str]:
     """The status of a command of the lab, and what it says."""
-    said, errors = io.StringIO(), io.StringIO()
-    with contextlib.redirect_stdout(said), contextlib.redirect_stderr(errors):
-        status = main(list(words))
-    return status, said.getvalue(), errors.getvalue()
+    status, said, errors = ran(main, list(words))
+    return status, said, errors
 
 
 class Written(unittest.TestCase):

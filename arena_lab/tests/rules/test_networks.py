@@ -14,6 +14,7 @@ from arena_lab.commands.tournament import file_of, number_or, team_name
 from arena_lab.rules import networks
 from arena_lab.support.missing import needed
 from arena_lab.tests.needing import needs
+from tests.support.output import ran
 
 NAMES = ("ring:5", "hypercube:3", "torus:3x4", "complete:5", "ccc:3", "ccc:5", "random:7", "grid:3x4", "grid:2x2",
          "wheel:3", "wheel:6", "petersen:5x2", "petersen:7x3")
@@ -98,11 +99,11 @@ class Networks(unittest.TestCase):
     def test_a_page_has_each_node_and_each_port(self) -> None:
         with tempfile.TemporaryDirectory() as folder:
             page, file = (pathlib.Path(folder) / name for name in ("it.html", "it.toml"))
-            with contextlib.redirect_stdout(io.StringIO()) as said:
-                self.assertEqual(main(["network", "petersen:5x2", "--page", str(page), "--out", str(file)]), 0)
+            status, said, _ = ran(main, ["network", "petersen:5x2", "--page", str(page), "--out", str(file)])
+            self.assertEqual(status, 0)
             text = page.read_text()
             self.assertEqual((text.count("<circle"), text.count("<line"), text.count('class="port"')), (10, 15, 30))
-            self.assertEqual(said.getvalue().splitlines()[0], f"see it: {page}")
+            self.assertEqual(said.splitlines()[0], f"see it: {page}")
             self.assertIn("nodes = 10", file.read_text())
 
     def test_shuffled_ports_join_the_same_nodes_by_other_labels(self) -> None:

@@ -1,6 +1,4 @@
 """What the tests of `explore` share: the command, a game with one match, and what the program answers of it."""
-import contextlib
-import io
 from typing import Any, List, Optional, Tuple
 
 from arena_lab.__main__ import main, parser
@@ -13,6 +11,7 @@ from arena_lab.search.program_search import SampleRequest, asked
 from arena_lab.search.sampled_runs import follow
 from arena_lab.support.progress import NO_PROGRESS
 from arena_lab.tests.playing import InFolder, program
+from tests.support.output import ran
 
 
 class InExplore(InFolder):
@@ -22,10 +21,9 @@ class InExplore(InFolder):
 
     def command(self, *words: object) -> int:
         """The exit status of `explore` with these words."""
-        said = io.StringIO()
-        with contextlib.redirect_stdout(said), contextlib.redirect_stderr(said):
-            status = main(["explore", *map(str, words), "--program", program(), "--keep", str(self.folder / "find")])
-        self.said = said.getvalue()
+        status, said, errors = ran(main, ["explore", *map(str, words), "--program", program(), "--keep",
+                                          str(self.folder / "find")])
+        self.said = said + errors
         return status
 
     def game(self, *words: str) -> Tuple[Game, Fixture]:

@@ -1,7 +1,5 @@
 """The adversary makes right teams move as much as every team must, and shows the black hole that a wrong team does not
 find."""
-import contextlib
-import io
 import random
 from typing import List, Tuple
 
@@ -11,6 +9,7 @@ from arena_lab.rules.networks import Network, complete, flipped_ring, ring
 from arena_lab.search.adversary import Adversary, Beaten, NotARing, Phase, steps_of
 from arena_lab.search.ring_bounds import least_moves
 from arena_lab.tests.playing import AGENTS, RING, InFolder
+from tests.support.output import ran
 
 RING3 = AgentWords(INSIDE, f"{AGENTS / 'ring3.py'} {{nodes}}")
 # wrong teams: the text of a file, and of each what is said of it
@@ -119,10 +118,9 @@ class WrongTeams(InFolder):
 
 class CommandLine(InFolder):
     def called(self, *words: str) -> Tuple[int, str]:
-        said = io.StringIO()
-        with contextlib.redirect_stdout(said), contextlib.redirect_stderr(said):
-            status = main(["adversary", *words, "--engine", "model", "--keep", str(self.folder / "find")])
-        return status, said.getvalue()
+        status, said, errors = ran(main, ["adversary", *words, "--engine", "model", "--keep",
+                                          str(self.folder / "find")])
+        return status, said + errors
 
     def test_it_says_what_each_phase_forces_and_keeps_the_schedule(self) -> None:
         status, said = self.called("--network", "ring:8", "--agent", "examples/agents/ring.py {nodes}")

@@ -1,6 +1,4 @@
 """One command checks an agent: it is right in one sentence, or the first thing to mend is told with what shows it."""
-import contextlib
-import io
 import shutil
 import sys
 import unittest
@@ -9,6 +7,7 @@ from typing import Tuple
 from arena_lab.__main__ import main
 from arena_lab.rules.engines import TOP
 from arena_lab.tests.playing import AGENTS, InFolder, program
+from tests.support.output import ran
 
 RAISES = "def search(agent, key, nodes):\n    agent.enter(key)\n    raise KeyError('west')\n"
 SAYS_BAD = """
@@ -27,9 +26,8 @@ def search(agent, key, nodes):
 
 class Checks(InFolder):
     def checked(self, agent: str, *more: str) -> Tuple[int, str]:
-        with contextlib.redirect_stdout(io.StringIO()) as said, contextlib.redirect_stderr(io.StringIO()):
-            status = main(["check", agent, "--keep", str(self.folder / "kept"), *more])
-        return status, said.getvalue()
+        status, said, _ = ran(main, ["check", agent, "--keep", str(self.folder / "kept"), *more])
+        return status, said
 
     def test_a_right_agent_gets_one_sentence(self) -> None:
         for engine in (("--program", program()), ("--engine", "model")):
@@ -75,8 +73,7 @@ class Checks(InFolder):
 
     def kit(self, old: str, new: str, file: str) -> str:
         """A kit in Python with a change; gives the folder."""
-        with contextlib.redirect_stdout(io.StringIO()):
-            main(["new", "python", str(self.folder / "kit")])
+        ran(main, ["new", "python", str(self.folder / "kit")])
         path = self.folder / "kit" / file
         text = path.read_text()
         self.assertIn(old, text)
@@ -134,9 +131,8 @@ class Checks(InFolder):
 
     def check_shown(self, told: str) -> None:
         """The command that is told shows it."""
-        with contextlib.redirect_stdout(io.StringIO()) as said:
-            main(["replay", str(self.folder / "kept"), "--engine", "model"])
-        self.assertIn(told, said.getvalue())
+        said = ran(main, ["replay", str(self.folder / "kept"), "--engine", "model"]).said
+        self.assertIn(told, said)
 
 
 if __name__ == "__main__":

@@ -15,6 +15,7 @@ from arena_lab.play import parallel
 from arena_lab.play.parallel import digest_of, other_files
 from arena_lab.sweep import tables
 from arena_lab.tests.playing import InFolder, program
+from tests.support.output import ran
 
 TEXT = """title = "A trial"
 networks = ["ring:5", "ring:8"]
@@ -61,9 +62,8 @@ class Clusters(InFolder):
         raise AssertionError("the worker has ended")
 
     def swept(self, out: str, *more: str) -> bytes:
-        with contextlib.redirect_stdout(io.StringIO()) as said, contextlib.redirect_stderr(io.StringIO()) as errors:
-            status = main(["sweep", str(self.file), "--out", str(self.folder / out), *more])
-        self.assertEqual(status, 0, said.getvalue() + errors.getvalue())
+        status, said, errors = ran(main, ["sweep", str(self.file), "--out", str(self.folder / out), *more])
+        self.assertEqual(status, 0, said + errors)
         return (self.folder / out / tables.RUNS).read_bytes()
 
     def test_two_workers_give_the_rows_of_this_machine(self) -> None:

@@ -1,7 +1,6 @@
 """Candidate invariants on all pictures of small rings: right ones hold, and of wrong ones the first picture is told, to
 which the schedule leads that is kept."""
 import contextlib
-import io
 import pathlib
 import random
 import re
@@ -25,6 +24,7 @@ from arena_lab.search.invariants import Candidate, Walk, Walked, walked
 from arena_lab.search.history_tree import HistoryState
 from arena_lab.search.configurations import After, At, Before, Bound, Bounds, Configuration, Position, World
 from arena_lab.tests.playing import AGENTS, FAULTY, MAP, InFolder, program
+from tests.support.output import ran
 
 INVARIANTS = TOP / "examples" / "invariants"
 SHOWN = SimpleNamespace(update=lambda count: None, clear=lambda: None)
@@ -185,16 +185,14 @@ class Invariants(InFolder):
     def command(self, candidate: object, agents: Sequence[AgentWords], *words: object) -> int:
         """The exit status of `invariant`."""
         named = [word for agent in agents for word in ("--agent", agent.words)]
-        said = io.StringIO()
-        with contextlib.redirect_stdout(said):
-            status = main(["invariant", str(candidate), *named, *map(str, words), "--keep", str(self.folder / "find")])
-        self.said = said.getvalue()
+        status, said, _ = ran(main, ["invariant", str(candidate), *named, *map(str, words), "--keep",
+                                     str(self.folder / "find")])
+        self.said = said
         return status
 
     def replayed(self, *words: str) -> int:
         """The exit status of `replay` of what was kept."""
-        with contextlib.redirect_stdout(io.StringIO()):
-            return main(["replay", str(self.folder / "find"), *words])
+        return ran(main, ["replay", str(self.folder / "find"), *words]).status
 
     def wrong(self, mistake: Mistake) -> pathlib.Path:
         """The file of a wrong candidate."""

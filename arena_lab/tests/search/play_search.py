@@ -1,11 +1,7 @@
 """What `explore` and `hunt` find: the worst that is known of the sample search, and what its wrong versions do."""
 import argparse
-import contextlib
-import io
 import itertools
-import pathlib
 import re
-import tempfile
 import unittest
 from typing import Iterator, List, Sequence
 from unittest import mock
@@ -23,6 +19,7 @@ from arena_lab.rules.networks import ring
 from arena_lab.rules.rehearsal import Rehearsal
 from arena_lab.search import explore, hunt, history_tree
 from arena_lab.tests.playing import FAULTY, MAP, RING, fixture, program
+from tests.support.output import InTemporary, ran
 from tools.play import mutants
 
 WORST = {3: 4, 4: 9, 5: 14, 6: 23}
@@ -63,18 +60,14 @@ def one_by_one(given: Fixture, agent: AgentWords) -> Iterator[Verdict]:
             fronts += [[*before, number] for number in range(1, made[place][1])]
 
 
-class Searches(unittest.TestCase):
+class Searches(InTemporary):
     def setUp(self) -> None:
-        folder = tempfile.TemporaryDirectory()
-        self.addCleanup(folder.cleanup)
-        self.folder = pathlib.Path(folder.name)
+        super().setUp()
         (self.folder / "odd.py").write_text(ODD, encoding="utf-8")
 
     def command(self, *words: str) -> int:
-        said = io.StringIO()
-        with contextlib.redirect_stdout(said), contextlib.redirect_stderr(said):
-            status = main([*map(str, words), "--program", program()])
-        self.said = said.getvalue()
+        status, said, errors = ran(main, [*map(str, words), "--program", program()])
+        self.said = said + errors
         return status
 
     def kept(self) -> List[str]:

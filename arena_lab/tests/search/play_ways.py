@@ -1,20 +1,18 @@
 """`./arena-lab try` prints what the command prints for which it stands."""
-import contextlib
-import io
 import tempfile
 import unittest
 from typing import List
 
 from arena_lab.__main__ import main
+from tests.support.output import ran
 
 TEAM = ["--engine", "model", "--network", "ring:4", "--agent", "examples/agents/ring.py {nodes}"]
 
 
 def said(words: List[str]) -> List[str]:
     """What a command prints, but for lines with seconds."""
-    with contextlib.redirect_stdout(io.StringIO()) as out, contextlib.redirect_stderr(io.StringIO()):
-        status = main(words)
-    lines = out.getvalue().splitlines()
+    status, out, _ = ran(main, words)
+    lines = out.splitlines()
     return [str(status), *(line for line in lines if not line.endswith(" s") and " s:" not in line)]
 
 

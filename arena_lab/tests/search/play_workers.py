@@ -1,6 +1,4 @@
 """`explore` finds the same by any number of processes and by a cluster, and goes on behind the rows of a folder."""
-import contextlib
-import io
 import re
 import subprocess
 import sys
@@ -16,6 +14,7 @@ from arena_lab.sweep.tables import NoTable
 from arena_lab.tests.search.exploring import InExplore
 from arena_lab.tests.search.play_cluster import HAS_DASK, Clusters
 from arena_lab.tests.playing import RING, RING_STEP, program
+from tests.support.output import ran
 
 # the numbers of a line that tells of a match or of all: without seconds, and what was checked
 TELLS = re.compile(r"^home .*, (?=[\d.]+ s)|^most moves.*", re.MULTILINE)
@@ -137,10 +136,9 @@ class OnCluster(Clusters):
         address, found = self.scheduler(), []
         self.worker(address)
         for out, more in (("here", []), ("there", ["--cluster", address])):
-            with contextlib.redirect_stdout(io.StringIO()) as said, contextlib.redirect_stderr(said):
-                status = main(["explore", "--network", "ring:3", "--agent", RING.words, "--program", program(), "--out",
-                               str(self.folder / out), *more])
-            self.assertEqual(status, 0, said.getvalue())
+            status, said, errors = ran(main, ["explore", "--network", "ring:3", "--agent", RING.words, "--program",
+                                              program(), "--out", str(self.folder / out), *more])
+            self.assertEqual(status, 0, said + errors)
             found.append((self.folder / out / proofs.MATCHES).read_bytes())
         self.assertEqual(found[0], found[1])
 

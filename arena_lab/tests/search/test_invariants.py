@@ -1,6 +1,4 @@
 """Files of candidate invariants, and what an agent holds after a history."""
-import pathlib
-import tempfile
 import unittest
 
 from arena_lab.rules.engines import TOP
@@ -8,6 +6,7 @@ from arena_lab.rules.model import Match, Setup
 from arena_lab.rules.networks import ring
 from arena_lab.search.invariants import Candidate, NoCandidate, Wrong
 from arena_lab.search.configurations import After, At, Before, Bounds, Configuration, World, held_after
+from tests.support.output import InTemporary
 
 NETWORK = ring(3)
 WORLD = World(Match(Setup(3, NETWORK.links, 0, [1], 1, 10, 4)))
@@ -27,12 +26,7 @@ SAYS = {
 }
 
 
-class Files(unittest.TestCase):
-    def setUp(self) -> None:
-        folder = tempfile.TemporaryDirectory()
-        self.addCleanup(folder.cleanup)
-        self.folder = pathlib.Path(folder.name)
-
+class Files(InTemporary):
     def candidate(self, text: str) -> Candidate:
         path = self.folder / "candidate.py"
         path.write_text(text, encoding="utf-8")

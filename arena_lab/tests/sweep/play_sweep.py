@@ -17,6 +17,7 @@ from arena_lab.play import kept_matches
 from arena_lab.rules.engines import BY_MODEL, TOP, name_of
 from arena_lab.sweep import sweeping, tables
 from arena_lab.tests.playing import InFolder, program
+from tests.support.output import ran
 
 TEXT = """title = "A <small> trial"
 networks = ["ring:5", "ring:8"]
@@ -44,9 +45,9 @@ class Sweeps(InFolder):
 
     def swept(self, out: str, *more: str) -> bytes:
         """The rows of a sweep in which a team is wrong."""
-        with contextlib.redirect_stdout(io.StringIO()) as said:
-            self.assertEqual(main(self.words(out, *more)), 1)
-        self.assertRegex(said.getvalue(), r"48 runs on .*: solved \d+; failed [1-9]")
+        status, said, _ = ran(main, self.words(out, *more))
+        self.assertEqual(status, 1)
+        self.assertRegex(said, r"48 runs on .*: solved \d+; failed [1-9]")
         return (self.folder / out / tables.RUNS).read_bytes()
 
     def test_the_rows_are_the_same_by_either_engine_and_by_more_workers(self) -> None:
@@ -121,20 +122,17 @@ class Sweeps(InFolder):
                                    str(self.folder / "find"), *MODEL]), 0)
         helper.write_text((TOP / "arena_lab" / "mutants" / "reads_once.py").read_text())
         self.assertIn(f"made otherwise: {helper}", self.refused("out", *MODEL))
-        with contextlib.redirect_stderr(io.StringIO()) as errors, contextlib.redirect_stdout(io.StringIO()):
-            main(["replay", str(self.folder / "find"), *MODEL])
-        self.assertIn(f"arena-lab: {helper} is another file than when the schedule was made", errors.getvalue())
+        errors = ran(main, ["replay", str(self.folder / "find"), *MODEL]).errors
+        self.assertIn(f"arena-lab: {helper} is another file than when the schedule was made", errors)
 
     def test_another_program_does_not_go_on(self) -> None:
         self.small(TOP / "examples" / "agents" / "ring.py")
-        with contextlib.redirect_stdout(io.StringIO()):
-            self.assertEqual(main(self.words("out", *MODEL)), 0)
+        self.assertEqual(ran(main, self.words("out", *MODEL)).status, 0)
         self.assertIn("made otherwise: program differ;", self.refused("out", "--program", program()))
 
     def test_rows_are_verified_by_either_engine(self) -> None:
         self.small(TOP / "examples" / "agents" / "ring.py")
-        with contextlib.redirect_stdout(io.StringIO()):
-            self.assertEqual(main(self.words("out", *MODEL)), 0)
+        self.assertEqual(ran(main, self.words("out", *MODEL)).status, 0)
         self.assertEqual(self.verified(*MODEL), (0, "24 of 24 rows were played again: 0 differ", ""))
         status, said, errors = self.verified("3", "--program", program())
         self.assertEqual((status, said), (0, "3 of 24 rows were played again: 0 differ"))
@@ -153,8 +151,7 @@ class Sweeps(InFolder):
     def test_what_is_made_of_the_rows_is_verified(self) -> None:
         self.small(TOP / "examples" / "agents" / "ring.py")
         self.file.write_text(self.file.read_text().replace("seeds = 6", "seeds = 2"))
-        with contextlib.redirect_stdout(io.StringIO()):
-            self.assertEqual(main(self.words("out", *MODEL)), 0)
+        self.assertEqual(ran(main, self.words("out", *MODEL)).status, 0)
         for name, text in ((sweeping.SUMMARY, ",2,2,"), (sweeping.REPORT, "solved")):
             with self.subTest(name):
                 path = self.folder / "out" / name
@@ -170,8 +167,7 @@ class Sweeps(InFolder):
     def test_rows_of_another_grid_are_refused(self) -> None:
         """Rows that were written as they are, but are not those of the sweep: swapped, or one too many."""
         self.small(TOP / "examples" / "agents" / "ring.py")
-        with contextlib.redirect_stdout(io.StringIO()):
-            self.assertEqual(main(self.words("out", *MODEL)), 0)
+        self.assertEqual(ran(main, self.words("out", *MODEL)).status, 0)
         path = self.folder / "out" / tables.RUNS
         rows = tables.cells_in(path)
 
@@ -196,23 +192,20 @@ class Sweeps(InFolder):
         table.write_text("[1]")
         self.small(self.folder / "own.py")
         for workers in ("1", "2"):
-            with contextlib.redirect_stdout(io.StringIO()):
-                self.assertEqual(main(self.words(f"out{workers}", "--workers", workers, *MODEL)), 0)
+            self.assertEqual(ran(main, self.words(f"out{workers}", "--workers", workers, *MODEL)).status, 0)
             for file, text in ((table, "[1 ]"), (helper, helper.read_text() + "# other\n")):
                 with self.subTest(file, workers=workers):
                     before = file.read_text()
                     file.write_text(text)
                     self.assertIn(f"made otherwise: {file}", self.refused(f"out{workers}", *MODEL))
                     file.write_text(before)
-            with contextlib.redirect_stdout(io.StringIO()):
-                self.assertEqual(main(self.words(f"out{workers}", *MODEL)), 0)
+            self.assertEqual(ran(main, self.words(f"out{workers}", *MODEL)).status, 0)
 
     def verified(self, *more: str) -> Tuple[int, str, str]:
         """The exit status of --verify, the end of its line, and what it says on standard error."""
-        with contextlib.redirect_stderr(io.StringIO()) as errors, contextlib.redirect_stdout(io.StringIO()) as said:
-            status = main(self.words("out", "--verify", *more))
-        return status, said.getvalue().strip().rpartition("proved: ")[2].rpartition("proof: ")[2].rpartition(
-            "program: ")[2], errors.getvalue()
+        status, said, errors = ran(main, self.words("out", "--verify", *more))
+        return status, said.strip().rpartition("proved: ")[2].rpartition("proof: ")[2].rpartition(
+            "program: ")[2], errors
 
     def test_a_script_that_starts_the_program_is_not_called_proved(self) -> None:
         script = self.folder / "arena"
@@ -220,9 +213,9 @@ class Sweeps(InFolder):
         script.chmod(0o755)
         self.small(TOP / "examples" / "agents" / "ring.py")
         self.file.write_text(self.file.read_text().replace("seeds = 6", "seeds = 1"))
-        with contextlib.redirect_stdout(io.StringIO()) as said:
-            self.assertEqual(main(self.words("out", "--program", str(script))), 0)
-        self.assertIn("4 runs on a program of which no record says that it is proved: solved 4", said.getvalue())
+        status, said, _ = ran(main, self.words("out", "--program", str(script)))
+        self.assertEqual(status, 0)
+        self.assertIn("4 runs on a program of which no record says that it is proved: solved 4", said)
 
 
 if __name__ == "__main__":

@@ -1,7 +1,5 @@
 """`sweep --explore` tries every schedule of a sweep's matches, and says what was found beside the runs."""
-import contextlib
 import csv
-import io
 import unittest
 from typing import Dict, List, Tuple
 from unittest import mock
@@ -14,6 +12,7 @@ from arena_lab.sweep import every, sweeping, tables
 from arena_lab.sweep.grid import grid_of
 from arena_lab.tests.search import play_cluster
 from arena_lab.tests.playing import InFolder, program
+from tests.support.output import ran
 
 TEXT = """title = "Every schedule"
 networks = ["ring:3", "ring:4"]
@@ -40,8 +39,8 @@ class Every(InFolder):
     def swept(self, *more: str) -> Tuple[int, str]:
         """The exit status, and what was said."""
         words = ["sweep", str(self.file), "--out", str(self.out), "--program", program(), "--workers", "2", *more]
-        with contextlib.redirect_stdout(io.StringIO()) as said, contextlib.redirect_stderr(said):
-            return main(words), said.getvalue()
+        status, said, errors = ran(main, words)
+        return status, said + errors
 
     def comes_to(self, status: int, *more: str) -> None:
         """The sweep ends with this status."""

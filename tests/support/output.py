@@ -1,0 +1,32 @@
+"""What is printed while something is called, and folders for tests."""
+import contextlib
+import io
+import pathlib
+import tempfile
+import unittest
+from typing import Any, Callable, NamedTuple
+
+
+class Ran(NamedTuple):
+    """What a call gave, mostly the exit status of a command, and what it printed and told."""
+
+    status: Any
+    said: str
+    errors: str
+
+
+def ran(call: Callable[..., Any], *given: Any, **more: Any) -> Ran:
+    """Calls something. If it ends the process, that is its status."""
+    with contextlib.redirect_stdout(io.StringIO()) as said, contextlib.redirect_stderr(io.StringIO()) as errors:
+        try:
+            status = call(*given, **more)
+        except SystemExit as ended:
+            status = ended.code
+    return Ran(status, said.getvalue(), errors.getvalue())
+
+
+class InTemporary(unittest.TestCase):
+    """Tests that have a folder of their own each."""
+
+    def setUp(self) -> None:
+        self.folder = pathlib.Path(self.enterContext(tempfile.TemporaryDirectory()))
