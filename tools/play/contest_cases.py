@@ -197,7 +197,7 @@ def names(stage: Stage) -> List[str]:
 def old_files(stage: Stage) -> None:
     for name in ("match0.jsonl", "match0.turns", "match0.turns.old", "match1.jsonl.part"):
         (stage.folder / name).write_text(name)
-    with served(stage, turns=0, grace=0) as server:
+    with served(stage, turns=100, grace=0) as server:
         begun = names(stage)
         server.ended()
     kept = ["match0.jsonl.old", "match0.turns.old", "match0.turns.old2", "match1.jsonl.part.old"]
