@@ -2,6 +2,8 @@
 import contextlib
 import io
 import pathlib
+import sys
+import tempfile
 import unittest
 import unittest.mock
 from typing import Tuple
@@ -9,6 +11,7 @@ from typing import Tuple
 from tests import TOP
 from tests.test_gate import module
 from tools import parts
+from tools.play import bare
 
 nightly = module(TOP / "tools" / "nightly")
 # compare two builds of the program; the tests of the lab that night runs play the third
@@ -49,6 +52,19 @@ class Nightly(unittest.TestCase):
             counts, said = self.told(nightly.Part("one", ("-c", "exit(1)"), ("kits",)))
         self.assertEqual((counts, said), ((0, 0), "1 skipped:\none: Debian's openjdk-17-jdk-headless is not installed\n"
                                           "0 passed, 0 failed\n"))
+
+
+class Bare(unittest.TestCase):
+    def test_what_failed_is_printed_though_many_lines_follow(self) -> None:
+        top = pathlib.Path(self.enterContext(tempfile.TemporaryDirectory()))
+        printed = io.StringIO()
+        with contextlib.redirect_stdout(printed), unittest.mock.patch.multiple(bare, TOP=top, LOGS=top / "logs"):
+            text = "print('FAILED a row', *range(99), sep='\\n'); exit(1)"
+            passes = bare.passes("a gate", [sys.executable, "-c", text])
+        lines = printed.getvalue().splitlines()
+        self.assertEqual((passes, lines[:2], lines[-3:]), (False, ["FAILED a row", str(99 - bare.LINES)], [
+            "98", "all lines are in logs/a-gate.log", "FAILED: a gate"]))
+        self.assertEqual(len((top / "logs" / "a-gate.log").read_text().splitlines()), 100)
 
 
 if __name__ == "__main__":

@@ -386,7 +386,7 @@ class Player:
                 self._lines = Lines(self._connection)
             elif not was_alive:
                 status = self._child.returncode if self._child else None
-                self._end(f"has ended with status {status} before it connected{self._last_words()}")
+                self._end(f"has ended with status {as_in_a_shell(status)} before it connected{self._last_words()}")
                 return
             elif time.monotonic() > until:
                 raise TimeoutError
@@ -413,7 +413,7 @@ class Player:
         except subprocess.TimeoutExpired:
             return
         if status != 0:
-            self.fault = f"has ended with status {status} in the middle of its match{self._last_words()}"
+            self.fault = f"has ended with status {as_in_a_shell(status)} in the middle of its match{self._last_words()}"
 
     def _errors_of(self) -> str:
         """The end of what the program wrote to standard error, without what is another on each run."""
@@ -453,6 +453,11 @@ class Player:
         self._has_ended, self.line = True, None
         if self._child is not None:
             self._ground.kill(self._child)
+
+
+def as_in_a_shell(status: Optional[int]) -> Optional[int]:
+    """A status as a shell has it, and walls around a program: 128 and the number of the signal that ended it."""
+    return 128 - status if status is not None and status < 0 else status
 
 
 def seed_of(key: str) -> int:

@@ -8,7 +8,8 @@ of the proved one. In the root it runs
 
 - `python3 -m unittest`, without a package;
 - `tools/gate --played` where apt-get reaches no archive: all tests that need a package must be skipped;
-- `tools/gate --played` again, which installs the packages, and skips few.
+- `tools/gate --played` again, which installs the packages, and skips few;
+- the lab's tests as in a container, where programs of teams have no walls.
 
 In each no test may fail. It prints which failed, the last lines of each, and the file in out/bare that has all lines.
 It needs root and a network. The last line reads `N passed, M failed`, and the exit status is 1 if one failed.
@@ -73,7 +74,9 @@ def results(root: pathlib.Path, program: str) -> List[bool]:
             found.append(passes("the gate without an archive", [*within, "python3", "tools/gate", "--played"]))
         finally:
             sources.write_text(archives)
-        return [*found, passes("the gate with an archive", [*within, "python3", "tools/gate", "--played"])]
+        found.append(passes("the gate with an archive", [*within, "python3", "tools/gate", "--played"]))
+        contained = roots.inside(root, f"/{HOME}", is_machine=False)
+        return [*found, passes("the lab without walls", [*contained, "python3", "-m", "tools.play.lab_tests", PROGRAM])]
 
 
 def main() -> int:

@@ -3,8 +3,8 @@
     python3 -m tools.play.python_tests [MODULE ..]
 
 Without modules it runs all tests that need no program. A line `skipped: TEST: WHY` tells each that was skipped. The
-last line reads `N passed, M failed`, in which the skipped do not count; the exit status is 1 if one failed, or if there
-was none.
+last line reads `N passed, M failed`, in which the skipped do not count; the exit status is 1 if one failed, or if none
+was run or skipped.
 """
 import sys
 import unittest
@@ -24,7 +24,7 @@ def main(names: List[str]) -> int:
         print(f"{SKIPPED}{test.id()}: {why}")
     failed = len(ran.failures) + len(ran.errors) + len(ran.unexpectedSuccesses)
     print(f"{max(0, ran.testsRun - len(ran.skipped) - failed)} passed, {failed} failed", flush=True)
-    return 1 if failed or not ran.testsRun else 0
+    return 1 if failed or not (ran.testsRun or ran.skipped) else 0
 
 
 if __name__ == "__main__":

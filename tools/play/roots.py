@@ -7,6 +7,8 @@ import tempfile
 from typing import Dict, Iterator, List, Sequence
 
 MOUNTS = ("proc", "dev", "sys")
+# makes a folder the root of its own mount namespace, as that of a machine is
+PIVOT = 'mount --rbind "$0" "$0" && cd "$0" && pivot_root . mnt && umount -l /mnt && exec "$@"'
 
 
 @contextlib.contextmanager
@@ -52,7 +54,9 @@ def mounted(root: pathlib.Path, bound: Dict[pathlib.Path, str] = {}) -> Iterator
             subprocess.run(["umount", "-l", str(place)])
 
 
-def inside(root: pathlib.Path, folder: str) -> List[str]:
-    """The words before a command that is run in a folder of a root, as a new machine would run it."""
-    return ["chroot", str(root), "env", "-i", "-C", folder, "DEBIAN_FRONTEND=noninteractive", "LC_ALL=C.UTF-8",
+def inside(root: pathlib.Path, folder: str, is_machine: bool = True) -> List[str]:
+    """The words before a command that is run in a folder of a root, as a new machine would run it, or else as many a
+    container does, in which the kernel makes no namespaces for users."""
+    enter = ["unshare", "--mount", "--propagation", "private", "sh", "-c", PIVOT] if is_machine else ["chroot"]
+    return [*enter, str(root), "env", "-i", "-C", folder, "DEBIAN_FRONTEND=noninteractive", "LC_ALL=C.UTF-8",
             "HOME=/root", "PATH=/usr/local/sbin:/usr/local/bin:/usr/sbin:/usr/bin:/sbin:/bin"]

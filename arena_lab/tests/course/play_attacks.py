@@ -166,14 +166,14 @@ class Stopping(Course):
 
     def test_folders_in_folders(self) -> None:
         """1,200 of them were not removed by a call that goes down into each, and no course went on after that."""
-        before = set(os.listdir(tempfile.gettempdir()))
+        own = self.folder / "cells"
+        own.mkdir()
         for walls in ALL_WALLS:
-            with self.subTest(walls):
+            with self.subTest(walls), mock.patch.object(tempfile, "tempdir", str(own)):
                 said = self.said(walls, "import os, sys\nfor _ in range(1200):\n    os.mkdir('d')\n    os.chdir('d')\n"
                                  "sys.exit('has made them')")
                 self.assertEqual(said, ["has made them"])
-        left = [name for name in set(os.listdir(tempfile.gettempdir())) - before if name.startswith("lab-cell")]
-        self.assertEqual(left, [])
+        self.assertEqual([name for name in os.listdir(own) if name.startswith("lab-cell")], [])
 
     def test_hand_ins(self) -> None:
         names = ["deep", "large", "linked", "closed"]

@@ -70,6 +70,8 @@ class HandIns(Course):
         """In a folder for temporary files that has a longer name than the course's."""
         long = pathlib.Path(tempfile.mkdtemp()) / "a-folder-with-a-long-name-as-batch-systems-make-them"
         long.mkdir(parents=True)
+        # who is another user finds its folder in there
+        long.parent.chmod(0o711)
         self.addCleanup(shutil.rmtree, long.parent)
         place, left = os.open(self.team, os.O_RDONLY), 4080 - len(str(self.team))
         while left > 246:

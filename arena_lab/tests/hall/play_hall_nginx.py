@@ -95,17 +95,17 @@ PROXY: List[Proxy] = []
 
 
 def setUpModule() -> None:
+    if NGINX is None:
+        raise unittest.SkipTest("Debian's nginx is not installed")
     folder = pathlib.Path(unittest.enterModuleContext(tempfile.TemporaryDirectory(prefix="hall-")))
     hall = Served(folder, f'https = true\nnames = ["{NAME}"]')
     unittest.addModuleCleanup(hall.stop)
     hall.start()
     HALL.append(hall)
-    if NGINX is not None:
-        PROXY.append(Proxy(folder, hall.port))
-        unittest.addModuleCleanup(PROXY[0].end)
+    PROXY.append(Proxy(folder, hall.port))
+    unittest.addModuleCleanup(PROXY[0].end)
 
 
-@unittest.skipUnless(NGINX, "Debian's nginx is not installed")
 class Nginx(unittest.TestCase):
     def setUp(self) -> None:
         self.tokens, self.proxy = HALL[0].tokens(), PROXY[0]

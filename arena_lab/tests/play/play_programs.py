@@ -1,4 +1,5 @@
 """Programs over loopback: a schedule gives the same match whoever plays it, and who keeps to no rule is named."""
+import contextlib
 import pathlib
 import shutil
 import subprocess
@@ -26,7 +27,7 @@ FAULTS = {
     "twice": "agent 1: has connected twice",
     "flood": "agent 1: was refused 1000 times in a row",
     "garbage": 'agent 1: was not let in: {"no":"enter"}',
-    "crash": "agent 1: has ended with status -9 in the middle of its match",
+    "crash": "agent 1: has ended with status 137 in the middle of its match",
     "blank": "agent 1: has sent no line for 1 s; does it flush after each line?",
 }
 # who is waited for, and how many seconds: a machine may be slow to start the others
@@ -35,8 +36,12 @@ WAITED_FOR, SHORT, LONG = ("silent", "endless", "blank"), 1, 30
 
 def running(words: str) -> List[str]:
     """The processes whose command lines have these words."""
-    listed = subprocess.run(["ps", "-eo", "pid,args", "-ww"], capture_output=True, text=True, check=True).stdout
-    return [line for line in listed.splitlines() if words in line]
+    found = []
+    for path in pathlib.Path("/proc").glob("[0-9]*/cmdline"):
+        with contextlib.suppress(OSError):
+            line = path.read_bytes().replace(b"\0", b" ").decode(errors="replace")
+            found += [f"{path.parent.name} {line}"] if words in line else []
+    return found
 
 
 class Programs(unittest.TestCase):
