@@ -17,7 +17,8 @@ import tempfile
 from typing import Callable, Iterable, Iterator, List, Sequence, Tuple
 
 from bench import rehearse
-from bench.inputs import MAX_SCRIPT, Run, key, network, printed_by, run, torus, tournament
+from arena_lab.rules.networks import Network, text_of, torus
+from bench.inputs import MAX_SCRIPT, Run, key, printed_by, run, tournament
 
 ROUNDS = 21
 BOARD = 1000
@@ -34,7 +35,7 @@ def by_ports(nodes: int, pairs: Iterable[Pair]) -> str:
         links.append((one, used[one], two, used[two]))
         used[one] += 1
         used[two] += 1
-    return network(nodes, links)
+    return text_of(Network(nodes, links))
 
 
 def complete(nodes: int) -> str:
@@ -105,7 +106,7 @@ def texts() -> Iterator[str]:
 def made(folder: pathlib.Path) -> List[Input]:
     """Writes the inputs, and answers for each its title, words and what stands on standard input."""
     inputs = []
-    (folder / "torus.toml").write_text(torus(rehearse.SIDE, rehearse.SIDE))
+    (folder / "torus.toml").write_text(text_of(torus(rehearse.SIDE, rehearse.SIDE)))
     scripts = [
         ("lines by chance", 64, 4, 64, rehearse.script(MAX_SCRIPT)[0]),
         ("moves", 64, 4, 64, filled(moves())),

@@ -1,4 +1,4 @@
-"""What the benchmarks share: networks and tournaments as texts, and how long and how large one run of a program is."""
+"""What the benchmarks share: tournaments as texts, and how long and how large one run of a program is."""
 import atexit
 import functools
 import os
@@ -6,7 +6,7 @@ import pathlib
 import subprocess
 import tempfile
 import time
-from typing import Iterable, List, NamedTuple, Sequence, Tuple
+from typing import NamedTuple, Sequence
 
 MIB = 1024 * 1024
 MAX_SCRIPT = 1_048_576
@@ -14,32 +14,6 @@ MAX_QUOTA = 1000
 MAX_AGENTS = 64
 MAX_BOARD = 4096
 PAUSE = 0.0005
-
-Link = Tuple[int, int, int, int]
-
-
-def network(nodes: int, links: Iterable[Sequence[int]]) -> str:
-    """A network file."""
-    return f"version = 1\nnodes = {nodes}\nlinks = {[list(link) for link in links]}\n"
-
-
-def torus_links(rows: int, columns: int) -> List[Link]:
-    """The links of a torus: ports 0 east, 1 west, 2 south, 3 north."""
-    links = []
-    for node in range(rows * columns):
-        row, column = divmod(node, columns)
-        links.append((node, 0, row * columns + (column + 1) % columns, 1))
-        links.append((node, 2, (row + 1) % rows * columns + column, 3))
-    return links
-
-
-def torus(rows: int, columns: int) -> str:
-    return network(rows * columns, torus_links(rows, columns))
-
-
-def ring(nodes: int) -> str:
-    """A ring: at each node port 0 leads to the next node, and port 1 to the one before."""
-    return network(nodes, [(node, 0, (node + 1) % nodes, 1) for node in range(nodes)])
 
 
 def key(game: int, agent: int) -> str:

@@ -33,8 +33,9 @@ import tomllib
 from typing import Callable, Dict, Iterator, List, NamedTuple, Sequence
 
 from arena_lab.rules.model import AWAY, Match, Object, Setup, spelled
+from arena_lab.rules.networks import text_of, torus
 from bench import compare, rehearse
-from bench.inputs import MAX_QUOTA, MAX_SCRIPT, torus, torus_links, tournament
+from bench.inputs import MAX_QUOTA, MAX_SCRIPT, tournament
 from tests.support.counts import concluded
 from tools.play.python_tests import SKIPPED
 
@@ -74,7 +75,7 @@ class Work(NamedTuple):
 
 def entered() -> Match:
     """A match on a torus that all agents have entered."""
-    match = Match(Setup(SIDE * SIDE, torus_links(SIDE, SIDE), 0, [HOLE], AGENTS, MAX_QUOTA, BOARD, []))
+    match = Match(Setup(SIDE * SIDE, torus(SIDE, SIDE).links, 0, [HOLE], AGENTS, MAX_QUOTA, BOARD, []))
     for agent in range(AGENTS):
         match.tell(agent, {"do": "enter"})
     return match
@@ -119,7 +120,7 @@ def written(folder: pathlib.Path, size: Size) -> List[Work]:
     """Writes the inputs, and gives what is counted on them."""
     script, lines = rehearse.script(size.script, MATCHES)
     files = {
-        "script": script, "torus.toml": torus(SIDE, SIDE),
+        "script": script, "torus.toml": text_of(torus(SIDE, SIDE)),
         "t.toml": tournament("torus.toml", MATCHES, AGENTS, BOARD, 1),
         "complete.toml": compare.complete(size.nodes), "c.toml": tournament("complete.toml", 1, 1, BOARD, 1),
         "moves": "".join(replay(moves, size.commands)), "texts": "".join(replay(texts, size.commands)), "empty": "",

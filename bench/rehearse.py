@@ -14,7 +14,8 @@ import sys
 import tempfile
 from typing import Tuple
 
-from bench.inputs import MAX_SCRIPT, key, median_run, torus, tournament
+from arena_lab.rules.networks import text_of, torus
+from bench.inputs import MAX_SCRIPT, key, median_run, tournament
 
 TOP = pathlib.Path(__file__).resolve().parent.parent
 PROGRAM = TOP / "crates" / "bhs_main" / "out" / "bhs_main"
@@ -73,7 +74,7 @@ def main() -> None:
     program = str(built)
     with tempfile.TemporaryDirectory() as name:
         folder = pathlib.Path(name)
-        (folder / "torus.toml").write_text(torus(SIDE, SIDE))
+        (folder / "torus.toml").write_text(text_of(torus(SIDE, SIDE)))
         (folder / "long.toml").write_text(tournament("torus.toml", MATCHES, AGENTS, BOARD))
         (folder / "empty").write_text("")
         words = ["rehearse", "long.toml"]

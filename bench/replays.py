@@ -32,8 +32,9 @@ import tempfile
 from typing import Any, Callable, Dict, Iterator, List, NamedTuple, Optional, Sequence, TextIO, Tuple
 
 from bench.compare import compared
-from bench.inputs import MAX_AGENTS, MAX_BOARD, MAX_QUOTA, Run, median_run, run, torus_links
+from bench.inputs import MAX_AGENTS, MAX_BOARD, MAX_QUOTA, Run, median_run, run
 from arena_lab.rules.model import spelled
+from arena_lab.rules.networks import torus
 
 TOP = pathlib.Path(__file__).resolve().parent.parent
 PROGRAM = TOP / "crates" / "bhs_main" / "out" / "bhs_main"
@@ -123,7 +124,7 @@ KINDS = [
 
 def head(hole: int) -> Event:
     """The head of a replay on the torus: each link from its lesser node, in order of that node and its port there."""
-    links = [(v, p, w, q) if v < w else (w, q, v, p) for v, p, w, q in torus_links(SIDE, SIDE)]
+    links = [(v, p, w, q) if v < w else (w, q, v, p) for v, p, w, q in torus(SIDE, SIDE).links]
     return {
         "replay": 2, "agents": MAX_AGENTS, "quota": MAX_QUOTA, "board": MAX_BOARD, "home": 0, "holes": [hole],
         "dark": [], "nodes": NODES, "links": sorted(links),

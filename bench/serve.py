@@ -34,7 +34,8 @@ import sys
 import tempfile
 from typing import Dict, List, NamedTuple, Optional
 
-from bench.inputs import key, peak_so_far, torus, tournament
+from bench.inputs import key, peak_so_far, tournament
+from arena_lab.rules.networks import text_of, torus
 from arena_lab.support.ports import free_port
 from bench.servers import MAX_SESSIONS, prepare, serving
 from tests import TOP
@@ -99,7 +100,7 @@ class Bench(NamedTuple):
         for name in ("load", "echo"):
             flags = ["-O2", "-Wall", "-Wextra", "-pthread"]
             subprocess.run(["cc", *flags, "-o", str(folder / name), str(SOURCES / f"{name}.c")], check=True)
-        (folder / "torus.toml").write_text(torus(SIDE, SIDE))
+        (folder / "torus.toml").write_text(text_of(torus(SIDE, SIDE)))
         (folder / "cup.toml").write_text(tournament(str(folder / "torus.toml"), MATCHES, AGENTS, BOARD))
         return cls(folder)
 

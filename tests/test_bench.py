@@ -15,11 +15,12 @@ from examples import contest
 from arena_lab.play.server import table
 from arena_lab.rules import chacha8
 from arena_lab.rules.model import Verdict
+from arena_lab.rules.networks import text_of, torus
 
 
 class Inputs(unittest.TestCase):
     def test_a_torus_has_each_link_once(self) -> None:
-        network = tomllib.loads(inputs.torus(3, 4))
+        network = tomllib.loads(text_of(torus(3, 4)))
         ends = [(v, p) for v, p, _, _ in network["links"]] + [(w, q) for _, _, w, q in network["links"]]
         self.assertEqual(sorted(ends), [(node, port) for node in range(12) for port in range(4)])
 

@@ -36,11 +36,12 @@ import threading
 import time
 from typing import Callable, Iterator, List, NamedTuple, Optional, Sequence
 
-from bench.inputs import MAX_AGENTS, MAX_BOARD, MAX_QUOTA, MIB, key, peak_of_child, peak_so_far, ring, tournament
+from bench.inputs import MAX_AGENTS, MAX_BOARD, MAX_QUOTA, MIB, key, peak_of_child, peak_so_far, tournament
 from bench.servers import MAX_SESSIONS, prepare, serving
 from examples.agents.client import Agent, Lines, Refused
 from arena_lab.play.server import table
 from arena_lab.rules.model import ENDED, Match, judge, played, spelled
+from arena_lab.rules.networks import ring, text_of
 from tests.support.counts import Wrong, concluded
 from tools.hostile.hostile_attacks import (ATTACKS, HOST, HOSTILE, LATER, PATIENCE, POLITE, PROMPT, STRANGER, Attack,
                                            Siege, Sizes, hear)
@@ -278,7 +279,7 @@ def check(siege: Siege, polite: Sequence[Polite], ending: Ending, folder: pathli
 @contextlib.contextmanager
 def served(sizes: Sizes, folder: pathlib.Path) -> Iterator[Siege]:
     """A server on a tournament in this folder."""
-    (folder / "ring.toml").write_text(ring(NODES))
+    (folder / "ring.toml").write_text(text_of(ring(NODES)))
     matches = tournament(str(folder / "ring.toml"), MATCHES, MAX_AGENTS, MAX_BOARD, holes=HOLES)
     (folder / "cup.toml").write_text(matches)
     with serving(folder, sizes.sessions, sizes.turns, sizes.pause, "--grace", 5000) as server:

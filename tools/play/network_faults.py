@@ -18,7 +18,7 @@ import sys
 import tempfile
 from typing import Callable, Dict, List, Optional, Sequence, Set, Tuple
 
-from bench.inputs import network, tournament
+from bench.inputs import tournament
 
 TOP = pathlib.Path(__file__).resolve().parents[2]
 LISTS, WORKERS = 10_000, 4
@@ -167,7 +167,8 @@ def tried(programs: Sequence[str], number: int) -> Tuple[str, List[str]]:
     wanted = (0, "") if fault == "none" else (REFUSED, f"n.toml: {fault}\n")
     with tempfile.TemporaryDirectory() as name:
         folder = pathlib.Path(name)
-        (folder / "n.toml").write_text(network(nodes, links))
+        text = f"version = 1\nnodes = {nodes}\nlinks = {[list(link) for link in links]}\n"
+        (folder / "n.toml").write_text(text)
         (folder / "t.toml").write_text(tournament("n.toml", 1, 1, 8, 1))
         found = [said(program, folder) for program in programs]
     return fault, [f"list {number}: {program} says {told} with status {status}, but should say {wanted}"
