@@ -12,7 +12,7 @@ from typing import Dict, List
 from tools.play.program_cases import CRAMPED, CUP, NO_MEMORY, TOP, TRIANGLE, case, writes
 from tools.play.program_rows import DONE, REFUSED_TEXT, Stage, Wrong, expect
 from tools.play.wasm_modules import Call, Function, checks, constant, in_memory, module, numeric, told_by_node
-from tools.play.wasm_modules import I32
+from tools.play.wasm_modules import I32, joined, name, sections_of, unsigned, vector
 
 FAILING = 1
 RING = TOP / "examples" / "agents" / "wasm" / "ring.wasm"
@@ -149,6 +149,27 @@ def refused(stage: Stage) -> None:
             (running(b"", "\x1b[2J\n"), r"import arena.\u{1b}[2J\n at byte 21"),
             (module([Function([], [], b"")]), "run at byte 38")):
         refuses(stage, agent, fault)
+
+
+@case("a file is refused whose exports, memory, data segments or types of blocks are not valid")
+def invalid(stage: Stage) -> None:
+    run, largest = name("run") + b"\0\0", b"\1" + unsigned(1) + unsigned(65_537)
+    lacking = [name("x") + item for item in (b"\0\1", b"\1\0", b"\2\1", b"\3\0", b"\4\0")]
+    for export, fault in ((run, "name"), *((it, "index") for it in lacking)):
+        agent = with_section(7, vector([run, export]))
+        refuses(stage, agent, f"{fault} at byte {agent.rindex(export)}")
+    agent = with_section(5, vector([largest]))
+    refuses(stage, agent, f"size at byte {agent.index(largest)}")
+    agent = with_section(12, unsigned(1))
+    refuses(stage, agent, f"segment at byte {len(agent)}")
+    block = b"\2\x41" + END
+    agent = module([*[Function([], [], b"")] * 65, Function([], [], block, "run")])
+    refuses(stage, agent, f"type at byte {agent.index(block)}")
+
+
+def with_section(kind: int, body: bytes) -> bytes:
+    """A module that ends at once, with this section instead of its own."""
+    return joined({**sections_of(running(b"")), kind: body})
 
 
 @case("files with changed bytes are explored or refused")

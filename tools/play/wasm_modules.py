@@ -103,19 +103,30 @@ def number_at(data: bytes) -> Tuple[int, bytes]:
     return data[0] & 0x7f | rest << 7, behind
 
 
-def with_run(file: bytes) -> bytes:
-    """A module that imports nothing, with one function more, `run`, which does nothing."""
+def sections_of(file: bytes) -> Dict[int, bytes]:
+    """The sections of a module by number, each of them once."""
     sections: Dict[int, bytes] = {}
     data = file[8:]
     while data:
         length, behind = number_at(data[1:])
         sections[data[0]], data = behind[:length], behind[length:]
+    return sections
+
+
+def joined(sections: Dict[int, bytes]) -> bytes:
+    """The module with these sections."""
+    return b"\0asm\1\0\0\0" + b"".join(section(kind, sections[kind]) for kind in ORDER if kind in sections)
+
+
+def with_run(file: bytes) -> bytes:
+    """A module that imports nothing, with one function more, `run`, which does nothing."""
+    sections = sections_of(file)
     types, functions = (number_at(sections.get(kind, b"\0"))[0] for kind in (1, 3))
     for kind, item in ((1, type_of([], [])), (3, unsigned(types)), (7, name("run") + b"\0" + unsigned(functions)),
                        (10, b"\2\0\x0b")):
         count, items = number_at(sections.get(kind, b"\0"))
         sections[kind] = unsigned(count + 1) + items + item
-    return file[:8] + b"".join(section(kind, sections[kind]) for kind in ORDER if kind in sections)
+    return joined(sections)
 
 
 def numeric() -> Dict[str, Function]:

@@ -60,9 +60,8 @@ RETURNS = ("action", "assert_return")
 CALLS = (*RETURNS, "assert_trap", "assert_exhaustion")
 REFUSALS = ("assert_malformed", "assert_invalid", "assert_uninstantiable")
 INTEGERS = ("i32", "i64")
-# what is known to differ: exports and limits of memories are not validated, and a memory has at most 1,024 pages
-KNOWN = re.compile(r"(?:old_)?exports:\d+: assert_invalid (?:duplicate export name|unknown \w+)|resizing:45 grow|"
-                   r"memory:\d+: assert_invalid memory size must be at most 65536 pages")
+# what is known to differ: a memory has at most 1,024 pages
+KNOWN = re.compile(r"resizing:45 grow")
 PASSED, FAILED, DIFFERS = "passed", "failed", "known to differ"
 Command = Dict[str, Any]
 

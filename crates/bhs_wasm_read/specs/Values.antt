@@ -80,6 +80,10 @@ s32 left = then_read (signed left 32) (λ n rest. Ok (n % 2 ^ 32, rest))
 abbrev pub s64 : List ℕ → Read ℕ
 s64 left = signed left 64
 
+-- the number of a type, where a type of values could stand: a signed number of 33 bits, and not below 0
+abbrev pub index_of_type : List ℕ → Read ℕ
+index_of_type left = then_read (signed left 33) (λ n rest. if nat_lt n (2 ^ 32) then Ok (n, rest) else Err faults.Type)
+
 -- a name: how many bytes it has, and the bytes, in UTF-8
 abbrev pub name : List ℕ → Read (List ℕ)
 name left = then_read (u32 left) (λ count behind. then_read (bytes behind count) (λ text rest.

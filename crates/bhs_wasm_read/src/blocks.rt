@@ -161,7 +161,7 @@ impl<'m> Body<'m> {
             }
             0x7c..=0x7f => Ok(BlockType::Result(value_type(bytes.byte()?)?)),
             _ => {
-                let number = bytes.u32()?;
+                let number = bytes.index_of_type()?;
                 match self.context.types.get(number as usize) {
                     Some(_) => Ok(BlockType::Function(number)),
                     None => Err(FaultKind::Index),

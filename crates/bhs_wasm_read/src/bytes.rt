@@ -199,6 +199,18 @@ impl<'b> Bytes<'b> {
         self.signed(64)
     }
 
+    /// The number of a type, where a type of values could stand: a signed number of 33 bits, and not below 0.
+    pub(crate) fn index_of_type(&mut self) -> Result<u32, FaultKind>
+        ensures read { Gives (specs.index_of_type self.old.left.now) result self.new.left.now }
+        ensures place { SamePlace self.old self.new }
+    {
+        let number = self.signed(33)?;
+        if number > u64::from(u32::MAX) {
+            return Err(FaultKind::Type);
+        }
+        Ok(number as u32)
+    }
+
     /// A name, in UTF-8.
     pub(crate) fn name(&mut self) -> Result<&'b str, FaultKind>
         ensures read { GivesAs (λ name. name.now) (specs.name self.old.left.now) result self.new.left.now }

@@ -17,7 +17,7 @@ pub enum FaultKind {
     /// A number is too long or too large.
     #[error("number")]
     Number,
-    /// A name is not in UTF-8.
+    /// A name is not in UTF-8, or two exports have it.
     #[error("name")]
     Name,
     /// It has floating-point numbers.
@@ -35,7 +35,7 @@ pub enum FaultKind {
     /// It has a start function.
     #[error("start")]
     Start,
-    /// A segment is not active, or lies outside of its memory or table.
+    /// A segment is not active, or lies outside of its memory or table; or the module says another number of them.
     #[error("segment")]
     Segment,
     /// A section is unknown, out of order, or longer than what it holds.

@@ -10,9 +10,12 @@ use crate::module_types::{FunctionType, MAX_LOCALS, host_function_of, value_type
 use crate::opcodes::ValueType;
 use bhs_wasm::{Function, HostFunction, Module};
 use std::alloc::Global;
+use std::collections::HashSet;
 
-// The most pages of a memory, and the most elements of a table.
+// The most pages that agents may have, the most that a memory may have at all, and the most elements of a table.
 const MAX_PAGES: u32 = 1_024;
+
+const ALL_PAGES: u32 = 65_536;
 
 const MAX_ELEMENTS: u32 = 65_536;
 
@@ -31,7 +34,11 @@ pub(crate) struct Sections {
     globals: Vec<(ValueType, bool)>,
     has_memory: bool,
     has_table: bool,
+    exports: HashSet<String>,
     entry: Option<u32>,
+    /// How many data segments there are, and how many the module says that it has, if it does.
+    segments: u32,
+    data_count: Option<u32>,
     module: Module,
     /// The import that is refused.
     pub(crate) import: String,
@@ -48,7 +55,10 @@ impl Sections {
             globals: Vec::new(alloc),
             has_memory: false,
             has_table: false,
+            exports: HashSet::new(alloc),
             entry: None,
+            segments: 0,
+            data_count: None,
             module: Module {
                 code: Vec::new(alloc),
                 functions: Vec::new(alloc),
@@ -72,6 +82,9 @@ impl Sections {
         if self.module.functions.len() != self.functions.len() {
             return Err(FaultKind::Index);
         }
+        if self.data_count.unwrap_or(self.segments) != self.segments {
+            return Err(FaultKind::Segment);
+        }
         let mut module = self.module;
         module.entry = entry;
         module.imports = number_of(self.imports.len());
@@ -85,6 +98,7 @@ impl Sections {
         }
         let count = bytes.u32()?;
         if number == 12 {
+            self.data_count = Some(count);
             return Ok(());
         }
         if count as usize > bytes.left() {
@@ -168,15 +182,13 @@ impl Sections {
 
     fn add_memory(&mut self, bytes: &mut Bytes<'_>) -> Result<(), FaultKind> {
         let (least, most) = limits(bytes)?;
-        if least > MAX_PAGES || self.has_memory {
+        let most = most.unwrap_or(ALL_PAGES);
+        if least > MAX_PAGES || most > ALL_PAGES || self.has_memory {
             return Err(FaultKind::Large);
         }
         self.has_memory = true;
         self.module.pages = least;
-        self.module.max_pages = match most {
-            Some(most) if most < MAX_PAGES => most,
-            _ => MAX_PAGES,
-        };
+        self.module.max_pages = most.min(MAX_PAGES);
         Ok(())
     }
 
@@ -195,8 +207,14 @@ impl Sections {
 
     fn add_export(&mut self, bytes: &mut Bytes<'_>) -> Result<(), FaultKind> {
         let name = bytes.name()?;
+        if !self.exports.insert(String::from_str(self.alloc, name)?)? {
+            return Err(FaultKind::Name);
+        }
         let kind = bytes.byte()?;
         let number = bytes.u32()?;
+        if !self.has_export(kind, number as usize) {
+            return Err(FaultKind::Index);
+        }
         if name != "run" || kind != 0 {
             return Ok(());
         }
@@ -210,6 +228,17 @@ impl Sections {
                 Ok(())
             }
             _ => Err(FaultKind::Run),
+        }
+    }
+
+    // Whether there is a function, a table, a memory or a global of this number.
+    fn has_export(&self, kind: u8, number: usize) -> bool {
+        match kind {
+            0 => number < self.imports.len().saturating_add(self.functions.len()),
+            1 => self.has_table && number == 0,
+            2 => self.has_memory && number == 0,
+            3 => number < self.globals.len(),
+            _ => false,
         }
     }
 
@@ -279,6 +308,7 @@ impl Sections {
     }
 
     fn add_data(&mut self, bytes: &mut Bytes<'_>) -> Result<(), FaultKind> {
+        self.segments = self.segments.saturating_add(1);
         let is_active = match bytes.u32()? {
             0 => true,
             2 => bytes.u32()? == 0,
