@@ -21,7 +21,7 @@ CHANGED = 200
 DATA = bytes(range(7, 256, 5))
 CALL, DROP, END = b"\x10", b"\x1a", b"\x0b"
 LOOP, AGAIN = b"\x03\x40", b"\x0c\x00"
-SIZE, GROW, STORE8, MULTIPLY, SUBTRACT = b"\x3f\x00", b"\x40\x00", b"\x3a\x00\x00", b"\x6c", b"\x6b"
+SIZE, GROW, FILL, MULTIPLY, SUBTRACT = b"\x3f\x00", b"\x40\x00", b"\xfc\x0b\x00", b"\x6c", b"\x6b"
 # where a module has the text of a whiteboard
 BOARD = 16
 LOAD64 = b"\x29\x00\x00"
@@ -128,8 +128,9 @@ def writing(text: bytes) -> bytes:
 def grown(stage: Stage) -> None:
     writes(stage, tri=TRIANGLE, cup=CUP)
     enters, looks = (CALL + bytes([place]) + DROP for place in range(2))
-    last = SIZE + constant(I32, 65_536) + MULTIPLY + constant(I32, 1) + SUBTRACT
-    grows = constant(I32, GROWTH) + GROW + DROP + last + constant(I32, 1) + STORE8
+    # what a memory has of zeros takes no room where it is saved
+    first = SIZE + constant(I32, GROWTH) + SUBTRACT + constant(I32, 65_536) + MULTIPLY
+    grows = constant(I32, GROWTH) + GROW + DROP + first + constant(I32, 1) + constant(I32, GROWTH * 65_536) + FILL
     (stage.folder / "agent.wasm").write_bytes(running(enters + LOOP + grows + looks + AGAIN + END, "enter", "look"))
     front = [sys.executable, "-c", CRAMPED, str(200 << 20)]
     expect(stage.run(["explore", "cup.toml", "0", "--module", "agent.wasm"], front=front), b"",
