@@ -1,15 +1,14 @@
 """The lab's command line: `./arena-lab --help`."""
 import argparse
+import functools
 import importlib
 import multiprocessing
 import os
 import signal
 import sys
 import threading
-import traceback
-import weakref
 from types import FrameType
-from typing import Collection, List, NamedTuple, Optional, Tuple
+from typing import Any, Collection, List, NamedTuple, Optional, Tuple
 
 import arena_lab
 from arena_lab import IN_CLONE
@@ -111,19 +110,28 @@ class Terminated(BaseException):
     """The lab is to end. An agent that is playing then does not catch it, as it would an exit."""
 
 
-def end(number: int, frame: Optional[FrameType]) -> None:
-    """Interrupts the lab, or ends it and the processes that play for it, whose matches may take minutes. A second
-    signal does not interrupt that."""
-    if any(it.f_code.co_filename == weakref.__file__ for it, _ in traceback.walk_stack(frame)):
-        # Python drops what is raised in the function that a weak reference calls: the signal comes again behind it
-        threading.Timer(0.01, os.kill, (os.getpid(), number)).start()
-        return
+def end(lab: int, number: int, frame: Optional[FrameType]) -> None:
+    """Interrupts the lab, the process of this number, or ends it and the processes that play for it, whose matches may
+    take minutes. A second signal does not interrupt that. A process that is forked and has not begun to play ends."""
+    if os.getpid() != lab:
+        os._exit(128 + number)
     if number == signal.SIGINT:
         raise KeyboardInterrupt
     signal.signal(signal.SIGTERM, signal.SIG_IGN)
     for process in multiprocessing.active_children():
         process.terminate()
     raise Terminated
+
+
+def come_again(dropped: Any) -> None:
+    """Has a signal come again if Python has dropped what was raised for it, as it does in what a weak reference, a fork
+    or a finalizer calls."""
+    number = {KeyboardInterrupt: signal.SIGINT, Terminated: signal.SIGTERM}.get(dropped.exc_type)
+    if number is None:
+        sys.__unraisablehook__(dropped)
+        return
+    signal.signal(number, functools.partial(end, os.getpid()))
+    threading.Timer(0.01, os.kill, (os.getpid(), number)).start()
 
 
 def main(given: Optional[List[str]] = None) -> int:
@@ -134,9 +142,10 @@ def main(given: Optional[List[str]] = None) -> int:
         # with the usage of the command, where argparse has that of the lab
         words.refuse(f"unrecognized arguments: {' '.join(strange)}")
     # whoever ends the lab ends what it started
-    signal.signal(signal.SIGTERM, end)
+    sys.unraisablehook = come_again
+    signal.signal(signal.SIGTERM, functools.partial(end, os.getpid()))
     if signal.getsignal(signal.SIGINT) is signal.default_int_handler:
-        signal.signal(signal.SIGINT, end)
+        signal.signal(signal.SIGINT, functools.partial(end, os.getpid()))
     try:
         return int(words.run(words))
     except Terminated:

@@ -1,4 +1,5 @@
 """A grading ends if it is sent SIGTERM, also more than once, and leaves no process behind."""
+import contextlib
 import pathlib
 import signal
 import subprocess
@@ -27,7 +28,10 @@ BEGUN, ENDED = 30, 20
 
 def below(process: int) -> Iterator[int]:
     """The processes that a process has begun, and theirs."""
-    for child in pathlib.Path(f"/proc/{process}/task/{process}/children").read_text().split():
+    children = ""
+    with contextlib.suppress(FileNotFoundError, ProcessLookupError):
+        children = pathlib.Path(f"/proc/{process}/task/{process}/children").read_text()
+    for child in children.split():
         yield int(child)
         yield from below(int(child))
 

@@ -1,10 +1,12 @@
 """The Python model as an engine: what connections are sent, and what stands in files."""
 import contextlib
+import functools
 import importlib
 import io
 import os
 import pathlib
 import signal
+import sys
 import tempfile
 import time
 import unittest
@@ -12,7 +14,7 @@ import weakref
 from typing import Dict, List
 from unittest import mock
 
-from arena_lab.__main__ import COMMANDS, end, main
+from arena_lab.__main__ import COMMANDS, Terminated, come_again, end, main
 from arena_lab.rules import networks
 from arena_lab.rules.engines import TOP, EngineRefused, asked, name_of, program_at
 from arena_lab.rules.fixtures import Fixture, fixture_of, read_tournament, write_tournament
@@ -140,17 +142,41 @@ class CommandLine(unittest.TestCase):
                 with mock.patch("arena_lab.support.progress.bar", mock.MagicMock()):
                     self.assertIn(said, self.told(*words))
 
-    def test_an_interrupt_is_not_lost_while_a_weak_reference_ends(self) -> None:
+    def test_a_signal_is_not_lost_where_python_drops_what_is_raised(self) -> None:
         class Told(Dict[object, int]):
             def __delitem__(self, key: object) -> None:
                 os.kill(os.getpid(), signal.SIGINT)
 
-        held: "weakref.WeakKeyDictionary[CommandLine, int]" = weakref.WeakKeyDictionary()
-        held.data = Told()
-        self.addCleanup(signal.signal, signal.SIGINT, signal.signal(signal.SIGINT, end))
-        with self.assertRaises(KeyboardInterrupt):
+        def forks() -> None:
+            if os.fork() == 0:
+                os._exit(0)
+            time.sleep(9)
+
+        def forgets() -> None:
             held[CommandLine()] = 1
             time.sleep(9)
+
+        held: "weakref.WeakKeyDictionary[CommandLine, int]" = weakref.WeakKeyDictionary()
+        held.data = Told()
+        sent = [signal.SIGTERM]
+        os.register_at_fork(after_in_parent=lambda: sent and os.kill(os.getpid(), sent.pop()))
+        self.enterContext(mock.patch.object(sys, "unraisablehook", come_again))
+        for number, does, raised in ((signal.SIGINT, forgets, KeyboardInterrupt), (signal.SIGTERM, forks, Terminated)):
+            handler = functools.partial(end, os.getpid())
+            self.addCleanup(signal.signal, number, signal.signal(number, handler))
+            with self.subTest(number), self.assertRaises(raised):
+                does()
+
+    def test_a_process_that_has_just_been_forked_ends_by_a_signal(self) -> None:
+        handler = functools.partial(end, os.getpid())
+        self.addCleanup(signal.signal, signal.SIGTERM, signal.signal(signal.SIGTERM, handler))
+        process = os.fork()
+        if process == 0:
+            try:
+                os.kill(os.getpid(), signal.SIGTERM)
+            finally:
+                os._exit(1)
+        self.assertEqual(os.waitstatus_to_exitcode(os.waitpid(process, 0)[1]), 128 + signal.SIGTERM)
 
     def test_each_command_has_a_help(self) -> None:
         for name in COMMANDS:
