@@ -55,10 +55,11 @@ class Buckets:
             self._put(key, left - 1 if is_enough else left)
         return 0.0 if is_enough else (1 - left) * self._seconds / most
 
-    def give(self, key: str, most: int) -> None:
-        """Gives back what was taken."""
+    def is_empty(self, key: str, most: int) -> bool:
+        """Whether nothing is left, of which nothing is taken."""
         with self._lock:
-            self._put(key, min(float(most), self._refilled(key, most) + 1))
+            self._put(key, self._refilled(key, most))
+            return self._left[key][0] < 1
 
     def _refilled(self, key: str, most: int) -> float:
         now = time.monotonic()
@@ -107,15 +108,15 @@ def credential_of(request: HttpRequest) -> Optional[str]:
     return hashlib.sha256(said.encode(errors="replace")).hexdigest() if said else None
 
 
-def must_wait_to_try(request: HttpRequest, name: str) -> float:
-    """How many seconds one waits before one may try a token or a password of this name; 0 takes a try. A try that was
-    right is given back by `was_right`."""
-    return tried.wait(f"{address_of(request)} {name[:40]}", TRIES)
+def has_tried_too_often(request: HttpRequest, name: str) -> bool:
+    """Whether as many tokens or passwords of this name were wrong as may be. Right ones cost nothing, however many are
+    tried at once; so as many more may be wrong as the hall has threads."""
+    return tried.is_empty(f"{address_of(request)} {name[:40]}", TRIES)
 
 
-def was_right(request: HttpRequest, name: str) -> None:
-    """Gives a try back."""
-    tried.give(f"{address_of(request)} {name[:40]}", TRIES)
+def was_wrong(request: HttpRequest, name: str) -> None:
+    """Counts a try."""
+    tried.wait(f"{address_of(request)} {name[:40]}", TRIES)
 
 
 class Guards:

@@ -20,11 +20,11 @@ SESSION_TEAM, SESSION_GENERATION = "team", "generation"
 def tried(request: HttpRequest, token: str) -> Optional[Team]:
     """The team of a token, whose tries are limited by address."""
     name = token.partition(DOT)[0]
-    if guards.must_wait_to_try(request, name):
+    if guards.has_tried_too_often(request, name):
         raise exceptions.Throttled(detail=WAIT)
     team = team_of(token.strip())
-    if team is not None:
-        guards.was_right(request, name)
+    if team is None:
+        guards.was_wrong(request, name)
     return team
 
 
@@ -105,11 +105,11 @@ class Teachers(ModelBackend):
 
     def authenticate(self, request: Any, username: Any = None, password: Any = None, **given: Any) -> Any:
         name = f"{guards.STAFF}{username}"
-        if request is not None and guards.must_wait_to_try(request, name):
+        if request is not None and guards.has_tried_too_often(request, name):
             return None
         user = super().authenticate(request, username=username, password=password, **given)
-        if user is not None and request is not None:
-            guards.was_right(request, name)
+        if user is None and request is not None:
+            guards.was_wrong(request, name)
         return user
 
 

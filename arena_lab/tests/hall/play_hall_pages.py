@@ -1,7 +1,7 @@
 """The pages of a hall, as a team, another team and a stranger ask for them."""
 import re
 import unittest
-from typing import List
+from typing import List, Optional
 from unittest import mock
 
 from arena_lab.tests.hall.hall_pages import PASSWORD, PLACE, Hall, played
@@ -11,7 +11,7 @@ from django.test import Client, RequestFactory
 
 from arena_lab.hall.attempts import seen
 from arena_lab.hall.attempts.models import Attempt
-from arena_lab.hall.teams import guards
+from arena_lab.hall.teams import guards, logins
 from arena_lab.hall.teams.models import Entry, Switch, Team
 
 
@@ -41,6 +41,16 @@ class Logins(Hall):
         self.assertEqual(self.rest("get", "/api/matches", "cedar").status_code, 200)
         told = Client().post("/teacher/login/", {"username": "teacher", "password": PASSWORD, "next": "/teacher/"})
         self.assertEqual(told.status_code, 302)
+
+    def test_a_right_token_that_is_tried_many_times_at_once_is_not_refused(self) -> None:
+        """Each try begins while those before it are still looked at."""
+        request, team_of, begun = RequestFactory().get("/"), logins.team_of, iter(range(2 * guards.TRIES))
+
+        def looked_at(token: str) -> Optional[Team]:
+            return team_of(token) if next(begun, None) is None else logins.tried(request, token)
+
+        with mock.patch.object(logins, "team_of", looked_at):
+            self.assertEqual(logins.tried(request, self.tokens["amber"]), self.team("amber"))
 
     def test_a_teacher_who_is_logged_in_is_no_stranger(self) -> None:
         teacher = self.teacher()
