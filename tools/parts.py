@@ -38,8 +38,8 @@ def note(line: str) -> None:
 
 def run(words: Sequence[str], hear: Callable[[str], None] = lambda line: None, folder: pathlib.Path = TOP,
         **variables: str) -> Tuple[int, Optional[Counts]]:
-    """Runs a command and passes its lines on, but for a last one with counts and those of what was skipped: gives its
-    status and these counts."""
+    """Runs a command, and gives its status and what its last line counts, if it does. All other lines are passed on but
+    those that say what was skipped."""
     held = ""
     with subprocess.Popen(words, cwd=folder, stdout=subprocess.PIPE, stderr=subprocess.STDOUT, text=True,
                           errors="replace", env={**os.environ, **variables}) as child:

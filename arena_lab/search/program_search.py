@@ -122,8 +122,8 @@ def megabytes_of(pid: int) -> int:
 
 
 def program_words(program: str, fixture: Fixture, most: int) -> List[str]:
-    """The words by which a program tries the schedules of a match in the folder of its tournament, and visits at most
-    so many states."""
+    """The command by which a program tries the schedules of a match, and visits at most `most` states. It is run in the
+    folder of the match's tournament."""
     return [program, "explore", "tournament.toml", "0", "--max-states", str(most), "--spurious-wakeups",
             str(fixture.naps)]
 

@@ -126,7 +126,7 @@ def swept(work: SweepJob, keeper: SweepJob, cases: List[Case], done: int, wanted
 
 
 def verified(work: SweepJob, cases: List[Case], made: Dict[str, Any], wanted: SweepRequest, count: int) -> int:
-    """Plays so many rows of the folder again, whoever made them, and compares them."""
+    """Plays `count` rows of the folder again, whoever made them, and compares them."""
     out = wanted.out
     for name in changed_in(out, made):
         print(f"arena-lab: {name} is other than when the rows were made", file=sys.stderr)

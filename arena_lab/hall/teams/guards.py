@@ -56,7 +56,7 @@ class Buckets:
         return 0.0 if is_enough else (1 - left) * self._seconds / most
 
     def is_empty(self, key: str, most: int) -> bool:
-        """Whether nothing is left, of which nothing is taken."""
+        """Whether a use of this key would have to wait. Takes nothing."""
         with self._lock:
             self._put(key, self._refilled(key, most))
             return self._left[key][0] < 1
@@ -109,13 +109,13 @@ def credential_of(request: HttpRequest) -> Optional[str]:
 
 
 def has_tried_too_often(request: HttpRequest, name: str) -> bool:
-    """Whether as many tokens or passwords of this name were wrong as may be. Right ones cost nothing, however many are
-    tried at once; so as many more may be wrong as the hall has threads."""
+    """Whether no token or password of this name is tried any more from this address: too many were wrong. A right one
+    costs no try, however often it is tried at once. So each thread of the hall may look at one more wrong one."""
     return tried.is_empty(f"{address_of(request)} {name[:40]}", TRIES)
 
 
 def was_wrong(request: HttpRequest, name: str) -> None:
-    """Counts a try."""
+    """Counts a wrong token or password of this name."""
     tried.wait(f"{address_of(request)} {name[:40]}", TRIES)
 
 
