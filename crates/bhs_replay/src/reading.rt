@@ -19,7 +19,7 @@ use std::alloc::Global;
 /// An event and its reply, as a line spells them.
 pub type Spelled = (Event, Option<Reply>);
 
-/// Whether a line that is the line of this event and this reply spells them: whether this reply may stand there.
+/// Whether this reply may answer this event. If it may, the line that is written of both spells them.
 pub(crate) fn spells(event: &Event, reply: Option<LentReply<'_>>) -> bool
     ensures { (line : List ℕ) → line ≡ event_line event.now (option_map reply_of reply.entry)
         → OnTrue result (spelled line ≡ Some (event.now, option_map reply_of reply.entry)) }

@@ -44,7 +44,7 @@ next left = then_read (byte left) (λ b rest. Ok (b, left))
 abbrev pub part : List ℕ → (count : ℕ) → Read (List ℕ)
 part left count = then_read (bytes left count) (λ taken rest. Ok (rest, taken))
 
--- The end of a part, of which nothing may be left: what stands behind it is left then.
+-- A part ends: all of it must have been read, and `rest`, which stands behind it, is left.
 abbrev pub rest_behind : (left rest : List ℕ) → Read (Unit {0})
 rest_behind [] rest = Ok (tt, rest)
 rest_behind (b ∷ left) rest = Err faults.Section

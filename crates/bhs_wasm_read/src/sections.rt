@@ -10,7 +10,7 @@ use crate::module_types::{FunctionType, MAX_LOCALS, host_function_of, value_type
 use crate::opcodes::ValueType;
 use bhs_wasm::{Function, HostFunction, Module};
 use std::alloc::Global;
-use std::collections::HashSet;
+use std::collections::BTreeSet;
 
 // The most pages that agents may have, the most that a memory may have at all, and the most elements of a table.
 const MAX_PAGES: u32 = 1_024;
@@ -34,7 +34,8 @@ pub(crate) struct Sections {
     globals: Vec<(ValueType, bool)>,
     has_memory: bool,
     has_table: bool,
-    exports: HashSet<String>,
+    // Names are in order, so that no choice of them makes their look-up slow.
+    exports: BTreeSet<String>,
     entry: Option<u32>,
     /// How many data segments there are, and how many the module says that it has, if it does.
     segments: u32,
@@ -55,7 +56,7 @@ impl Sections {
             globals: Vec::new(alloc),
             has_memory: false,
             has_table: false,
-            exports: HashSet::new(alloc),
+            exports: BTreeSet::new(alloc),
             entry: None,
             segments: 0,
             data_count: None,
