@@ -6,6 +6,7 @@ use crate::module_types::{FunctionType, MAX_LOCALS, value_type};
 use crate::opcodes::ValueType;
 use bhs_wasm::{HostFunction, Instruction};
 use std::alloc::Global;
+use std::mem;
 
 /// What a module has beside the bodies of its functions.
 #[derive(Clone, Copy)]
@@ -22,6 +23,9 @@ pub(crate) struct Context<'m> {
     pub(crate) has_memory: bool,
     pub(crate) has_table: bool,
 }
+
+/// Stands for an instruction where there is none: no module has as many.
+pub(crate) const NO_INSTRUCTION: u32 = u32::MAX;
 
 /// A block, and how branches to it are made.
 #[derive(Clone, Copy, Debug, PartialEq, Eq)]
@@ -53,6 +57,9 @@ pub(crate) struct Block {
     pub(crate) is_entered: bool,
     /// Whether no code reaches what is read now.
     pub(crate) is_unreachable: bool,
+    /// The last branch to its end that was read. Until the end is known, the target of each such branch is the one
+    /// before it, and the target of the first is `NO_INSTRUCTION`.
+    pub(crate) last_branch: u32,
 }
 
 /// A body that is read.
@@ -62,8 +69,6 @@ pub(crate) struct Body<'m> {
     pub(crate) locals: Vec<ValueType>,
     pub(crate) operands: Vec<ValueType>,
     pub(crate) blocks: Vec<Block>,
-    /// Instructions that lead to the end of a block, each with the number of blocks that are open in it.
-    pub(crate) ends: Vec<(u32, u32)>,
 }
 
 /// A length, as the number of the next item.
@@ -193,13 +198,26 @@ impl<'m> Body<'m> {
         }
     }
 
-    /// The block that a branch out of this many blocks leads to, and how many blocks are open in it.
-    pub(crate) fn target(&self, depth: u32) -> Result<(Block, u32), FaultKind> {
-        let Some(at) = self.blocks.len().checked_sub(1 + depth as usize) else {
-            return Err(FaultKind::Index);
-        };
-        match self.blocks.get(at) {
-            Some(block) => Ok((*block, number_of(at.wrapping_add(1)))),
+    // The place of the block that a branch out of this many blocks leads to.
+    fn place_of(&self, depth: u32) -> Result<usize, FaultKind> {
+        self.blocks
+            .len()
+            .checked_sub(1 + depth as usize)
+            .ok_or(FaultKind::Index)
+    }
+
+    /// The block that a branch out of this many blocks leads to.
+    pub(crate) fn target(&self, depth: u32) -> Result<Block, FaultKind> {
+        let place = self.place_of(depth)?;
+        self.blocks.get(place).copied().ok_or(FaultKind::Index)
+    }
+
+    /// Notes that this branch leads to the end of the block out of this many blocks. Answers the last branch that was
+    /// noted before it.
+    pub(crate) fn wait_for_end(&mut self, depth: u32, branch: u32) -> Result<u32, FaultKind> {
+        let place = self.place_of(depth)?;
+        match self.blocks.get_mut(place) {
+            Some(block) => Ok(mem::replace(&mut block.last_branch, branch)),
             None => Err(FaultKind::Index),
         }
     }

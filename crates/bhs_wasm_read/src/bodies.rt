@@ -1,6 +1,6 @@
 //! The instructions of a body.
 
-use crate::blocks::{Block, BlockKind, BlockType, Body, Context, number_of};
+use crate::blocks::{Block, BlockKind, BlockType, Body, Context, NO_INSTRUCTION, number_of};
 use crate::bytes::Bytes;
 use crate::faults::FaultKind;
 use crate::module_types::value_type;
@@ -24,7 +24,6 @@ impl<'m> Body<'m> {
             locals,
             operands: Vec::new(context.alloc),
             blocks: Vec::new(context.alloc),
-            ends: Vec::new(context.alloc),
         };
         body.blocks.push(Block {
             kind: BlockKind::Function,
@@ -32,6 +31,7 @@ impl<'m> Body<'m> {
             height: 0,
             is_entered: true,
             is_unreachable: false,
+            last_branch: NO_INSTRUCTION,
         })?;
         for _ in 0..bytes.left() {
             if code.len() > MAX_CODE {

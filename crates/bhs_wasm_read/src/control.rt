@@ -1,6 +1,6 @@
 //! Blocks and branches: each branch is told the instruction that it leads to.
 
-use crate::blocks::{Block, BlockKind, BlockType, Body, number_of};
+use crate::blocks::{Block, BlockKind, BlockType, Body, NO_INSTRUCTION, number_of};
 use crate::bytes::Bytes;
 use crate::faults::FaultKind;
 use crate::opcodes::ValueType;
@@ -18,6 +18,7 @@ impl<'m> Body<'m> {
             height: number_of(self.operands.len()),
             is_entered,
             is_unreachable: false,
+            last_branch: NO_INSTRUCTION,
         })?;
         self.push_all(&parameters)
     }
@@ -53,9 +54,8 @@ impl<'m> Body<'m> {
         };
         self.pop_results(block)?;
         if self.is_reached() {
-            self.ends
-                .push((number_of(code.len()), number_of(self.blocks.len())))?;
-            code.push(Instruction::Jump { to: 0 })?;
+            let to = self.wait_for_end(0, number_of(code.len()))?;
+            code.push(Instruction::Jump { to })?;
         }
         if block.is_entered {
             patch(code, skip);
@@ -82,8 +82,7 @@ impl<'m> Body<'m> {
                 patch(code, skip);
             }
         }
-        let depth = number_of(self.blocks.len());
-        self.patch_ends(code, depth)?;
+        patch_all(code, block.last_branch);
         let _ = self.blocks.pop();
         if block.kind == BlockKind::Function {
             code.push(Instruction::Return {
@@ -94,28 +93,13 @@ impl<'m> Body<'m> {
         self.push_all(&results)
     }
 
-    // Lets all branches to the end of a block lead to the next instruction.
-    fn patch_ends(&mut self, code: &mut Vec<Instruction>, depth: u32) -> Result<(), FaultKind> {
-        let mut others = Vec::new(self.context.alloc);
-        for end in &self.ends {
-            let (place, of) = *end;
-            if of == depth {
-                patch(code, place);
-            } else {
-                others.push(*end)?;
-            }
-        }
-        self.ends = others;
-        Ok(())
-    }
-
     /// Adds a branch out of this many blocks. Its values stay operands.
     pub(crate) fn branch(
         &mut self,
         code: &mut Vec<Instruction>,
         depth: u32,
     ) -> Result<(), FaultKind> {
-        let (block, open) = self.target(depth)?;
+        let block = self.target(depth)?;
         let label = self.label(block)?;
         self.pop_all(&label)?;
         self.push_all(&label)?;
@@ -133,16 +117,10 @@ impl<'m> Body<'m> {
             ),
             _ => {
                 if self.is_reached() {
-                    self.ends.push((number_of(code.len()), open))?;
+                    let to = self.wait_for_end(depth, number_of(code.len()))?;
+                    code.push(Instruction::Branch { to, keep, height })?;
                 }
-                self.emit(
-                    code,
-                    Instruction::Branch {
-                        to: 0,
-                        keep,
-                        height,
-                    },
-                )
+                Ok(())
             }
         }
     }
@@ -189,7 +167,7 @@ impl<'m> Body<'m> {
         let mut arity = None;
         for _ in 0..=u64::from(count) {
             let depth = bytes.u32()?;
-            let (block, _) = self.target(depth)?;
+            let block = self.target(depth)?;
             let length = self.label(block)?.len();
             if arity.unwrap_or(length) != length {
                 return Err(FaultKind::Type);
@@ -255,36 +233,49 @@ impl<'m> Body<'m> {
     }
 }
 
-// Lets a branch lead to the next instruction.
-fn patch(code: &mut Vec<Instruction>, place: u32) {
-    let here = number_of(code.len());
-    if let Some(instruction) = code.get_mut(place as usize) {
-        match *instruction {
-            Instruction::Jump { to: _ } => *instruction = Instruction::Jump { to: here },
-            Instruction::JumpIfZero { to: _ } => *instruction = Instruction::JumpIfZero {
-                to: here,
-            },
-            Instruction::Branch {
-                to: _,
-                keep,
-                height,
-            } => *instruction = Instruction::Branch {
-                to: here,
-                keep,
-                height,
-            },
-            Instruction::BranchIf {
-                to: _,
-                keep,
-                height,
-            } => {
-                *instruction = Instruction::BranchIf {
-                    to: here,
-                    keep,
-                    height,
-                };
-            }
-            _ => {}
+// Lets a branch, and those that wait for the same end, lead to the next instruction.
+fn patch_all(code: &mut Vec<Instruction>, last: u32) {
+    let mut place = last;
+    for _ in 0..code.len() {
+        if place == NO_INSTRUCTION {
+            return;
         }
+        place = patch(code, place);
+    }
+}
+
+// Lets a branch lead to the next instruction. Answers its target before.
+fn patch(code: &mut Vec<Instruction>, place: u32) -> u32 {
+    let here = number_of(code.len());
+    let Some(branch) = code.get_mut(place as usize) else {
+        return NO_INSTRUCTION;
+    };
+    let (patched, before) = with_target(*branch, here);
+    *branch = patched;
+    before
+}
+
+// A branch with another target, and the target that it had.
+fn with_target(branch: Instruction, here: u32) -> (Instruction, u32) {
+    match branch {
+        Instruction::Jump { to } => (Instruction::Jump { to: here }, to),
+        Instruction::JumpIfZero { to } => (Instruction::JumpIfZero { to: here }, to),
+        Instruction::Branch { to, keep, height } => (
+            Instruction::Branch {
+                to: here,
+                keep,
+                height,
+            },
+            to,
+        ),
+        Instruction::BranchIf { to, keep, height } => (
+            Instruction::BranchIf {
+                to: here,
+                keep,
+                height,
+            },
+            to,
+        ),
+        other => (other, NO_INSTRUCTION),
     }
 }
