@@ -15,7 +15,7 @@ from tools.play import bare
 
 nightly = module(TOP / "tools" / "nightly")
 # compare two builds of the program; the tests of the lab that night runs play the third
-BY_HAND = {"bent_replays", "bench_counts", "hall_in_browser"}
+BY_HAND = {"bent_inputs", "bench_counts", "hall_in_browser"}
 
 
 class Nightly(unittest.TestCase):

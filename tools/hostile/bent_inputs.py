@@ -1,17 +1,20 @@
-"""Compares what two builds of the program say of replays that are bent by chance.
+"""Compares what two builds of the program say of replays and scripts that are bent by chance.
 
-    python3 -m tools.hostile.bent_replays PROGRAM OTHER [--replays N] [--seed SEED] [--workers W] [--keep FOLDER]
+    python3 -m tools.hostile.bent_inputs PROGRAM OTHER [--replays N] [--scripts N] [--seed SEED] [--workers W]
+        [--keep FOLDER]
 
-Makes N replays, 10,000 where no number is given: those of examples/ and of matches that the lab's model plays by
-chance, each bent in one to three places. Bytes are changed, deleted or doubled; numbers get a zero in front or are too
-large; spaces and escapes stand where none should; a line has the event or the reply of another; lines are swapped,
-dropped, doubled or cut; lines end with a carriage return; texts are no UTF-8, or long. The head and the end line are
-bent like any other. Both programs judge, explain and twin each of them. Their exit statuses and what they print on
-standard output and standard error must be the same bytes.
+Makes 10,000 replays and 2,000 scripts, where no numbers are given: those of examples/, replays of matches that the
+lab's model plays by chance, and scripts that it draws, each bent in one to three places. Bytes are changed, deleted or
+doubled; numbers get a zero in front or are too large; spaces and escapes stand where none should; a line has the event
+or the reply of another; lines are swapped, dropped, doubled or cut; lines end with a carriage return; texts are no
+UTF-8, or long. The head and the end line of a replay are bent like any other, and a script has lines of another match
+or connection, bytes in hexadecimal, and lines that are too long. Both programs judge, explain and twin each replay, and
+rehearse each script, whole and line by line. Their exit statuses and what they print on standard output and standard
+error must be the same bytes.
 
-Prints how often each fault was told, and a line for each difference; with --keep the replays that make one are written
-to FOLDER. The exit status is 1 where there is a difference. The same seed makes the same replays. A run takes about
-a minute for 10,000 replays and two proved builds.
+Prints how often each fault was told, and a line for each difference; with --keep the inputs that make one are written
+to FOLDER. The exit status is 1 where there is a difference. The same seed makes the same inputs. A run takes about
+a minute for 10,000 replays and two proved builds, and as long for 2,000 scripts.
 """
 import argparse
 import collections
@@ -19,17 +22,18 @@ import concurrent.futures
 import pathlib
 import random
 import re
+import shutil
 import subprocess
 import sys
 import tempfile
-from typing import Callable, Counter, Iterator, List, NamedTuple, Optional, Sequence, Tuple
+from typing import Callable, Counter, Dict, Iterator, List, NamedTuple, Optional, Sequence, Tuple
 
-from arena_lab.rules.model import PRESENT, Match, Object
-from tools.play.drawn_rehearsals import ready_by_chance
+from arena_lab.rules.model import MAX_LINE, PRESENT, Match, Object, spelled
+from tools.play.drawn_rehearsals import ScriptMaker, files_of, ready_by_chance
 
 TOP = pathlib.Path(__file__).resolve().parents[2]
-REPLAYS, SEED, WORKERS = 10_000, 0, 2
-COMMANDS = ("judge", "explain", "twin")
+REPLAYS, SCRIPTS, SEED, WORKERS = 10_000, 2000, 0, 2
+CUP = "cup.toml"
 LONG = 3000
 TEXTS = ("", "a", "home", "bé", "\"", "a\\b", "tab\there", "\x01", "line\nline", "x" * 31, "y" * 32, "z" * 70,
          "ü" * LONG, "l" * LONG, "{\"at\":3}", "/", "\u007f", "\U0001f600")
@@ -48,8 +52,25 @@ EVENTS = (b'{"agent":0,"do":"enter"', b'{"agent":1,"do":"look"', b'{"agent":0,"d
           b'{"agent":0,"do":"jump"', b'{"do":"look","agent":0', b'{"agent":0,"do":"write","expect":"","put":"a"',
           b'{"agent":9,"do":"look"', b'{"agent":0,"agent":0,"do":"look"')
 REPLY = b',"reply":'
+INSTRUCTIONS = (
+    b"# a remark", b"", b" ", b"hex 0 ", b"hex 0 7", b"hex 0 0a", b"hex 1 7b0a7b", b"hex 1 2\n1 o", b"draw 0",
+    b"draw 0 4294967295", b"draw 0 4294967296", b"draw 1 07", b"draw 2 0", b"draw  0 0", b"end 0", b"end 256",
+    b"close 0", b"close 1", b"close", b"deliver 0 0", b"deliver 1 1", b"deliver 0 65536", b"255 {}", b"256 {}",
+    b"00 {}", b"0", b"0 ", b"0  \t", b"jump 0", b"0 \xff", b"1 [1,2]", b'0 {"do":"write","expect":"","put":""}',
+    b'1 {"do":"write","expect":"a","put":"b","put":"c"}', b'0 {"do":"write","expect":"","put":"a"} ',
+    b'0 {"do":"write","put":"a","expect":""}', b'1 {"do":"write","expect":"\\u0061","put":"a\\"b"}',
+    b'0 {"do":"write","expect":"","put":7}', b'0 {"do":"write","expect":"","put":"a"},"}',
+    b'0 {"do":"write","expect":"\x80","put":"a"}')
+CONN = re.compile(rb"(\d+) (.*)", re.DOTALL)
 
 Bend = Callable[[bytes, random.Random], bytes]
+
+
+class Rehearsed(NamedTuple):
+    """A tournament's files by their names, and a script."""
+
+    files: Dict[str, str]
+    script: bytes
 
 
 # Replays of matches.
@@ -83,6 +104,27 @@ def drawn_replay(chance: random.Random) -> bytes:
             match.tell(number, command(match, number, chance))
     match.close()
     return match.replay().encode()
+
+
+# Scripts of rehearsals.
+
+def write_line(conn: int, chance: random.Random) -> bytes:
+    """A line by which an agent writes."""
+    write = {"do": "write", "expect": chance.choice(("", chance.choice(TEXTS))), "put": chance.choice(TEXTS)}
+    return b"%d %s" % (conn, spelled(write).encode())
+
+
+def drawn_script(chance: random.Random) -> Rehearsed:
+    """A rehearsal of two matches in which agents walk and write by chance."""
+    ready = []
+    for game in range(2):
+        one = ready_by_chance(game, chance.randint(1, 4), chance)
+        ready.append(one._replace(match=Match(one.match.setup._replace(board=chance.choice(BOARDS)))))
+    maker = ScriptMaker(ready, chance)
+    maker.all_depart()
+    for _ in range(chance.randint(20, 100)):
+        maker.anything(9)
+    return Rehearsed(files_of(ready), "".join(f"{line}\n" for line in maker.script).encode())
 
 
 # How they are bent.
@@ -207,19 +249,53 @@ def end(lines: List[bytes], at: int, chance: random.Random) -> None:
     lines[-2:] = [chance.choice(ends), chance.choice((b"", b"x", lines[-1]))]
 
 
-BENDS: Sequence[Bend] = (
+def new_line(lines: List[bytes], at: int, chance: random.Random) -> None:
+    lines.insert(at, chance.choice((chance.choice(INSTRUCTIONS), write_line(chance.randrange(9), chance))))
+
+
+def long_line(lines: List[bytes], at: int, chance: random.Random) -> None:
+    """A line of a client that is as long as it may be, or about so."""
+    front = b'{"do":"write","expect":"","put":"'
+    room = MAX_LINE - len(front) - 2 + chance.choice((-1, 0, 1))
+    lines.insert(at, b"%d %s%s" % (chance.randrange(4), front, b"a" * room + b'"}'))
+
+
+def in_hexadecimal(lines: List[bytes], at: int, chance: random.Random) -> None:
+    """What a connection is fed comes as bytes, in two pieces."""
+    found = CONN.fullmatch(lines[at])
+    if found:
+        text = found[2] + chance.choice((b"\n", b"\r\n", b""))
+        cut = place_in(text, chance)
+        lines[at:at + 1] = [b"hex %s %s" % (found[1], piece.hex().encode()) for piece in (text[:cut], text[cut:])]
+
+
+BYTE_BENDS: Sequence[Bend] = (
     change, insert, delete, double, cut, zero_in_front, other_number, space, escape, no_utf8, long_text,
-    *map(on_lines, (swap, drop, again, carriage_return, other_reply, other_event, new_event, head, end)),
+    *map(on_lines, (swap, drop, again, carriage_return)),
 )
+REPLAY_BENDS: Sequence[Bend] = (*BYTE_BENDS, *map(on_lines, (other_reply, other_event, new_event, head, end)))
+SCRIPT_BENDS: Sequence[Bend] = (*BYTE_BENDS, *map(on_lines, (new_line, new_line, long_line, in_hexadecimal)))
 
 
-def bent(number: int, seed: int, examples: Sequence[bytes]) -> bytes:
-    """A replay by its number: one in forty is not bent at all."""
+def bent(text: bytes, bends: Sequence[Bend], number: int, chance: random.Random) -> bytes:
+    """A text of this number, bent: one in forty is not bent at all."""
+    for _ in range(0 if number % 40 == 0 else chance.choice((1, 1, 1, 2, 3))):
+        text = chance.choice(bends)(text, chance)
+    return text
+
+
+def replay_of(number: int, seed: int, examples: Sequence[bytes]) -> bytes:
+    """A bent replay by its number."""
     chance = random.Random(f"{seed} {number}")
     text = chance.choice(examples) if chance.random() < 0.2 else drawn_replay(chance)
-    for _ in range(0 if number % 40 == 0 else chance.choice((1, 1, 1, 2, 3))):
-        text = chance.choice(BENDS)(text, chance)
-    return text
+    return bent(text, REPLAY_BENDS, number, chance)
+
+
+def script_of(number: int, seed: int) -> Rehearsed:
+    """A bent script by its number, with the files of its tournament."""
+    chance = random.Random(f"script {seed} {number}")
+    drawn = drawn_script(chance)
+    return drawn._replace(script=bent(drawn.script, SCRIPT_BENDS, number, chance))
 
 
 # What the programs say of them.
@@ -232,14 +308,15 @@ class Said(NamedTuple):
     told: bytes
 
 
-def said(program: str, words: Sequence[str]) -> Said:
-    ran = subprocess.run([program, *words], stdin=subprocess.DEVNULL, capture_output=True, check=False)
+def said(program: str, words: Sequence[str], given: bytes = b"") -> Said:
+    ran = subprocess.run([program, *words], input=given, capture_output=True, check=False)
     return Said(ran.returncode, ran.stdout, ran.stderr)
 
 
 class Compared(NamedTuple):
-    """A replay by its number, what was told of it, and the commands by which the programs differ."""
+    """An input by its kind and number, what was told of it, and the commands by which the programs differ."""
 
+    kind: str
     number: int
     fault: str
     differing: List[str]
@@ -251,35 +328,56 @@ def fault_of(one: Said) -> str:
     return re.sub(r"\d+", "N", last) if one.status else "none"
 
 
-def compared(number: int, programs: Sequence[str], path: pathlib.Path, chance: random.Random) -> Compared:
-    """Runs all commands on a replay by both programs."""
-    runs = {"judge": ["judge", str(path)], "explain": ["explain", str(path), str(chance.randrange(3))],
-            "twin": ["twin", str(path), str(chance.randrange(6))]}
+def compared(kind: str, number: int, programs: Sequence[str], runs: Dict[str, List[str]], given: bytes) -> Compared:
+    """Runs all commands on an input by both programs."""
     differing, fault = [], ""
-    for name in COMMANDS:
-        one, other = (said(program, runs[name]) for program in programs)
+    for name, line in runs.items():
+        one, other = (said(program, line, given) for program in programs)
         fault = fault or fault_of(one)
         if one != other:
             differing.append(name)
-    return Compared(number, fault, differing)
+    return Compared(kind, number, fault, differing)
 
 
-def all_compared(given: argparse.Namespace, folder: pathlib.Path) -> Iterator[Compared]:
-    """Makes the replays and compares the programs on each."""
-    examples = [path.read_bytes() for path in sorted((TOP / "examples").glob("*.jsonl"))]
-    programs = [str(pathlib.Path(name).resolve()) for name in (given.program, given.other)]
+class Comparing:
+    """Two programs that are compared, and where their inputs are written."""
 
-    def one(number: int) -> Compared:
-        path = folder / f"{number}.jsonl"
-        path.write_bytes(bent(number, given.seed, examples))
-        found = compared(number, programs, path, random.Random(number))
-        if found.differing and given.keep:
-            (given.keep / path.name).write_bytes(path.read_bytes())
-        path.unlink()
+    def __init__(self, given: argparse.Namespace, folder: pathlib.Path) -> None:
+        self.given, self.folder = given, folder
+        self.programs = [str(pathlib.Path(name).resolve()) for name in (given.program, given.other)]
+        self.examples = [path.read_bytes() for path in sorted((TOP / "examples").glob("*.jsonl"))]
+
+    def settled(self, place: pathlib.Path, found: Compared) -> Compared:
+        """Keeps a folder of inputs if it makes a difference, and removes it."""
+        if found.differing and self.given.keep:
+            shutil.copytree(place, self.given.keep / place.name, dirs_exist_ok=True)
+        shutil.rmtree(place)
         return found
 
-    with concurrent.futures.ThreadPoolExecutor(given.workers) as pool:
-        yield from pool.map(one, range(given.replays))
+    def replay(self, number: int) -> Compared:
+        place, chance = self.folder / f"replay-{number}", random.Random(number)
+        place.mkdir()
+        path = place / "replay.jsonl"
+        path.write_bytes(replay_of(number, self.given.seed, self.examples))
+        runs = {"judge": ["judge", str(path)], "explain": ["explain", str(path), str(chance.randrange(3))],
+                "twin": ["twin", str(path), str(chance.randrange(6))]}
+        return self.settled(place, compared("replay", number, self.programs, runs, b""))
+
+    def script(self, number: int) -> Compared:
+        place, (files, script) = self.folder / f"script-{number}", script_of(number, self.given.seed)
+        place.mkdir()
+        for name, text in files.items():
+            (place / name).write_text(text)
+        (place / "script").write_bytes(script)
+        line = ["rehearse", str(place / CUP)]
+        runs = {"rehearse": line, "rehearse --interactive": [*line, "--interactive"]}
+        return self.settled(place, compared("script", number, self.programs, runs, script))
+
+    def all(self) -> Iterator[Compared]:
+        """Makes the inputs and compares the programs on each."""
+        with concurrent.futures.ThreadPoolExecutor(self.given.workers) as pool:
+            yield from pool.map(self.replay, range(self.given.replays))
+            yield from pool.map(self.script, range(self.given.scripts))
 
 
 def words(given: Optional[Sequence[str]] = None) -> argparse.Namespace:
@@ -287,9 +385,10 @@ def words(given: Optional[Sequence[str]] = None) -> argparse.Namespace:
     parser.add_argument("program", help="a built program")
     parser.add_argument("other", help="another build of it")
     parser.add_argument("--replays", type=int, default=REPLAYS, metavar="N", help="how many replays are made")
-    parser.add_argument("--seed", type=int, default=SEED, help="what the replays are drawn from")
+    parser.add_argument("--scripts", type=int, default=SCRIPTS, metavar="N", help="how many scripts are made")
+    parser.add_argument("--seed", type=int, default=SEED, help="what the inputs are drawn from")
     parser.add_argument("--workers", type=int, default=WORKERS, metavar="W", help="how many are tried at a time")
-    parser.add_argument("--keep", type=pathlib.Path, metavar="FOLDER", help="where replays go that make a difference")
+    parser.add_argument("--keep", type=pathlib.Path, metavar="FOLDER", help="where inputs go that make a difference")
     return parser.parse_args(given)
 
 
@@ -300,14 +399,14 @@ def main() -> int:
     if given.keep:
         given.keep.mkdir(parents=True, exist_ok=True)
     with tempfile.TemporaryDirectory() as name:
-        for found in all_compared(given, pathlib.Path(name)):
+        for found in Comparing(given, pathlib.Path(name)).all():
             faults[found.fault] += 1
             if found.differing:
                 differences += 1
-                print(f"replay {found.number}: the programs differ in {', '.join(found.differing)}", flush=True)
+                print(f"{found.kind} {found.number}: the programs differ in {', '.join(found.differing)}", flush=True)
     for fault, count in faults.most_common():
         print(f"{fault}: {count}")
-    print(f"{given.replays} replays, {differences} differences")
+    print(f"{given.replays} replays, {given.scripts} scripts, {differences} differences")
     return 1 if differences else 0
 
 

@@ -1,0 +1,100 @@
+"""The replays and scripts that tools/hostile/bent_inputs.py makes, and how it compares two programs."""
+import collections
+import random
+import stat
+import unittest
+from unittest import mock
+
+from arena_lab.rules.model import MAX_LINE, played
+from tests.support.output import InTemporary
+from tools.hostile import bent_inputs
+
+REPLAY = b'{"nodes":3}\n{"agent":0,"do":"look","reply":{"no":"away"}}\n{"do":"close","reply":null}\n{"end":2}\n'
+PROGRAM = """#!/bin/sh
+case "$1" in
+judge) echo "$2"; wc -c < "$2" >&2;;
+rehearse) echo "$2"; wc -c >&2;;
+*) {other};;
+esac
+"""
+
+
+class Bends(unittest.TestCase):
+    def test_drawn_replays_are_replays(self) -> None:
+        for seed in range(20):
+            text = bent_inputs.drawn_replay(random.Random(seed)).decode()
+            self.assertEqual(played(text).replay(), text)
+
+    def test_each_bend_changes_most_texts(self) -> None:
+        replay, drawn = bent_inputs.drawn_replay(random.Random(7)), bent_inputs.drawn_script(random.Random(7))
+        for bends, long in ((bent_inputs.REPLAY_BENDS, replay), (bent_inputs.SCRIPT_BENDS, drawn.script)):
+            for bend in bends:
+                found = [bend(long, random.Random(seed)) != long for seed in range(40)]
+                self.assertGreater(sum(found), 10, bend)
+
+    def test_bends_by_hand(self) -> None:
+        chance = random.Random(0)
+        self.assertIn(bent_inputs.zero_in_front(b'{"end":2}', chance), (b'{"end":02}',))
+        self.assertEqual(bent_inputs.replaced(b"none", rb"\d", chance, lambda _: b"x"), b"none")
+        lines = REPLAY.split(b"\n")
+        bent_inputs.drop(lines, 1, chance)
+        self.assertEqual(lines[1], b'{"do":"close","reply":null}')
+        with mock.patch.object(bent_inputs, "REPLIES", (b"null",)):
+            found = collections.Counter(
+                bent_inputs.on_lines(bent_inputs.other_reply)(REPLAY, random.Random(seed)) for seed in range(60))
+        self.assertIn(REPLAY.replace(b'{"no":"away"}', b"null"), found)
+
+    def test_scripts_by_hand(self) -> None:
+        lines = [b'1 {"do":"look"}', b"# none"]
+        for at in (1, 0):
+            bent_inputs.in_hexadecimal(lines, at, random.Random(0))
+        self.assertEqual([line[:6] for line in lines], [b"hex 1 ", b"hex 1 ", b"# none"])
+        self.assertEqual(bytes.fromhex((lines[0][6:] + lines[1][6:]).decode()).rstrip(), b'{"do":"look"}')
+        sizes = set()
+        for seed in range(20):
+            lines = []
+            bent_inputs.long_line(lines, 0, random.Random(seed))
+            sizes.add(len(lines[0]) - len(b"0 ") - MAX_LINE)
+        self.assertEqual(sizes, {-1, 0, 1})
+
+    def test_the_same_seed_makes_the_same_inputs(self) -> None:
+        made = [bent_inputs.replay_of(number, 3, [REPLAY]) for number in range(30)]
+        self.assertEqual(made, [bent_inputs.replay_of(number, 3, [REPLAY]) for number in range(30)])
+        self.assertNotEqual(made, [bent_inputs.replay_of(number, 4, [REPLAY]) for number in range(30)])
+        scripts = [bent_inputs.script_of(number, 3) for number in range(30)]
+        self.assertEqual(scripts, [bent_inputs.script_of(number, 3) for number in range(30)])
+        self.assertNotEqual(scripts, [bent_inputs.script_of(number, 4) for number in range(30)])
+
+
+class Programs(InTemporary):
+    def program(self, name: str, other: str) -> str:
+        made = self.folder / name
+        made.write_text(PROGRAM.replace("{other}", other))
+        made.chmod(made.stat().st_mode | stat.S_IXUSR)
+        return str(made)
+
+    def differing(self, other: str) -> collections.Counter:
+        kept = self.folder / "kept"
+        kept.mkdir(exist_ok=True)
+        one, two = self.program("one", "exit 3"), self.program("two", other)
+        given = bent_inputs.words([one, two, "--replays", "4", "--scripts", "2", "--keep", str(kept)])
+        return collections.Counter(name for found in bent_inputs.Comparing(given, self.folder).all()
+                                   for name in found.differing)
+
+    def test_the_same_programs(self) -> None:
+        self.assertEqual(self.differing("exit 3"), {})
+        self.assertEqual(list((self.folder / "kept").iterdir()), [])
+
+    def test_another_status_and_other_bytes(self) -> None:
+        self.assertEqual(self.differing("exit 4"), {"explain": 4, "twin": 4})
+        self.assertEqual(len(list((self.folder / "kept").iterdir())), 4)
+        self.assertEqual(self.differing("echo; exit 3"), {"explain": 4, "twin": 4})
+        self.assertEqual(self.differing("echo >&2; exit 3"), {"explain": 4, "twin": 4})
+
+    def test_faults_have_no_numbers(self) -> None:
+        self.assertEqual(bent_inputs.fault_of(bent_inputs.Said(3, b"", b"note\n/tmp/a: event 13\n")), "event N")
+        self.assertEqual(bent_inputs.fault_of(bent_inputs.Said(0, b"", b"note\n")), "none")
+
+
+if __name__ == "__main__":
+    unittest.main()
