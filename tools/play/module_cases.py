@@ -12,14 +12,14 @@ from typing import Dict, List
 from tools.play.program_cases import CRAMPED, CUP, NO_MEMORY, TOP, TRIANGLE, case, writes
 from tools.play.program_rows import DONE, REFUSED_TEXT, Stage, Wrong, expect
 from tools.play.wasm_modules import Call, Function, checks, constant, in_memory, module, numeric, told_by_node
-from tools.play.wasm_modules import I32, joined, name, sections_of, unsigned, vector
+from tools.play.wasm_modules import I32, joined, name, sections_of, type_of, unsigned, vector
 
 FAILING = 1
 RING = TOP / "examples" / "agents" / "wasm" / "ring.wasm"
 # how many changed files are explored
 CHANGED = 200
 DATA = bytes(range(7, 256, 5))
-CALL, DROP, END = b"\x10", b"\x1a", b"\x0b"
+CALL, DROP, TRAP, END = b"\x10", b"\x1a", b"\0", b"\x0b"
 LOOP, AGAIN = b"\x03\x40", b"\x0c\x00"
 SIZE, GROW, FILL, MULTIPLY, SUBTRACT = b"\x3f\x00", b"\x40\x00", b"\xfc\x0b\x00", b"\x6c", b"\x6b"
 # where a module has the text of a whiteboard
@@ -150,6 +150,15 @@ def refused(stage: Stage) -> None:
             (running(b"", "\x1b[2J\n"), r"import arena.\u{1b}[2J\n at byte 21"),
             (module([Function([], [], b"")]), "run at byte 38")):
         refuses(stage, agent, fault)
+
+
+@case("a function has at most 1,000 parameters and 1,000 results")
+def many_parameters(stage: Stage) -> None:
+    run, values = Function([], [], b"", "run"), [I32] * 1000
+    explores(stage, module([run, Function(values, values, TRAP)]), SILENT, FAILING)
+    for own in ((values + [I32], []), ([], values + [I32])):
+        agent = module([run, Function(*own, TRAP)])
+        refuses(stage, agent, f"size at byte {agent.index(type_of(*own))}")
 
 
 @case("a file is refused whose exports, memory, data segments or types of blocks are not valid")

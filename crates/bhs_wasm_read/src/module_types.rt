@@ -9,8 +9,12 @@ use crate::opcodes::ValueType;
 use bhs_wasm::HostFunction;
 use std::alloc::Global;
 
-/// The most parameters, results, locals and operands of a function.
+/// The most locals and operands of a function.
 pub(crate) const MAX_LOCALS: u32 = 50_000;
+
+// The most parameters of a function, and the most results, as in browsers: reading a block takes time for each of its
+// type.
+const MAX_PARAMETERS: u32 = 1_000;
 
 /// The types of the parameters and of the results of a function.
 #[derive(Drop)]
@@ -49,7 +53,7 @@ impl FunctionType {
 
 fn value_types(alloc: Global, bytes: &mut Bytes<'_>) -> Result<Vec<ValueType>, FaultKind> {
     let count = bytes.u32()?;
-    if count > MAX_LOCALS {
+    if count > MAX_PARAMETERS {
         return Err(FaultKind::Large);
     }
     let mut types = Vec::new(alloc);
