@@ -2,7 +2,7 @@
 
 ghost use Rattle.std.specs.Prelude.{◌≡◌, [], ◌∷◌, ◌++◌, map, false, true, Some, Option, IfOk, OnOk};
 ghost use Rattle.std.specs.Prelude.{slice_get, option_map};
-ghost use Rattle.bhs_wire.specs.Lines.{seen, found_in, left_by};
+ghost use Rattle.bhs_wire.specs.Lines.{seen, found_in, given, left_by};
 ghost use Rattle.bhs_rehearsal.specs.Connections.{Says, Ends, unfed, shut, taken, after};
 ghost use Rattle.bhs_rehearsal.specs.Stages.{has_seat, waits_in};
 ghost use Rattle.bhs_rehearsal.specs.Rehearsing.{game_of, team_of, seen_item};
@@ -11,7 +11,7 @@ use crate::items::Item;
 use crate::takings::take_items;
 use bhs_lineup::Ready;
 use bhs_net::Memory;
-use bhs_wire::{LineReader, Lines, Raw};
+use bhs_wire::{LineKind, LineReader, Lines, Raw, kind_of, whole_line};
 use std::alloc::Global;
 use std::borrow::CowSlice;
 use std::collections::VecDeque;
@@ -22,13 +22,14 @@ use std::marker::Model;
 #[derive(Drop)]
 pub(crate) struct Connection<'s> {
     seat: Option<(u32, u16)>,
-    lines: Lines,
+    // None as long as each line came whole.
+    lines: Option<Lines>,
     queue: VecDeque<Item<'s>>,
     ended: bool,
 }
 
 impl<'s> Model for Connection<'s> {
-    ghost use Rattle.std.specs.Prelude.{map};
+    ghost use Rattle.std.specs.Prelude.{[], Some, map, unwrap_or};
     ghost use Rattle.bhs_rehearsal.specs.Connections.{Connection};
     ghost use Rattle.bhs_rehearsal.specs.Rehearsing.{seen_item};
 
@@ -36,7 +37,7 @@ impl<'s> Model for Connection<'s> {
 
     ghost view = { λ one. record {
       seat = one.seat;
-      unfinished = one.lines;
+      unfinished = unwrap_or one.lines (Some []);
       queue = map seen_item one.queue.items;
       ended = one.ended;
     } };
@@ -49,7 +50,7 @@ impl<'s> Connection<'s> {
     {
         Connection {
             seat: None,
-            lines: Lines::new(alloc),
+            lines: None,
             queue: VecDeque::new(alloc),
             ended: false,
         }
@@ -94,10 +95,11 @@ impl<'s> Connection<'s> {
         }
     }
 
-    // Takes the next bytes of its input, and queues the lines that end in them. They are found in `found`, whose memory
-    // is kept for the next.
+    // Takes the next bytes of its input, and queues the lines that end in them. Where they are not one whole line, they
+    // are found in `found`, whose memory is kept for the next.
     pub(crate) fn receive(
         &mut self,
+        alloc: Global,
         bytes: &'s [u8],
         found: &mut VecDeque<Raw<'s>>,
     ) -> Result<(), Memory>
@@ -107,9 +109,36 @@ impl<'s> Connection<'s> {
         }) }
         ensures seat { self.new.seat ≡ self.old.seat }
     {
+        if self.lines.is_none() {
+            if let Some(line) = whole_line(bytes) {
+                return queue_line(&mut self.queue, line);
+            }
+        }
         empty(found);
-        self.lines.feed_into(bytes, found)?;
+        self.feed(alloc, bytes, found)?;
         queue_lines(&mut self.queue, found)
+    }
+
+    // Adds the lines that end in the bytes to those that were found.
+    fn feed<'p>(
+        &mut self,
+        alloc: Global,
+        bytes: &'p [u8],
+        found: &mut VecDeque<Raw<'p>>,
+    ) -> Result<(), Memory>
+        ensures found { OnOk result (map seen found.new.items
+            ≡ map seen found.old.items ++ found_in self.old.unfinished bytes.now) }
+        ensures left { OnOk result (self.new
+            ≡ record self.old { unfinished = left_by self.old.unfinished bytes.now }) }
+        ensures seat { self.new.seat ≡ self.old.seat }
+    {
+        let mut lines = match self.lines.take() {
+            Some(lines) => lines,
+            None => Lines::new(alloc),
+        };
+        lines.feed_into(bytes, found)?;
+        self.lines = Some(lines);
+        Ok(())
     }
 
     // The same of bytes that are lent for this call alone: the lines that end in them are copied.
@@ -121,27 +150,27 @@ impl<'s> Connection<'s> {
         ensures seat { self.new.seat ≡ self.old.seat }
     {
         let mut found = VecDeque::new(alloc);
-        self.lines.feed_into(bytes, &mut found)?;
+        self.feed(alloc, bytes, &mut found)?;
         queue_copies(alloc, &mut self.queue, &mut found)
     }
 
     // Its input ends.
-    pub(crate) fn end(&mut self, alloc: Global) -> Result<(), Memory>
+    pub(crate) fn end(&mut self) -> Result<(), Memory>
         ensures ended { OnOk result (self.new
             ≡ record self.old { unfinished = Some []; queue = self.old.queue ++ Ends ∷ []; ended = true }) }
         ensures seat { self.new.seat ≡ self.old.seat }
     {
         self.queue.push_back(Item::Ends)?;
-        self.lines = Lines::new(alloc);
+        self.lines = None;
         self.ended = true;
         Ok(())
     }
 
     // Nothing more is taken of it.
-    pub(crate) fn shut(&mut self, alloc: Global)
+    pub(crate) fn shut(&mut self)
         ensures { self.new ≡ shut self.old }
     {
-        self.lines = Lines::new(alloc);
+        self.lines = None;
         self.queue.clear();
         self.ended = true;
     }
@@ -165,10 +194,23 @@ impl<'s> Connection<'s> {
     {
         self.seat = Some(seat);
         if take_items(alloc, line_reader, ready, seat.1, &mut self.queue, text)? {
-            self.shut(alloc);
+            self.shut();
         }
         Ok(())
     }
+}
+
+// Adds what a line gives.
+fn queue_line<'s>(queue: &mut VecDeque<Item<'s>>, line: &'s [u8]) -> Result<(), Memory>
+    ensures { OnOk result (map seen_item queue.new.items ≡ map seen_item queue.old.items
+        ++ map Says (given line.now)) }
+{
+    let line = match kind_of(line) {
+        LineKind::Over => Raw::Over,
+        LineKind::Blank => return Ok(()),
+        LineKind::Whole => Raw::Whole(CowSlice::Borrowed(line)),
+    };
+    Ok(queue.push_back(Item::Says(line))?)
 }
 
 // Lines are left if a call failed.

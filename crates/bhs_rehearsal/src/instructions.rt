@@ -40,7 +40,7 @@ impl<'s> Rehearsal<'s> {
         if connection.has_ended() {
             return Ok(None);
         }
-        connection.receive(bytes, &mut self.found)?;
+        connection.receive(alloc, bytes, &mut self.found)?;
         let mut text = self.empty_text(alloc);
         self.moves(alloc, conn, &mut text)?;
         Ok(self.sent_to(conn, text))
@@ -72,7 +72,7 @@ impl<'s> Rehearsal<'s> {
         if connection.has_ended() {
             return Ok(None);
         }
-        connection.end(alloc)?;
+        connection.end()?;
         let mut text = self.empty_text(alloc);
         self.moves(alloc, conn, &mut text)?;
         Ok(self.sent_to(conn, text))
@@ -162,7 +162,7 @@ impl<'s> Rehearsal<'s> {
             return Ok(Vec::new(alloc));
         }
         let outs = self.tells_over(alloc, game)?;
-        self.shuts_waiting(alloc, game);
+        self.shuts_waiting(game);
         self.plays_close(game);
         Ok(outs)
     }
@@ -185,7 +185,7 @@ impl<'s> Rehearsal<'s> {
     }
 
     // Nothing more is taken of the connections that wait in a match.
-    fn shuts_waiting(&mut self, alloc: Global, game: u32)
+    fn shuts_waiting(&mut self, game: u32)
         requires { game < length self.old.stage.games }
         ensures { self.new ≡ on_stage self.old
             (record self.old.stage {
@@ -194,7 +194,7 @@ impl<'s> Rehearsal<'s> {
             }) }
     {
         let ready = &self.ready[game as usize];
-        shut_waiting(alloc, game, ready, &mut self.connections);
+        shut_waiting(game, ready, &mut self.connections);
     }
 
     fn plays_close(&mut self, game: u32)
@@ -317,12 +317,12 @@ fn over_to(alloc: Global, conn: u16) -> Result<Out, Memory>
 }
 
 // Nothing more is taken of the connections that wait in a match.
-fn shut_waiting(alloc: Global, number: u32, ready: &Ready, connections: &mut [Connection<'_>])
+fn shut_waiting(number: u32, ready: &Ready, connections: &mut [Connection<'_>])
     ensures { connections.new ≡ shut_in number (game_of ready.now) connections.old }
 {
     for connection in connections.iter_mut() {
         if connection.waits_in(number, ready) {
-            connection.shut(alloc);
+            connection.shut();
         }
     }
 }

@@ -49,11 +49,11 @@ impl<'s> Rehearsal<'s> {
             EntryResult::Waits => Ok(()),
             EntryResult::Sits(seat) => self.sits(alloc, conn, seat, text),
             EntryResult::Denied(denial) => {
-                self.shuts(alloc, conn);
+                self.shuts(conn);
                 push_denial(denial, text)
             }
             EntryResult::Goes => {
-                self.shuts(alloc, conn);
+                self.shuts(conn);
                 Ok(())
             }
         }
@@ -98,11 +98,11 @@ impl<'s> Rehearsal<'s> {
     }
 
     // The connection takes no more.
-    fn shuts(&mut self, alloc: Global, conn: u16)
+    fn shuts(&mut self, conn: u16)
         requires { conn < length self.old.stage.connections }
         ensures { self.new ≡ on_stage self.old (shuts self.old.stage conn []).stage }
     {
         let connection = &mut self.connections[usize::from(conn)];
-        connection.shut(alloc);
+        connection.shut();
     }
 }

@@ -17,7 +17,7 @@ use Rattle.bhs_model.specs.declared.replies.Reply.TheVariants.{Written, Changed,
 use Rattle.bhs_model.specs.declared.replies.Why.{Why}
 use Rattle.bhs_wire.specs.First.{text_at, if_port, port_at}
 use Rattle.bhs_replay.specs.EventLine.{event_line}
-use Rattle.bhs_wire.specs.ReplyTokens.{LabelFits}
+use Rattle.bhs_wire.specs.ReplyNumbers.{LabelFits}
 use Rattle.bhs_replay.specs.Spelling.{may_stand, CommandFits, EventFits, ReplyFits, write_with, write_in}
 use Rattle.bhs_replay.specs.Spelling.{command_by, agents_by, event_by, event_in, why_by, here_with, here_in, changed_in}
 use Rattle.bhs_replay.specs.Spelling.{ok_by, reply_by, reply_in, answer_in, if_spelled, spelled_in, spelled}

@@ -11,7 +11,7 @@ use Rattle.bhs_model.specs.Worlds.{World}
 use Rattle.bhs_model.specs.Runs.{Position, Before, At, Bound, After, State, initial, changed, sight_at, glance}
 use Rattle.bhs_model.specs.Runs.{position_after, last_writes_after, told, arrived, delivered, heard, arrives, next}
 use Rattle.bhs_model.proofs.LegalLemmas.{either}
-use Rattle.bhs_wire.specs.ReplyTokens.{LabelFits}
+use Rattle.bhs_wire.specs.ReplyNumbers.{LabelFits}
 use Rattle.bhs_replay.specs.Played.{CommandIsText, EventIsText}
 
 abbrev mutual

@@ -15,6 +15,8 @@ pub fn number_of(digits: &[u8]) -> Option<u32>
     }
 }
 
+// A function of its own, whose loop keeps all in registers.
+#[inline(never)]
 fn value_of(digits: &[u8]) -> Option<u32>
     ensures { result ≡ fitting (read_on 0 digits.now) }
 {

@@ -4,7 +4,7 @@ ghost use Rattle.std.specs.Prelude.{◌≡◌, ◌++◌, ◌∷◌, [], true, On
 ghost use Rattle.bhs_script.specs.Transcript.{begun_with, printed};
 
 use bhs_net::Memory;
-use bhs_wire::split_line;
+use bhs_wire::{split_line, whole_line};
 use itoa::Buffer;
 
 /// Adds what a connection is sent, each line behind the connection's number and a space.
@@ -15,8 +15,17 @@ pub fn push_printed(text: &mut Vec<u8>, conn: u16, bytes: &[u8]) -> Result<(), M
     push_lines(text, digits.format(conn).as_bytes(), bytes)
 }
 
-// Adds a text, each line behind these bytes and a space.
+// Adds a text, each line behind these bytes and a space. Most texts are one line.
 fn push_lines(text: &mut Vec<u8>, number: &[u8], bytes: &[u8]) -> Result<(), Memory>
+    ensures { OnOk result (text.new.items ≡ text.old.items ++ begun_with (number.now ++ 32 ∷ []) true bytes.now) }
+{
+    match whole_line(bytes) {
+        Some(_) => push_begun(text, number, bytes),
+        None => push_all_lines(text, number, bytes),
+    }
+}
+
+fn push_all_lines(text: &mut Vec<u8>, number: &[u8], bytes: &[u8]) -> Result<(), Memory>
     ensures { OnOk result (text.new.items ≡ text.old.items ++ begun_with (number.now ++ 32 ∷ []) true bytes.now) }
 {
     let mut after = bytes;
@@ -31,6 +40,7 @@ fn push_lines(text: &mut Vec<u8>, number: &[u8], bytes: &[u8]) -> Result<(), Mem
     Ok(())
 }
 
+#[inline(always)]
 fn push_begun(text: &mut Vec<u8>, number: &[u8], line: &[u8]) -> Result<(), Memory>
     ensures { OnOk result (text.new.items ≡ (text.old.items ++ (number.now ++ 32 ∷ [])) ++ line.now) }
 {

@@ -79,6 +79,8 @@ fn parted(text: &[u8]) -> Option<(&[u8], &[u8])>
     }
 }
 
+// A function of its own, whose loop keeps all in registers.
+#[inline(never)]
 fn space_in(text: &[u8]) -> Option<usize>
     ensures place { result ≡ position is_space text.now }
     ensures within { IfSome result (λ end. end < length text.now) }

@@ -6,7 +6,7 @@ use Rattle.serde_json.specs.Written.{outline}
 use Rattle.bhs_model.specs.declared.replies.Reply.{Reply}
 use Rattle.bhs_model.specs.declared.replies.Reply.TheVariants.{Here, Written, Changed, Gone, Noted, Bye, Over, No}
 use Rattle.bhs_wire.specs.Reply.{line}
-use Rattle.bhs_wire.specs.ReplyTokens.{NumbersFit}
+use Rattle.bhs_wire.specs.ReplyNumbers.{NumbersFit}
 use Rattle.bhs_wire.proofs.ReplyData.{data_of}
 use Rattle.bhs_wire.proofs.ReplyLines.{compact_text-data_of}
 use Rattle.bhs_replay.specs.Spelling.{reply_in}

@@ -8,4 +8,6 @@ pub mod SaidLemmas
 pub mod StreamLaws
 pub mod ReplyData
 pub mod ReplyLines
+pub mod PlainLemmas
+pub mod PlainWrites
 pub mod OnLiterals

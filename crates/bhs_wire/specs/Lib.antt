@@ -2,8 +2,9 @@ pub mod LineKind
 pub mod First
 pub mod Said
 pub mod Why
+pub mod Plain
 pub mod Reply
 pub mod LentReply
-pub mod ReplyTokens
+pub mod ReplyNumbers
 pub mod Denial
 pub mod Lines

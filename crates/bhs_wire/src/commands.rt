@@ -1,9 +1,11 @@
 //! What a line of a client says.
 
 ghost use Rattle.std.specs.Prelude.{◌≡◌, IfOk};
+ghost use Rattle.bhs_model.specs.declared.commands.Command.TheVariants.{Write};
 ghost use Rattle.bhs_wire.specs.First.{first_of, first_with, write_with, depart_by, accuse_by};
 ghost use Rattle.bhs_wire.specs.Said.{told, text_in, port_in};
 
+use crate::plain_writes::plain_write;
 use crate::said::{Content, Said, read_object};
 use crate::short_lines::ShortLines;
 use bhs_model::{Command, Text};
@@ -62,6 +64,9 @@ impl LineReader {
         let Ok(text) = str::from_utf8(line) else {
             return Ok(First::Tell(Command::Bad));
         };
+        if let Some((expect, put)) = plain_write(text) {
+            return Ok(First::Tell(write_of(alloc, expect, put)?));
+        }
         let mut reader = Reader::new(text, &mut self.scratch)?;
         match read_object(&mut reader) {
             Ok(said) => command_in(alloc, &said),
@@ -103,12 +108,18 @@ fn write_in(alloc: Global, said: &Said<'_>) -> Result<Command, Memory>
     ensures { IfOk result (λ command. command ≡ write_with (text_in said.now.expect) (text_in said.now.put)) }
 {
     match (said.expect, said.put) {
-        (Content::Text(expect), Content::Text(put)) => Ok(Command::Write {
-            expect: text_of(alloc, expect)?,
-            put: text_of(alloc, put)?,
-        }),
+        (Content::Text(expect), Content::Text(put)) => write_of(alloc, expect, put),
         _ => Ok(Command::Bad),
     }
+}
+
+fn write_of(alloc: Global, expect: &str, put: &str) -> Result<Command, Memory>
+    ensures { IfOk result (λ command. command ≡ Write expect.now put.now) }
+{
+    Ok(Command::Write {
+        expect: text_of(alloc, expect)?,
+        put: text_of(alloc, put)?,
+    })
 }
 
 fn depart_in(said: &Said<'_>) -> Command

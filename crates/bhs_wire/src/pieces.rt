@@ -1,7 +1,7 @@
 //! Lines in a piece of a stream.
 
-ghost use Rattle.std.specs.Prelude.{◌≡◌, ◌+◌, ◌≤◌, List, ◌∷◌, ◌++◌, length, map, false, option_map, option_and_then};
-ghost use Rattle.std.specs.Prelude.{MatchOption, IsOk, IfOk, OnOk, OnErr};
+ghost use Rattle.std.specs.Prelude.{◌≡◌, ◌+◌, ◌≤◌, ℕ, List, [], ◌∷◌, ◌++◌, length, map, false};
+ghost use Rattle.std.specs.Prelude.{option_map, option_and_then, MatchOption, IsOk, IfOk, IfSome, IsSome, OnOk, OnErr};
 ghost use Rattle.std.specs.List.{list_any, position};
 ghost use Rattle.std.specs.Option.{ForSome};
 ghost use Rattle.std.specs.Cow.{cow_slice_items};
@@ -48,6 +48,19 @@ pub fn split_line(bytes: &[u8]) -> Option<(&[u8], &[u8])>
 {
     let end = line_end(bytes)?;
     Some((&bytes[..end], &bytes[end + 1..]))
+}
+
+/// The line, if the bytes are one with its line feed.
+pub fn whole_line(bytes: &[u8]) -> Option<&[u8]>
+    ensures line { IfSome result (λ line. (bytes.now ≡ line.now ++ 10 ∷ [])
+        × (list_any is_line_feed line.now ≡ false)) }
+    ensures none { (line : List ℕ) → bytes.now ≡ line ++ 10 ∷ [] → list_any is_line_feed line ≡ false
+        → IsSome result }
+{
+    match bytes {
+        [line @ .., b'\n'] if !line.contains(&b'\n') => Some(line),
+        _ => None,
+    }
 }
 
 fn line_end(bytes: &[u8]) -> Option<usize>

@@ -1,20 +1,22 @@
 //! The lines of replies.
 
-ghost use Rattle.std.specs.Prelude.{◌≡◌, ℕ, List, ◌++◌, ◌∷◌, [], codes, OnOk};
-ghost use Rattle.json.specs.Token.{key};
-ghost use Rattle.bhs_model.specs.declared.replies.Reply.TheVariants.{Here, Changed};
+ghost use Rattle.std.specs.Prelude.{◌≡◌, ℕ, List, ◌++◌, codes, decimal, OnOk};
+ghost use Rattle.bhs_model.specs.declared.replies.Reply.TheVariants.{Here, Changed, No};
 ghost use Rattle.bhs_wire.specs.LentReply.{reply_of};
-ghost use Rattle.bhs_wire.specs.Reply.{line};
-ghost use Rattle.bhs_wire.specs.ReplyTokens.{reply_tokens, label_token, word_tokens, LabelFits, NumbersFit};
+ghost use Rattle.bhs_wire.specs.Reply.{line, label, quoted_text};
 ghost use Rattle.bhs_wire.specs.Why.{word};
 
 use crate::lent::LentReply;
-use crate::tokens::{write_number, write_text};
+use crate::plain_writes::is_plain;
 use bhs_model::Why;
 use bhs_net::Memory;
+use itoa::Buffer;
 use json::Writer;
 use std::alloc::Global;
 use std::mem::replace;
+
+// The most bytes of a text that is looked through byte by byte.
+const SHORT: usize = 32;
 
 /// Adds the line of a reply to a text, without its line feed. An `Err` may have added a part of it.
 #[inline]
@@ -22,77 +24,113 @@ pub fn push_line(alloc: Global, text: &mut Vec<u8>, reply: LentReply<'_>) -> Res
     ensures line { OnOk result (text.new.items ≡ text.old.items ++ line (reply_of reply.entry)) }
     ensures front { (more : List ℕ) × (text.new.items ≡ text.old.items ++ more) }
 {
+    match reply {
+        LentReply::Here { ports, came, board } => push_here(alloc, text, ports, came, board),
+        LentReply::Written => text.extend_from_slice(b"{\"ok\":\"written\"}"),
+        LentReply::Changed { board } => push_changed(alloc, text, board),
+        LentReply::Gone => text.extend_from_slice(b"{\"ok\":\"gone\"}"),
+        LentReply::Noted => text.extend_from_slice(b"{\"ok\":\"noted\"}"),
+        LentReply::Bye => text.extend_from_slice(b"{\"ok\":\"bye\"}"),
+        LentReply::Over => text.extend_from_slice(b"{\"ok\":\"over\"}"),
+        LentReply::No(why) => push_refusal(text, why),
+    }
+}
+
+#[inline]
+fn push_here(
+    alloc: Global,
+    text: &mut Vec<u8>,
+    ports: u16,
+    came: Option<u16>,
+    board: &str,
+) -> Result<(), Memory>
+    ensures line { OnOk result (text.new.items ≡ text.old.items ++ line (Here ports came board.now)) }
+    ensures front { (more : List ℕ) × (text.new.items ≡ text.old.items ++ more) }
+{
+    push_board(alloc, text, board)?;
+    text.extend_from_slice(b",\"from\":")?;
+    push_label(text, came)?;
+    text.extend_from_slice(b",\"ok\":\"here\",\"ports\":")?;
+    push_number(text, ports)?;
+    Ok(text.push(b'}')?)
+}
+
+fn push_changed(alloc: Global, text: &mut Vec<u8>, board: &str) -> Result<(), Memory>
+    ensures line { OnOk result (text.new.items ≡ text.old.items ++ line (Changed board.now)) }
+    ensures front { (more : List ℕ) × (text.new.items ≡ text.old.items ++ more) }
+{
+    push_board(alloc, text, board)?;
+    text.extend_from_slice(b",\"ok\":\"changed\"}")
+}
+
+fn push_refusal(text: &mut Vec<u8>, why: Why) -> Result<(), Memory>
+    ensures line { OnOk result (text.new.items ≡ text.old.items ++ line (No why)) }
+    ensures front { (more : List ℕ) × (text.new.items ≡ text.old.items ++ more) }
+{
+    text.extend_from_slice(b"{\"no\":\"")?;
+    text.extend_from_slice(word_of(why).as_bytes())?;
+    text.extend_from_slice(b"\"}")
+}
+
+// Adds the first member of an object: what a whiteboard shows.
+#[inline(always)]
+fn push_board(alloc: Global, text: &mut Vec<u8>, board: &str) -> Result<(), Memory>
+    ensures board { OnOk result (text.new.items ≡ text.old.items
+        ++ (codes "{\"board\":" ++ quoted_text board.now)) }
+    ensures front { (more : List ℕ) × (text.new.items ≡ text.old.items ++ more) }
+{
+    text.extend_from_slice(b"{\"board\":")?;
+    push_quoted(alloc, text, board)
+}
+
+// Adds a text between quotes, with its escapes. Most texts are short and have none.
+#[inline(always)]
+fn push_quoted(alloc: Global, text: &mut Vec<u8>, quoted: &str) -> Result<(), Memory>
+    ensures quoted { OnOk result (text.new.items ≡ text.old.items ++ quoted_text quoted.now) }
+    ensures front { (more : List ℕ) × (text.new.items ≡ text.old.items ++ more) }
+{
+    if quoted.len() > SHORT || !is_plain(quoted.as_bytes()) {
+        return push_escaped(alloc, text, quoted);
+    }
+    text.push(b'"')?;
+    text.extend_from_slice(quoted.as_bytes())?;
+    Ok(text.push(b'"')?)
+}
+
+// The same by the writer of JSON.
+#[inline(never)]
+fn push_escaped(alloc: Global, text: &mut Vec<u8>, quoted: &str) -> Result<(), Memory>
+    ensures quoted { OnOk result (text.new.items ≡ text.old.items ++ quoted_text quoted.now) }
+    ensures front { (more : List ℕ) × (text.new.items ≡ text.old.items ++ more) }
+{
     let mut out = Writer::new(replace(text, Vec::new(alloc)));
-    let written = write_reply(&mut out, reply);
+    let written = out.string(quoted);
     *text = out.into_inner();
     written
 }
 
-/// Writes a reply as a part of JSON. An `Err` may have written a part of it.
-#[inline]
-pub fn write_reply(out: &mut Writer, reply: LentReply<'_>) -> Result<(), Memory>
-    ensures ok { OnOk result (out.new.tokens ≡ out.old.tokens ++ reply_tokens (reply_of reply.entry)) }
-    ensures before { out.new.before ≡ out.old.before }
-    ensures fits { NumbersFit (reply_of reply.entry) }
-{
-    match reply {
-        LentReply::Here { ports, came, board } => write_here(out, ports, came, board),
-        LentReply::Written => write_word(out, "ok", "written"),
-        LentReply::Changed { board } => write_changed(out, board),
-        LentReply::Gone => write_word(out, "ok", "gone"),
-        LentReply::Noted => write_word(out, "ok", "noted"),
-        LentReply::Bye => write_word(out, "ok", "bye"),
-        LentReply::Over => write_word(out, "ok", "over"),
-        LentReply::No(why) => write_word(out, "no", word_of(why)),
-    }
-}
-
-#[inline]
-fn write_here(out: &mut Writer, ports: u16, came: Option<u16>, board: &str) -> Result<(), Memory>
-    ensures ok { OnOk result (out.new.tokens ≡ out.old.tokens ++ reply_tokens (Here ports came board.now)) }
-    ensures before { out.new.before ≡ out.old.before }
-    ensures fits { NumbersFit (Here ports came board.now) }
-{
-    out.begin_object()?;
-    write_text(out, "board", board)?;
-    write_label(out, came)?;
-    write_text(out, "ok", "here")?;
-    write_number(out, "ports", ports)?;
-    Ok(out.end_object()?)
-}
-
-fn write_changed(out: &mut Writer, board: &str) -> Result<(), Memory>
-    ensures ok { OnOk result (out.new.tokens ≡ out.old.tokens ++ reply_tokens (Changed board.now)) }
-    ensures before { out.new.before ≡ out.old.before }
-{
-    out.begin_object()?;
-    write_text(out, "board", board)?;
-    write_text(out, "ok", "changed")?;
-    Ok(out.end_object()?)
-}
-
-#[inline]
-fn write_label(out: &mut Writer, came: Option<u16>) -> Result<(), Memory>
-    ensures ok { OnOk result (out.new.tokens ≡ out.old.tokens ++ key (codes "from") ∷ label_token came ∷ []) }
-    ensures before { out.new.before ≡ out.old.before }
-    ensures fits { LabelFits came }
+#[inline(always)]
+fn push_label(text: &mut Vec<u8>, came: Option<u16>) -> Result<(), Memory>
+    ensures label { OnOk result (text.new.items ≡ text.old.items ++ label came) }
+    ensures front { (more : List ℕ) × (text.new.items ≡ text.old.items ++ more) }
 {
     match came {
-        Some(port) => write_number(out, "from", port),
-        None => {
-            out.key("from")?;
-            Ok(out.null()?)
-        }
+        Some(port) => push_number(text, port),
+        None => text.extend_from_slice(b"null"),
     }
 }
 
-fn write_word(out: &mut Writer, name: &str, text: &str) -> Result<(), Memory>
-    ensures ok { OnOk result (out.new.tokens ≡ out.old.tokens ++ word_tokens name.now text.now) }
-    ensures before { out.new.before ≡ out.old.before }
+// Adds a number. Most are digits.
+#[inline(always)]
+fn push_number(text: &mut Vec<u8>, number: u16) -> Result<(), Memory>
+    ensures number { OnOk result (text.new.items ≡ text.old.items ++ decimal number) }
+    ensures front { (more : List ℕ) × (text.new.items ≡ text.old.items ++ more) }
 {
-    out.begin_object()?;
-    write_text(out, name, text)?;
-    Ok(out.end_object()?)
+    if number < 10 {
+        return Ok(text.push(b'0' + number as u8)?);
+    }
+    let mut digits = Buffer::new();
+    text.extend_from_slice(digits.format(number).as_bytes())
 }
 
 /// The word that tells a client why a command is refused. Takes no memory.

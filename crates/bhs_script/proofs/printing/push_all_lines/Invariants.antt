@@ -1,6 +1,6 @@
 use Rattle.std.proofs.Common.{◌≡◌, ◌++◌, ◌∷◌, [], true, length}
 use Rattle.bhs_script.specs.Transcript.{begun_with}
-use Rattle.bhs_script.proofs.printing.push_lines.Given as goal
+use Rattle.bhs_script.proofs.printing.push_all_lines.Given as goal
 
 abbrev pub invariant-loop-line : goal.invariant-loop-line
 invariant-loop-line l =
