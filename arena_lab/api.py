@@ -277,7 +277,7 @@ def failing(given: Game, tried: MatchResult) -> Schedule:
     try:
         return told_schedule(given, tried)
     except NoFunction:
-        if not tried.answered.module:
+        if not tried.answered.modules:
             raise
         raise NoFunction(f"a schedule fails; {unkept(turns_of(told_in(tried)))}") from None
 

@@ -26,10 +26,10 @@ time. So the command checks them, and the last line counts the checks:
 - If every schedule solves, the agents of one match are repeated alone, as by `run --repeat`. A warning names a
   difference.
 
-A team may run a WebAssembly module, FILE.wasm[:N,..]. The program then runs it itself (`arena explore --module`), and
-there are no checks. What it finds is proved of the module, and the SHA-256 of the file is printed. That the module is
-what the file says is tested, not proved. A schedule that fails is kept unless the module sleeps in it; then its turns
-are printed.
+A team may run a WebAssembly module, FILE.wasm[:N,..], or each agent its own. The program then runs them itself (`arena
+explore --module`), and there are no checks. What it finds is proved of the modules, and the SHA-256 of each file is
+printed. That a module is what its file says is tested, not proved. A schedule that fails is kept unless a module sleeps
+in it; then its turns are printed.
 
     ./arena-lab explore --network ring:16 --agent "examples/agents/wasm/ring.wasm:{nodes}"
 

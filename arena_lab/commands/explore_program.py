@@ -143,7 +143,7 @@ def beside(wanted: ExploreRequest, tried: MatchResult, shown: Any) -> MatchResul
 
 def failure_of(found: Breaks, answered: ExploreAnswer) -> str:
     """Which agent fails under a schedule, and how."""
-    module = answered.module
+    module = answered.module(found.agent)
     how = f": {MODULE_FAILURES[module.failure]} in function {module.function}" if module and module.failure else ""
     return f"agent {found.agent} {FAILURES[found.failure]}{how}"
 
@@ -181,7 +181,7 @@ def report_matches(wanted: ExploreRequest, search: Search) -> int:
     says_less = any(tried.beside is not None for tried in tries)
     engine = name_of(wanted.program)
     by = "" if engine == built.PROGRAM else f", by {engine}"
-    solved = SOLVED_MODULE if last.answered.module else SOLVED_ALL
+    solved = SOLVED_MODULE if last.answered.modules else SOLVED_ALL
     apart = told_apart(wanted.game, last.answered)
     said = "no schedule fails, in part of the Python model" if says_less else f"{solved}, {apart}"
     print(f"{counts}: {said}{by}; {search.checks}")
@@ -192,7 +192,7 @@ def report_matches(wanted: ExploreRequest, search: Search) -> int:
     # an agent on a held link does not arrive where it would be lost
     most = "no more agents lost than" if last.fixture.held else "most agents lost"
     print(f"most moves {max(moves)}, {most} {max(lost)}{more}")
-    for said in do_not_repeat(wanted.game) if wanted.check and not last.answered.module else []:
+    for said in do_not_repeat(wanted.game) if wanted.check and not last.answered.modules else []:
         print(f"warning: {said}")
     if any(tried.answered.unwoken for tried in tries):
         print(f"warning: some agents still sleep after {naps} naps, and what they do when they wake once more is not "
@@ -202,8 +202,9 @@ def report_matches(wanted: ExploreRequest, search: Search) -> int:
 
 def told_apart(game: Game, answered: ExploreAnswer) -> str:
     """By what the states of agents are told apart."""
-    if answered.module:
-        return f"by memories of the module with the SHA-256 {answered.module.module}"
+    if answered.modules:
+        digests = dict.fromkeys(run.module for run in answered.modules)
+        return f"by memories of the module{'s' * (len(digests) > 1)} with the SHA-256 {', '.join(digests)}"
     kinds = (OF_STEPS if agent.is_step() else OF_PYTHON if agent.kind == INSIDE else OF_PROGRAMS
              for agent in game.agents)
     return f"by {' and '.join(dict.fromkeys(kinds))}"
@@ -239,7 +240,7 @@ def keep(wanted: ExploreRequest, tried: MatchResult) -> None:
             raise NoFunction("played again it comes to something else: explore needs agents that are functions of "
                              "what they are told")
     except NoFunction:
-        if not tried.answered.module:
+        if not tried.answered.modules:
             raise
         print(unkept(turns_of(found)))
 

@@ -69,10 +69,13 @@ def agent_named(kind: str, words: str) -> AgentWords:
     return AgentWords(OUTSIDE if is_module(words) else kind, words)
 
 
-def module_of(agents: Sequence[AgentWords]) -> Optional[str]:
-    """The words of the module that all agents of a team run, if they all run one."""
-    words = {agent.words for agent in agents}
-    return words.pop() if len(words) == 1 and all(agent.is_module() for agent in agents) else None
+def modules_of(agents: Sequence[AgentWords]) -> List[str]:
+    """The words of the modules that the agents of a team run: one if all run the same, or else one for each agent. None
+    if an agent runs no module."""
+    if not all(agent.is_module() for agent in agents):
+        return []
+    words = [agent.words for agent in agents]
+    return words[:1] if len(set(words)) == 1 else words
 
 
 def digests_of(agents: Sequence[AgentWords]) -> Dict[str, str]:

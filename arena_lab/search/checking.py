@@ -34,27 +34,27 @@ class Counted(NamedTuple):
     # what agents read or reach besides replies
     seen: FrozenSet[str] = frozenset()
     # whether the program ran the agents itself, which are modules
-    is_module: bool = False
+    are_modules: bool = False
 
     def more(self, other: "Counted") -> "Counted":
         """What was checked in both."""
         return Counted(self.checked + other.checked, self.merged + other.merged, self.schedules + other.schedules,
                        self.searched + other.searched, self.matches + other.matches,
                        self.is_wanted and other.is_wanted, self.apart + other.apart, self.seen | other.seen,
-                       self.is_module or other.is_module)
+                       self.are_modules or other.are_modules)
 
     def since(self, other: "Counted") -> "Counted":
         """What was checked since then."""
         return Counted(self.checked - other.checked, self.merged - other.merged, self.schedules - other.schedules,
                        self.searched - other.searched, self.matches - other.matches, self.is_wanted,
-                       self.apart - other.apart, self.seen, self.is_module)
+                       self.apart - other.apart, self.seen, self.are_modules)
 
     def __str__(self) -> str:
         seen = f"; the agents {' and '.join(sorted(self.seen))}, and may do something else another time"
         return self._checked() + (seen if self.seen else "")
 
     def _checked(self) -> str:
-        if self.is_module:
+        if self.are_modules:
             return "the program ran the module itself"
         if not self.is_wanted:
             return "nothing was checked"
@@ -82,8 +82,8 @@ class Checks:
     def __init__(self, machines: Machines, game: Matches, schedules: int, matches: int) -> None:
         """Of this many schedules each match gets its part."""
         self._machines, self._game, self._matches = machines, game, matches
-        # of a module nothing is taken for granted that could be checked
-        self._wanted = 0 if machines.module else schedules
+        # of modules nothing is taken for granted that could be checked
+        self._wanted = 0 if machines.modules else schedules
         self._seen = self._schedules = self._searched = self._apart = 0
         # the memories before this number were told in other processes
         self._told = 0
@@ -130,7 +130,7 @@ class Checks:
         """What was checked so far."""
         beside = self._machines.beside
         return Counted(beside.checked, beside.merged, self._schedules, self._searched, self._seen, bool(self._wanted),
-                       self._apart, self._machines.seen(), self._machines.module is not None)
+                       self._apart, self._machines.seen(), bool(self._machines.modules))
 
 
 def compared(fixture: Fixture, found: Finding, beside: Explored) -> bool:

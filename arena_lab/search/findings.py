@@ -1,6 +1,6 @@
 """What the program finds of the schedules of a match (`arena explore`), each kind as a type of its own."""
 import dataclasses
-from typing import Any, Dict, Mapping, NamedTuple, Optional, Tuple, Type, Union
+from typing import Any, Dict, Mapping, NamedTuple, Optional, Sequence, Tuple, Type, Union
 
 from arena_lab.rules import model
 from arena_lab.rules.model import Verdict
@@ -90,7 +90,8 @@ class SampleCounts(NamedTuple):
 
 
 class ModuleRun(NamedTuple):
-    """The module that the agents of a match run, by its SHA-256, and how the first one failed, in which function."""
+    """The module that an agent of a match runs, or all run, by its SHA-256, and how the first one failed, in which
+    function."""
 
     module: str
     failure: Optional[str] = None
@@ -109,7 +110,11 @@ class ExploreAnswer(NamedTuple):
     drawn: Optional[SampleCounts] = None
     why: str = ""
     unwoken: int = 0
-    module: Optional[ModuleRun] = None
+    modules: Tuple[ModuleRun, ...] = ()
+
+    def module(self, agent: int) -> Optional[ModuleRun]:
+        """The module that an agent runs, if the program runs it."""
+        return self.modules[agent if len(self.modules) > 1 else 0] if self.modules else None
 
 
 def frozen(value: Any) -> Any:
@@ -129,12 +134,13 @@ def finding_of(told: Mapping[str, Any]) -> Finding:
     return found
 
 
-def answer_of(told: Mapping[str, Any], counts: Mapping[str, Any], module: Optional[Mapping[str, Any]], seconds: float,
+def answer_of(told: Mapping[str, Any], counts: Mapping[str, Any], modules: Sequence[Mapping[str, Any]], seconds: float,
               unwoken: int = 0) -> ExploreAnswer:
     """What the lines of a result say."""
     return ExploreAnswer(finding_of(told), seconds, counts.get("states"),
                          SampleCounts(**of_names(counts, SampleCounts._fields)) if "solved" in counts else None,
-                         unwoken=unwoken, module=ModuleRun(**of_names(module, ModuleRun._fields)) if module else None)
+                         unwoken=unwoken,
+                         modules=tuple(ModuleRun(**of_names(module, ModuleRun._fields)) for module in modules))
 
 
 def turns_of(found: Union[Comes, Failed]) -> Turns:

@@ -15,7 +15,7 @@ from typing import Any, Dict, FrozenSet, List, Optional, OrderedDict, Tuple
 from arena_lab.play.foreign_files import read_in, watch
 from arena_lab.play.imports import PACKAGE
 from arena_lab.play.players import DONE, TRAVELS, WAKES, Player
-from arena_lab.play.teams import INSIDE, AgentWords, digests_of, module_of
+from arena_lab.play.teams import INSIDE, AgentWords, digests_of, modules_of
 from arena_lab.rules.fixtures import Fixture
 from arena_lab.rules.model import Object, command_of, spelled, text_of
 from arena_lab.search.agent_processes import FAIL, SAYS, STOP, AgentProcess, AgentProcesses, AgentStep, Way
@@ -78,8 +78,8 @@ class Machines:
         watch()
         self._agents, self._processes = agents, AgentProcesses(fixture, agents, seconds)
         self._fixture = fixture
-        # a module is run by the program that searches, which then asks nothing
-        self.module = module_of(agents)
+        # modules are run by the program that searches, which then asks nothing
+        self.modules = modules_of(agents)
         # the machines of agents that are written as steps, and what stands behind the numbers of their memories
         self._steps: Dict[AgentWords, StepMachine] = {}
         self._held: Dict[int, Tuple[StepMachine, StepMemory]] = {}

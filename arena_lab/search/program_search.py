@@ -1,4 +1,4 @@
-"""The program's own search through all schedules: `arena explore` asks what agents do, and the lab answers. A module it
+"""The program's own search through all schedules: `arena explore` asks what agents do, and the lab answers. Modules it
 runs itself, and asks nothing."""
 import json
 import pathlib
@@ -132,11 +132,11 @@ def asked(program: str, fixture: Fixture, machines: Machines, most: int, shown: 
           draws: Optional[SampleRequest] = None) -> ExploreAnswer:
     """Lets the program try all schedules of a match, or draw some, and answers its questions. Ctrl-C stops it."""
     started, run, last = time.monotonic(), ProgramRun(machines), []
-    # of a module the program says there how far it is, which nobody reads meanwhile
+    # of modules the program says there how far it is, which nobody reads meanwhile
     with tempfile.TemporaryDirectory(prefix="lab-") as name, tempfile.TemporaryFile() as errors:
         write_tournament(fixture, pathlib.Path(name))
         words = program_words(program, fixture, most)
-        words += ["--module", word_of(machines.module, fixture.setup)] if machines.module else []
+        words += [it for module in machines.modules for it in ("--module", word_of(module, fixture.setup))]
         words += draws.words() if draws else []
         child = subprocess.Popen(words, cwd=name, stdin=subprocess.PIPE, stdout=subprocess.PIPE, stderr=errors)
         assert child.stdin and child.stdout
@@ -168,7 +168,7 @@ def asked(program: str, fixture: Fixture, machines: Machines, most: int, shown: 
         fault = re.split(r"\n(?! )", text_of_fault(errors.read()))[-1]
     seconds = time.monotonic() - started
     if len(last) >= 2:
-        return answer_of(last[0], last[1], last[2] if machines.module else None, seconds, run.unwoken())
+        return answer_of(last[0], last[1], last[2:], seconds, run.unwoken())
     if fault.endswith(f": {TOO_MANY}"):
         return ExploreAnswer(None, seconds, why=LONGER if draws else MORE)
     raise EngineRefused(fault, child.returncode)

@@ -105,6 +105,38 @@ def fails(stage: Stage) -> None:
         explores(stage, agent, BREAKS, FAILING, f',"failure":"{cause}","function":{function}')
 
 
+@case("each agent runs its own module, and each module has a line of its own")
+def for_each(stage: Stage) -> None:
+    writes(stage, tri=TRIANGLE, cup=CUP)
+    enters, leaves, departs, accuses, argument, came = (CALL + bytes([place]) for place in range(6))
+    goes = constant(I32, 0) + argument + departs + DROP
+    walks = goes + constant(I32, 1) + came + SUBTRACT + accuses + DROP
+    agents = {name: running(enters + DROP + body, "enter", "leave", "depart", "accuse", "argument", "came")
+              for name, body in (("walks", walks), ("leaves", leaves + DROP), ("traps", b"\0"))}
+    for agent, file in agents.items():
+        (stage.folder / f"{agent}.wasm").write_bytes(file)
+    solves, breaks = '{"found":"solves","moves":%d,"lost":%d,', '{"found":"breaks","agent":%d,"failure":"program",'
+    draws, trap = ["--draws", "4"], ',"failure":"trap","function":6'
+    for first, second, found, end, failures, more in (
+            ("walks:0", "leaves", solves % (1, 0), '"commands":[2,0]}', ("", ""), []),
+            ("leaves", "walks:0", solves % (1, 0), '"commands":[0,2]}', ("", ""), []),
+            ("walks:0", "walks:1", solves % (2, 1), '"commands":[2,1]}', ("", ""), []),
+            ("walks:1", "walks:0", solves % (2, 1), '"commands":[1,2]}', ("", ""), []),
+            ("walks:1", "leaves", '{"found":"fails",', "}", ("", ""), []),
+            ("walks:0", "traps", breaks % 1, "}", ("", trap), []),
+            ("traps", "walks:0", breaks % 0, "}", (trap, ""), []),
+            ("walks:0", "leaves", '{"found":"comes","moves":1,"lost":0,', "}", ("", ""), draws),
+            ("leaves", "traps", breaks % 1, "}", ("", trap), draws)):
+        given = [agent.partition(":") for agent in (first, second)]
+        words = [it for agent, colon, number in given for it in ("--module", f"{agent}.wasm{colon}{number}")]
+        ran = stage.run(["explore", "cup.toml", "0", *words, *more], b"")
+        lines = [f'{{"module":"{hashlib.sha256(agents[agent]).hexdigest()}","arguments":[{number}]{failure}}}'
+                 for (agent, _, number), failure in zip(given, failures)]
+        printed = ran.printed.decode().splitlines()
+        if not (printed[0].startswith(found) and printed[0].endswith(end) and printed[2:] == lines):
+            raise Wrong(f"{first}, {second}: {ran.status}: {printed} {ran.told!r}")
+
+
 @case("agents write and read any text in UTF-8, and fail with bytes that are not UTF-8")
 def texts(stage: Stage) -> None:
     writes(stage, tri=TRIANGLE, cup=CUP)

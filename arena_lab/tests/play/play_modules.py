@@ -1,5 +1,6 @@
 """WebAssembly modules as agents: they play as programs, and `arena explore --module` tries every schedule of them."""
 import csv
+import hashlib
 import re
 import shutil
 import unittest
@@ -19,7 +20,7 @@ from arena_lab.search.history_tree import NoFunction
 from arena_lab.search.match_results import unkept
 from arena_lab.support import built
 from arena_lab.tests.playing import AGENTS, InFolder, program
-from arena_lab.tests.wasm_modules import MODULE, SLEEPER, play_by_stand_in
+from arena_lab.tests.wasm_modules import LEAVER, MODULE, SLEEPER, WALKER, play_by_stand_in
 from tests.support.output import ran
 
 RING = AGENTS / "wasm" / "ring.wasm"
@@ -56,6 +57,10 @@ name = "cyan"
 files = ["{AGENTS / 'ring.py'}"]
 command = "ring.wasm:{{nodes}}"
 '''
+
+
+def digest(file: bytes) -> str:
+    return hashlib.sha256(file).hexdigest()
 
 
 class Modules(InFolder):
@@ -151,6 +156,20 @@ class Modules(InFolder):
                          "with the SHA-256 3191ff3430cd[0-9a-f]{52}(, .*)?; the program ran the module itself$")
         self.assertEqual(self.explored(*words, "--workers", 2), (status, said))
         self.assertTrue(api.explore("ring:4", MODULE.words, board=48, engine=program()).solves)
+
+    def test_each_agent_may_run_a_module_of_its_own(self) -> None:
+        leaver, walker = self.folder / "leaver.wasm", self.folder / "walker.wasm"
+        leaver.write_bytes(LEAVER)
+        walker.write_bytes(WALKER)
+        one, two = "by memories of the module with the SHA-256 {}", "by memories of the modules with the SHA-256 {}, {}"
+        for agents, moves, by in (((walker, leaver), 1, two.format(*map(digest, (WALKER, LEAVER)))),
+                                  ((leaver, walker), 1, two.format(*map(digest, (LEAVER, WALKER)))),
+                                  ((MODULE.words, f"{MODULE.words},0"), 4, one.format(digest(RING.read_bytes())))):
+            words = [it for agent in agents for it in ("--agent", agent)]
+            status, said = self.explored("--network", "ring:3", "--hole", 2, *words)
+            self.assertEqual(status, 0, said)
+            self.assertIn(f"every schedule solves, most moves {moves}, ", said[0])
+            self.assertIn(f"every schedule solves, {by}", said[1])
 
     def test_a_schedule_that_fails_is_played_again(self) -> None:
         status, said = self.explored("--network", "ring:4", "--agent", f"{RING}:5")

@@ -316,7 +316,7 @@ class Exploring(InExplore):
         long = self.folder / "long"
         long.write_text(LONG, encoding="utf-8")
         long.chmod(0o755)
-        shown, machines = mock.Mock(), mock.Mock(module=None)
+        shown, machines = mock.Mock(), mock.Mock(modules=[])
         with mock.patch("arena_lab.search.program_search.PAUSE", 0.01):
             answered = asked(str(long), fixture, machines, 1_000_000, shown)
         self.assertEqual(answered.states, 600_000)

@@ -2,7 +2,7 @@
 of its lines."""
 import json
 import unittest
-from typing import Any, Dict, List, Optional, Tuple
+from typing import Any, Dict, List, Tuple
 from unittest import mock
 
 from arena_lab import api
@@ -39,9 +39,9 @@ FIXTURE = Fixture("lab", Setup(3, ring(3).links, 0, [2], 1, 10, 8), ["k"], [])
 GAME = Game("ring:3", ring(3), [AgentWords(INSIDE, "ring.py")], 0, [], [], 10, 8, 1, 5)
 
 
-def read(told: Dict[str, Any], counts: Dict[str, Any], module: Optional[Dict[str, Any]] = None) -> MatchResult:
+def read(told: Dict[str, Any], counts: Dict[str, Any], *modules: Dict[str, Any]) -> MatchResult:
     """A match of which the program said this, after two seconds."""
-    return MatchResult(FIXTURE, answer_of(told, counts, module, 2.0))
+    return MatchResult(FIXTURE, answer_of(told, counts, modules, 2.0))
 
 
 class Findings(unittest.TestCase):
@@ -67,9 +67,11 @@ class Findings(unittest.TestCase):
                                                          "and its quota is less, 2.0 s")
 
     def test_a_module_that_fails_is_told_with_its_function(self) -> None:
-        tried = read({"found": "breaks", "agent": 0, "failure": "program", "schedule": []}, COUNTS,
-                     {"module": "31", "arguments": [8], "failure": "fuel", "function": 7})
-        self.assertIn("agent 0 fails: it executes too many instructions in function 7", explore_program.line_of(tried))
+        failed, other = {"module": "31", "arguments": [8], "failure": "fuel", "function": 7}, {"module": "32"}
+        for agent, modules in ((0, [failed]), (1, [failed]), (0, [failed, other]), (1, [other, failed])):
+            tried = read({"found": "breaks", "agent": agent, "failure": "program", "schedule": []}, COUNTS, *modules)
+            self.assertIn(f"agent {agent} fails: it executes too many instructions in function 7",
+                          explore_program.line_of(tried))
 
     def test_a_match_that_was_stopped_says_why(self) -> None:
         tried = MatchResult(FIXTURE, ExploreAnswer(None, 2.0, why="stopped"))
@@ -103,7 +105,7 @@ class Driver(unittest.TestCase):
         """The matches that are tried, if the program answers so."""
         job = driver.ExploreJob(GAME, "arena", 10, 0)
         with mock.patch.object(driver, "asked", side_effect=answers), mock.patch.object(driver, "Machines") as machines:
-            machines.return_value.configure_mock(module=None, seen=frozenset)
+            machines.return_value.configure_mock(modules=[], seen=frozenset)
             machines.return_value.beside.configure_mock(checked=0, merged=0)
             search = driver.Search(job, after=after)
             found = list(search.tried(mock.Mock()))

@@ -1,4 +1,4 @@
--- What is read of clap's matches, by their rows, and the entries of a table.
+-- What is read of clap's matches, by their rows, and of several words.
 use Rattle.std.proofs.Common.{◌≡◌, ◌∙◌, ap, sym, refl, ℕ, ◌+◌, ◌<◌, List, [], ◌∷◌, ◌++◌, length, drop, get_or, map}
 use Rattle.std.proofs.Common.{Option, Some, None, append_assoc}
 use Rattle.std.specs.Prelude.{option_and_then, option_map, unwrap_or}
@@ -7,9 +7,7 @@ use Rattle.std.proofs.lemmas.List.{drop_more}
 use Rattle.clap.specs.Words.{Text, first_value, matched_of, raw_values, rows_of}
 use Rattle.clap.specs.declared.parser.matches.Found.{Found}
 use Rattle.clap.proofs.WalkLemmas.{first_value-rows, raw_values-rows}
-use Rattle.bhs_command_line.specs.Arguments.{text_in, texts_in}
-use Rattle.bhs_command_line.specs.CommandLine.{entries_in, entry_in}
-use Rattle.bhs_command_line.specs.declared.orders.TableEntry.{TableEntry}
+use Rattle.bhs_command_line.specs.Arguments.{all_said, text_in, texts_in}
 
 -- the text of what is borrowed, or none
 unwrapped : (o : Option (Bor Text)) (d : Bor Text) → d.now ≡ []
@@ -26,47 +24,43 @@ text_found found id o name d is none same =
     (is ∙ first_value-rows found id)
 
 -- what is read of the words so far, in front of what the others say
-abbrev pub joined : List TableEntry → Option (List TableEntry) → Option (List TableEntry)
-joined done rest = option_map (λ entries. done ++ entries) rest
+abbrev pub joined : {T : Type 0} → List T → Option (List T) → Option (List T)
+joined done rest = option_map (λ more. done ++ more) rest
 
 abbrev pub texts_from : (place : ℕ) → List (Bor Text) → List Text
 texts_from place words = map (λ word. word.now) (drop place words)
 
--- one more entry, or none
-abbrev pub then_entry : Option TableEntry → Option (List TableEntry) → Option (List TableEntry)
-then_entry found rest = option_and_then (λ entry. option_map (λ entries. entry ∷ entries) rest) found
+-- one more, or none
+abbrev pub then_one : {T : Type 0} → Option T → Option (List T) → Option (List T)
+then_one found rest = option_and_then (λ one. option_map (λ more. one ∷ more) rest) found
 
-module _ (words : List (Bor Text)) (place : ℕ) (d : Bor Text) (within : place < length words)
-    (found : Option TableEntry)
-    (is : found ≡ entry_in (get_or words place d).now) where
-  next_entry : entries_in (texts_from place words) ≡ then_entry found (entries_in (texts_from (place + 1) words))
-  next_entry =
-      ap (λ (rest : List (Bor Text)). entries_in (map (λ one. one.now) rest)) (drop_more words place d within)
-      ∙ ap (λ (one : Option TableEntry). then_entry one (entries_in (texts_from (place + 1) words))) (sym is)
+module _ {T : Type 0} (says : Text → Option T) (words : List (Bor Text)) (place : ℕ) (d : Bor Text)
+    (within : place < length words) (found : Option T) (is : found ≡ says (get_or words place d).now) where
+  next_said : all_said says (texts_from place words) ≡ then_one found (all_said says (texts_from (place + 1) words))
+  next_said =
+      ap (λ (rest : List (Bor Text)). all_said says (map (λ one. one.now) rest)) (drop_more words place d within)
+      ∙ ap (λ (one : Option T). then_one one (all_said says (texts_from (place + 1) words))) (sym is)
 
-  module _ (done : List TableEntry) (so_far : joined done (entries_in (texts_from place words)) ≡ entries_in
+  module _ (done : List T) (so_far : joined done (all_said says (texts_from place words)) ≡ all_said says
       (texts_from 0 words)) where
-    -- a word that is no entry
-    pub no_entry : found ≡ None → (let none : Option (List TableEntry) = None in none ≡ entries_in (texts_from 0 words))
-    no_entry none =
-        sym (ap (λ (one : Option TableEntry). joined done (then_entry one (entries_in (texts_from
-        (place + 1) words)))) none)
-        ∙ (sym (ap (joined done) next_entry) ∙ so_far)
+    -- a word that says nothing
+    pub says_none : found ≡ None → (let none : Option (List T) = None in none ≡ all_said says (texts_from 0 words))
+    says_none none =
+        sym (ap (λ (one : Option T). joined done (then_one one (all_said says (texts_from (place + 1) words)))) none)
+        ∙ (sym (ap (joined done) next_said) ∙ so_far)
 
-    pushed : (entry : TableEntry) (rest : Option (List TableEntry)) → joined (done ++ entry ∷ []) rest ≡ joined done
-        (option_map (λ entries. entry ∷ entries) rest)
-    pushed entry None = refl
-    pushed entry (Some entries) = ap Some (append_assoc done (entry ∷ []) entries)
+    pushed : (one : T) (rest : Option (List T)) → joined (done ++ one ∷ []) rest ≡ joined done
+        (option_map (λ more. one ∷ more) rest)
+    pushed one None = refl
+    pushed one (Some more) = ap Some (append_assoc done (one ∷ []) more)
 
-    -- a word that is one
-    pub one_entry : (entry : TableEntry) → found ≡ Some entry
-        → joined (done ++ entry ∷ []) (entries_in (texts_from (place + 1) words)) ≡ entries_in (texts_from 0 words)
-    one_entry entry some =
-        pushed entry (entries_in (texts_from (place + 1) words))
-        ∙ (sym (ap (λ (one : Option TableEntry). joined done (then_entry one (entries_in (texts_from
-        (place + 1) words))))
-        some)
-        ∙ (sym (ap (joined done) next_entry) ∙ so_far))
+    -- a word that says something
+    pub says_one : (one : T) → found ≡ Some one
+        → joined (done ++ one ∷ []) (all_said says (texts_from (place + 1) words)) ≡ all_said says (texts_from 0 words)
+    says_one one some =
+        pushed one (all_said says (texts_from (place + 1) words))
+        ∙ (sym (ap (λ (it : Option T). joined done (then_one it (all_said says (texts_from (place + 1) words)))) some)
+        ∙ (sym (ap (joined done) next_said) ∙ so_far))
 
 -- a name and what stands behind it, if something is there
 pub both_found : {X N R : Type 0} (first : X → N) (second : X → R) (found : Option X) (name : N) (rest : R)

@@ -12,14 +12,14 @@ use Rattle.clap.specs.declared.error.kind.ErrorKind.TheVariants.{DisplayHelp, Di
 use Rattle.clap.specs.declared.error.kind.ErrorKind.TheVariants.{DisplayVersion}
 use Rattle.clap.proofs.OnLiterals.{clap_on_literals}
 use Rattle.bhs_command_line.specs.Arguments.{number_in}
-use Rattle.bhs_command_line.specs.Exploring.{drawing_in, explore, module_in, plain_exploration_in}
+use Rattle.bhs_command_line.specs.Exploring.{drawing_in, explore, plain_exploration_in}
 use Rattle.bhs_command_line.specs.CommandLine.{AskAfter, AsksHelp, AsksVersion, Says, appeal_of, arena, check}
 use Rattle.bhs_command_line.specs.CommandLine.{command_in, entries_in, explain, exploring_of, faults, is_dashed, judge}
 use Rattle.bhs_command_line.specs.CommandLine.{judging_of, order_by, recover, rehearse, table, twin}
 use Rattle.bhs_command_line.specs.declared.orders.Order.{Order}
 use Rattle.bhs_command_line.specs.declared.orders.Order.TheVariants.{Check, Explain, Explore, Judge, Recover, Rehearse}
 use Rattle.bhs_command_line.specs.declared.orders.Order.TheVariants.{RehearseInteractively, Serve, Table, Twin}
-use Rattle.bhs_command_line.specs.declared.orders.Order.TheVariants.{ContestTable, ExploreModule, RecoverContest}
+use Rattle.bhs_command_line.specs.declared.orders.Order.TheVariants.{ContestTable, ExploreModules, RecoverContest}
 use Rattle.bhs_command_line.specs.declared.orders.Order.TheVariants as order
 use Rattle.bhs_command_line.specs.declared.orders.AgentModule.{AgentModule}
 use Rattle.bhs_command_line.specs.declared.orders.TableEntry.{TableEntry}
@@ -326,7 +326,7 @@ module_explore_found : (tournament word spelled : Text) → is_dashed tournament
     → is_dashed spelled ≡ false
     → (faults (codes "explore" ∷ tournament ∷ word ∷ codes "--module" ∷ spelled ∷ []) ≡ [])
     × (option_and_then order_by (command_in (codes "explore" ∷ tournament ∷ word ∷ codes "--module" ∷ spelled ∷ []))
-    ≡ exploring_of tournament (Some spelled) (plain_exploration_in word))
+    ≡ exploring_of tournament (spelled ∷ []) (plain_exploration_in word))
 unfolding clap_on_literals drawing_in
 module_explore_found tournament word spelled e f h =
     order_read explore_enters (tournament ∷ word ∷ codes "--module" ∷ spelled ∷ []) _ _
@@ -378,13 +378,13 @@ says_gives words (Twin replay node) (word, plain, also, says, is) =
 says_gives words (Explore tournament exploration) (word, plain, also, says, is) =
     let found = explore_found tournament word plain also in
     here words _ _ is (found.0, found.1 ∙ ap (λ (o : Option Exploration). option_map (Explore tournament) o) says)
-says_gives words (ExploreModule tournament agent_module exploration)
+says_gives words (ExploreModules tournament modules exploration)
     (word, spelled, plain, also, third, says, reads, is) =
     let found = module_explore_found tournament word spelled plain also third in
     here words _ _ is (
       found.0,
-      found.1 ∙ ap (exploring_of tournament (Some spelled)) says
-          ∙ ap (option_map (λ (m : AgentModule). ExploreModule tournament m exploration)) reads,
+      found.1 ∙ ap (exploring_of tournament (spelled ∷ [])) says
+          ∙ ap (option_map (λ (m : List AgentModule). ExploreModules tournament m exploration)) reads,
     )
 says_gives words (Serve tournament hosting) (port, sessions, turns, pause, plain, also, says, is) =
     let found = serve_found tournament port sessions turns pause hosting.prefix plain also

@@ -1,6 +1,6 @@
 -- The words and options of commands: what clap is told of each, and what number a word is.
 use Rattle.std.specs.Prelude.{◌≡◌, ◌&&◌, Bool, true, false, not, ℕ, nat_le, List, [], ◌∷◌, Option, Some, None, codes}
-use Rattle.std.specs.Prelude.{if◌then◌else◌, unwrap_or}
+use Rattle.std.specs.Prelude.{if◌then◌else◌, option_and_then, option_map, unwrap_or}
 use Rattle.std.specs.List.{list_all}
 use Rattle.std.specs.Str.{bytes_eq}
 use Rattle.std.specs.Char.{is_ascii_digit}
@@ -80,6 +80,12 @@ text_in id rows = unwrap_or (first_of id rows) []
 
 abbrev pub texts_in : (id : Text) → List Row → List Text
 texts_in id rows = unwrap_or (all_of id rows) []
+
+-- what each of these words says, in their order; None if one of them says nothing
+abbrev pub all_said : {T : Type 0} → (says : Text → Option T) → List Text → Option (List T)
+all_said says [] = Some []
+all_said says (word ∷ words) =
+    option_and_then (λ said. option_map (λ more. said ∷ more) (all_said says words)) (says word)
 
 -- whether an option that takes no word is given
 abbrev pub is_given : (id : Text) → List Row → Bool

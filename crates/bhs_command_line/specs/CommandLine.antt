@@ -12,12 +12,12 @@ use Rattle.clap.specs.declared.error.kind.ErrorKind.{ErrorKind}
 use Rattle.clap.specs.declared.error.kind.ErrorKind.TheVariants.{DisplayHelp, DisplayVersion}
 use Rattle.bhs_text.specs.Teams.{is_team}
 use Rattle.bhs_command_line.specs.Arguments.{behind, command, flag, is_given, may_have, must_have, number_in, program}
-use Rattle.bhs_command_line.specs.Arguments.{text_in, texts_in}
-use Rattle.bhs_command_line.specs.Exploring.{explore, exploration_by, module_in, plain_exploration_in}
+use Rattle.bhs_command_line.specs.Arguments.{all_said, text_in, texts_in}
+use Rattle.bhs_command_line.specs.Exploring.{explore, exploration_by, modules_in, plain_exploration_in}
 use Rattle.bhs_command_line.specs.Serving.{hosting_by, hosting_in, plain_words, serve}
 use Rattle.bhs_command_line.specs.declared.orders.Order.{Order}
 use Rattle.bhs_command_line.specs.declared.orders.Order.TheVariants.{Rehearse, Check, Judge, Table, Explain, Twin}
-use Rattle.bhs_command_line.specs.declared.orders.Order.TheVariants.{Explore, ExploreModule, Recover, Serve}
+use Rattle.bhs_command_line.specs.declared.orders.Order.TheVariants.{Explore, ExploreModules, Recover, Serve}
 use Rattle.bhs_command_line.specs.declared.orders.Order.TheVariants.{RehearseInteractively}
 use Rattle.bhs_command_line.specs.declared.orders.Order.TheVariants.{ContestTable, RecoverContest}
 use Rattle.bhs_command_line.specs.declared.orders.Order.TheVariants as variants
@@ -89,9 +89,7 @@ entry_in word =
 
 -- the entries that words say; None if one of them says none
 abbrev pub entries_in : List Text → Option (List TableEntry)
-entries_in [] = Some []
-entries_in (word ∷ words) =
-    option_and_then (λ entry. option_map (λ entries. entry ∷ entries) (entries_in words)) (entry_in word)
+entries_in = all_said entry_in
 
 -- ---- orders
 
@@ -144,12 +142,12 @@ recovery_of file (Some prefix) = RecoverContest file prefix
 abbrev pub recovery_by : List Row → Order
 recovery_by rows = recovery_of (text_in (codes "file") rows) (first_of (codes "prefix") rows)
 
--- the exploration of a match whose agents a host plays, or run the module that a word says
-abbrev pub exploring_of : (tournament : Text) → (word : Option Text) → Option Exploration → Option Order
-exploring_of tournament None exploration = option_map (Explore tournament) exploration
-exploring_of tournament (Some word) (Some exploration) =
-    option_map (λ agent_module. ExploreModule tournament agent_module exploration) (module_in word)
-exploring_of tournament (Some word) None = None
+-- the exploration of a match whose agents a host plays, or run the modules that words say
+abbrev pub exploring_of : (tournament : Text) → (words : List Text) → Option Exploration → Option Order
+exploring_of tournament [] exploration = option_map (Explore tournament) exploration
+exploring_of tournament (word ∷ words) (Some exploration) =
+    option_map (λ modules. ExploreModules tournament modules exploration) (modules_in (word ∷ words))
+exploring_of tournament (word ∷ words) None = None
 
 -- the order that a command gives
 abbrev pub order_by : Text × List Row → Option Order
@@ -167,7 +165,7 @@ order_by (name, rows) =
     else (if bytes_eq name (codes "recover")
     then Some (recovery_by rows)
     else (if bytes_eq name (codes "explore")
-    then exploring_of (text_in (codes "tournament") rows) (first_of (codes "module") rows) (exploration_by rows)
+    then exploring_of (text_in (codes "tournament") rows) (texts_in (codes "module") rows) (exploration_by rows)
     else (if bytes_eq name (codes "serve")
     then option_map (Serve (text_in (codes "tournament") rows)) (hosting_by rows)
     else None))))))))
@@ -228,9 +226,9 @@ Says words (RecoverContest tournament prefix) =
 Says words (Explore tournament exploration) =
     (word : Text) × IsName tournament × IsName word × (plain_exploration_in word ≡ Some exploration)
     × (words ≡ codes "explore" ∷ tournament ∷ word ∷ [])
-Says words (ExploreModule tournament agent_module exploration) =
+Says words (ExploreModules tournament modules exploration) =
     (word : Text) × (spelled : Text) × IsName tournament × IsName word × IsName spelled
-    × (plain_exploration_in word ≡ Some exploration) × (module_in spelled ≡ Some agent_module)
+    × (plain_exploration_in word ≡ Some exploration) × (modules_in (spelled ∷ []) ≡ Some modules)
     × (words ≡ codes "explore" ∷ tournament ∷ word ∷ codes "--module" ∷ spelled ∷ [])
 Says words (Serve tournament hosting) =
     (port : Text) × (sessions : Text) × (turns : Text) × (pause : Text)

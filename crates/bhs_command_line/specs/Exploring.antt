@@ -3,9 +3,10 @@ use Rattle.std.specs.Prelude.{ℕ, zero, suc, ◌==◌, nat_lt, Bool, List, [], 
 use Rattle.std.specs.Prelude.{if◌then◌else◌, option_map}
 use Rattle.std.specs.List.{before_first, after_first, position_or_len}
 use Rattle.std.specs.Str.{bytes_eq}
-use Rattle.clap.specs.Words.{Row, Shape, Text, first_of}
+use Rattle.clap.specs.Words.{Row, Rule, Shape, Text, first_of}
+use Rattle.clap.specs.declared.builder.action.ArgAction.TheVariants.{Append}
 use Rattle.bhs_command_line.specs.Arguments.{NumberOption, behind, command, may_have, must_have, number_in, number_of}
-use Rattle.bhs_command_line.specs.Arguments.{number_within, numbered, text_in}
+use Rattle.bhs_command_line.specs.Arguments.{all_said, number_within, numbered, text_in}
 use Rattle.bhs_command_line.specs.declared.orders.AgentModule.{AgentModule}
 use Rattle.bhs_command_line.specs.declared.orders.Drawing.{Drawing}
 use Rattle.bhs_command_line.specs.declared.orders.Exploration.{Exploration}
@@ -23,9 +24,13 @@ states_option = record { name = codes "max-states"; least = 1; most = 4294967295
 abbrev pub wakeups_option : NumberOption
 wakeups_option = record { name = codes "spurious-wakeups"; least = 0; most = 65535; default = codes "2" }
 
+-- no module, one or more
+abbrev pub module_words : Rule
+module_words = record (behind (codes "module") (may_have (codes "module"))) { action = Some Append }
+
 abbrev pub explore : Shape
 explore = command (codes "explore") (must_have (codes "tournament") ∷ must_have (codes "match")
-    ∷ behind (codes "module") (may_have (codes "module")) ∷ numbered states_option ∷ numbered wakeups_option
+    ∷ module_words ∷ numbered states_option ∷ numbered wakeups_option
     ∷ behind (codes "draws") (may_have (codes "draws")) ∷ behind (codes "seed") (may_have (codes "seed"))
     ∷ behind (codes "scheduler") (may_have (codes "scheduler"))
     ∷ behind (codes "objective") (may_have (codes "objective")) ∷ [])
@@ -68,6 +73,10 @@ module_in word =
     then option_map (λ arguments. record { file = before_first is_colon word; arguments = arguments })
     (arguments_within MAX_ARGUMENTS (after_first is_colon word))
     else Some (record { file = word; arguments = [] })
+
+-- the modules that words say; None if one of them says none
+abbrev pub modules_in : List Text → Option (List AgentModule)
+modules_in = all_said module_in
 
 -- ---- what is drawn
 

@@ -7,7 +7,8 @@ use Rattle.bhs_command_line.specs.Arguments.{behind, command, flag, has_default,
 use Rattle.bhs_command_line.specs.Arguments.{text_in}
 use Rattle.bhs_command_line.specs.declared.commands.Argument.{Argument}
 use Rattle.bhs_command_line.specs.declared.commands.Need.{Need}
-use Rattle.bhs_command_line.specs.declared.commands.Need.TheVariants.{Default, OneOrMore, Optional, Required, Switch}
+use Rattle.bhs_command_line.specs.declared.commands.Need.TheVariants.{AnyNumber, Default, OneOrMore, Optional, Required}
+use Rattle.bhs_command_line.specs.declared.commands.Need.TheVariants.{Switch}
 use Rattle.bhs_command_line.specs.declared.commands.Subcommand.{Subcommand}
 use Rattle.bhs_command_line.specs.declared.commands.Takes.{Takes}
 use Rattle.bhs_command_line.specs.declared.commands.Takes.TheVariants.{Number}
@@ -17,6 +18,7 @@ abbrev pub needed_by : (id : Text) → Need → Rule
 needed_by id Required = must_have id
 needed_by id OneOrMore = record (must_have id) { action = Some Append }
 needed_by id Optional = may_have id
+needed_by id AnyNumber = record (may_have id) { action = Some Append }
 needed_by id (Default word) = has_default id word.now
 needed_by id Switch = flag id
 

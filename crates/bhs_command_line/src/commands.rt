@@ -43,6 +43,8 @@ pub(crate) enum Need {
     /// One word or more must be given.
     OneOrMore,
     Optional,
+    /// No word, one or more may be given.
+    AnyNumber,
     /// Where none is given, it is this one.
     Default(&'static str),
     /// The option takes no word.

@@ -119,6 +119,7 @@ fn needed<'a>(alloc: Global, argument: &Argument) -> Arg<'a>
             .required(true)
             .action(ArgAction::Append),
         Need::Optional => arg.value_name(name),
+        Need::AnyNumber => arg.value_name(name).action(ArgAction::Append),
         Need::Default(word) => arg.value_name(name).default_value(word),
         Need::Switch => arg.action(ArgAction::SetTrue),
     }

@@ -1,12 +1,13 @@
 //! The order in what clap made of the words.
 
-ghost use Rattle.std.specs.Prelude.{◌≡◌, ◌<◌, ◌^◌, IfOk, Some, option_and_then, option_map, codes};
+ghost use Rattle.std.specs.Prelude.{◌≡◌, ◌<◌, ◌^◌, IfOk, Some, map, option_and_then, option_map, codes};
 ghost use Rattle.bhs_command_line.specs.Arguments.{is_given, number_in, number_within, text_in, texts_in};
 ghost use Rattle.bhs_command_line.specs.Serving.{hosting_by};
 ghost use Rattle.bhs_command_line.specs.Exploring.{drawing_by, drawing_in, drawing_of, exploration_by, hunt_in};
-ghost use Rattle.bhs_command_line.specs.Exploring.{hunted_in, module_in, scheduler_in, scheduler_by, seed_in};
-ghost use Rattle.bhs_command_line.specs.CommandLine.{appeal_of, contest_table_by, entries_in, is_one_word, judging_by};
-ghost use Rattle.bhs_command_line.specs.CommandLine.{judging_of, order_by, recovery_by, rehearsal_of, tabling_by};
+ghost use Rattle.bhs_command_line.specs.Exploring.{hunted_in, scheduler_in, scheduler_by, seed_in};
+ghost use Rattle.bhs_command_line.specs.CommandLine.{appeal_of, contest_table_by, entries_in, exploring_of};
+ghost use Rattle.bhs_command_line.specs.CommandLine.{is_one_word, judging_by, judging_of, order_by, recovery_by};
+ghost use Rattle.bhs_command_line.specs.CommandLine.{rehearsal_of, tabling_by};
 ghost use Rattle.bhs_command_line.specs.Told.{most_of, number_by, row_number};
 ghost use Rattle.clap.specs.Words.{first_of, found_of, rows_of, subcommand_rows_of};
 
@@ -15,7 +16,7 @@ use crate::commands::{
     twin,
 };
 use crate::orders::{Appeal, Drawing, Entries, Exploration, Hosting, Objective, Order, Scheduler};
-use crate::words::{entries_in, module_in, number_within, text};
+use crate::words::{entries_in, modules_in, number_within, text};
 use bhs_text::Text;
 use clap::ArgMatches;
 use std::alloc::{AllocError, Global};
@@ -216,29 +217,32 @@ fn exploring_given(alloc: Global, words: &ArgMatches<'_>) -> Result<Option<Order
         return Ok(None);
     };
     let tournament = text_given(alloc, words, &TOURNAMENT)?;
-    match text_if_any(alloc, words, &explore::MODULE)? {
-        Some(word) => module_exploring(alloc, tournament, word.as_str(), exploration),
-        None => Ok(Some(Order::Explore {
-            tournament,
-            exploration,
-        })),
+    match words.get_strs(explore::MODULE.id) {
+        Some(texts) => exploring(alloc, tournament, texts, exploration),
+        None => exploring(alloc, tournament, &[], exploration),
     }
 }
 
-// The order to explore with the module that a word says.
-fn module_exploring(
+// The order to explore with the modules that words say, or with a host if there are none.
+fn exploring(
     alloc: Global,
     tournament: Text,
-    word: &str,
+    words: &[&str],
     exploration: Exploration,
 ) -> Result<Option<Order>, AllocError>
-    ensures { IfOk result (λ order. order ≡ option_map
-        (λ agent_module. Order.ExploreModule tournament agent_module exploration) (module_in word.now)) }
+    ensures { IfOk result (λ order. order
+        ≡ exploring_of tournament (map (λ word. word.now) words.now) (Some exploration)) }
 {
-    match module_in(alloc, word)? {
-        Some(agent_module) => Ok(Some(Order::ExploreModule {
+    if words.is_empty() {
+        return Ok(Some(Order::Explore {
             tournament,
-            agent_module,
+            exploration,
+        }));
+    }
+    match modules_in(alloc, words)? {
+        Some(modules) => Ok(Some(Order::ExploreModules {
+            tournament,
+            modules,
             exploration,
         })),
         None => Ok(None),

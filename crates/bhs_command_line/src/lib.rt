@@ -21,12 +21,13 @@ use clap::Error;
 use clap::error::ErrorKind;
 use given::order_given;
 pub use orders::{
-    AgentModule, Appeal, Drawing, Entries, Exploration, Hosting, MAX_ARGUMENTS, MAX_SESSIONS,
-    ModuleArguments, Objective, Order, Scheduler, TableEntry,
+    AgentModule, AgentModules, Appeal, Drawing, Entries, Exploration, Hosting, MAX_ARGUMENTS,
+    MAX_SESSIONS, ModuleArguments, Objective, Order, Scheduler, TableEntry,
 };
 use std::alloc::{AllocError, Global};
 use std::convert::AsStr;
 use unfit::unfit_text;
+pub use words::module_in;
 
 /// What a command line comes to.
 #[derive(Drop)]

@@ -67,10 +67,10 @@ pub enum Order {
         tournament: Text,
         exploration: Exploration,
     },
-    /// The same, but the agents run a module.
-    ExploreModule {
+    /// The same, but the agents run modules: one for all of them, or one for each.
+    ExploreModules {
         tournament: Text,
-        agent_module: AgentModule,
+        modules: AgentModules,
         exploration: Exploration,
     },
     /// Serves the tournament of this file to agents that connect.
@@ -170,12 +170,44 @@ pub struct Exploration {
 /// The most arguments of a module.
 pub const MAX_ARGUMENTS: u32 = 16;
 
-/// The module that all agents of a match run.
+/// The module that an agent runs, or all agents of a match.
 #[derive(Drop)]
 pub struct AgentModule {
     /// The module's file.
     pub file: Text,
     pub arguments: ModuleArguments,
+}
+
+/// The modules that the agents of a match run. Contracts see them as a list.
+#[derive(Drop)]
+pub struct AgentModules {
+    all: Vec<AgentModule>,
+}
+
+impl Model for AgentModules {
+    ghost use Rattle.std.specs.Prelude.{List};
+    ghost use Rattle.bhs_command_line.specs.declared.orders.AgentModule.{AgentModule};
+
+    ghost Value = { List AgentModule };
+
+    ghost view = { λ modules. modules.all.items };
+}
+
+impl AgentModules {
+    /// The modules, in the order of the words.
+    pub fn all(&self) -> &[AgentModule]
+        ensures { result.now ≡ self.now }
+    {
+        &self.all
+    }
+}
+
+impl From<Vec<AgentModule>> for AgentModules {
+    ghost from_gives = { λ all modules. modules ≡ all.items };
+
+    fn from(all: Vec<AgentModule>) -> AgentModules {
+        AgentModules { all }
+    }
 }
 
 /// The arguments of a module, at most `MAX_ARGUMENTS`. Contracts see them as a list.

@@ -5,9 +5,11 @@ ghost use Rattle.std.specs.Char.{is_ascii_digit};
 ghost use Rattle.std.specs.List.{list_all};
 ghost use Rattle.bhs_command_line.specs.Arguments.{number_within};
 ghost use Rattle.bhs_command_line.specs.CommandLine.{entries_in, entry_in};
-ghost use Rattle.bhs_command_line.specs.Exploring.{arguments_within, module_in};
+ghost use Rattle.bhs_command_line.specs.Exploring.{arguments_within, module_in, modules_in};
 
-use crate::orders::{AgentModule, Entries, MAX_ARGUMENTS, ModuleArguments, TableEntry};
+use crate::orders::{
+    AgentModule, AgentModules, Entries, MAX_ARGUMENTS, ModuleArguments, TableEntry,
+};
 use bhs_text::{Text, is_team};
 use std::alloc::{AllocError, Global};
 
@@ -63,7 +65,7 @@ pub(crate) fn entries_in(alloc: Global, words: &[&str]) -> Result<Option<Entries
 }
 
 /// The module and its arguments that a word `FILE[:N,..]` says; None if it says none.
-pub(crate) fn module_in(alloc: Global, word: &str) -> Result<Option<AgentModule>, AllocError>
+pub fn module_in(alloc: Global, word: &str) -> Result<Option<AgentModule>, AllocError>
     ensures { IfOk result (λ agent_module. agent_module ≡ module_in word.now) }
 {
     let Some((file, numbers)) = word.split_once(':') else {
@@ -79,6 +81,20 @@ pub(crate) fn module_in(alloc: Global, word: &str) -> Result<Option<AgentModule>
         })),
         None => Ok(None),
     }
+}
+
+/// The modules that words say; None if one of them says none.
+pub(crate) fn modules_in(alloc: Global, words: &[&str]) -> Result<Option<AgentModules>, AllocError>
+    ensures { IfOk result (λ modules. modules ≡ modules_in (map (λ word. word.now) words.now)) }
+{
+    let mut modules = Vec::new(alloc);
+    for word in words {
+        match module_in(alloc, word)? {
+            Some(agent_module) => modules.push(agent_module)?,
+            None => return Ok(None),
+        }
+    }
+    Ok(Some(AgentModules::from(modules)))
 }
 
 // At most `most` numbers with commas between them, and one at least.

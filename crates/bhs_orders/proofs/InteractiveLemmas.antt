@@ -22,7 +22,7 @@ use Rattle.bhs_orders.specs.declared.reporting.faults.Fault.{Fault}
 use Rattle.bhs_orders.specs.declared.reporting.faults.Fault.TheVariants.{Read, Text, Line, File, Replay, Twin, Write}
 use Rattle.bhs_orders.specs.declared.reporting.faults.Fault.TheVariants.{Memory}
 use Rattle.bhs_orders.specs.declared.reporting.faults.Fault.TheVariants.{Turns, Listen, Busy, Threads, Unsettled}
-use Rattle.bhs_orders.specs.declared.reporting.faults.Fault.TheVariants.{NoMatch}
+use Rattle.bhs_orders.specs.declared.reporting.faults.Fault.TheVariants.{Modules, NoMatch}
 use Rattle.bhs_orders.specs.declared.reporting.faults.Fault.TheVariants.{Exploring, Appeal}
 use Rattle.bhs_orders.specs.declared.rehearsals.interactive.Shell.{Shell}
 
@@ -94,6 +94,7 @@ module _ {O : Type 0} (takes : O → List ℕ → WriteAnswer → O → Type 0) 
   refused_at progress output output' Busy refused bad = absurd bad
   refused_at progress output output' Threads refused bad = absurd bad
   refused_at progress output output' (NoMatch game) refused bad = absurd bad
+  refused_at progress output output' (Modules modules agents) refused bad = absurd bad
   refused_at progress output output' (Exploring why) refused bad = absurd bad
   refused_at progress output output' (Appeal why) refused bad = absurd bad
   refused_at progress output output' (Unsettled game) refused bad = absurd bad
@@ -250,6 +251,7 @@ module _ {I O : Type 0} (gives : I → Chunk → I → Type 0) (takes : O → Li
     stops_within Busy within = breaks_at Busy within
     stops_within Threads within = breaks_at Threads within
     stops_within (NoMatch game) within = breaks_at (NoMatch game) within
+    stops_within (Modules modules agents) within = breaks_at (Modules modules agents) within
     stops_within (Exploring why) within = breaks_at (Exploring why) within
     stops_within (Appeal why) within = breaks_at (Appeal why) within
     stops_within (Unsettled game) within = breaks_at (Unsettled game) within

@@ -14,3 +14,4 @@ pub mod HeldLemmas
 pub mod FoundLemmas
 pub mod LineLemmas
 pub mod HostLemmas
+pub mod ModuleLemmas

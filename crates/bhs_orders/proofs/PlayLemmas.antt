@@ -21,7 +21,7 @@ use Rattle.bhs_orders.specs.declared.reporting.faults.Fault.{Fault}
 use Rattle.bhs_orders.specs.declared.reporting.faults.Fault.TheVariants.{Read, Text, Line, File, Replay, Twin, Write}
 use Rattle.bhs_orders.specs.declared.reporting.faults.Fault.TheVariants.{Memory}
 use Rattle.bhs_orders.specs.declared.reporting.faults.Fault.TheVariants.{Turns, Listen, Busy, Threads, Unsettled}
-use Rattle.bhs_orders.specs.declared.reporting.faults.Fault.TheVariants.{NoMatch}
+use Rattle.bhs_orders.specs.declared.reporting.faults.Fault.TheVariants.{Modules, NoMatch}
 use Rattle.bhs_orders.specs.declared.reporting.faults.Fault.TheVariants.{Exploring, Appeal}
 
 -- a fault at the next bytes of a text
@@ -42,6 +42,7 @@ stopped_at takes a b c text bytes left Listen so_far none = absurd none
 stopped_at takes a b c text bytes left Busy so_far none = absurd none
 stopped_at takes a b c text bytes left Threads so_far none = absurd none
 stopped_at takes a b c text bytes left (NoMatch game) so_far none = absurd none
+stopped_at takes a b c text bytes left (Modules modules agents) so_far none = absurd none
 stopped_at takes a b c text bytes left (Exploring why) so_far none = absurd none
 stopped_at takes a b c text bytes left (Appeal why) so_far none = absurd none
 stopped_at takes a b c text bytes left (Unsettled game) so_far none = absurd none
@@ -124,6 +125,7 @@ module _ {I O : Type 0} (gives : I → Chunk → I → Type 0) (takes : O → Li
   stops_at Busy stopped = absurd stopped
   stops_at Threads stopped = absurd stopped
   stops_at (NoMatch game) stopped = absurd stopped
+  stops_at (Modules modules agents) stopped = absurd stopped
   stops_at (Exploring why) stopped = absurd stopped
   stops_at (Appeal why) stopped = absurd stopped
   stops_at (Unsettled game) stopped = absurd stopped

@@ -16,7 +16,7 @@ use Rattle.bhs_orders.specs.declared.reporting.faults.Fault.{Fault}
 use Rattle.bhs_orders.specs.declared.reporting.faults.Fault.TheVariants.{Read, Text, Turns, Line, File, Replay, Twin}
 use Rattle.bhs_orders.specs.declared.reporting.faults.Fault.TheVariants.{Write}
 use Rattle.bhs_orders.specs.declared.reporting.faults.Fault.TheVariants.{Memory, Listen, Busy, Threads, Unsettled}
-use Rattle.bhs_orders.specs.declared.reporting.faults.Fault.TheVariants.{NoMatch}
+use Rattle.bhs_orders.specs.declared.reporting.faults.Fault.TheVariants.{Modules, NoMatch}
 use Rattle.bhs_orders.specs.declared.reporting.faults.Fault.TheVariants.{Exploring, Appeal}
 use Rattle.bhs_orders.specs.declared.reporting.appeal_faults.AppealFault.TheVariants as appeals
 use Rattle.bhs_orders.specs.declared.reporting.statuses.TheConstants.{DONE, NO_MEMORY}
@@ -72,6 +72,7 @@ not_done Listen e = omega arith
 not_done Busy e = omega arith
 not_done Threads e = omega arith
 not_done (NoMatch game) e = omega arith
+not_done (Modules modules agents) e = omega arith
 not_done (Exploring why) e = omega arith
 not_done (Unsettled game) e = omega arith
 not_done Write e = omega arith

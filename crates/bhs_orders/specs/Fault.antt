@@ -21,8 +21,8 @@ use Rattle.bhs_orders.specs.declared.reporting.appeal_faults.AppealFault.TheVari
 use Rattle.bhs_orders.specs.declared.reporting.faults.Fault.{Fault}
 use Rattle.bhs_orders.specs.declared.reporting.faults.Fault.TheVariants.{Read, Text, Turns, Line, File, Replay, Twin}
 use Rattle.bhs_orders.specs.declared.reporting.faults.Fault.TheVariants.{Write}
-use Rattle.bhs_orders.specs.declared.reporting.faults.Fault.TheVariants.{Memory, NoMatch, Exploring, Listen, Busy}
-use Rattle.bhs_orders.specs.declared.reporting.faults.Fault.TheVariants.{Threads}
+use Rattle.bhs_orders.specs.declared.reporting.faults.Fault.TheVariants.{Memory, Modules, NoMatch, Exploring, Listen}
+use Rattle.bhs_orders.specs.declared.reporting.faults.Fault.TheVariants.{Busy, Threads}
 use Rattle.bhs_orders.specs.declared.reporting.faults.Fault.TheVariants.{Unsettled, Appeal}
 use Rattle.bhs_orders.specs.declared.reporting.statuses.TheConstants as statuses
 
@@ -91,6 +91,7 @@ status (File fault) = statuses.REFUSED_TEXT
 status (Replay fault) = replay_status fault
 status (Twin fault) = statuses.REFUSED_MATCH
 status (NoMatch game) = statuses.REFUSED_TEXT
+status (Modules modules agents) = statuses.REFUSED_TEXT
 status (Exploring fault) = statuses.REFUSED_TEXT
 status (Appeal fault) = appeal_status fault
 status Listen = statuses.FAILED_STREAM

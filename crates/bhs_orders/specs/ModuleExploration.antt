@@ -1,23 +1,26 @@
--- What is found of a match whose agents run a module, and what is printed of it.
+-- What is found of a match whose agents run modules, and what is printed of it.
 use Rattle.std.specs.Prelude.{◌≡◌, ◌==◌, ℕ, Bool, List, ◌++◌, codes, decimal, Option, Some, None, slice_get}
-use Rattle.std.specs.Prelude.{if◌then◌else◌, is_some}
+use Rattle.std.specs.Prelude.{[], ◌∷◌, ◌⊎◌, if◌then◌else◌, is_some, length, map}
 use Rattle.hex.specs.Hex.{encode_lower}
 use Rattle.sha2.specs.Sha256.{sha256}
 use Rattle.bhs_stream.specs.Streams.{WriteAnswer}
 use Rattle.bhs_lineup.specs.declared.lineups.Lineup.{Lineup}
 use Rattle.bhs_lineup.specs.declared.lineups.Ready.{Ready}
+use Rattle.bhs_command_line.specs.declared.orders.AgentModule.{AgentModule}
 use Rattle.bhs_command_line.specs.declared.orders.Exploration.{Exploration}
-use Rattle.bhs_wasm.specs.declared.modules.Module.{Module}
+use Rattle.bhs_wasm_team.specs.declared.agents.Roles.{Roles}
 use Rattle.bhs_wasm_team.specs.declared.agents.TheConstants.{FUEL}
 use Rattle.bhs_wasm_team.specs.declared.failures.FailureCause.{FailureCause}
 use Rattle.bhs_wasm_team.specs.declared.failures.FailureCause.TheVariants as causes
 use Rattle.bhs_wasm_team.specs.declared.failures.ModuleFailure.{ModuleFailure}
 use Rattle.bhs_wasm_team.specs.Laws.{IsFoundOf}
+use Rattle.bhs_wasm_team.specs.Roles.{all_roles}
 use Rattle.bhs_orders.specs.Discoveries.{AreLinks, IsCounted, discovery, found_in, found_status, is_drawn, list_text}
 use Rattle.bhs_orders.specs.Fault.{status}
 use Rattle.bhs_orders.specs.Showing.{Prints}
 use Rattle.bhs_orders.specs.Summary.{IsAssembled}
 use Rattle.bhs_orders.specs.declared.exploration.discoveries.Discovery.{Discovery}
+use Rattle.bhs_orders.specs.declared.exploration.modules.FileRoles.{FileRoles}
 use Rattle.bhs_orders.specs.declared.reporting.faults.Fault.{Fault}
 use Rattle.bhs_orders.specs.declared.reporting.statuses.TheConstants.{DONE}
 
@@ -41,33 +44,60 @@ failure_items (Some failure) =
     codes ",\"failure\":\"" ++ (cause_text failure.cause
     ++ (codes "\",\"function\":" ++ (decimal failure.function ++ codes "}\n")))
 
--- what was found, and the line of the module
-abbrev pub module_discovery : Discovery → (file arguments : List ℕ) → Option ModuleFailure → List ℕ
-module_discovery found file arguments failure =
-    (discovery found ++ module_items file arguments) ++ failure_items failure
+-- what the line of a module tells: its file, its arguments, and how the first agent that failed did
+pub record ModuleLine : Type 0 where
+  pub file : List ℕ
+  pub arguments : List ℕ
+  pub failure : Option ModuleFailure
+
+abbrev pub module_line : ModuleLine → List ℕ
+module_line line = module_items line.file line.arguments ++ failure_items line.failure
+
+abbrev pub module_lines : List ModuleLine → List ℕ
+module_lines [] = []
+module_lines (line ∷ lines) = module_line line ++ module_lines lines
+
+-- what was found, and the lines of the modules: one for all agents, or one for each agent, in their order
+abbrev pub module_discovery : Discovery → List ModuleLine → List ℕ
+module_discovery found lines = discovery found ++ module_lines lines
 
 -- ---- what it is true of
 
--- What was found of this match, with its held links, is true of agents that run the module. Schedules were drawn if the
+-- What was found of this match, with its held links, is true of agents in these roles. Schedules were drawn if the
 -- exploration has that.
-pub record IsFoundOfModule (ready : Ready) (exploration : Exploration) (program : Module) (arguments : List ℕ)
-    (fuel : ℕ) (found : Discovery) : Type 0 where
+pub record IsFoundOfModules (ready : Ready) (exploration : Exploration) (roles : Roles) (fuel : ℕ) (found : Discovery) :
+    Type 0 where
   pub links : List (ℕ × ℕ)
   pub held : AreLinks ready links
-  pub is_found : IsFoundOf ready.game.net ready.game.setup links exploration.wakeups program arguments fuel
-      (found_in found)
+  pub is_found : IsFoundOf ready.game.net ready.game.setup links exploration.wakeups roles fuel (found_in found)
   pub kind : is_drawn found ≡ is_some exploration.drawing
   pub counted : IsCounted found
 
--- The text tells what was found of agents that run the module with these arguments, and so does the exit status. How an
--- agent failed is not proved.
-pub record IsModuleReport (ready : Ready) (exploration : Exploration) (program : Module) (arguments file text : List ℕ)
-    (code : ℕ) : Type 0 where
+-- The text tells what was found of agents in these roles, with these arguments of each role, and so does the exit
+-- status. How an agent failed is not proved.
+pub record IsModuleReport (ready : Ready) (exploration : Exploration) (roles : Roles) (arguments : List (List ℕ))
+    (text : List ℕ) (code : ℕ) : Type 0 where
   pub found : Discovery
-  pub is_found : IsFoundOfModule ready exploration program arguments FUEL found
-  pub failure : Option ModuleFailure
-  pub said : text ≡ module_discovery found file arguments failure
+  pub is_found : IsFoundOfModules ready exploration roles FUEL found
+  pub lines : List ModuleLine
+  pub have : map (λ line. line.arguments) lines ≡ arguments
+  pub said : text ≡ module_discovery found lines
   pub told : code ≡ found_status (found_in found)
+
+-- ---- the modules that are given
+
+-- one module for all agents, or one for each
+abbrev pub AreFor : (agents modules : ℕ) → Type 0
+AreFor agents modules = (modules ≡ 1) ⊎ (modules ≡ agents)
+
+-- the arguments of all roles, in their order
+abbrev pub arguments_of : Roles → List (List ℕ)
+arguments_of roles = map (λ role. role.arguments.items) (all_roles roles)
+
+-- the roles have the arguments of these modules, and so have the files
+pub record IsTeamOf (modules : List AgentModule) (team : FileRoles) : Type 0 where
+  pub roles : arguments_of team.roles ≡ map (λ it. it.arguments) modules
+  pub files : map (λ file. file.arguments.items) team.files.items ≡ map (λ it. it.arguments) modules
 
 -- ---- the order
 
@@ -79,14 +109,17 @@ module _ {O : Type 0} (takes : O → List ℕ → WriteAnswer → O → Type 0) 
     pub prints : Prints takes flushes text output output' printed
     pub coded : code ≡ (if printed == DONE then done else printed)
 
-  -- an exploration of a match of the tournament that is named, whose agents run a module with these arguments
-  pub data ExploresModule (arguments : List ℕ) (exploration : Exploration) (output output' : O) (code : ℕ) :
+  -- an exploration of a match of the tournament that is named, whose agents run modules with these arguments: one for
+  -- all of them, or one for each agent, in their order
+  pub data ExploresModules (arguments : List (List ℕ)) (exploration : Exploration) (output output' : O) (code : ℕ) :
       Type 0 where
-    explores_module : (lineup : Lineup) → IsAssembled lineup → (ready : Ready)
+    explores_modules : (lineup : Lineup) → IsAssembled lineup → (ready : Ready)
         → slice_get lineup.ready.items exploration.game ≡ Some ready
-        → (program : Module) → (file text : List ℕ) → (done : ℕ)
-        → IsModuleReport ready exploration program arguments file text done
-        → PrintsReport text done output output' code → ExploresModule arguments exploration output output' code
-    -- a file is refused, or cannot be read, the tournament has no such match, or the search ended in a fault
-    explores_no_module : (fault : Fault) → code ≡ status fault → output' ≡ output
-        → ExploresModule arguments exploration output output' code
+        → AreFor ready.game.setup.agents (length arguments)
+        → (roles : Roles) → arguments_of roles ≡ arguments → (text : List ℕ) → (done : ℕ)
+        → IsModuleReport ready exploration roles arguments text done
+        → PrintsReport text done output output' code → ExploresModules arguments exploration output output' code
+    -- a file is refused, or cannot be read, the tournament has no such match, or another number of agents, or the
+    -- search ended in a fault
+    explores_no_modules : (fault : Fault) → code ≡ status fault → output' ≡ output
+        → ExploresModules arguments exploration output output' code

@@ -23,7 +23,7 @@ use Rattle.bhs_orders.specs.declared.reporting.faults.Fault.{Fault}
 use Rattle.bhs_orders.specs.declared.reporting.faults.Fault.TheVariants.{Read, Text, Line, File, Replay, Twin, Write}
 use Rattle.bhs_orders.specs.declared.reporting.faults.Fault.TheVariants.{Memory}
 use Rattle.bhs_orders.specs.declared.reporting.faults.Fault.TheVariants.{Turns, Listen, Busy, Threads, Unsettled}
-use Rattle.bhs_orders.specs.declared.reporting.faults.Fault.TheVariants.{NoMatch}
+use Rattle.bhs_orders.specs.declared.reporting.faults.Fault.TheVariants.{Modules, NoMatch}
 use Rattle.bhs_orders.specs.declared.reporting.faults.Fault.TheVariants.{Exploring, Appeal}
 use Rattle.bhs_orders.specs.declared.reporting.statuses.TheConstants.{DONE}
 use Rattle.bhs_orders.specs.Fault.{status}
@@ -86,6 +86,7 @@ module _ {I O : Type 0} (gives : I → Chunk → I → Type 0) (takes : O → Li
   Stops stage input input' output output' Busy = ⊥
   Stops stage input input' output output' Threads = ⊥
   Stops stage input input' output output' (NoMatch game) = ⊥
+  Stops stage input input' output output' (Modules modules agents) = ⊥
   Stops stage input input' output output' (Exploring why) = ⊥
   Stops stage input input' output output' (Appeal why) = ⊥
   Stops stage input input' output output' (Unsettled game) = ⊥

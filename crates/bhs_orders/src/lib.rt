@@ -12,7 +12,7 @@ mod streams;
 mod tournaments;
 
 pub use exploration::exploring::explore_named;
-pub use exploration::modules::explore_module_named;
+pub use exploration::modules::explore_modules_named;
 pub use laws::{answers_are_transcripts, known_answers, worked_turns};
 pub use match_files::parts::{
     part_name, print_recovered, put_aside, put_earlier_aside, turns_part_name,

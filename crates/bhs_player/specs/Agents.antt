@@ -19,7 +19,7 @@ abbrev pub IsChosen : AgentChoice → PlayedAgent → Type 0
 IsChosen (runs.Protocol protocol nodes side) (played.Protocol agent) =
     (agent.protocol ≡ protocol) × (agent.nodes ≡ nodes) × (agent.number ≡ side)
 IsChosen (runs.Module it) (played.Module agent) =
-    (agent.agents.arguments.items ≡ it.arguments) × (agent.agents.fuel ≡ FUEL)
+    (agent.agents.roles.first.arguments.items ≡ it.arguments) × (agent.agents.fuel ≡ FUEL)
 IsChosen choice agent = ⊥
 
 -- the strategy of an agent

@@ -9,7 +9,7 @@ use bhs_model::{MAX_TEXT, MAX_TURNS};
 use bhs_searcher::{ModuleAgent, PlayFault, ProtocolAgent};
 use bhs_stream::{ReadFault, read_text};
 use bhs_wasm_read::{ModuleFault, module_of};
-use bhs_wasm_team::{FUEL, FailureCause, ModuleFailure};
+use bhs_wasm_team::{FUEL, FailureCause};
 use std::alloc::{AllocError, Global};
 use std::rt::Files;
 use std::{fs, io};
@@ -85,7 +85,7 @@ fn module_agent<F: Files>(
     files: &F,
     module: &AgentModule,
 ) -> Result<ModuleAgent, AgentFault>
-    ensures { IfOk result (λ agent. (agent.agents.arguments.items ≡ module.now.arguments)
+    ensures { IfOk result (λ agent. (agent.agents.roles.first.arguments.items ≡ module.now.arguments)
         × (agent.agents.fuel ≡ FUEL)) }
 {
     let mut file = fs::open(files, module.file.as_str())?;
@@ -104,10 +104,10 @@ pub fn failure_of(
     let (PlayedAgent::Module(agent), PlayFault::Failed) = (agent, fault) else {
         return Ok(None);
     };
-    let Some(ModuleFailure { cause, function }) = agent.agents.failure else {
+    let Some(failure) = agent.agents.failure_in(0) else {
         return Ok(None);
     };
-    let cause = word_of(cause);
+    let (cause, function) = (word_of(failure.cause), failure.function);
     Ok(Some(format!(in alloc; "{cause} in function {function}")?))
 }
 

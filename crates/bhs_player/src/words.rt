@@ -3,7 +3,7 @@
 ghost use Rattle.std.specs.Prelude.{◌≤◌, IfOk, IfSome};
 ghost use Rattle.bhs_player.specs.Agents.{IsFit};
 
-use bhs_command_line::{AgentModule, Order, Parsed, order_of};
+use bhs_command_line::{AgentModule, module_in};
 use bhs_searcher::Protocol;
 use std::alloc::{AllocError, Global};
 
@@ -75,20 +75,6 @@ fn runs_of(alloc: Global, words: &[String]) -> Result<Option<AgentChoice>, Alloc
             Ok(module_in(alloc, word.as_str())?.map(AgentChoice::Module))
         }
         [protocol, nodes, side] => Ok(protocol_in(protocol.as_str(), nodes, side)),
-        _ => Ok(None),
-    }
-}
-
-// The module and its arguments that a word FILE[:N,..] says, as `arena explore` reads it.
-fn module_in(alloc: Global, word: &str) -> Result<Option<AgentModule>, AllocError> {
-    match order_of(alloc, &["explore", "-", "0", "--module", word])? {
-        Parsed::Ordered(
-            Order::ExploreModule {
-                tournament: _,
-                agent_module,
-                exploration: _,
-            },
-        ) => Ok(Some(agent_module)),
         _ => Ok(None),
     }
 }

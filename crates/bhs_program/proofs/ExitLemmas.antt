@@ -23,7 +23,7 @@ use Rattle.bhs_orders.specs.Recovery.{recovers_nothing, unsaved_one}
 use Rattle.bhs_orders.specs.ContestTables.{AreFound, found_more, nothing_found, IsFound, status_in}
 use Rattle.bhs_orders.specs.Discoveries.{Explores, ExploresMatch, found_in, found_status}
 use Rattle.bhs_orders.specs.Discoveries.{exploration_done, exploration_ends, explores_nothing, explores_on}
-use Rattle.bhs_orders.specs.ModuleExploration.{ExploresModule, explores_module, explores_no_module}
+use Rattle.bhs_orders.specs.ModuleExploration.{ExploresModules, explores_modules, explores_no_modules}
 use Rattle.bhs_orders.specs.Rehearsal.{Rehearses, done, unfiled, ends}
 use Rattle.bhs_orders.specs.RehearsedTournaments.{RehearsesNamed, rehearses_on, refuses_file}
 use Rattle.bhs_orders.specs.InteractiveTournaments.{InteractsNamed, InteractsWhole, tournament_refused}
@@ -179,13 +179,13 @@ module _ {P I O : Type 0} (files : P → List ℕ → WriteAnswer → P → Type
   of_exploration exploration (explores_on lineup assembled ready at explored) = of_match ready exploration explored
   of_exploration exploration (explores_nothing fault is rests) = inr (inr (fault, is))
 
-  of_module : (arguments : List ℕ) (exploration : Exploration) → ExploresModule takes flushes arguments exploration
-      output output' code → IsStatus code
-  of_module arguments exploration (explores_module lineup assembled ready at program file text ended said report) =
+  of_modules : (arguments : List (List ℕ)) (exploration : Exploration) → ExploresModules takes flushes arguments
+      exploration output output' code → IsStatus code
+  of_modules arguments exploration (explores_modules lineup assembled ready at some roles have text ended said report) =
       rw report.coded (of_either (report.printed == DONE) report.printed ended
       (of_print takes flushes output output' report.printed text report.prints)
       (of_found (found_in said.found) ended said.told))
-  of_module arguments exploration (explores_no_module fault is kept) = inr (inr (fault, is))
+  of_modules arguments exploration (explores_no_modules fault is kept) = inr (inr (fault, is))
 
   of_served : (port : ℕ) → Serves files takes flushes port output output' code → IsStatus code
   of_served port (serves_on lineup assembled heard shows hosts) =
@@ -212,8 +212,7 @@ module _ {P I O : Type 0} (files : P → List ℕ → WriteAnswer → P → Type
   of_deed (order.RecoverContest name prefix) recovered =
       of_recovery files takes flushes output output' code recovered.1
   of_deed (order.Explore name exploration) explored = of_exploration exploration explored
-  of_deed (order.ExploreModule name agent_module exploration) explored =
-      of_module agent_module.arguments exploration explored.1
+  of_deed (order.ExploreModules name modules exploration) explored = of_modules _ exploration explored.1
   of_deed (order.Serve name hosting) served = of_served hosting.port served.1
 
   of_order : (order : Order) → Obeys files gives takes flushes order input input' output output' code → IsStatus code

@@ -1,5 +1,5 @@
 -- What the program does with its words: to its input and its output, call by call, and with which exit status.
-use Rattle.std.specs.Prelude.{◌≡◌, ◌⊎◌, ℕ, Bool, IsTrue, List, Some}
+use Rattle.std.specs.Prelude.{◌≡◌, ◌⊎◌, ℕ, Bool, IsTrue, List, Some, map}
 use Rattle.std.specs.List.{list_any}
 use Rattle.bhs_stream.specs.Streams.{Chunk, WriteAnswer}
 use Rattle.bhs_command_line.specs.CommandLine.{AreRefused, faults, is_asked, order_in}
@@ -9,7 +9,7 @@ use Rattle.bhs_orders.specs.Appeals.{Appeals}
 use Rattle.bhs_orders.specs.ContestTables.{TablesContest}
 use Rattle.bhs_orders.specs.Discoveries.{Explores}
 use Rattle.bhs_orders.specs.Fault.{IsOfFault}
-use Rattle.bhs_orders.specs.ModuleExploration.{ExploresModule}
+use Rattle.bhs_orders.specs.ModuleExploration.{ExploresModules}
 use Rattle.bhs_orders.specs.RehearsedTournaments.{RehearsesEither, Rests}
 use Rattle.bhs_orders.specs.InteractiveTournaments.{InteractsEither}
 use Rattle.bhs_orders.specs.Parts.{IsRecovered}
@@ -65,8 +65,9 @@ module _ {P I O : Type 0} (files : P → List ℕ → WriteAnswer → P → Type
       (input' ≡ input) × RecoversContest files takes flushes output output' code
   Does (order.Explore name exploration) input input' output output' code =
       Explores takes flushes exploration input input' output output' code
-  Does (order.ExploreModule name agent_module exploration) input input' output output' code =
-      (input' ≡ input) × ExploresModule takes flushes agent_module.arguments exploration output output' code
+  Does (order.ExploreModules name modules exploration) input input' output output' code =
+      (input' ≡ input)
+      × ExploresModules takes flushes (map (λ it. it.arguments) modules) exploration output output' code
   Does (order.Serve name hosting) input input' output output' code =
       (input' ≡ input) × Serves files takes flushes hosting.port output output' code
 

@@ -10,7 +10,7 @@ use crate::recovering::recover_named;
 use crate::serving::serve_named;
 use bhs_command_line::{Order, Parsed, order_of};
 use bhs_orders::{
-    Fault, REFUSED_WORDS, check, explore_module_named, explore_named, print_appealed_verdict,
+    Fault, REFUSED_WORDS, check, explore_modules_named, explore_named, print_appealed_verdict,
     print_contest_table, print_past, print_recovered, print_table, print_twin, print_verdict,
     rehearse_interactively_named, rehearse_named, report, show_text,
 };
@@ -108,19 +108,11 @@ fn obey<
             tournament,
             exploration,
         } => explore_named(alloc, rt, tournament, exploration, reader, writer, errors),
-        Order::ExploreModule {
+        Order::ExploreModules {
             tournament,
-            agent_module,
+            modules,
             exploration,
-        } => explore_module_named(
-            alloc,
-            rt,
-            tournament,
-            agent_module,
-            exploration,
-            writer,
-            errors,
-        ),
+        } => explore_modules_named(alloc, rt, tournament, modules, exploration, writer, errors),
         Order::Serve {
             tournament,
             hosting,

@@ -6,16 +6,19 @@ use Rattle.bhs_wasm_team.specs.Agents.{memory_after, strategy_of}
 use Rattle.bhs_wasm_team.specs.Tables.{saved_at}
 use Rattle.bhs_searcher.specs.declared.module_agent.ModuleAgent.{ModuleAgent}
 
--- the same module, arguments and fuel
+-- the same roles and fuel
 abbrev pub RunsTheSame : (old new : Agents) → Type 0
-RunsTheSame old new =
-    (new.program ≡ old.program) × (new.arguments.items ≡ old.arguments.items) × (new.fuel ≡ old.fuel)
+RunsTheSame old new = (new.roles ≡ old.roles) × (new.fuel ≡ old.fuel)
 
 -- the strategy of an agent
 abbrev pub strategy_of_module : ModuleAgent → Strategy
-strategy_of_module agent = strategy_of agent.agents.program agent.agents.arguments.items agent.agents.fuel
+strategy_of_module agent =
+    strategy_of agent.agents.roles.first.program agent.agents.roles.first.arguments.items agent.agents.fuel
 
 -- its number of a memory is the one of the memory that it has after this history
 abbrev pub Remembers : ModuleAgent → History → Type 0
-Remembers agent history = saved_at agent.agents.table.states.items agent.memory
-    ≡ Some (memory_after agent.agents.program agent.agents.arguments.items agent.agents.fuel history)
+Remembers agent history = saved_at agent.agents.table.states.items agent.memory ≡ Some (record {
+  role = 0;
+  memory = memory_after agent.agents.roles.first.program agent.agents.roles.first.arguments.items agent.agents.fuel
+      history;
+})

@@ -8,7 +8,7 @@ use crate::searchers::{AgentNews, Searcher, SearcherFault};
 use bhs_explore::{Latest, Step, Team, TeamAnswer};
 use bhs_model::{Mark, Reply};
 use bhs_wasm::Module;
-use bhs_wasm_team::{Agents, MemoryTable};
+use bhs_wasm_team::{Agents, MemoryTable, Role, Roles};
 use std::alloc::{AllocError, Global};
 
 /// An agent that runs a module: the team that runs it, and the number of the agent's memory.
@@ -30,11 +30,12 @@ impl ModuleAgent {
         arguments: Vec<u32>,
         fuel: u32,
     ) -> Result<ModuleAgent, AllocError>
-        ensures { IfOk result (λ agent. (agent.agents.program ≡ program) × (agent.agents.arguments ≡ arguments)
+        ensures { IfOk result (λ agent. (agent.agents.roles.first ≡ record { program = program; arguments = arguments })
             × (agent.agents.fuel ≡ fuel)) }
     {
+        let roles = Roles::one(alloc, Role { program, arguments });
         Ok(ModuleAgent {
-            agents: Agents::new(alloc, program, arguments, fuel)?,
+            agents: Agents::new(alloc, roles, fuel)?,
             memory: 0,
         })
     }

@@ -1,6 +1,6 @@
-//! A team whose agents run one module.
+//! A team whose agents run modules: one for all, or one for each agent.
 
-ghost use Rattle.std.specs.Prelude.{◌≡◌, IfOk, IsSomeAnd};
+ghost use Rattle.std.specs.Prelude.{◌≡◌, [], IfOk, IsSomeAnd};
 
 use crate::failures::{FailureCause, ModuleFailure, function_at};
 use crate::saving::{MemoryTable, Saved, Status};
@@ -13,18 +13,69 @@ use std::alloc::{AllocError, Global};
 /// more it fails.
 pub const FUEL: u32 = 10_000_000;
 
-/// Agents that run a module with the same arguments. From one command to the next each executes at most `fuel`
-/// instructions.
+/// What an agent runs: a module, with these arguments.
+#[derive(Drop)]
+pub struct Role {
+    pub program: Module,
+    pub arguments: Vec<u32>,
+}
+
+/// The roles of a team, counted from 0. Each agent has the role of its own number, and an agent for which there is none
+/// has the first: so one role is for all agents.
+#[derive(Drop)]
+pub struct Roles {
+    pub first: Role,
+    pub others: Vec<Role>,
+}
+
+impl Roles {
+    ghost use Rattle.bhs_wasm_team.specs.Roles as specs;
+
+    /// One role for all agents.
+    pub fn one(alloc: Global, first: Role) -> Roles
+        ensures { (result.first ≡ first) × (result.others.items ≡ []) }
+    {
+        Roles {
+            first,
+            others: Vec::new(alloc),
+        }
+    }
+
+    // The number of an agent's role.
+    fn number(&self, agent: u16) -> u32
+        ensures { result ≡ specs.role_number self.now agent }
+    {
+        if usize::from(agent) <= self.others.len() {
+            u32::from(agent)
+        } else {
+            0
+        }
+    }
+
+    // The role of this number.
+    fn at(&self, number: u32) -> &Role
+        ensures { result.now ≡ specs.role_at self.now number }
+    {
+        if number == 0 {
+            return &self.first;
+        }
+        match self.others.get(number as usize - 1) {
+            Some(role) => role,
+            None => &self.first,
+        }
+    }
+}
+
+/// Agents in these roles. From one command to the next each executes at most `fuel` instructions.
 #[derive(Drop)]
 pub struct Agents {
     pub alloc: Global,
-    pub program: Module,
-    pub arguments: Vec<u32>,
+    pub roles: Roles,
     pub fuel: u32,
     pub interpreter: Interpreter,
     pub table: MemoryTable,
-    /// How the first agent failed that did. Contracts say nothing of it.
-    pub failure: Option<ModuleFailure>,
+    /// How the first agent of each role failed that did. Contracts say nothing of it.
+    pub failures: Vec<ModuleFailure>,
 }
 
 impl Agents {
@@ -33,137 +84,159 @@ impl Agents {
     ghost use Rattle.bhs_wasm.specs.States.{state_of};
     ghost use Rattle.bhs_wasm_team.specs.Agents as specs;
     ghost use Rattle.bhs_wasm_team.specs.Answering.{Tells};
+    ghost use Rattle.bhs_wasm_team.specs.Roles.{after_in, role_at, start_in};
     ghost use Rattle.bhs_wasm_team.specs.Tables.{saved_at};
 
     /// A team that has answered nothing.
-    pub fn new(
-        alloc: Global,
-        program: Module,
-        arguments: Vec<u32>,
-        fuel: u32,
-    ) -> Result<Agents, AllocError>
-        ensures { IfOk result (λ agents. (agents.program ≡ program) × (agents.arguments ≡ arguments)
-            × (agents.fuel ≡ fuel)) }
+    pub fn new(alloc: Global, roles: Roles, fuel: u32) -> Result<Agents, AllocError>
+        ensures { IfOk result (λ agents. (agents.roles ≡ roles) × (agents.fuel ≡ fuel)) }
     {
         Ok(Agents {
             alloc,
-            program,
-            arguments,
+            roles,
             fuel,
             interpreter: Interpreter::new(alloc),
             table: MemoryTable::new(alloc)?,
-            failure: None,
+            failures: Vec::new(alloc),
         })
     }
 
+    /// How the first agent of this role failed that did.
+    pub fn failure_in(&self, role: u32) -> Option<ModuleFailure> {
+        for failure in &self.failures {
+            if failure.role == role {
+                return Some(*failure);
+            }
+        }
+        None
+    }
+
     // Answers for an agent that does nothing more.
-    fn halted(&mut self, status: Status, step: Step) -> Result<TeamAnswer, AllocError>
-        ensures { step ≡ specs.does (specs.halted status) → IfOk result (λ answer.
-            Tells self.old self.new (specs.halted status) answer.memory answer.step) }
+    fn halted(&mut self, role: u32, status: Status, step: Step) -> Result<TeamAnswer, AllocError>
+        ensures { step ≡ specs.does (specs.halted status) → IfOk result (λ answer. Tells self.old self.new
+            (record { role = role; memory = specs.halted status }) answer.memory answer.step) }
     {
-        let memory = self.table.number(Saved::halted(self.alloc, status))?;
+        let memory = self.table.number(Saved::halted(self.alloc, role, status))?;
         Ok(TeamAnswer { memory, step })
     }
 
-    // Answers for an agent that fails, and notes how the first one did.
-    fn fail(&mut self, cause: FailureCause) -> Result<TeamAnswer, AllocError>
-        ensures { IfOk result (λ answer.
-            Tells self.old self.new (specs.halted Status.Failed) answer.memory answer.step) }
+    // Answers for an agent that fails, and notes how the first one of its role did.
+    fn fail(&mut self, role: u32, cause: FailureCause) -> Result<TeamAnswer, AllocError>
+        ensures { IfOk result (λ answer. Tells self.old self.new
+            (record { role = role; memory = specs.halted Status.Failed }) answer.memory answer.step) }
     {
-        if self.failure.is_none() {
-            let function = function_at(&self.program, self.interpreter.program_counter);
-            self.failure = Some(ModuleFailure { cause, function });
+        if self.failure_in(role).is_none() {
+            let program = &self.roles.at(role).program;
+            let function = function_at(program, self.interpreter.program_counter);
+            self.failures.push(ModuleFailure {
+                role,
+                cause,
+                function,
+            })?;
         }
-        self.halted(Status::Failed, Step::Fails)
+        self.halted(role, Status::Failed, Step::Fails)
     }
 
     // Answers for an agent that has called a command.
-    fn waits(&mut self, function: HostFunction) -> Result<TeamAnswer, AllocError>
+    fn waits(&mut self, role: u32, function: HostFunction) -> Result<TeamAnswer, AllocError>
         ensures { IfOk result (λ answer. Tells self.old self.new
-            (specs.settled (states.Waits function (state_of self.old.interpreter))) answer.memory answer.step) }
+            (record { role = role; memory = specs.settled (states.Waits function (state_of self.old.interpreter)) })
+            answer.memory answer.step) }
     {
         self.interpreter.forget();
         match said_by(self.alloc, &self.interpreter, function)? {
             Some(step) => {
-                let saved = Saved::of(self.alloc, &self.interpreter, Status::Waits(function))?;
+                let status = Status::Waits(function);
+                let saved = Saved::of(self.alloc, role, &self.interpreter, status)?;
                 let memory = self.table.number(saved)?;
                 Ok(TeamAnswer { memory, step })
             }
-            None => self.fail(FailureCause::Command),
+            None => self.fail(role, FailureCause::Command),
         }
     }
 
     // Runs to the next command, and answers.
-    fn finish(&mut self) -> Result<TeamAnswer, AllocError>
+    fn finish(&mut self, role: u32) -> Result<TeamAnswer, AllocError>
         ensures { IfOk result (λ answer. Tells self.old self.new
-            (specs.settled (states.run self.old.program self.old.fuel (state_of self.old.interpreter)))
-            answer.memory answer.step) }
+            (record {
+              role = role;
+              memory = specs.settled (states.run (role_at self.old.roles role).program
+                  self.old.fuel (state_of self.old.interpreter));
+            }) answer.memory answer.step) }
     {
-        match self.interpreter.run(&self.program, self.fuel)? {
-            Progress::Waits(function) => self.waits(function),
-            Progress::Ends => self.halted(Status::Ended, Step::Stops),
+        let program = &self.roles.at(role).program;
+        match self.interpreter.run(program, self.fuel)? {
+            Progress::Waits(function) => self.waits(role, function),
+            Progress::Ends => self.halted(role, Status::Ended, Step::Stops),
             Progress::Continues | Progress::Traps => {
                 let cause = if self.interpreter.is_out_of_fuel {
                     FailureCause::Fuel
                 } else {
                     FailureCause::Trap
                 };
-                self.fail(cause)
+                self.fail(role, cause)
             }
         }
     }
 
     // Answers for an agent at its start.
-    fn started(&mut self) -> Result<TeamAnswer, AllocError>
+    fn started(&mut self, role: u32) -> Result<TeamAnswer, AllocError>
         ensures { IfOk result (λ answer. Tells self.old self.new
-            (specs.start self.old.program self.old.arguments.items self.old.fuel) answer.memory answer.step) }
+            (start_in self.old.roles self.old.fuel role) answer.memory answer.step) }
     {
-        match self
-            .interpreter
-            .instantiate(&self.program, &self.arguments)?
-        {
-            Progress::Continues => self.finish(),
-            _ => self.fail(FailureCause::Trap),
+        let Role { program, arguments } = self.roles.at(role);
+        match self.interpreter.instantiate(program, arguments)? {
+            Progress::Continues => self.finish(role),
+            _ => self.fail(role, FailureCause::Trap),
         }
     }
 
     // Returns from a command with this many parameters, runs to the next one, and answers.
     fn goes_on(
         &mut self,
+        role: u32,
         parameters: u32,
         latest: Latest,
         shown: &str,
     ) -> Result<TeamAnswer, AllocError>
         ensures { IfOk result (λ answer. Tells self.old self.new
-            (specs.goes_on self.old.program self.old.fuel parameters (item_with latest shown.now)
-            (state_of self.old.interpreter)) answer.memory answer.step) }
+            (record {
+              role = role;
+              memory = specs.goes_on (role_at self.old.roles role).program self.old.fuel parameters
+                  (item_with latest shown.now) (state_of self.old.interpreter);
+            }) answer.memory answer.step) }
     {
         see(&mut self.interpreter, latest, shown)?;
         match self.interpreter.answer(parameters, number_of(latest))? {
-            Progress::Continues => self.finish(),
-            _ => self.fail(FailureCause::Trap),
+            Progress::Continues => self.finish(role),
+            _ => self.fail(role, FailureCause::Trap),
         }
     }
 
     // Answers for an agent that was restored, and to which this has happened.
     fn resume(
         &mut self,
+        role: u32,
         status: Status,
         latest: Latest,
         shown: &str,
     ) -> Result<TeamAnswer, AllocError>
-        ensures { IfOk result (λ answer. Tells self.old self.new (specs.after_at self.old.program self.old.fuel status
-            (state_of self.old.interpreter) (item_with latest shown.now)) answer.memory answer.step) }
+        ensures { IfOk result (λ answer. Tells self.old self.new
+            (record {
+              role = role;
+              memory = specs.after_at (role_at self.old.roles role).program self.old.fuel status
+                  (state_of self.old.interpreter) (item_with latest shown.now);
+            }) answer.memory answer.step) }
     {
         match status {
-            Status::Ended => self.halted(Status::Ended, Step::Stops),
-            Status::Failed => self.halted(Status::Failed, Step::Fails),
-            Status::Travels => self.goes_on(1, latest, shown),
+            Status::Ended => self.halted(role, Status::Ended, Step::Stops),
+            Status::Failed => self.halted(role, Status::Failed, Step::Fails),
+            Status::Travels => self.goes_on(role, 1, latest, shown),
             Status::Waits(function) => {
                 if is_depart(function) && is_gone(latest) {
-                    self.travels()
+                    self.travels(role)
                 } else {
-                    self.goes_on(function.parameters(), latest, shown)
+                    self.goes_on(role, function.parameters(), latest, shown)
                 }
             }
         }
@@ -171,28 +244,31 @@ impl Agents {
 
     // Answers for an agent that had this memory, and to which this has happened.
     fn asked(&mut self, before: u32, latest: Latest, shown: &str) -> Result<TeamAnswer, AllocError>
-        ensures { IfOk result (λ answer. IsSomeAnd (saved_at self.old.table.states.items before) (λ agent_memory.
+        ensures { IfOk result (λ answer. IsSomeAnd (saved_at self.old.table.states.items before) (λ role_memory.
             Tells self.old self.new
-            (specs.after self.old.program self.old.fuel agent_memory (item_with latest shown.now))
+            (after_in self.old.roles self.old.fuel role_memory (item_with latest shown.now))
             answer.memory answer.step)) }
     {
         match self.table.states.get(before as usize) {
             Some(saved) => {
-                let status = saved.status;
+                let (role, status) = (saved.role, saved.status);
                 saved.restore(&mut self.interpreter)?;
-                self.resume(status, latest, shown)
+                self.resume(role, status, latest, shown)
             }
             None => Err(AllocError),
         }
     }
 
     // Answers for an agent that has departed.
-    fn travels(&mut self) -> Result<TeamAnswer, AllocError>
-        ensures { IfOk result (λ answer. Tells self.old self.new
-            (record { status = Status.Travels; state = states.forgotten (state_of self.old.interpreter) })
+    fn travels(&mut self, role: u32) -> Result<TeamAnswer, AllocError>
+        ensures { IfOk result (λ answer. Tells self.old self.new (record {
+          role = role;
+          memory = record
+              { status = Status.Travels; state = states.forgotten (state_of self.old.interpreter) };
+        })
             answer.memory answer.step) }
     {
-        let saved = Saved::of(self.alloc, &self.interpreter, Status::Travels)?;
+        let saved = Saved::of(self.alloc, role, &self.interpreter, Status::Travels)?;
         let memory = self.table.number(saved)?;
         Ok(TeamAnswer {
             memory,
@@ -206,8 +282,9 @@ impl Team for Agents {
 
     ghost answers = { Answers };
 
-    fn begin(&mut self, _agent: u16) -> Result<TeamAnswer, TeamFault> {
-        match self.started() {
+    fn begin(&mut self, agent: u16) -> Result<TeamAnswer, TeamFault> {
+        let role = self.roles.number(agent);
+        match self.started(role) {
             Ok(answer) => Ok(answer),
             Err(_) => Err(TeamFault),
         }

@@ -13,9 +13,10 @@ pub enum FailureCause {
     Command,
 }
 
-/// How an agent failed, and in which function of its module.
+/// How an agent of a role failed, and in which function of its module.
 #[derive(Clone, Copy, Debug, PartialEq, Eq)]
 pub struct ModuleFailure {
+    pub role: u32,
     pub cause: FailureCause,
     pub function: u32,
 }

@@ -9,7 +9,7 @@ mod packing;
 mod saving;
 mod saying;
 
-pub use agents::{Agents, FUEL};
+pub use agents::{Agents, FUEL, Role, Roles};
 pub use exploring::{draw_module, explore_module};
 pub use failures::{FailureCause, ModuleFailure};
 pub use laws::{modules_answer, modules_solve};

@@ -27,9 +27,10 @@ pub(crate) const MODULE: Argument = Argument {
     id: "module",
     option: Some("module"),
     name: "FILE[:N,..]",
-    need: Need::Optional,
+    need: Need::AnyNumber,
     takes: Takes::Module,
-    help: "Each agent runs this WebAssembly module, with these numbers as its arguments; no host is asked",
+    help: "All agents run this WebAssembly module, with these numbers as its arguments; no host is asked. Given \
+        once for each agent, each runs its own",
 };
 
 pub(crate) const STATES: Argument = Argument {

@@ -12,12 +12,13 @@ const AT_LENGTH: &str = "\
 Tries every schedule of match MATCH of the tournament, and says whether each one
 solves it.
 
-With --module FILE each agent runs the WebAssembly module of this file. A module
-imports nothing but functions of `arena`, and exports `run`; in a clone
-examples/agents/wasm/arena.h declares them for C. Numbers behind a colon are its
-arguments: ring.wasm:8. Agents fail whose module traps, or that execute more than
-10,000,000 instructions from one command to the next. Standard error tells now
-and then how far a long search is.
+With --module FILE all agents run the WebAssembly module of this file. Give the
+option once for each agent if they differ: agent 0 runs the first module, agent 1
+the second. A module imports nothing but functions of `arena`, and exports `run`;
+in a clone examples/agents/wasm/arena.h declares them for C. Numbers behind a
+colon are its arguments: ring.wasm:8. Agents fail whose module traps, or that
+execute more than 10,000,000 instructions from one command to the next. Standard
+error tells now and then how far a long search is.
 
 Without it the agents are played by a host at the other end of standard input and
 output, as `arena-lab explore` is one. An agent must be deterministic: what
@@ -98,16 +99,17 @@ With --draws these are `fails`, `breaks` or `exceeds`, or
       in one line: how many of the schedules are solved and fail, their turns,
       and how many come to M moves, or lose L agents
 
-With --module comes one more line, in which how an agent failed may be missing:
+With --module comes one more line for each module, in which how an agent failed
+may be missing:
 
   {\"module\":SHA256,\"arguments\":[N,..],\"failure\":F,\"function\":N}
-      Which file the module has; and how the first agent that failed did, in the
-      function of this number: it executed too many instructions (fuel), it
+      Which file the module has; and how the first agent that failed in it did, in
+      the function of this number: it executed too many instructions (fuel), it
       trapped (trap), or it called a command with a port or a text that is none
       (command)
 
 What is found is proved of all agents that do as was answered, and of agents that
-run the module that was read; that a file is read rightly is tested. What is
+run the modules that were read; that a file is read rightly is tested. What is
 counted, and how an agent failed, is not proved. The program cannot know whether
 the agents of a host do as it answered.
 

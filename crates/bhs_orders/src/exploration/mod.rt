@@ -1,5 +1,5 @@
 //! Searches of all schedules of a match, and of schedules that are drawn, in which a host plays the agents or
-//! they run a module.
+//! they run modules.
 
 pub(crate) mod discoveries;
 pub(crate) mod exploring;

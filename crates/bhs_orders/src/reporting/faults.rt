@@ -51,6 +51,9 @@ pub enum Fault {
     /// The tournament has no match of this number.
     #[error("no match {game}")]
     NoMatch { game: u16 },
+    /// There is not one module for all agents of a match, and not one for each.
+    #[error("{modules} modules, {agents} agents")]
+    Modules { modules: usize, agents: u16 },
     /// Not every schedule of a match was tried.
     #[error("{0}")]
     Exploring(ExploreFault),
@@ -84,7 +87,7 @@ impl Fault {
     {
         match self {
             Fault::Text | Fault::Line { .. } | Fault::File(_) => REFUSED_TEXT,
-            Fault::NoMatch { .. } | Fault::Exploring(_) => REFUSED_TEXT,
+            Fault::NoMatch { .. } | Fault::Modules { .. } | Fault::Exploring(_) => REFUSED_TEXT,
             Fault::Replay(fault) => replay_status(fault),
             Fault::Appeal(fault) => fault.status(),
             Fault::Twin(_) | Fault::Unsettled { .. } => REFUSED_MATCH,

@@ -45,8 +45,8 @@ returns-in-RecoverContest g c = rw c.in-RecoverContest.is (does (refl, c.recover
 pub returns-in-Explore : goal.returns-in-Explore
 returns-in-Explore g c = rw c.in-Explore.is (does c.explore_named.ensures)
 
-pub returns-in-ExploreModule : goal.returns-in-ExploreModule
-returns-in-ExploreModule g c = rw c.in-ExploreModule.is (does (refl, c.explore_module_named.ensures))
+pub returns-in-ExploreModules : goal.returns-in-ExploreModules
+returns-in-ExploreModules g c = rw c.in-ExploreModules.is (does (refl, c.explore_modules_named.ensures))
 
 pub returns-in-Serve : goal.returns-in-Serve
 returns-in-Serve g c = rw c.in-Serve.is (does (refl, c.serve_named.ensures))

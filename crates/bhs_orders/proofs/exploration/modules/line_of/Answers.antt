@@ -1,12 +1,10 @@
-use Rattle.std.proofs.Common.{◌∙◌, ◌++◌, ap₂, codes, ℕ, List}
-use Rattle.std.proofs.lemmas.Result.{IfOk-weaker}
+use Rattle.std.proofs.Common.{◌∙◌, ◌++◌, ap₂, ℕ, List}
+use Rattle.bhs_orders.specs.ModuleExploration.{module_items}
 use Rattle.bhs_orders.proofs.exploration.modules.line_of.Goals as goal
 
 pub returns : goal.returns
 returns c =
-    IfOk-weaker c.format.result _ _
-    (λ line is. is
-    ∙ ap₂ (λ (digest arguments : List ℕ).
-    codes "{\"module\":\"" ++ (digest ++ (codes "\",\"arguments\":" ++ arguments)))
-    (c.as_str-digest.ensures.value ∙ c.in_ok-digest.ensures)
-    (c.as_str-arguments.ensures.value ∙ c.in_ok-arguments.ensures)) c.format.ensures.ok
+    c.in_ok-push_str.ensures.bytes
+    ∙ ap₂ (λ (front end : List ℕ). front ++ end)
+    (c.in_ok-line.ensures ∙ ap₂ module_items c.deref.ensures.value c.deref-2.ensures.value)
+    (c.as_str.ensures.value ∙ c.in_ok-end.ensures)

@@ -1,0 +1,26 @@
+use Rattle.std.proofs.Common.{◌≡◌, ◌∙◌, codes, refl, sym, List, Option}
+use Rattle.std.proofs.lemmas.Result.{IfOk-weaker}
+use Rattle.clap.specs.Words.{Text, found_of}
+use Rattle.bhs_command_line.specs.CommandLine.{exploring_of}
+use Rattle.bhs_command_line.specs.declared.orders.Exploration.{Exploration}
+use Rattle.bhs_command_line.proofs.FoundLemmas.{no_texts_found, texts_found}
+use Rattle.bhs_command_line.proofs.given.exploring_given.Goals as goal
+
+same_order : (one other : Text) (some words : List Text) (e f : Option Exploration) → one ≡ other → some ≡ words → e ≡ f
+    → exploring_of one some e ≡ exploring_of other words f
+same_order one other some words e f tournaments texts explorations = rw (tournaments, texts, explorations) refl
+
+pub returns-in-Some-get_strs : goal.returns-in-Some-get_strs
+returns-in-Some-get_strs c =
+    IfOk-weaker c.exploring.result _ _
+    (λ order is. is ∙ same_order _ _ _ _ _ _ c.in_ok-tournament.ensures
+    (texts_found (found_of c.args.words.now) (codes "module") c.in-Some-get_strs.texts
+    (rw c.in-Some-get_strs.is at c.get_strs.ensures))
+    (sym c.in-Some.is ∙ c.in_ok-exploration.ensures)) c.exploring.ensures
+
+pub returns-in-None : goal.returns-in-None
+returns-in-None c =
+    IfOk-weaker c.exploring-in-None.result _ _
+    (λ order is. is ∙ same_order _ _ _ _ _ _ c.in_ok-tournament.ensures
+    (no_texts_found (found_of c.args.words.now) (codes "module") (rw c.in-None.is at c.get_strs.ensures))
+    (sym c.in-Some.is ∙ c.in_ok-exploration.ensures)) c.exploring-in-None.ensures
