@@ -3,9 +3,8 @@
     /usr/bin/python3 -m tools.play.watch_in_browser PROGRAM [FOLDER]
 
 Starts the server PROGRAM and `./arena-lab watch` on examples/contest.toml, plays the sample agents, and compares the
-standings
-with the server's table. Opens a page of a match once all are over, plays it to its end, and finds no error in the
-console. Screenshots go to the folder. `tools/nightly` installs what it needs.
+standings with the server's table. Opens a page of a match once all are over, plays it to its end, and finds no error in
+the console. Screenshots go to the folder. `tools/nightly` installs what it needs.
 """
 import contextlib
 import os
@@ -27,6 +26,8 @@ TOP = pathlib.Path(__file__).resolve().parents[2]
 SIZES = {"wide": (1600, 1000), "tablet": (800, 1000), "phone": (400, 850)}
 # how long a page may take, and how often the browser is started
 SECONDS, STARTS = 180, 3
+# what the server and the page are told of turns
+PLAYED = ("--turns", "20000", "--pause", "2")
 
 
 def browser(*more: str) -> webdriver.Chrome:
@@ -68,11 +69,10 @@ def main() -> int:
     with tempfile.TemporaryDirectory() as name:
         folder, web = pathlib.Path(name), contest.free_port()
         subprocess.run(["cc", "-O2", "-o", folder / "ring", contest.AGENTS / "ring.c"], check=True)
-        server = Server([program, "serve", contest.TOURNAMENT, "--sessions", 100, "--turns", 20_000, "--pause", 2,
-                         "--replay", folder / "m", "--gather", 10_000, "--early"])
+        server = Server([program, "serve", contest.TOURNAMENT, "--sessions", 100, *PLAYED, "--replay", folder / "m",
+                         "--gather", 10_000, "--early"])
         watches = [sys.executable, "-m", "arena_lab", "watch", contest.TOURNAMENT, str(folder / "m"), "--port",
-                   str(web),
-                   "--turns", "20000", "--pause", "2"]
+                   str(web), *PLAYED]
         watch = subprocess.Popen(watches, cwd=TOP, stdout=subprocess.PIPE, text=True)
         assert watch.stdout is not None
         watch.stdout.readline()
@@ -81,10 +81,14 @@ def main() -> int:
             page.get(f"http://127.0.0.1:{web}/")
             WebDriverWait(page, SECONDS).until(lambda it: len(rows(it)) == 4)
             shoot(page, shots, "begins")
-            agents = [subprocess.Popen(contest.command_of(agent, f"{team}-{number}", server.port, folder))
-                      for team, members in contest.TEAMS.items() for number, agent in enumerate(members)]
-            WebDriverWait(page, SECONDS).until(lambda it: any(row[4].startswith("2 of") for row in rows(it)))
+            commands = [contest.command_of(agent, f"{team}-{number}", server.port, folder)
+                        for team, members in contest.TEAMS.items() for number, agent in enumerate(members)]
+            agents = [*map(subprocess.Popen, commands[:-1])]
+            # the last match waits for its last agent, so that the page shows it however fast the others are
+            size = len([*contest.TEAMS.values()][-1])
+            WebDriverWait(page, SECONDS).until(lambda it: any(row[4] == f"{size - 1} of {size}" for row in rows(it)))
             shoot(page, shots, "runs")
+            agents.append(subprocess.Popen(commands[-1]))
             WebDriverWait(page, SECONDS).until(lambda it: "4 of 4" in it.find_element("id", "about").text)
             shoot(page, shots, "over")
             table = [line.split() for line in server.ended().texts()[1].splitlines()[1:]]
