@@ -1,6 +1,6 @@
 -- What a line that spells an event leads to, by what the match answers.
 use Rattle.std.proofs.Common.{◌≡◌, ℕ, ◌+◌, Bool, true, false, not, if◌then◌else◌, bytes_eq, List, [], ◌∷◌}
-use Rattle.std.proofs.Common.{◌++◌, length, Option, Some, None, refl, sym, ap, ◌∙◌}
+use Rattle.std.proofs.Common.{◌++◌, length, Option, Some, None, sym, ap, ◌∙◌}
 use Rattle.std.specs.Prelude.{is_some, IsTrue, ◌↔◌}
 use Rattle.std.proofs.lemmas.List.{length-map, map-append}
 use Rattle.bhs_model.specs.declared.events.Event.{Event}

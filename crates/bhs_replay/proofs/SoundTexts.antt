@@ -1,5 +1,5 @@
 -- A text that comes to the end of a match is the replay of that match.
-use Rattle.std.proofs.Common.{◌≡◌, ℕ, suc, List, [], ◌∷◌, ◌++◌, Bool, true, false, not, ◌&&◌, bytes_eq, if◌then◌else◌}
+use Rattle.std.proofs.Common.{◌≡◌, ℕ, List, [], ◌∷◌, ◌++◌, Bool, true, false, not, ◌&&◌, bytes_eq, if◌then◌else◌}
 use Rattle.std.proofs.Common.{length, Option, Some, None, refl, sym, subst, ap, ap₂, ◌∙◌, append_assoc, append-nil}
 use Rattle.std.proofs.lemmas.Bool.{eqb-true}
 use Rattle.std.proofs.lemmas.Slice.Eq.{bytes_eq-Decides}
@@ -9,8 +9,8 @@ use Rattle.bhs_model.specs.declared.events.Event.{Event}
 use Rattle.bhs_model.specs.declared.replies.Reply.{Reply}
 use Rattle.bhs_model.specs.Setups.{world_of}
 use Rattle.bhs_model.specs.Worlds.{World}
-use Rattle.bhs_model.specs.Runs.{State, initial, next, run, reply}
-use Rattle.bhs_model.specs.InOrder.{replies, replies_from}
+use Rattle.bhs_model.specs.Runs.{initial, next, run, reply}
+use Rattle.bhs_model.specs.InOrder.{replies}
 use Rattle.bhs_model.proofs.AddLemmas.{events_add_lemma, replies_count}
 use Rattle.bhs_wire.specs.Lines.{is_line_feed, rest_after, rest}
 use Rattle.bhs_replay.specs.declared.faults.ReplayFault.{ReplayFault}

@@ -1,5 +1,5 @@
 -- Clients that grow older one after the other, and one that is cut off.
-use Rattle.std.proofs.Common.{arith, ℕ, zero, suc, ◌≡◌, ◌<◌, ◌≤◌, Some, List, [], ◌∷◌, length}
+use Rattle.std.proofs.Common.{arith, ℕ, zero, suc, ◌≡◌, ◌<◌, Some, List, [], ◌∷◌, length}
 use Rattle.std.proofs.Common.{take, drop, get_or, map, refl, ap, ap₂, slice_set}
 use Rattle.bhs_server.specs.declared.waiting.Known.{Known}
 use Rattle.bhs_server.specs.declared.waiting.Stand.TheVariants.{IsCut}

@@ -1,6 +1,6 @@
 -- Who of those that wait to be let in is cut off for one more.
 use Rattle.std.specs.Prelude.{ℕ, ◌+◌, ◌-◌, ◌^◌, ◌==◌, min, nat_le, nat_lt, Bool, ◌&&◌, ◌||◌, not, Option, Some, None}
-use Rattle.std.specs.Prelude.{List, [], ◌∷◌, zero, suc, if◌then◌else◌}
+use Rattle.std.specs.Prelude.{List, [], ◌∷◌, suc, if◌then◌else◌}
 use Rattle.bhs_server.specs.declared.origins.Origin.{Origin}
 use Rattle.bhs_server.specs.declared.waiting.Known.{Known}
 use Rattle.bhs_server.specs.declared.crowds.Crowd.{Crowd}

@@ -107,7 +107,7 @@ fn print_report<W: Output, E: Write>(text: &str, status: u8, writer: &mut W, err
     if printed == DONE { status } else { printed }
 }
 
-// The first module and the others, if there is one for all of so many agents, or one for each.
+// Splits the modules into the first and the others. There must be one for all agents, or one for each agent.
 fn modules_for<'m>(
     agents: u16,
     modules: &'m [AgentModule],

@@ -1,7 +1,5 @@
-use Rattle.std.proofs.Common.{true, ◌&&◌, bytes_eq, option_map, sym, ap, ◌∙◌}
-use Rattle.std.proofs.lemmas.Slice.Eq.{bytes_eq-Decides}
+use Rattle.std.proofs.Common.{option_map}
 use Rattle.bhs_wire.specs.LentReply.{reply_of}
-use Rattle.bhs_replay.specs.EventLine.{event_line}
 use Rattle.bhs_replay.specs.Spelling.{may_stand}
 use Rattle.bhs_replay.proofs.EventReads.{event_utf8}
 use Rattle.bhs_replay.proofs.Spellings.{spelled-seen}

@@ -1,4 +1,4 @@
-use Rattle.std.proofs.Common.{List, Option, true, false, length, option_map, refl, sym, ap, ◌∙◌}
+use Rattle.std.proofs.Common.{List, true, false, length, option_map, refl, sym, ap, ◌∙◌}
 use Rattle.bhs_model.specs.declared.marks.Kept.{Kept}
 use Rattle.bhs_world.specs.Tables.{keeps_next}
 use Rattle.bhs_match.specs.Matches.{Play, world_in}

@@ -1,6 +1,5 @@
 use Rattle.bhs_session.specs.declared.endings.Ended.TheVariants.{Memory}
 use Rattle.bhs_session.specs.Phase.{between, stopped}
-use Rattle.bhs_session.specs.Session.{Point}
 use Rattle.bhs_session.specs.Session as session
 use Rattle.bhs_session.proofs.Moving.{Moves-step, TakesLines-between, IsNext-some, StopsAtLines-of}
 use Rattle.bhs_wire.specs.Lines.{seen}
