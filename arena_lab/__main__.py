@@ -12,7 +12,7 @@ from typing import Any, Collection, List, NamedTuple, Optional, Tuple
 
 import arena_lab
 from arena_lab import IN_CLONE
-from arena_lab.commands import spellings, ways
+from arena_lab.commands import spellings
 from arena_lab.rules import refusals
 from arena_lab.rules.engines import EngineRefused
 from arena_lab.support.faults import Fault
@@ -36,8 +36,6 @@ COMMANDS = {
     "examples": Command("arena_lab.commands.examples", "say where the examples stand, or copy them", ()),
     "play": Command("arena_lab.commands.play", "be the agents yourself, in the terminal or on a page", PAGES
                     + ("aiohttp",)),
-    "try": Command("arena_lab.commands.ways", "try a team: play it, hunt, explore or draw schedules, by --how",
-                   PLAYS + PAGES + ("hypothesis",)),
     "run": Command("arena_lab.commands.run", "play a team under schedules of a scheduler", PLAYS + PAGES),
     "check": Command("arena_lab.commands.check", "check an agent before it is handed in",
                      PLAYS + PAGES + ("hypothesis",)),
@@ -136,7 +134,7 @@ def come_again(dropped: Any) -> None:
 
 def main(given: Optional[List[str]] = None) -> int:
     name = arena_lab.called()
-    line = ways.spelled(spellings.command_of_today(name, sys.argv[1:] if given is None else given))
+    line = spellings.command_of_today(name, sys.argv[1:] if given is None else given)
     words, strange = parser(name, line[:1]).parse_known_args(line)
     if strange:
         # with the usage of the command, where argparse has that of the lab
