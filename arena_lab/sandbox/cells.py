@@ -28,11 +28,11 @@ from typing import Any, Collection, Dict, Iterator, List, NamedTuple, Optional, 
 
 from arena_lab.play.programs import NoStart, Started
 from arena_lab.play.wasm_modules import is_module
-from arena_lab.sandbox import calls, groups, isolation, network, system_copy, users, watch
+from arena_lab.sandbox import calls, groups, isolation, network, processes, system_copy, users, watch
 from arena_lab.sandbox.groups import ControlGroup
 from arena_lab.sandbox.isolation import HOME, PATH, PORT, SPACES, NoCell
 from arena_lab.sandbox.start import GO, READY
-from arena_lab.sandbox.watch import TOO_MUCH, MemoryWatch, memory_of, processes_below, space_of
+from arena_lab.sandbox.watch import TOO_MUCH, MemoryWatch, memory_of, space_of
 from arena_lab.support.built import player
 from arena_lab.support.missing import DEBIANS_PYTHON
 from arena_lab.support.waiting import is_ready
@@ -143,7 +143,7 @@ class Cell:
                 _, sent, _, _ = socket.recv_fds(channel, len(READY), 1)
                 listener = socket.socket(fileno=sent[0])
                 if self.place is None:
-                    inside = processes_below(child.pid)[1:2]
+                    inside = processes.below(child.pid)[1:2]
                     self._first = opened(inside)
                     network.bound(inside[0])
                 channel.sendall(GO)
@@ -206,25 +206,25 @@ class Cell:
         """The bytes of memory that the program takes."""
         if self._child is None or self._child.returncode is not None:
             return 0
-        processes = processes_below(self._child.pid)
-        inside = processes[1:2] if self.place is None else []
+        running = processes.below(self._child.pid)
+        inside = running[1:2] if self.place is None else []
         spaces = [space_of(f"/proc/{first}/root{path}") for first in inside for path in SPACES]
-        return memory_of(processes) + sum(spaces)
+        return memory_of(running) + sum(spaces)
 
     def end_for(self, fault: str) -> None:
         """Ends the program, as it has taken too much."""
         self._fault = fault
         if self._child is None:
             return
-        for process in processes_below(self._child.pid)[1:] if self.place is None else [self._child.pid]:
+        for process in processes.below(self._child.pid)[1:] if self.place is None else [self._child.pid]:
             with contextlib.suppress(ProcessLookupError):
                 os.kill(process, signal.SIGKILL)
 
 
-def opened(processes: Sequence[int]) -> Optional[int]:
+def opened(running: Sequence[int]) -> Optional[int]:
     """A process as a file, unless there is none or it has ended."""
     with contextlib.suppress(ProcessLookupError):
-        return os.pidfd_open(processes[0]) if processes else None
+        return os.pidfd_open(running[0]) if running else None
     return None
 
 

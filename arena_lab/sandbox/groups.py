@@ -12,7 +12,7 @@ import pathlib
 import time
 from typing import Iterator, List, Optional
 
-from arena_lab.sandbox import watch
+from arena_lab.sandbox import processes, watch
 
 # where groups are, and which is that of this process
 MOUNTS, OWN = ("/sys/fs/cgroup", "/sys/fs/cgroup/unified"), pathlib.Path("/proc/self/cgroup")
@@ -117,7 +117,7 @@ def own_group() -> Optional[pathlib.Path]:
         own = mount / path.lstrip("/")
         has_all = NEEDED <= set((own / CONTROLLERS).read_text().split())
         may_write = all(os.access(it, os.W_OK) for it in (own, own / PROCESSES, own / SUBTREE))
-        is_alone = not (own / KIND).exists() or set(processes_in(own)) <= set(watch.processes_below(os.getpid()))
+        is_alone = not (own / KIND).exists() or set(processes_in(own)) <= set(processes.below(os.getpid()))
     except (OSError, StopIteration, ValueError):
         return None
     return own if has_all and may_write and is_alone else None

@@ -12,6 +12,7 @@ import subprocess
 import time
 from typing import Iterator, List
 
+from arena_lab.sandbox import processes
 from arena_lab.support.faults import Fault
 
 # numbers of users that no system gives out for long
@@ -76,12 +77,12 @@ def end_and_remove(user: int) -> None:
 def processes_of(user: int) -> List[int]:
     """The processes of a user that still run."""
     found = []
-    for path in pathlib.Path("/proc").glob("[0-9]*/status"):
+    for process in processes.listed():
         with contextlib.suppress(OSError):
             # a process can choose its name, which stands in the first line, and whose its files are
-            lines = path.read_bytes().split(b"\n")[1:]
+            lines = (processes.PROC / str(process) / "status").read_bytes().split(b"\n")[1:]
             users = [word for line in lines if line.startswith(b"Uid:") for word in line.split()[1:]]
             has_ended = any(line.startswith(b"State:\tZ") for line in lines)
             if str(user).encode() in users and not has_ended:
-                found.append(int(path.parent.name))
+                found.append(process)
     return found

@@ -7,7 +7,7 @@ import contextlib
 import os
 import pathlib
 import threading
-from typing import Any, Callable, Dict, List, Sequence
+from typing import Any, Callable, Dict, Sequence
 
 # bytes of memory of a program with all that it has started, and how often it is looked at, in seconds
 MOST, EVERY = 2 << 30, 0.05
@@ -45,17 +45,6 @@ class MemoryWatch:
                 with contextlib.suppress(OSError):
                     if takes_too_much():
                         end(TOO_MUCH)
-
-
-def processes_below(process: int) -> List[int]:
-    """A process and all that it has started, as far as they have not lost those between."""
-    found, waiting = [], [process]
-    while waiting:
-        found.append(waiting.pop())
-        for path in pathlib.Path(f"/proc/{found[-1]}/task").glob("*/children"):
-            with contextlib.suppress(OSError):
-                waiting += map(int, path.read_text().split())
-    return found
 
 
 def memory_of(processes: Sequence[int]) -> int:

@@ -1,6 +1,7 @@
 """A course's file and its secret, the league, schedules that are made small, and what is said of programs."""
 import concurrent.futures
 import contextlib
+import errno
 import io
 import os
 import pathlib
@@ -15,7 +16,7 @@ from arena_lab.play import bounds, mistakes
 from arena_lab.play.schedulers import ANSWER, Choice, in_runs
 from arena_lab.search.minimising import Cut, Runs, in_words, runs_of, tidy
 from arena_lab.rules import networks
-from arena_lab.sandbox import users
+from arena_lab.sandbox import processes, users
 from arena_lab.sandbox.cells import Isolation
 from arena_lab.support.fields import WrongFile
 from arena_lab.sweep import tables
@@ -309,6 +310,12 @@ class Users(unittest.TestCase):
                 self.assertEqual({one, other}, set(users.USERS[:2]))
                 with self.assertRaisesRegex(users.NoUser, "are taken"), users.claimed():
                     pass
+
+    def test_a_process_that_ends_meanwhile_is_passed_over(self) -> None:
+        gone = mock.Mock(side_effect=ProcessLookupError(errno.ESRCH, "No such process"))
+        with mock.patch.multiple(pathlib.Path, exists=gone, read_bytes=gone, read_text=gone):
+            self.assertEqual(users.processes_of(os.geteuid()), [])
+            self.assertEqual(processes.below(os.getpid()), [os.getpid()])
 
 
 class Words(unittest.TestCase):

@@ -19,6 +19,7 @@ from typing import Any, Callable, Dict, Iterator, List, Optional
 from arena_lab.hall.place import HallFolder
 from arena_lab.rules.engines import TOP
 from arena_lab.sandbox import cells
+from arena_lab.sandbox.processes import listed, words_of
 from arena_lab.support.ports import free_port
 from arena_lab.tests.playing import program
 
@@ -221,11 +222,10 @@ class Served:
     def processes(self) -> Dict[str, int]:
         """The numbers of the hall's processes by their names: `web`, `worker 0` and so on."""
         found = {}
-        for path in pathlib.Path("/proc").glob("[0-9]*"):
-            with contextlib.suppress(OSError):
-                words = (path / "cmdline").read_bytes().decode(errors="replace").split("\0")
-                if words[1:4] == ["-m", "arena_lab.hall.entry", str(self.folder)]:
-                    found[" ".join(words[4:6]) if words[4] == "worker" else words[4]] = int(path.name)
+        for process in listed():
+            words = words_of(process)
+            if words[1:4] == ["-m", "arena_lab.hall.entry", str(self.folder)]:
+                found[" ".join(words[4:6]) if words[4] == "worker" else words[4]] = process
         return found
 
     def kill(self, name: str) -> None:
@@ -239,11 +239,10 @@ class Served:
         """The numbers of all servers of matches of this hall, or of an attempt, that go on."""
         place = str(self.folder / "attempts" / f"{attempt}/") if attempt else str(self.folder)
         found = []
-        for path in pathlib.Path("/proc").glob("[0-9]*"):
+        for process in listed():
             with contextlib.suppress(OSError):
-                words = (path / "cmdline").read_bytes().split(b"\0")
-                if b"serve" in words and os.readlink(path / "cwd").startswith(place):
-                    found.append(int(path.name))
+                if "serve" in words_of(process) and os.readlink(f"/proc/{process}/cwd").startswith(place):
+                    found.append(process)
         return found
 
 

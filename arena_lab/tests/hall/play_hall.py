@@ -17,6 +17,7 @@ from typing import Any, Dict, List
 
 from arena_lab.rules.engines import TOP
 from arena_lab.rules.model import played
+from arena_lab.sandbox.processes import below, is_alive, listed, words_of
 from arena_lab.tests.hall import halls
 from arena_lab.tests.hall.halls import Served, play, said
 
@@ -169,7 +170,7 @@ class HandIns(Halls):
                 self.hall.wait(lambda: not set(before) & set(within(place)), "all that was killed has ended", 20)
                 told = self.hall.wait(lambda: within(place), "it is graded again")
                 self.hall.stop()
-                self.assertFalse(any(map(alive, told)))
+                self.assertFalse(any(map(is_alive, told)))
                 self.hall.start()
                 self.hall.wait(lambda: self.state(token, number) != "running", "it is given up")
                 self.assertEqual(self.state(token, number), "lost")
@@ -248,7 +249,7 @@ class Processes(Halls):
         assert self.hall.child is not None
         os.kill(self.hall.child.pid, signal.SIGKILL)
         self.hall.child.wait()
-        self.hall.wait(lambda: not self.hall.servers() and not any(map(alive, processes.values())),
+        self.hall.wait(lambda: not self.hall.servers() and not any(map(is_alive, processes.values())),
                        "all processes have ended", 20)
         self.hall.start()
         told = self.hall.begins(token, number, keys)
@@ -258,23 +259,12 @@ class Processes(Halls):
 
 def within(place: pathlib.Path) -> List[int]:
     """The processes of a grading: `grade` and all below it, itself first."""
-    parents: Dict[int, int] = {}
     found: List[int] = []
-    for path in pathlib.Path("/proc").glob("[0-9]*"):
+    for process in listed():
         with contextlib.suppress(OSError):
-            parents[int(path.name)] = int((path / "stat").read_text().rpartition(")")[2].split()[1])
-            if b"\0grade\0" in (path / "cmdline").read_bytes() and os.readlink(path / "cwd").startswith(str(place)):
-                found.append(int(path.name))
-    for number in found:
-        found += [child for child, parent in parents.items() if parent == number]
-    return list(filter(alive, found))
-
-
-def alive(number: int) -> bool:
-    """Whether a process goes on."""
-    with contextlib.suppress(OSError):
-        return pathlib.Path(f"/proc/{number}/stat").read_text().rpartition(")")[2].split()[0] != "Z"
-    return False
+            if "grade" in words_of(process)[1:] and os.readlink(f"/proc/{process}/cwd").startswith(str(place)):
+                found += below(process)
+    return list(filter(is_alive, dict.fromkeys(found)))
 
 
 class Commands(Halls):

@@ -11,6 +11,7 @@ import time
 import unittest
 from typing import Any, Callable, List, Set
 
+from arena_lab.sandbox.processes import listed
 from arena_lab.support.built import TOP
 from arena_lab.tests.playing import program
 
@@ -52,11 +53,12 @@ class Example(unittest.TestCase):
     def left(self) -> List[int]:
         """The processes that belong to the hall: by their variables, their words or where they are."""
         found, place = [], self.folder.encode()
-        for path in pathlib.Path("/proc").glob("[0-9]*"):
+        for process in listed():
             with contextlib.suppress(OSError):
+                path = pathlib.Path(f"/proc/{process}")
                 texts = [(path / name).read_bytes() for name in ("environ", "cmdline")]
                 if any(place in text for text in [*texts, os.readlink(path / "cwd").encode()]):
-                    found.append(int(path.name))
+                    found.append(process)
         return found
 
     def ended(self, child: "subprocess.Popen[str]", status: int) -> str:

@@ -20,6 +20,7 @@ from arena_lab.rules import refusals
 from arena_lab.rules.engines import TOP, Program
 from arena_lab.rules.fixtures import read_tournament, toml_of
 from arena_lab.rules.networks import ring
+from arena_lab.sandbox.processes import is_alive, listed
 from arena_lab.support import missing
 from arena_lab.tests.playing import RING, InFolder, fixture, played, program
 
@@ -162,11 +163,10 @@ class Processes(InFolder):
 def session_of(leader: int) -> Set[int]:
     """The processes that a command has started and that run."""
     found = set()
-    for path in pathlib.Path("/proc").glob("[0-9]*/stat"):
-        with contextlib.suppress(OSError):
-            state, _, _, session = path.read_text().rpartition(") ")[2].split()[:4]
-            if int(session) == leader and state != "Z":
-                found.add(int(path.parent.name))
+    for process in listed():
+        with contextlib.suppress(ProcessLookupError):
+            if os.getsid(process) == leader and is_alive(process):
+                found.add(process)
     return found
 
 

@@ -1,5 +1,4 @@
 """Programs over loopback: a schedule gives the same match whoever plays it, and who keeps to no rule is named."""
-import contextlib
 import pathlib
 import shutil
 import subprocess
@@ -15,6 +14,7 @@ from arena_lab.play.schedules import schedule_of
 from arena_lab.play.teams import OUTSIDE, AgentWords, Together
 from arena_lab.rules.networks import ring
 from arena_lab.rules.rehearsal import Rehearsal
+from arena_lab.sandbox.processes import listed, words_of
 from arena_lab.tests.playing import AGENTS, RING, fixture, played, program
 
 PYTHON = AgentWords(OUTSIDE, f"{sys.executable} {AGENTS / 'ring.py'} {{host}} {{port}} {{key}} {{nodes}}")
@@ -36,12 +36,8 @@ WAITED_FOR, SHORT, LONG = ("silent", "endless", "blank"), 1, 30
 
 def running(words: str) -> List[str]:
     """The processes whose command lines have these words."""
-    found = []
-    for path in pathlib.Path("/proc").glob("[0-9]*/cmdline"):
-        with contextlib.suppress(OSError):
-            line = path.read_bytes().replace(b"\0", b" ").decode(errors="replace")
-            found += [f"{path.parent.name} {line}"] if words in line else []
-    return found
+    found = [f"{process} {' '.join(words_of(process))}" for process in listed()]
+    return [line for line in found if words in line]
 
 
 class Programs(unittest.TestCase):
