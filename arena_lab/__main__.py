@@ -2,13 +2,10 @@
 import argparse
 import functools
 import importlib
-import multiprocessing
 import os
 import signal
 import sys
-import threading
-from types import FrameType
-from typing import Any, Collection, List, NamedTuple, Optional, Tuple
+from typing import Collection, List, NamedTuple, Optional, Tuple
 
 import arena_lab
 from arena_lab import IN_CLONE
@@ -17,6 +14,7 @@ from arena_lab.rules import refusals
 from arena_lab.rules.engines import EngineRefused
 from arena_lab.support.faults import Fault
 from arena_lab.support.missing import Missing, missing_of
+from arena_lab.support.signals import Terminated, come_again, end
 
 # modules of Debian's packages: to play agents inside the lab, to lay out pages
 PLAYS, PAGES = ("greenlet", "tqdm"), ("jinja2", "networkx", "numpy", "scipy")
@@ -102,34 +100,6 @@ def call_by(name: str, words: argparse.ArgumentParser) -> None:
         action.help = action.help and action.help.replace(IN_CLONE, name)
     for group in words._action_groups:
         group.description = group.description and group.description.replace(IN_CLONE, name)
-
-
-class Terminated(BaseException):
-    """The lab is to end. An agent that is playing then does not catch it, as it would an exit."""
-
-
-def end(lab: int, number: int, frame: Optional[FrameType]) -> None:
-    """Interrupts the lab, the process of this number, or ends it and the processes that play for it, whose matches may
-    take minutes. A second signal does not interrupt that. A process that is forked and has not begun to play ends."""
-    if os.getpid() != lab:
-        os._exit(128 + number)
-    if number == signal.SIGINT:
-        raise KeyboardInterrupt
-    signal.signal(signal.SIGTERM, signal.SIG_IGN)
-    for process in multiprocessing.active_children():
-        process.terminate()
-    raise Terminated
-
-
-def come_again(dropped: Any) -> None:
-    """Has a signal come again if Python has dropped what was raised for it, as it does in what a weak reference, a fork
-    or a finalizer calls."""
-    number = {KeyboardInterrupt: signal.SIGINT, Terminated: signal.SIGTERM}.get(dropped.exc_type)
-    if number is None:
-        sys.__unraisablehook__(dropped)
-        return
-    signal.signal(number, functools.partial(end, os.getpid()))
-    threading.Timer(0.01, os.kill, (os.getpid(), number)).start()
 
 
 def main(given: Optional[List[str]] = None) -> int:

@@ -1,5 +1,6 @@
-"""A grading ends if it is sent SIGTERM, also more than once, and leaves no process behind."""
-import contextlib
+"""A grading ends if it is sent SIGTERM, also more than once, and leaves no process behind: what keeps programs in ends
+them where it can, and else each process that plays ends those of its match."""
+import os
 import pathlib
 import signal
 import subprocess
@@ -7,9 +8,10 @@ import sys
 import tempfile
 import time
 import unittest
-from typing import Iterator
+from typing import List
 
 from arena_lab.rules.engines import TOP
+from arena_lab.sandbox.processes import below, is_alive, words_of
 from arena_lab.tests.playing import program
 
 COURSE = '''title = "it hangs"
@@ -22,42 +24,43 @@ agents = 2
 files = ["files"]
 command = "python3 agent.py {host} {port} {key} {nodes}"
 '''
+AGENT = ["python3", "agent.py"]
+# the lab, as where programs have no walls
+WITHOUT_WALLS = """
+from arena_lab.sandbox import cells
+cells.strongest = lambda: cells.Isolation.USER if cells.os.geteuid() == 0 else cells.Isolation.NONE
+from arena_lab.__main__ import main
+raise SystemExit(main())
+"""
 # seconds within which agents have begun, and the grading ends
 BEGUN, ENDED = 30, 20
 
 
-def below(process: int) -> Iterator[int]:
-    """The processes that a process has begun, and theirs."""
-    children = ""
-    with contextlib.suppress(FileNotFoundError, ProcessLookupError):
-        children = pathlib.Path(f"/proc/{process}/task/{process}/children").read_text()
-    for child in children.split():
-        yield int(child)
-        yield from below(int(child))
-
-
 class Ended(unittest.TestCase):
-    def test_a_grading_that_is_sent_signals_leaves_nothing(self) -> None:
-        with tempfile.TemporaryDirectory() as name:
-            folder = pathlib.Path(name)
-            (folder / "files").mkdir()
-            (folder / "files" / "agent.py").write_text("import time\ntime.sleep(1_000_000)\n")
-            (folder / "course.toml").write_text(COURSE)
-            for signals in (1, 2, 5):
-                with self.subTest(signals=signals):
-                    self.ended(folder, signals)
+    def setUp(self) -> None:
+        self.folder = pathlib.Path(self.enterContext(tempfile.TemporaryDirectory()))
+        (self.folder / "files").mkdir()
+        (self.folder / "files" / "agent.py").write_text("import time\ntime.sleep(1_000_000)\n")
+        (self.folder / "course.toml").write_text(COURSE)
 
-    def ended(self, folder: pathlib.Path, signals: int) -> None:
+    def test_a_grading_that_is_sent_signals_leaves_nothing(self) -> None:
+        for signals in (1, 5):
+            for title, lab in (("as it is", ["-m", "arena_lab"]), ("without walls", ["-c", WITHOUT_WALLS])):
+                with self.subTest(title, signals=signals):
+                    self.ended(lab, signals)
+
+    def ended(self, lab: List[str], signals: int) -> None:
         """Grades, and sends so many signals once the agents of a match have begun."""
-        out = folder / f"out{signals}"
-        words = ["-m", "arena_lab", "grade", str(folder / "course.toml"), "--out", str(out), "--program", program()]
+        out = self.enterContext(tempfile.TemporaryDirectory(dir=self.folder))
+        words = [*lab, "grade", str(self.folder / "course.toml"), "--out", f"{out}/out", "--program", program()]
         child = subprocess.Popen([sys.executable, *words], cwd=TOP, stdout=subprocess.DEVNULL,
                                  stderr=subprocess.DEVNULL)
         self.addCleanup(child.kill)
         late = time.monotonic() + BEGUN
-        while len(begun := list(below(child.pid))) < 4 and time.monotonic() < late:
+        while len(agents_of(child.pid)) < 2 and time.monotonic() < late:
             time.sleep(0.1)
-        self.assertGreaterEqual(len(begun), 4, "no agent has begun")
+        begun = below(child.pid)
+        self.assertEqual(len(agents_of(child.pid)), 2, "not all agents have begun")
         for _ in range(signals):
             child.send_signal(signal.SIGTERM)
             time.sleep(0.002)
@@ -65,14 +68,15 @@ class Ended(unittest.TestCase):
         late = time.monotonic() + ENDED
         while any(map(is_alive, begun)) and time.monotonic() < late:
             time.sleep(0.1)
-        self.assertEqual([process for process in begun if is_alive(process)], [])
+        left = [it for it in begun if is_alive(it)]
+        for it in left:
+            os.kill(it, signal.SIGKILL)
+        self.assertEqual(left, [])
 
 
-def is_alive(process: int) -> bool:
-    try:
-        return pathlib.Path(f"/proc/{process}/stat").read_text().rpartition(")")[2].split()[0] != "Z"
-    except (FileNotFoundError, ProcessLookupError):
-        return False
+def agents_of(grading: int) -> List[int]:
+    """The agents that a grading has started."""
+    return [process for process in below(grading) if words_of(process)[:2] == AGENT]
 
 
 if __name__ == "__main__":

@@ -14,7 +14,7 @@ import weakref
 from typing import Dict, List
 from unittest import mock
 
-from arena_lab.__main__ import COMMANDS, Terminated, come_again, end, main
+from arena_lab.__main__ import COMMANDS, main
 from arena_lab.rules import networks
 from arena_lab.rules.engines import TOP, EngineRefused, asked, name_of, program_at
 from arena_lab.rules.fixtures import Fixture, fixture_of, read_tournament, write_tournament
@@ -23,6 +23,7 @@ from arena_lab.rules.rehearsal import Rehearsal
 from arena_lab.support import built
 from arena_lab.support import missing as lab_missing
 from arena_lab.support.missing import Missing, needed
+from arena_lab.support.signals import Terminated, come_again, end
 
 ENTER = [b'{"do":"enter","key":"k0"}', b'{"do":"enter","key":"k1"}']
 HERE = '{"board":"","from":null,"ok":"here","ports":2}'
