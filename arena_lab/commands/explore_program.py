@@ -216,7 +216,7 @@ def do_not_repeat(game: Game) -> List[str]:
 
 
 def shown_failure(wanted: ExploreRequest, tried: MatchResult) -> int:
-    """Says what the schedule that fails comes to, and writes it."""
+    """Prints the outcome of the failing schedule and keeps its match; gives the exit status."""
     found, setup = tried.answered.found, tried.fixture.setup
     if isinstance(found, Endless):
         print(f"home {setup.home} holes {setup.holes}: after {len(found.schedule)} choices, the last "

@@ -97,8 +97,8 @@ class Server:
         return told
 
     def ended(self) -> Run:
-        """How it ended, what it printed behind the line that says that it listens, and what it told that was not read
-        before."""
+        """Waits until the server has ended: its exit status, what it printed after the line that says where it
+        listens, and what of standard error nobody has read yet."""
         printed, told = self.child.communicate(timeout=END)
         return Run(self.child.returncode, self.first.removeprefix(self._listens) + printed, told or b"")
 

@@ -13,8 +13,8 @@ TRIANGLE = Network(3, [(0, 0, 1, 0), (1, 1, 2, 0), (2, 1, 0, 1)])
 
 
 def match(team: str, network: Network, holes: Sequence[int], agents: int = 2, **more: Any) -> Fixture:
-    """A match of a team whose agents have the keys TEAM-0, TEAM-1 and so on. `more` says what is otherwise in its
-    fixture or its setup than usual."""
+    """A match of a team whose agents have the keys TEAM-0, TEAM-1 and so on. `more` has values for fields
+    of its fixture or its setup, in place of the usual ones."""
     fixture = Fixture(team, Setup(network.nodes, network.links, 0, list(holes), agents, 1000, 64),
                       [f"{team}-{agent}" for agent in range(agents)])
     own = {name: more.pop(name) for name in Fixture._fields if name in more}

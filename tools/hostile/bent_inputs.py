@@ -3,14 +3,19 @@
     python3 -m tools.hostile.bent_inputs PROGRAM OTHER [--replays N] [--scripts N] [--seed SEED] [--workers W]
         [--keep FOLDER]
 
-Makes 10,000 replays and 2,000 scripts, where no numbers are given: those of examples/, replays of matches that the
-lab's model plays by chance, and scripts that it draws, each bent in one to three places. Bytes are changed, deleted or
-doubled; numbers get a zero in front or are too large; spaces and escapes stand where none should; a line has the event
-or the reply of another; lines are swapped, dropped, doubled or cut; lines end with a carriage return; texts are no
-UTF-8, or long. The head and the end line of a replay are bent like any other, and a script has lines of another match
-or connection, bytes in hexadecimal, and lines that are too long. Both programs judge, explain and twin each replay, and
-rehearse each script, whole and line by line. Their exit statuses and what they print on standard output and standard
-error must be the same bytes.
+Makes 10,000 replays and 2,000 scripts, or as many as are asked for. They begin as replays and scripts of examples/, or
+as those of matches that the lab's model plays at random. Each is then bent in one to three places:
+
+- bytes are changed, deleted or doubled;
+- numbers get a zero in front or are too large;
+- spaces and escapes stand where none should;
+- a line has the event or the reply of another;
+- lines are swapped, dropped, doubled or cut, or end with a carriage return;
+- texts are no UTF-8, or long;
+- a script has lines of another match or connection, bytes in hexadecimal, and lines that are too long.
+
+Both programs judge, explain and twin each replay, and rehearse each script, whole and line by line. Their exit statuses
+and their bytes on standard output and standard error must be the same.
 
 Prints how often each fault was told, and a line for each difference; with --keep the inputs that make one are written
 to FOLDER. The exit status is 1 where there is a difference. The same seed makes the same inputs. A run takes about
@@ -314,7 +319,8 @@ def said(program: str, words: Sequence[str], given: bytes = b"") -> Said:
 
 
 class Compared(NamedTuple):
-    """An input by its kind and number, what was told of it, and the commands by which the programs differ."""
+    """An input, by kind and number, with the fault that the first program printed, and the commands whose results
+    differ."""
 
     kind: str
     number: int

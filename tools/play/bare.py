@@ -1,4 +1,4 @@
-"""Runs the gate's Python in a bare Debian: what the gate says on a machine that has nothing but Python.
+"""Runs the Python part of the gate in a bare Debian, which has python3 and no other package.
 
     sudo python3 -m tools.play.bare [--root FOLDER] [--program PATH]
 

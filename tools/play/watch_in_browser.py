@@ -26,7 +26,7 @@ TOP = pathlib.Path(__file__).resolve().parents[2]
 SIZES = {"wide": (1600, 1000), "tablet": (800, 1000), "phone": (400, 850)}
 # how long a page may take, and how often the browser is started
 SECONDS, STARTS = 180, 3
-# what the server and the page are told of turns
+# options of `arena serve` and of the page: the turns of a match, and the milliseconds between two turns
 PLAYED = ("--turns", "20000", "--pause", "2")
 
 
