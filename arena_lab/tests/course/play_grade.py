@@ -11,7 +11,7 @@ from typing import Dict, Iterator, List
 from unittest import mock
 
 from arena_lab.__main__ import main
-from arena_lab.course import grounds, league
+from arena_lab.course import course, grounds, league
 from arena_lab.course.grading import GradingRun
 from arena_lab.course.hand_in import HandIn
 from arena_lab.play import schedulers
@@ -19,6 +19,7 @@ from arena_lab.rules import engines
 from arena_lab.rules.engines import TOP
 from arena_lab.sandbox import cells
 from arena_lab.sandbox.cells import Cell, ProgramFiles, Isolation, Sandbox
+from arena_lab.support import fields
 from arena_lab.sweep import tables
 from arena_lab.tests.play.play_programs import running
 from arena_lab.tests.playing import AGENTS, InFolder, program
@@ -69,6 +70,12 @@ def league_in(page: pathlib.Path) -> List[str]:
 
 
 class Grading(InFolder):
+    def setUp(self) -> None:
+        super().setUp()
+        # however slow the machine is, the lab has time to make the schedules of failed matches small
+        slow = {name: fields.count(36_000, "seconds") for name in ("match_limit", "team_limit")}
+        self.enterContext(mock.patch.dict(course.FIELDS, slow))
+
     def graded(self, file: pathlib.Path, out: str, *more: str) -> str:
         """Grades a course; gives what is said."""
         status, said, _ = ran(main, ["grade", str(file), "--out", str(self.folder / out), *more])
