@@ -277,7 +277,3 @@ for place, cell in enumerate(json.loads(sys.argv[1])):
     found.append(said.getvalue())
 print(json.dumps(found))
 """
-
-
-if __name__ == "__main__":
-    unittest.main()

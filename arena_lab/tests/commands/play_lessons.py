@@ -4,7 +4,6 @@ import re
 import shlex
 import subprocess
 import sys
-import unittest
 from typing import List
 
 from arena_lab.rules.engines import TOP
@@ -73,7 +72,3 @@ class TestLessons(InTemporary):
             with self.subTest(words):
                 self.assertIn("solve", self.said(words))
         self.assertIn("silent", self.said(wrong))
-
-
-if __name__ == "__main__":
-    unittest.main()

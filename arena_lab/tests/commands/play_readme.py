@@ -69,7 +69,3 @@ class Readme(unittest.TestCase):
             words += ["--program", program()]
         said = ran(main, words).said
         return said
-
-
-if __name__ == "__main__":
-    unittest.main()

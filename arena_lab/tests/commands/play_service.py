@@ -45,7 +45,3 @@ class TestService(unittest.TestCase):
                 server.kill()
                 server.communicate()
             self.assertTrue((folder / "cup0.jsonl").exists())
-
-
-if __name__ == "__main__":
-    unittest.main()

@@ -13,7 +13,3 @@ class Types(unittest.TestCase):
     def test_types_are_right(self) -> None:
         ran = subprocess.run([MYPY], cwd=TOP, capture_output=True, text=True)
         self.assertEqual(ran.returncode, 0, ran.stdout + ran.stderr)
-
-
-if __name__ == "__main__":
-    unittest.main()

@@ -59,7 +59,3 @@ class Said(unittest.TestCase):
         record = mock.Mock(keep=lambda folder: [f"see {folder}"])
         self.assertEqual(self.said(("", check.ToMend(["it fails", "so"], record))), (1, {
             "right": False, "said": ["it fails", "so"], "kept": "kept"}))
-
-
-if __name__ == "__main__":
-    unittest.main()

@@ -38,7 +38,3 @@ class Copies(unittest.TestCase):
         said = ran(main, ["run", "--network", "ring:6", "--agent", f"{agent} {{nodes}}", "--engine", "model", "--runs",
                           "5"]).said
         self.assertIn("5 schedules: solved 5; failed 0", said)
-
-
-if __name__ == "__main__":
-    unittest.main()

@@ -20,7 +20,3 @@ class Order(unittest.TestCase):
 
     def test_workers_of_a_cluster_have_it_too(self) -> None:
         self.assertIn("arena_lab.with_one_order(); from arena_lab.play.parallel import serve", PLAY)
-
-
-if __name__ == "__main__":
-    unittest.main()

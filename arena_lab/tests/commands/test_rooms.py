@@ -119,7 +119,3 @@ class Rooms(unittest.TestCase):
         self.assertEqual(list(imported("def late():\n    from arena_lab.commands import run\n", names)),
                          ["commands.run"])
         self.assertEqual(list(imported("import arena_lab.api as lab\n", names)), ["api"])
-
-
-if __name__ == "__main__":
-    unittest.main()

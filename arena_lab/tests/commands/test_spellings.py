@@ -84,7 +84,3 @@ class Spellings(unittest.TestCase):
         for name, command in commands.items():
             for old in SPELLINGS:
                 self.assertNotRegex(command.format_help(), rf"{old}(?![\w-])", name)
-
-
-if __name__ == "__main__":
-    unittest.main()

@@ -84,7 +84,3 @@ class Writes(unittest.TestCase):
             self.file.write_text(text)
             with self.assertRaisesRegex(NoNetwork, "cup.toml: this is not the file of a tournament"):
                 matches_of(self.file)
-
-
-if __name__ == "__main__":
-    unittest.main()

@@ -4,7 +4,6 @@ import io
 import json
 import re
 import sys
-import unittest
 from unittest import mock
 
 from arena_lab.__main__ import main
@@ -98,7 +97,3 @@ class Pages(InTemporary):
         lines = ['{"agents":1,"board":8,"hole":null,"home":0,"links":[],"nodes":3,"quota":10,"replay":1}', '{"end":0}']
         head = page.read(lines)["head"]
         self.assertEqual((head["holes"], head["dark"], head["replay"]), ([], [], 2))
-
-
-if __name__ == "__main__":
-    unittest.main()

@@ -1,6 +1,5 @@
 """The page of a match is the same, whether the program or the Python model judges and explains it."""
 import random
-import unittest
 
 from arena_lab.pages import page
 from arena_lab.play import schedulers
@@ -17,7 +16,3 @@ class Pages(InFolder):
             path.write_bytes(played(fixture, agent, number, schedulers.slow_agents).replay)
             pages = [page.page_of(page.data_of(engine, path, None)) for engine in (None, program())]
             self.assertEqual(pages[0], pages[1])
-
-
-if __name__ == "__main__":
-    unittest.main()

@@ -8,7 +8,6 @@ import pathlib
 import subprocess
 import sys
 import time
-import unittest
 from typing import Any, Callable, Dict, List
 
 from examples.contest import free_port
@@ -196,7 +195,3 @@ class Watching(InFolder):
         while not (line := stream.readline()).startswith(b"data: ") or line == before:
             pass
         self.assertEqual(json.loads(self.asked("/match/0/data").read())["match"]["events"], "e0,e1")
-
-
-if __name__ == "__main__":
-    unittest.main()

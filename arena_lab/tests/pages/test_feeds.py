@@ -82,7 +82,3 @@ class Feeds(unittest.TestCase):
         self.part.write_text(self.text())
         self.feed.look()
         self.assertEqual(self.feed.match and self.feed.match.log, [])
-
-
-if __name__ == "__main__":
-    unittest.main()

@@ -32,7 +32,3 @@ class Judging(unittest.TestCase):
                 path.write_text(bent, encoding="utf-8")
                 with self.assertRaisesRegex(EngineRefused, "it.jsonl: this is no replay of a match by the rules"):
                     judging.verdict_of(None, path)
-
-
-if __name__ == "__main__":
-    unittest.main()

@@ -118,7 +118,3 @@ class TwoRows(unittest.TestCase):
         self.matches[0].tell(0, {"do": "enter"})
         self.matches[0].tell(0, {"do": "leave"})
         self.assertEqual(shown(WatchedMatch("a", self.matches[0], 7), False)["entered"], 1)
-
-
-if __name__ == "__main__":
-    unittest.main()

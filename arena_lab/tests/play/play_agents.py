@@ -110,7 +110,3 @@ class Modules(InFolder):
         agent = AgentWords(INSIDE, str(self.folder / "broken.py"))
         with self.assertRaisesRegex(NoAgent, r"broken.py, line 1: '\(' was never closed"):
             played(fixture(ring(3), 1), agent, 0)
-
-
-if __name__ == "__main__":
-    unittest.main()

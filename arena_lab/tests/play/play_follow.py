@@ -1,6 +1,5 @@
 """A find is never lost: its limit is part of the schedule, and a mended program follows it as far as it goes along."""
 import shutil
-import unittest
 from typing import Tuple
 
 from arena_lab.__main__ import main
@@ -66,7 +65,3 @@ class Follows(InFolder):
         self.assertEqual(status, 0, said)
         self.assertRegex(said, r"^followed \d+ of \d+ choices: the next is `.*fair choices came then\nsolved moves")
         self.assertIn("the replay is the same", self.said("replay", str(self.folder / "mended"))[1])
-
-
-if __name__ == "__main__":
-    unittest.main()

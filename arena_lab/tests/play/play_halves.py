@@ -129,7 +129,3 @@ class Protocols(unittest.TestCase):
                     for engine in engines[:1 + (seed < ON_THE_PROGRAM)]:
                         with self.subTest(name, scheduler=scheduler, seed=seed, nodes=nodes, home=home, hole=hole):
                             self.check(play(engine(given), Together(team(name), given, 5), maker(seed), given), bounds)
-
-
-if __name__ == "__main__":
-    unittest.main()

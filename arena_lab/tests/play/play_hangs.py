@@ -1,5 +1,4 @@
 """Programs that hang cost a course little time, and are told what they may have forgotten."""
-import unittest
 from typing import Dict, List
 
 from arena_lab.__main__ import main
@@ -47,7 +46,3 @@ class Hangs(InFolder):
         last = max(number for number, line in enumerate(lines) if "ring:4" in line)
         rows.write_text("".join(lines[:last]))
         self.assertEqual(self.faults("--workers", "1"), found)
-
-
-if __name__ == "__main__":
-    unittest.main()

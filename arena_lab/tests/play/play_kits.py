@@ -28,7 +28,3 @@ class TestKits(unittest.TestCase):
 
     def test_wasm(self) -> None:
         self.play("wasm")
-
-
-if __name__ == "__main__":
-    unittest.main()

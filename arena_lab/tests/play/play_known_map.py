@@ -66,7 +66,3 @@ class KnownMap(unittest.TestCase):
             found = played(given, KNOWN_MAP, seed, schedulers.NAMED[name])
             self.assertFalse(found.has_failed())
             self.assertLessEqual(found.verdict().lost, 1)
-
-
-if __name__ == "__main__":
-    unittest.main()

@@ -9,7 +9,6 @@ import signal
 import subprocess
 import sys
 import time
-import unittest
 from typing import Set, Tuple
 from unittest import mock
 
@@ -168,7 +167,3 @@ def session_of(leader: int) -> Set[int]:
             if os.getsid(process) == leader and is_alive(process):
                 found.add(process)
     return found
-
-
-if __name__ == "__main__":
-    unittest.main()

@@ -217,7 +217,3 @@ class ByPlayer(unittest.TestCase):
                          for agent in (MODULE.words, f"{AGENTS / 'ring.py'} {{nodes}}")]
                 with self.subTest(scheduler, network=network):
                     self.assertEqual(found[0], found[1])
-
-
-if __name__ == "__main__":
-    unittest.main()

@@ -64,7 +64,3 @@ class TestPerson(unittest.TestCase):
                           {"agent": 0, "command": "enter"}, {"agent": 0, "command": {}}):
                 self.assertEqual(400, (await client.post("/say", json=given)).status, given)
         asked(ask)
-
-
-if __name__ == "__main__":
-    unittest.main()

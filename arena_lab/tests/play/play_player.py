@@ -158,7 +158,3 @@ class Players(InFolder):
             finally:
                 for child in started:
                     child.kill()
-
-
-if __name__ == "__main__":
-    unittest.main()

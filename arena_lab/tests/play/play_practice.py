@@ -1,6 +1,5 @@
 """The match for practice of `examples/practice.toml`: a team that takes a long silence for the black hole is wrong,
 and one that decides nothing by time is silent. Without the held link no team is wrong."""
-import unittest
 from typing import List
 
 from arena_lab.play.matches import play
@@ -67,7 +66,3 @@ class Practice(InFolder):
         free = self.fixture._replace(held=[])
         self.assertEqual(self.outcomes(RING, free), ["solved"] * 2 * SEEDS)
         self.assertNotIn("wrong", self.outcomes(self.timed, free))
-
-
-if __name__ == "__main__":
-    unittest.main()

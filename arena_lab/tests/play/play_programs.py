@@ -96,7 +96,3 @@ class Programs(unittest.TestCase):
         for words in ("no-such-program {port}", "cat {nothing}"):
             with self.assertRaises(NoAgent):
                 self.of([AgentWords(OUTSIDE, words)] * 2, 1)
-
-
-if __name__ == "__main__":
-    unittest.main()

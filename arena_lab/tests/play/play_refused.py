@@ -1,7 +1,6 @@
 """Lines of agents that were refused are told by `run`, `replay`, `grade` and pages, and change nothing of a match."""
 import json
 import sys
-import unittest
 
 from arena_lab.__main__ import main
 from arena_lab.tests.playing import InFolder
@@ -89,7 +88,3 @@ class Refused(InFolder):
         page = (out / "team-a.html").read_text()
         self.assertEqual(page.count("lines were no commands; the first: `debug: here`"), 1)
         self.assertIn("(matches 0, 1, 2)", page)
-
-
-if __name__ == "__main__":
-    unittest.main()

@@ -70,7 +70,3 @@ class Counting(unittest.TestCase):
                 runs, right = Table(nodes, of_ring3).runs()
                 found = turns.played(ring3.search, nodes, runs)
                 self.assertEqual((found.moves, found.hole), (most_moves(nodes), right + 1))
-
-
-if __name__ == "__main__":
-    unittest.main()

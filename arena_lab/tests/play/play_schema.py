@@ -166,7 +166,3 @@ class TestFiles(unittest.TestCase):
                 others = {name: value for name, value in line.items() if name != key}
                 for fault in (others, {**line, key: {}}, {**line, "more": 1}, {**line, key: [[]]}):
                     self.assertFalse(validator.is_valid(fault), fault)
-
-
-if __name__ == "__main__":
-    unittest.main()

@@ -3,7 +3,6 @@ forgets a wake or a nap, that wakes nobody at a write, or that crosses a held li
 import argparse
 import contextlib
 import io
-import unittest
 from typing import Dict, List
 from unittest import mock
 
@@ -166,7 +165,3 @@ class Sleepers(InTemporary):
             assert end is not None and not end.has_failed
             most[fixture.setup.holes[0]] = end.verdict.moves
         self.assertEqual(most, {1: 23, 2: 23, 3: 19, 4: 19, 5: 19})
-
-
-if __name__ == "__main__":
-    unittest.main()

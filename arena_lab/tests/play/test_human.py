@@ -102,7 +102,3 @@ class Terminal(unittest.TestCase):
         with contextlib.redirect_stderr(io.StringIO()) as told:
             self.assertEqual(2, main(["play", "--page", "--second-person"]))
         self.assertIn("leave out --page or --second-person", told.getvalue())
-
-
-if __name__ == "__main__":
-    unittest.main()

@@ -73,7 +73,3 @@ class Imports(unittest.TestCase):
         self.assertEqual([pathlib.Path(name).name for name in inside.digests()], ["inner.py", "client.py"])
         self.assertEqual(list(outside.digests()), [str(path)])
         self.assertEqual(digests_of([inside, outside, inside]), inside.digests())
-
-
-if __name__ == "__main__":
-    unittest.main()

@@ -1,5 +1,4 @@
 """Kits are copied whole, to new folders, and their READMEs name the commands that `./arena-lab new` names."""
-import unittest
 
 from arena_lab.__main__ import main
 from arena_lab.play.agent_files import AGENTS
@@ -37,7 +36,3 @@ class Kits(InTemporary):
         for wanted in (f"cd '{self.folder / 'my agent'}'\n", "    make\n", "    make test\n",
                        '--command "./careful {host} {port} {key} {nodes}"\n'):
             self.assertIn(wanted, told)
-
-
-if __name__ == "__main__":
-    unittest.main()

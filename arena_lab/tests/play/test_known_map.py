@@ -81,7 +81,3 @@ class Texts(unittest.TestCase):
         self.assertEqual(known_map.fields(""), {})
         self.assertEqual(known_map.nodes_of("2f"), {0, 1, 2, 3, 5})
         self.assertEqual(known_map.mask_of(frozenset([0, 1, 2, 3, 5])), "2f")
-
-
-if __name__ == "__main__":
-    unittest.main()

@@ -174,7 +174,3 @@ class Errors(unittest.TestCase):
                      "thread '" * 8_000, "\0\r\n\t" * 9_000):
             self.assertNotIn("\n", error_in(text))
             self.assertEqual(usage_in(text), "")
-
-
-if __name__ == "__main__":
-    unittest.main()

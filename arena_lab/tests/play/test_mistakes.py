@@ -111,7 +111,3 @@ class Told(unittest.TestCase):
         self.assertEqual(self.said((0, UNENDED, b'{"do":"look"}')), [
             'agent 0: what it sent last was not taken, as no line feed stands behind it: `{"do":"look"}`: end each '
             "line with a line feed, and flush"])
-
-
-if __name__ == "__main__":
-    unittest.main()

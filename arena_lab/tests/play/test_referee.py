@@ -63,7 +63,3 @@ class Places(unittest.TestCase):
             raise KeyError("west")
         row = api.play("ring:3", search, "fair", seeds=1)[0]
         self.assertRegex(row["faults"][0], r"^agent 0: raises KeyError: 'west' \(test_referee.py, line \d+\)$")
-
-
-if __name__ == "__main__":
-    unittest.main()

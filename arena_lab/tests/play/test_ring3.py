@@ -60,7 +60,3 @@ class Texts(unittest.TestCase):
     def test_what_a_whiteboard_says(self) -> None:
         self.assertEqual(ring3.fields(""), {})
         self.assertEqual(ring3.fields("left told 5, middle 27"), {"left": "told 5", "middle": "27"})
-
-
-if __name__ == "__main__":
-    unittest.main()

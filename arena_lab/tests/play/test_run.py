@@ -60,7 +60,3 @@ class Tallies(unittest.TestCase):
         best.__getitem__ = mock.Mock(return_value=0)
         report(tally, best, None, said)
         self.assertIn("60 schedules: solved 60; failed 60, of which 60 solved, but an agent failed\n", said.getvalue())
-
-
-if __name__ == "__main__":
-    unittest.main()

@@ -69,7 +69,3 @@ class Schedulers(unittest.TestCase):
         self.assertEqual(choose(ANSWERS, state([])), ANSWERS[1])
         self.assertRaises(Impossible, choose, ANSWERS, state([]))
         self.assertRaises(ScheduleEnded, choose, ANSWERS, state([]))
-
-
-if __name__ == "__main__":
-    unittest.main()

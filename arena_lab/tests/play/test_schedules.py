@@ -80,7 +80,3 @@ class Texts(unittest.TestCase):
             file.write(text_of(made))
             file.flush()
             self.assertEqual(read(pathlib.Path(file.name)).fixture.naps, 3)
-
-
-if __name__ == "__main__":
-    unittest.main()

@@ -25,7 +25,3 @@ class Ending(unittest.TestCase):
             parallel.end_all([process])
         process.join(20)
         self.assertEqual(process.exitcode, -signal.SIGKILL)
-
-
-if __name__ == "__main__":
-    unittest.main()

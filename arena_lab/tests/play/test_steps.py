@@ -53,7 +53,3 @@ class Files(unittest.TestCase):
         self.assertFalse(is_step(function_of("examples/agents/ring.py {nodes}")))
         with self.assertRaisesRegex(NoAgent, "it has no function search or step$"):
             function_of("examples/agents/client.py")
-
-
-if __name__ == "__main__":
-    unittest.main()

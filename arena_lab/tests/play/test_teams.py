@@ -64,7 +64,3 @@ class Standings(unittest.TestCase):
                           for row in told["rows"]],
                          [(1, "red", 1, False, [(0, 1), (1, 1)]), (2, "blue", 0, True, [(0, 1), None]),
                           (2, "green", 0, True, [None, (0, 1)])])
-
-
-if __name__ == "__main__":
-    unittest.main()

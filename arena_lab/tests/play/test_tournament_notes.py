@@ -3,7 +3,6 @@ import contextlib
 import io
 import os
 import pathlib
-import unittest
 from typing import List
 from unittest import mock
 
@@ -103,7 +102,3 @@ class Notes(InTemporary):
         with contextlib.redirect_stderr(io.StringIO()) as said:
             self.assertEqual(lab.main(["check", "cup.toml", "--engine", "model"]), 2)
         self.assertIn("cup.toml: that is no agent; of a tournament it is `arena check cup.toml`", said.getvalue())
-
-
-if __name__ == "__main__":
-    unittest.main()

@@ -138,7 +138,3 @@ class Schedules(InTemporary):
                 self.assertIn(said, self.said.getvalue())
                 (kept / file).write_text(text, encoding="utf-8")
         self.assertEqual(self.command("replay", kept, "--engine", "model"), 0)
-
-
-if __name__ == "__main__":
-    unittest.main()

@@ -63,7 +63,3 @@ class Ends(unittest.TestCase):
                 ran.terminate()
                 self.assertEqual(ran.communicate(timeout=60)[0], "")
         self.assertEqual(ran.returncode, 143)
-
-
-if __name__ == "__main__":
-    unittest.main()

@@ -169,7 +169,3 @@ class Written(unittest.TestCase):
                 self.assertEqual(status, 2)
                 self.assertIn(said, errors)
                 self.assertFalse(pathlib.Path("contest").exists())
-
-
-if __name__ == "__main__":
-    unittest.main()

@@ -5,7 +5,6 @@ import contextlib
 import pathlib
 import threading
 import time
-import unittest
 from types import ModuleType
 from typing import List
 
@@ -87,7 +86,3 @@ class ObliviousTest(InFolder):
         wanted = self.inside(Oblivious(SEED, DELAYS))
         for other in (fair(SEED), Oblivious(SEED + 1, DELAYS), Oblivious(SEED, Delays(0, 6)), Oblivious(SEED)):
             self.assertNotEqual(self.inside(other), wanted)
-
-
-if __name__ == "__main__":
-    unittest.main()

@@ -80,7 +80,3 @@ class DelaysTest(unittest.TestCase):
                 if delays:
                     path.write_text(text + "match = []\n")
                 self.assertEqual(read_tournament(str(path)).delays, delays)
-
-
-if __name__ == "__main__":
-    unittest.main()

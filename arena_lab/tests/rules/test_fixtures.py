@@ -101,7 +101,3 @@ class Files(unittest.TestCase):
                 os.chdir(place)
                 self.assertEqual(read_tournament(str(tournament)).fixtures[0].setup.nodes, nodes)
             os.chdir(before)
-
-
-if __name__ == "__main__":
-    unittest.main()

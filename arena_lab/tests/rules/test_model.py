@@ -94,7 +94,3 @@ class Model(unittest.TestCase):
                          ('{"do":"look","x":' + "[" * 126 + "]" * 126 + "}", "look"),
                          ('{"do":"look","x":' + "[" * 127 + "]" * 127 + "}", "bad")):
             self.assertEqual(command_of(line)["do"], do)
-
-
-if __name__ == "__main__":
-    unittest.main()

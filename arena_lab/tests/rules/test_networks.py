@@ -167,7 +167,3 @@ class Words(unittest.TestCase):
                              (["ring:8", "ring:8", "ring-8-1"], ["ring-8-0.toml", "ring-8-1.toml", "ring-8-1-2.toml"]),
                              (["tournament.toml"], ["tournament-0.toml"])):
             self.assertEqual([file_of(names, number) for number in range(len(names))], files)
-
-
-if __name__ == "__main__":
-    unittest.main()

@@ -208,7 +208,3 @@ class CommandLine(unittest.TestCase):
         with self.assertRaises(EngineRefused) as refused:
             asked(str(folder / "one"), "judge")
         self.assertEqual(str(refused.exception), "replay: line 1")
-
-
-if __name__ == "__main__":
-    unittest.main()

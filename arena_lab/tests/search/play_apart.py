@@ -3,7 +3,6 @@ them fails outside, always or now and then. Of other agents it says what they re
 import pathlib
 import subprocess
 import sys
-from unittest import main as run_tests
 
 from arena_lab import api as lab
 from arena_lab.tests.playing import program
@@ -118,7 +117,3 @@ class Apart(InExplore):
                                  env={"PYTHONHASHSEED": seed, "PATH": "/usr/bin:/bin",
                                       "PYTHONPATH": str(pathlib.Path.cwd())})
             self.assertNotIn("True", ran.stdout, ran.stderr)
-
-
-if __name__ == "__main__":
-    run_tests()

@@ -1,7 +1,6 @@
 """One command checks an agent: it is right in one sentence, or the first thing to mend is told with what shows it."""
 import shutil
 import sys
-import unittest
 from typing import Tuple
 
 from arena_lab.__main__ import main
@@ -133,7 +132,3 @@ class Checks(InFolder):
         """The command that is told shows it."""
         said = ran(main, ["replay", str(self.folder / "kept"), "--engine", "model"]).said
         self.assertIn(told, said)
-
-
-if __name__ == "__main__":
-    unittest.main()

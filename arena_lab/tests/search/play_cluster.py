@@ -100,7 +100,3 @@ class OtherMachines(unittest.TestCase):
             self.assertEqual(other_files(files[0]), [str(path)])
             path.unlink()
             self.assertEqual(other_files(files[0]), [str(path)])
-
-
-if __name__ == "__main__":
-    unittest.main()

@@ -24,7 +24,3 @@ class Compared(unittest.TestCase):
         with mock.patch.object(compare, "judged", return_value=Verdict("silent", 9, 9)):
             with self.assertRaises(compare.Differs):
                 compare.compare_verdicts("program", match.replay().encode())
-
-
-if __name__ == "__main__":
-    unittest.main()

@@ -2,7 +2,6 @@
 hunt finds the most moves on small rings, and the agents play the kept schedule to the same verdict."""
 import statistics
 from typing import Optional, Tuple
-from unittest import main as run_tests
 
 from arena_lab import api as lab
 from arena_lab.__main__ import main
@@ -107,7 +106,3 @@ class Drawing(InExplore):
     def test_least_mean_median_and_most(self) -> None:
         self.assertEqual(moves_of([(2, 1), (4, 2), (9, 1)]), (2, 4.75, 4, 9))
         self.assertEqual(moves_of([(2, 1), (5, 1)]), (2, 3.5, 3.5, 5))
-
-
-if __name__ == "__main__":
-    run_tests()

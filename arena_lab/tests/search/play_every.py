@@ -5,7 +5,6 @@ import random
 import re
 import subprocess
 from typing import Dict, List, Tuple
-from unittest import main as run_tests
 from unittest import mock
 
 from arena_lab.__main__ import main
@@ -407,7 +406,3 @@ class Exploring(InExplore):
             self.assertFalse(beside.has_failed, (seed, found, beside))
             self.assertEqual((beside.verdict.outcome, beside.verdict.moves), ("solved", found.moves), (seed, beside))
         return name_of(type(found))
-
-
-if __name__ == "__main__":
-    run_tests()

@@ -2,7 +2,7 @@
 that it sends early, late or not as lines. What was found is compared with the Python model's search of small
 matches."""
 from typing import Any, Dict, NamedTuple
-from unittest import main as run_tests, mock
+from unittest import mock
 
 from arena_lab.rules import networks
 from arena_lab.search import explore
@@ -193,7 +193,3 @@ class Histories(InExplore):
                 status = self.explored(text, "--agent", f"{file}:writer", "--agent", f"{file}:reader")
                 self.assertEqual(status, 2, self.said)
                 self.assertIn(f"agent 1 sends {value}, which is no line", self.said)
-
-
-if __name__ == "__main__":
-    run_tests()

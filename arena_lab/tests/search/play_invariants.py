@@ -4,7 +4,6 @@ import contextlib
 import pathlib
 import random
 import re
-import unittest
 from types import SimpleNamespace
 from typing import Any, List, NamedTuple, Optional, Sequence, Set, Tuple
 
@@ -325,7 +324,3 @@ class Invariants(InFolder):
         self.assertEqual(self.command(INVARIANTS / "shuttle.py", SHUTTLE, "--network", "ring:4", "--max-states", 50),
                          130)
         self.assertIn("stopped before all pictures were tried; the candidate held at those that were", self.said)
-
-
-if __name__ == "__main__":
-    unittest.main()

@@ -77,7 +77,3 @@ class Order(unittest.TestCase):
         self.assertTrue(all(one.machines.steps[it].does == STOP for it, count in by_memory.items() if count > 1))
         for asked, state in itertools.chain(((one, it) for it in one.left), ((other, it) for it in other.left)):
             self.assertNotEqual(state, DONE, asked)
-
-
-if __name__ == "__main__":
-    unittest.main()

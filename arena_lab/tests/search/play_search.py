@@ -2,7 +2,6 @@
 import argparse
 import itertools
 import re
-import unittest
 from typing import Iterator, List, Sequence
 from unittest import mock
 
@@ -203,7 +202,3 @@ class Mutants(Searches):
 
     def test_each_has_a_plan(self) -> None:
         self.assertEqual(sorted(path.stem for path in mutants.FOLDER.glob("*.py")), sorted(mutants.PLANS))
-
-
-if __name__ == "__main__":
-    unittest.main()

@@ -39,7 +39,3 @@ class TestSpin(unittest.TestCase):
                  "arena explore --module"]
         self.assertEqual(names, [it.name for it in rows])
         self.assertEqual(1, len({it.moves for it in rows}))
-
-
-if __name__ == "__main__":
-    unittest.main()

@@ -2,7 +2,6 @@
 apart by their memories."""
 import random
 from typing import Any, Dict, Tuple
-from unittest import main as run_tests
 
 from arena_lab import api as lab
 from arena_lab.play import schedulers
@@ -147,7 +146,3 @@ class Steps(InExplore):
         self.assertTrue(found.solves, found)
         self.assertTrue(lab.explore("ring:4", walker, holes=[1], engine=program()).fails)
         self.assertEqual(lab.play("ring:3", walker, holes=[1])[0]["outcome"], "solved")
-
-
-if __name__ == "__main__":
-    run_tests()

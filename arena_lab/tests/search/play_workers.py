@@ -141,7 +141,3 @@ class OnCluster(Clusters):
             self.assertEqual(status, 0, said + errors)
             found.append((self.folder / out / proofs.MATCHES).read_bytes())
         self.assertEqual(found[0], found[1])
-
-
-if __name__ == "__main__":
-    unittest.main()

@@ -41,7 +41,3 @@ class Drawing(unittest.TestCase):
     def test_a_failure_that_is_only_counted_is_no_success(self) -> None:
         with self.assertRaisesRegex(Differs, "counts 2 drawn schedules that fail, and tells one that solves"):
             self.told([tried(2, 1, 0, 5, 2)])
-
-
-if __name__ == "__main__":
-    unittest.main()

@@ -125,7 +125,3 @@ class Driver(unittest.TestCase):
         tries = self.tried(exceeds, solves, after=lambda tried, _: tried._replace(
             beside=beside if tried.answered is exceeds else None))
         self.assertEqual([it.beside for it in tries], [beside, None])
-
-
-if __name__ == "__main__":
-    unittest.main()

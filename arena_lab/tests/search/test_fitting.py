@@ -42,7 +42,3 @@ class Fitting(unittest.TestCase):
         self.assertEqual(self.states(None), MOST_STATES)
         self.assertEqual(self.states(0, "--cluster", "tcp://192.0.2.7:8786"), MOST_STATES)
         self.assertEqual(self.states(0, "--draws", "5"), MOST_STATES)
-
-
-if __name__ == "__main__":
-    unittest.main()

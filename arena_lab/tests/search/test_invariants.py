@@ -87,7 +87,3 @@ class Words(unittest.TestCase):
         self.assertEqual(WORLD.far(far, label), (0, 0))
         self.assertEqual([WORLD.doomed(0, port) for port in (0, 1)], [far == 1, far != 1])
         self.assertEqual(WORLD.degree(2), 2)
-
-
-if __name__ == "__main__":
-    unittest.main()

@@ -161,7 +161,3 @@ class Experiments(unittest.TestCase):
         self.assertEqual(make.written(text, "one", "new\n"), "a\n<!-- table one -->\nnew\n<!-- end of one -->\nb\n")
         with self.assertRaises(SystemExit):
             make.written(text, "two", "new\n")
-
-
-if __name__ == "__main__":
-    unittest.main()

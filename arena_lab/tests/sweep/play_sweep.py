@@ -9,7 +9,6 @@ import signal
 import subprocess
 import sys
 import time
-import unittest
 from typing import List, Tuple
 
 from arena_lab.__main__ import main
@@ -216,7 +215,3 @@ class Sweeps(InFolder):
         status, said, _ = ran(main, self.words("out", "--program", str(script)))
         self.assertEqual(status, 0)
         self.assertIn("4 runs on a program of which no record says that it is proved: solved 4", said)
-
-
-if __name__ == "__main__":
-    unittest.main()

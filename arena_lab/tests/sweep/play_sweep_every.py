@@ -160,7 +160,3 @@ class OnCluster(play_cluster.Clusters):
             found.append((self.folder / out / every.EVERY).read_bytes())
         self.assertEqual(found[0], found[1])
         self.assertEqual(found[0].count(b"solves"), 2)
-
-
-if __name__ == "__main__":
-    unittest.main()

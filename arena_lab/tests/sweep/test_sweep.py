@@ -214,7 +214,3 @@ class Verified(unittest.TestCase):
         drawn = verify.chosen(1000, 500)
         self.assertEqual(len(set(drawn)), 500)
         self.assertNotEqual(drawn, verify.chosen(1000, 500))
-
-
-if __name__ == "__main__":
-    unittest.main()
