@@ -54,6 +54,11 @@ def first(lines: Sequence[str], pattern: str) -> Optional[int]:
     return next((place for place, line in enumerate(lines) if re.match(pattern, line)), None)
 
 
+def line_like(lines: Sequence[str], pattern: str) -> Optional[str]:
+    """The first line that begins so."""
+    return next((line for line in lines if re.match(pattern, line)), None)
+
+
 def of_python(lines: Sequence[str]) -> Optional[str]:
     """The line behind the frames of the last traceback, with the last frame of the agent's own file; or of a file that
     cannot be read."""
@@ -66,14 +71,14 @@ def of_python(lines: Sequence[str]) -> Optional[str]:
         said = next((line for line in lines[places[-1] + 1:] if line.strip() and not line.startswith(" ")), None)
         return said and f"{said}{where}"
     start = first(lines, r'  File ".*", line \d+')
-    return None if start is None else next((line for line in lines[start:] if re.match(NAMED, line)), None)
+    return None if start is None else line_like(lines[start:], NAMED)
 
 
 def of_java(lines: Sequence[str]) -> Optional[str]:
     """The first exception of a thread, and what caused it in the end."""
     place = first(lines, 'Exception in thread "')
     if place is None:
-        return next((line for line in lines if re.match(r"\S+\.java:\d+: error: ", line)), None)
+        return line_like(lines, r"\S+\.java:\d+: error: ")
     causes = [line for line in lines[place:] if line.startswith("Caused by: ")]
     return "; ".join([lines[place], *causes[-1:]])
 
@@ -87,40 +92,29 @@ def of_rust(lines: Sequence[str]) -> Optional[str]:
     return " ".join([lines[place], *behind])
 
 
-def of_go(lines: Sequence[str]) -> Optional[str]:
-    place = first(lines, r"(?:panic|fatal error): ")
-    return None if place is None else lines[place]
-
-
 def of_cpp(lines: Sequence[str]) -> Optional[str]:
     """An exception that nobody caught, with what it says; or what a sanitizer or an assertion tells."""
     place = first(lines, "terminate called ")
     if place is not None:
         behind = [line.strip() for line in lines[place + 1:place + 2] if line.strip().startswith("what():")]
         return ": ".join([lines[place], *(it.removeprefix("what():").strip() for it in behind)])
-    place = first(lines, r"==\d+==ERROR: |.*: Assertion .* failed\.$|\S+:\d+(?::\d+)?: (?:fatal )?error: ")
-    return None if place is None else lines[place]
-
-
-def of_dotnet(lines: Sequence[str]) -> Optional[str]:
-    place = first(lines, r"Unhandled exception")
-    return None if place is None else lines[place]
+    return line_like(lines, r"==\d+==ERROR: |.*: Assertion .* failed\.$|\S+:\d+(?::\d+)?: (?:fatal )?error: ")
 
 
 def of_javascript(lines: Sequence[str]) -> Optional[str]:
     """The error, or what else was thrown, which stands behind the line that points to the source."""
     if first(lines, r"Node\.js v\d") is None and first(lines, r"\s+at .*(?::\d+:\d+\)?|<anonymous>\)?)$") is None:
         return None
-    place = first(lines, rf"(?:Uncaught )?\[?{NAMED}")
-    if place is not None:
-        return lines[place]
-    pointer = first(lines, r"\s*\^+\s*$")
-    return None if pointer is None else next((line for line in lines[pointer + 1:] if line.strip()), None)
+    found, pointer = line_like(lines, rf"(?:Uncaught )?\[?{NAMED}"), first(lines, r"\s*\^+\s*$")
+    if found is not None or pointer is None:
+        return found
+    return next((line for line in lines[pointer + 1:] if line.strip()), None)
 
 
-# the first that fits is told
+# the first that fits is told; of Go and of .NET one line says all
 LANGUAGES: Tuple[Callable[[Sequence[str]], Optional[str]], ...] = (
-    of_python, of_java, of_rust, of_go, of_cpp, of_dotnet, of_javascript)
+    of_python, of_java, of_rust, lambda lines: line_like(lines, r"(?:panic|fatal error): "), of_cpp,
+    lambda lines: line_like(lines, "Unhandled exception"), of_javascript)
 
 
 def error_in(text: str) -> str:

@@ -56,74 +56,21 @@ class RefusedLine:
         return self.members.get("port", NOTHING) if "port" in self.of(int) else NOTHING
 
 
-def mark(line: RefusedLine) -> Optional[str]:
-    if line.raw.startswith(MARK):
-        return "a byte order mark stands before the line: open the stream as UTF-8 without a mark"
-    return None
+# what is said of a line that shows a mistake, and None of another line
+Mistake = Callable[[RefusedLine], Optional[str]]
 
 
-def utf16(line: RefusedLine) -> Optional[str]:
-    if b"\0" in line.raw or line.raw[:2] in (b"\xff\xfe", b"\xfe\xff"):
-        return "it has bytes of zero, as UTF-16 has: send UTF-8"
-    return None
+def when(shows: Callable[[RefusedLine], object], said: str) -> Mistake:
+    """A mistake of which the same is said, whichever line shows it."""
+    return lambda line: said if shows(line) else None
 
 
-def too_long(line: RefusedLine) -> Optional[str]:
-    if len(line.raw) > MAX_LINE:
-        return f"it is longer than {MAX_LINE:,} bytes: end each command with a line feed, and write shorter texts"
-    return None
-
-
-def not_utf8(line: RefusedLine) -> Optional[str]:
+def is_no_utf8(line: RefusedLine) -> bool:
     try:
         line.raw.decode("utf-8")
-        return None
+        return False
     except UnicodeDecodeError:
-        return "it is not UTF-8: send texts in UTF-8, and no bytes of numbers or structures"
-
-
-def of_http(line: RefusedLine) -> Optional[str]:
-    if HTTP.match(line.text):
-        return "it is a request of HTTP: open a socket of TCP and send the command as a line, without a web client"
-    return None
-
-
-def two_objects(line: RefusedLine) -> Optional[str]:
-    if isinstance(line.value, dict) and line.rest.lstrip(", ;").startswith("{"):
-        return "two commands stand in one line: end each with a line feed of its own"
-    return None
-
-
-def encoded_twice(line: RefusedLine) -> Optional[str]:
-    if isinstance(line.value, str) and line.value.lstrip().startswith("{"):
-        return "the whole command stands in quotes, as it was made JSON twice: make it JSON once"
-    return None
-
-
-def single_quotes(line: RefusedLine) -> Optional[str]:
-    if re.match(r"\{\s*'", line.text):
-        return ("it has single quotes, as Python prints a dict: JSON has double quotes, which json.dumps, or in "
-                "JavaScript JSON.stringify, writes")
-    return None
-
-
-def names_without_quotes(line: RefusedLine) -> Optional[str]:
-    if UNQUOTED.match(line.text):
-        return ('the names of members have no double quotes, as when an object is printed and not made JSON: write '
-                '{"do":..}, in JavaScript by JSON.stringify')
-    return None
-
-
-def over_several_lines(line: RefusedLine) -> Optional[str]:
-    if line.value is NOTHING and MIDDLE.fullmatch(line.text) or MIDDLE.fullmatch(line.text) and line.rest[:1] == ":":
-        return "it is a part of an object that stands over several lines: print each command in one line, not indented"
-    return None
-
-
-def no_do(line: RefusedLine) -> Optional[str]:
-    if isinstance(line.value, dict) and not line.rest and "do" not in line.value:
-        return f'it has no member "do", which names the command: {", ".join(SHAPES)}'
-    return None
+        return True
 
 
 def unknown(line: RefusedLine) -> Optional[str]:
@@ -138,18 +85,6 @@ def unknown(line: RefusedLine) -> Optional[str]:
 def port_as_text(line: RefusedLine) -> Optional[str]:
     if isinstance(line.port(), str):
         return f'the port is a text: write the number without quotes, as in "port":{line.port()[:9].strip() or 0}'
-    return None
-
-
-def port_as_fraction(line: RefusedLine) -> Optional[str]:
-    if isinstance(line.port(), float):
-        return "the port is a fraction: write it as a whole number, as 0 and not 0.0"
-    return None
-
-
-def port_out_of_range(line: RefusedLine) -> Optional[str]:
-    if type(line.port()) is int:
-        return "the port is no number from 0 to 65535: ports are 0 to `ports` - 1 of the node"
     return None
 
 
@@ -183,27 +118,52 @@ def broken(line: RefusedLine) -> Optional[str]:
     return None
 
 
-def no_object(line: RefusedLine) -> Optional[str]:
-    if line.value is not NOTHING and not line.rest and not isinstance(line.value, dict):
-        return "it is a JSON value and no object: a command is an object, one in a line"
-    return None
-
-
-def debug(line: RefusedLine) -> Optional[str]:
-    return "it is no JSON: print what is for you to standard error, and only commands where the server reads"
-
-
-# the first that fits is told
-MISTAKES: Tuple[Callable[[RefusedLine], Optional[str]], ...] = (
-    mark, utf16, too_long, not_utf8, of_http, two_objects, encoded_twice, single_quotes, names_without_quotes,
-    over_several_lines, no_do, unknown, port_as_text, port_as_fraction, port_out_of_range, missing, of_another_type,
-    bare_word, broken, no_object, debug)
+# by their names; the first that a line shows is told
+MISTAKES: Dict[str, Mistake] = {
+    "mark": when(lambda line: line.raw.startswith(MARK),
+                 "a byte order mark stands before the line: open the stream as UTF-8 without a mark"),
+    "utf16": when(lambda line: b"\0" in line.raw or line.raw[:2] in (b"\xff\xfe", b"\xfe\xff"),
+                  "it has bytes of zero, as UTF-16 has: send UTF-8"),
+    "too_long": when(lambda line: len(line.raw) > MAX_LINE, f"it is longer than {MAX_LINE:,} bytes: end each command "
+                     "with a line feed, and write shorter texts"),
+    "not_utf8": when(is_no_utf8, "it is not UTF-8: send texts in UTF-8, and no bytes of numbers or structures"),
+    "of_http": when(lambda line: HTTP.match(line.text), "it is a request of HTTP: open a socket of TCP and send the "
+                    "command as a line, without a web client"),
+    "two_objects": when(lambda line: isinstance(line.value, dict) and line.rest.lstrip(", ;").startswith("{"),
+                        "two commands stand in one line: end each with a line feed of its own"),
+    "encoded_twice": when(lambda line: isinstance(line.value, str) and line.value.lstrip().startswith("{"),
+                          "the whole command stands in quotes, as it was made JSON twice: make it JSON once"),
+    "single_quotes": when(lambda line: re.match(r"\{\s*'", line.text), "it has single quotes, as Python prints a dict: "
+                          "JSON has double quotes, which json.dumps, or in JavaScript JSON.stringify, writes"),
+    "names_without_quotes": when(lambda line: UNQUOTED.match(line.text), "the names of members have no double quotes, "
+                                 'as when an object is printed and not made JSON: write {"do":..}, in JavaScript by '
+                                 "JSON.stringify"),
+    "over_several_lines": when(
+        lambda line: MIDDLE.fullmatch(line.text) and (line.value is NOTHING or line.rest[:1] == ":"),
+        "it is a part of an object that stands over several lines: print each command in one line, not indented"),
+    "no_do": when(lambda line: isinstance(line.value, dict) and not line.rest and "do" not in line.value,
+                  f'it has no member "do", which names the command: {", ".join(SHAPES)}'),
+    "unknown": unknown,
+    "port_as_text": port_as_text,
+    "port_as_fraction": when(lambda line: isinstance(line.port(), float),
+                             "the port is a fraction: write it as a whole number, as 0 and not 0.0"),
+    "port_out_of_range": when(lambda line: type(line.port()) is int,
+                              "the port is no number from 0 to 65535: ports are 0 to `ports` - 1 of the node"),
+    "missing": missing,
+    "of_another_type": of_another_type,
+    "bare_word": bare_word,
+    "broken": broken,
+    "no_object": when(lambda line: line.value is not NOTHING and not line.rest and not isinstance(line.value, dict),
+                      "it is a JSON value and no object: a command is an object, one in a line"),
+    "debug": when(lambda line: True, "it is no JSON: print what is for you to standard error, and only commands where "
+                  "the server reads"),
+}
 
 
 def likely(raw: bytes) -> str:
     """The likeliest mistake behind a line that is no command."""
     line = RefusedLine(raw)
-    return next(said for said in (fits(line) for fits in MISTAKES) if said)
+    return next(said for said in (mistake(line) for mistake in MISTAKES.values()) if said)
 
 
 def plain(text: str) -> str:

@@ -45,15 +45,15 @@ ROWS: Dict[str, Tuple[str, List[bytes]]] = {
 
 class Lines(unittest.TestCase):
     def test_each_mistake_has_a_row(self) -> None:
-        self.assertEqual(list(ROWS), [it.__name__ for it in MISTAKES])
+        self.assertEqual(list(ROWS), list(MISTAKES))
         self.assertGreaterEqual(len(ROWS), 15)
 
     def test_each_mistake_gets_its_sentence(self) -> None:
-        for name, (said, lines) in ROWS.items():
+        for name, (wanted, lines) in ROWS.items():
             for line in lines:
                 with self.subTest(name, line=line[:80]):
-                    self.assertIn(said, likely(line))
-                    self.assertEqual(next(it.__name__ for it in MISTAKES if it(RefusedLine(line))), name)
+                    self.assertIn(wanted, likely(line))
+                    self.assertEqual(next(it for it, said in MISTAKES.items() if said(RefusedLine(line))), name)
 
     def test_a_line_of_the_table_is_no_command(self) -> None:
         for name, (_, lines) in ROWS.items():
