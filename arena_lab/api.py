@@ -27,10 +27,9 @@ import importlib
 import pathlib
 from typing import Any, Callable, Dict, Iterable, List, NamedTuple, Optional, Sequence, Union
 
-from arena_lab.play import kept_matches
 from arena_lab.play.agent_files import NoAgent, client_module
 from arena_lab.play.bounds import LIMIT
-from arena_lab.play.games import Asked, Record, Row, SchedulerName, rows_of
+from arena_lab.play.games import Asked, Record, Row, SchedulerName, play_again, rows_of
 from arena_lab.play.schedulers import NAMED as SCHEDULERS
 from arena_lab.play.schedules import Schedule
 from arena_lab.play.teams import BOARD, INSIDE, NAPS, OUTSIDE, QUOTA, AgentWords, Game, agent_named, filled
@@ -243,8 +242,7 @@ def explore(network: Union[NetworkLike, Sequence[NetworkLike]], agents: Union[Ag
     found = [it for _, of_one in by_game for it in of_one]
     worst, record = max(found, key=exploring.Explored.rank), None
     if worst.explorer.worst:
-        schedule = worst.schedule(next(one for one, of_one in by_game if worst in of_one))
-        record = Record(schedule, kept_matches.played_again(schedule, path), path)
+        record = play_again(worst.schedule(next(one for one, of_one in by_game if worst in of_one)), path)
     return Exploration(sum(one.explorer.states() for one in found), all(one.is_whole for one in found),
                        worst.rank()[0], sum(one.seconds for one in found), record)
 
@@ -265,8 +263,7 @@ def by_program(jobs: Sequence[ExploreJob[Game]], is_drawn: bool) -> SearchResult
             rows += [row_of(job.game, tried) for tried in search.tried(shown)]
         counted, last = counted.more(search.checks), search.tries[-1]
         if last.has_failed():
-            schedule = failing(job.game, last)
-            worst = Record(schedule, kept_matches.played_again(schedule, job.program), job.program)
+            worst = play_again(failing(job.game, last), job.program)
         if last.has_failed() or not last.is_whole():
             break
     return SearchResult(rows, str(counted), worst, is_drawn)
@@ -326,6 +323,5 @@ def hunt(network: NetworkLike, agents: Union[AgentLike, Sequence[AgentLike]], lo
         hunting.hunted(hunter)
     if hunter.best is None:
         raise KeyboardInterrupt
-    schedule = hunter.schedule()
-    record = Record(schedule, kept_matches.played_again(schedule, path), path)
+    record = play_again(hunter.schedule(), path)
     return HuntResult(hunter.tried, record.has_failed, record)

@@ -31,10 +31,9 @@ from typing import Any, Iterator, List, NamedTuple, Optional, Sequence, Tuple
 import arena_lab
 from arena_lab import api
 from arena_lab.commands.words import add_engine, at_least_one, program_of
-from arena_lab.play import kept_matches
 from arena_lab.play.agent_files import NoAgent
 from arena_lab.play.bounds import LIMIT
-from arena_lab.play.games import Asked, Record, Row, rows_of
+from arena_lab.play.games import Asked, Record, Row, play_again, rows_of
 from arena_lab.play.late_arrivals import LATE, kept_waiting
 from arena_lab.play.schedules import Schedule
 from arena_lab.play.teams import INSIDE, NAPS, OUTSIDE, QUOTA, BOARD, AgentWords, Game, agent_named, filled
@@ -242,7 +241,7 @@ def hunted(asked: Checked, name: str, seconds: float) -> Hunter:
 
 def under(schedule: Schedule, where: str, asked: Checked) -> ToMend:
     """What is to be mended as the team fails under a schedule."""
-    record = Record(schedule, kept_matches.played_again(schedule, asked.program), asked.program)
+    record = play_again(schedule, asked.program)
     return ToMend(failure(record, f"under {where}"), record)
 
 

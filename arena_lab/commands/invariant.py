@@ -37,6 +37,7 @@ from typing import Iterator, List
 from arena_lab.commands.words import add_match, at_least_one, games_of
 from arena_lab.play import kept_matches
 from arena_lab.play.agent_files import file_of
+from arena_lab.play.games import play_again
 from arena_lab.play.teams import Game
 from arena_lab.search.explore import MOST_STATES, check_inside
 from arena_lab.search.invariants import Breach, Candidate, Walked, walked
@@ -110,8 +111,7 @@ def report_breach(game: Game, found: Walked, breach: Breach, keep: pathlib.Path)
     for choice in breach.choices:
         print(f"{choice.do} {choice.agent}")
     print("\n".join(configuration_text(breach)))
-    schedule = found.schedule(game)
-    print("\n".join(kept_matches.write_find(keep, schedule, kept_matches.played_again(schedule, None), None)))
+    print("\n".join(play_again(found.schedule(game), None).keep(keep)))
 
 
 def configuration_text(breach: Breach) -> List[str]:

@@ -13,12 +13,12 @@ from typing import Any, Dict, Iterator, List, NamedTuple, Optional, Sequence, Un
 from arena_lab.pages.page import data_of, page_of
 from arena_lab.play import kept_matches, referee, schedulers
 from arena_lab.play.agent_files import NoAgent, member
-from arena_lab.play.matches import PlayedMatch, play
+from arena_lab.play.matches import PlayedMatch
 from arena_lab.play.repeating import all_repeated
 from arena_lab.play.schedules import Schedule, schedule_of
 from arena_lab.play.parallel import over_processes
 from arena_lab.play.summaries import Summary, summary_of, verdict_by
-from arena_lab.play.teams import Game, Together
+from arena_lab.play.teams import Game
 from arena_lab.rules.engines import Differs
 from arena_lab.rules.model import Verdict
 from arena_lab.support.faults import Fault
@@ -50,9 +50,12 @@ def play_seed(game: Game, scheduler: SchedulerName, seed: int, program: Optional
     """Plays the match of a seed under the scheduler's choices for it."""
     fixture = game.fixture(seed)
     empty = schedule_of(fixture, game.agents, f"{name_of(scheduler)} {seed}{game.where()}", [], game.limit)
-    team = Together(game.agents, fixture, game.limit)
-    played = play(kept_matches.engine_of(empty, program), team, maker_of(scheduler)(seed), fixture)
-    return Record(empty._replace(choices=played.choices), played, program)
+    return Record(*kept_matches.played_under(maker_of(scheduler)(seed), empty, program), program)
+
+
+def play_again(schedule: Schedule, program: Optional[str]) -> "Record":
+    """Plays a schedule that was found."""
+    return Record(schedule, kept_matches.played_again(schedule, program), program)
 
 
 class Record(NamedTuple):

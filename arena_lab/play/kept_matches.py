@@ -7,7 +7,7 @@ from typing import List, Optional, Sequence, Tuple
 import arena_lab
 from arena_lab.pages.page import write_page
 from arena_lab.play.matches import PlayedMatch, play
-from arena_lab.play.schedulers import ScheduleFollower, Impossible, recorded
+from arena_lab.play.schedulers import ScheduleFollower, Impossible, Scheduler, recorded
 from arena_lab.play.schedules import Schedule, schedule_of, text_of
 from arena_lab.play.teams import Together
 from arena_lab.rules.engines import Engine, Program, judged, name_of
@@ -32,10 +32,17 @@ def engine_of(schedule: Schedule, program: Optional[str]) -> Engine:
     return Rehearsal(schedule.fixture)
 
 
+def played_under(scheduler: Scheduler, schedule: Schedule, program: Optional[str]) -> Tuple[Schedule, PlayedMatch]:
+    """The match of a schedule under this scheduler, whatever the schedule's choices are, and the schedule with the
+    choices that were made."""
+    team = Together(schedule.agents, schedule.fixture, schedule.limit)
+    played = play(engine_of(schedule, program), team, scheduler, schedule.fixture)
+    return schedule._replace(choices=played.choices), played
+
+
 def played_again(schedule: Schedule, program: Optional[str]) -> PlayedMatch:
     """The schedule, played."""
-    team = Together(schedule.agents, schedule.fixture, schedule.limit)
-    played = play(engine_of(schedule, program), team, recorded(schedule.choices), schedule.fixture)
+    _, played = played_under(recorded(schedule.choices), schedule, program)
     count = len(played.choices)
     if count < len(schedule.choices):
         surplus = schedule.choices[count]
@@ -46,11 +53,8 @@ def played_again(schedule: Schedule, program: Optional[str]) -> PlayedMatch:
 def followed_again(schedule: Schedule, program: Optional[str]) -> Tuple[Schedule, PlayedMatch, ScheduleFollower]:
     """The match, in which the schedule is followed as far as the agents go along, and what comes then is fair."""
     following = ScheduleFollower(schedule.choices)
-    team = Together(schedule.agents, schedule.fixture, schedule.limit)
-    played = play(engine_of(schedule, program), team, following, schedule.fixture)
-    made = schedule_of(schedule.fixture, schedule.agents, f"{schedule.origin}, followed", played.choices,
-                       schedule.limit)
-    return made, played, following
+    anew = schedule_of(schedule.fixture, schedule.agents, f"{schedule.origin}, followed", [], schedule.limit)
+    return (*played_under(following, anew, program), following)
 
 
 def write_find(folder: pathlib.Path, schedule: Schedule, played: PlayedMatch, program: Optional[str]) -> List[str]:

@@ -5,14 +5,13 @@ import sys
 from typing import Any, Dict, Iterable, Iterator, List, NamedTuple, Optional, Sequence, Tuple
 
 from arena_lab.play.agent_files import digests
-from arena_lab.play.kept_matches import engine_of, write_find
+from arena_lab.play.kept_matches import played_under, write_find
 from arena_lab.play.games import maker_of
-from arena_lab.play.matches import PlayedMatch, play
+from arena_lab.play.matches import PlayedMatch
 from arena_lab.play.foreign_files import watch
 from arena_lab.play.schedules import Schedule, schedule_of
 from arena_lab.play.parallel import Parallelism, Result
 from arena_lab.play.summaries import Summary, summary_of
-from arena_lab.play.teams import Together
 from arena_lab.rules.engines import NAMES, Differs, name_of
 from arena_lab.rules.fixtures import Fixture
 from arena_lab.support.fields import WrongFile
@@ -56,9 +55,7 @@ def played_case(work: SweepJob, spec: Grid, case: Case) -> Tuple[Schedule, Playe
     fixture = spec.fixture(case)
     agents = [case.team.words] * fixture.setup.agents
     empty = schedule_of(fixture, agents, f"{case.scheduler} {case.seed} on {case.network}", [], LIMIT)
-    scheduler, team = maker_of(case.scheduler)(case.seed), Together(agents, fixture, LIMIT)
-    played = play(engine_of(empty, work.program), team, scheduler, fixture)
-    return empty._replace(choices=played.choices), played
+    return played_under(maker_of(case.scheduler)(case.seed), empty, work.program)
 
 
 def row_for(case: Case, schedule: Schedule, played: PlayedMatch, program: Optional[str]) -> List[str]:

@@ -2,7 +2,7 @@
 import contextlib
 import os
 import random
-from typing import Any
+from typing import Any, Sequence
 
 from arena_lab.play import schedulers
 from arena_lab.play.matches import PlayedMatch, play
@@ -80,7 +80,13 @@ def network_fixture(chance: random.Random) -> Fixture:
 def played(given: Fixture, agent: AgentWords, seed: int, maker: schedulers.Maker = schedulers.slow_agents,
            engine: Any = Rehearsal) -> PlayedMatch:
     """A match of agents that are alike."""
-    return play(engine(given), Together([agent] * given.setup.agents, given, 5), maker(seed), given)
+    return under(maker(seed), given, [agent] * given.setup.agents, engine)
+
+
+def under(scheduler: schedulers.Scheduler, given: Fixture, agents: Sequence[AgentWords], engine: Any = Rehearsal,
+          seconds: float = 5) -> PlayedMatch:
+    """A match under a scheduler, by an engine that is made of a fixture."""
+    return play(engine(given), Together(agents, given, seconds), scheduler, given)
 
 
 class InFolder(InTemporary):

@@ -5,11 +5,9 @@ import unittest
 
 from arena_lab.play import schedulers
 from arena_lab.play.agent_files import NoAgent, script_of
-from arena_lab.play.matches import play
-from arena_lab.play.teams import INSIDE, AgentWords, Together
+from arena_lab.play.teams import INSIDE, AgentWords
 from arena_lab.rules.networks import ring
-from arena_lab.rules.rehearsal import Rehearsal
-from arena_lab.tests.playing import MAP, RING, InFolder, fixture, network_fixture, played, ring_fixture
+from arena_lab.tests.playing import MAP, RING, InFolder, fixture, network_fixture, played, ring_fixture, under
 
 RINGS = range(3, 33)
 NETWORKS = 60
@@ -89,8 +87,7 @@ class Modules(InFolder):
         given = fixture(ring(3), 1)
         before = sys.modules["random"], list(sys.path)
         for _ in range(2):
-            team = Together(agents, given, 5)
-            found = play(Rehearsal(given), team, schedulers.fair(0), given).faults
+            found = under(schedulers.fair(0), given, agents).faults
             self.assertEqual([fault.partition("0.")[0].strip() for fault in found],
                              ["agent 0: raises ValueError: one one ['k0'] ['k0']",
                               "agent 1: raises ValueError: two two ['k1'] ['k1']"])

@@ -6,8 +6,8 @@ from typing import Any, Callable, Dict, List, NamedTuple
 
 from arena_lab.play import schedulers
 from arena_lab.play.agent_files import AGENTS
-from arena_lab.play.matches import PlayedMatch, play
-from arena_lab.play.teams import INSIDE, AgentWords, Together
+from arena_lab.play.matches import PlayedMatch
+from arena_lab.play.teams import INSIDE, AgentWords
 from arena_lab.rules.engines import Program
 from arena_lab.rules.fixtures import Fixture, fixture_of
 from arena_lab.rules.model import Setup, Verdict
@@ -15,7 +15,7 @@ from arena_lab.rules.networks import Network, flipped_ring, ring
 from arena_lab.rules.rehearsal import Rehearsal
 from arena_lab.search.explore import explored
 from arena_lab.search.ring_bounds import most_moves, rounds
-from arena_lab.tests.playing import program
+from arena_lab.tests.playing import program, under
 
 # the sizes of the rings that are drawn
 SIZES = (3, 4, 5, 7, 8, 11, 16, 17, 27, 33)
@@ -68,7 +68,7 @@ class Protocols(unittest.TestCase):
     def moves(self, name: str, nodes: int, hole: int, first: int, bounds: Bounds) -> int:
         """The moves of a match in which one agent goes on until it is lost, and then the other."""
         given = fixture(ring(nodes), hole, 0, bounds.commands)
-        found = play(Rehearsal(given), Together(team(name), given, 5), one_after_the_other(first), given)
+        found = under(one_after_the_other(first), given, team(name))
         self.check(found, bounds)
         self.assertEqual(found.verdict().lost, 1)
         return found.verdict().moves
@@ -128,4 +128,4 @@ class Protocols(unittest.TestCase):
                     given = fixture(network, hole, home, bounds.commands)
                     for engine in engines[:1 + (seed < ON_THE_PROGRAM)]:
                         with self.subTest(name, scheduler=scheduler, seed=seed, nodes=nodes, home=home, hole=hole):
-                            self.check(play(engine(given), Together(team(name), given, 5), maker(seed), given), bounds)
+                            self.check(under(maker(seed), given, team(name), engine), bounds)

@@ -9,15 +9,13 @@ import unittest
 from typing import Any, Dict, List, NamedTuple, Sequence
 
 from arena_lab.play import schedulers
-from arena_lab.play.matches import PlayedMatch, play
 from arena_lab.play.schedulers import Choice, MatchView, Scheduler
-from arena_lab.play.teams import OUTSIDE, AgentWords, Together
+from arena_lab.play.teams import OUTSIDE, AgentWords
 from arena_lab.rules.fixtures import Fixture, fixture_of
 from arena_lab.rules.model import Setup
 from arena_lab.rules.networks import Network, flipped_ring, ring
-from arena_lab.rules.rehearsal import Rehearsal
 from arena_lab.tests.play.play_halves import SEARCHES, fixture, team
-from arena_lab.tests.playing import TOP, InFolder, program
+from arena_lab.tests.playing import TOP, InFolder, program, under
 from tests.support.servers import HOST, Server
 from tests.support.tournaments import write_cup
 
@@ -63,10 +61,6 @@ def searched(name: str, chance: random.Random) -> Game:
     return Game(network, fixture(network, hole, home, bounds.commands), runs, bounds.moves)
 
 
-def played(words: List[AgentWords], given: Fixture, scheduler: Scheduler) -> PlayedMatch:
-    return play(Rehearsal(given), Together(words, given, 20), scheduler, given)
-
-
 def following(schedule: Sequence[int]) -> Scheduler:
     """Agents have their turns in this order."""
     turns = iter(schedule)
@@ -107,17 +101,17 @@ class Players(InFolder):
                 for seed in range(DRAWN):
                     game = searched(name, random.Random(f"{name} {scheduler} {seed}"))
                     with self.subTest(name, scheduler=scheduler, seed=seed):
-                        found = played(agents(game.runs), game.fixture, maker(seed))
+                        found = under(maker(seed), game.fixture, agents(game.runs), seconds=20)
                         self.assertFalse(found.has_failed())
                         self.assertLessEqual(found.verdict().moves, game.moves)
-                        self.assertEqual(found.replay, played(team(name), game.fixture, maker(seed)).replay)
+                        self.assertEqual(found.replay, under(maker(seed), game.fixture, team(name)).replay)
 
     def test_modules_solve_what_they_are_proved_to_solve(self) -> None:
         for scheduler, maker in sorted(schedulers.NAMED.items()):
             for seed in range(MODULES):
                 with self.subTest(scheduler=scheduler, seed=seed):
                     game = self.explored(random.Random(f"{scheduler} {seed}"))
-                    found = played(agents(game.runs), game.fixture, maker(seed))
+                    found = under(maker(seed), game.fixture, agents(game.runs), seconds=20)
                     self.assertFalse(found.has_failed(), found.faults)
                     self.assertLessEqual(found.verdict().moves, game.moves)
 
@@ -127,7 +121,7 @@ class Players(InFolder):
                 with self.subTest(scheduler=scheduler, seed=seed):
                     game = self.explored(random.Random(f"{scheduler} {seed} drawn"))
                     drawn = self.found(game, "--draws", "3", "--scheduler", scheduler, "--seed", str(seed))
-                    found = played(agents(game.runs), game.fixture, following(drawn["schedule"]))
+                    found = under(following(drawn["schedule"]), game.fixture, agents(game.runs), seconds=20)
                     self.assertEqual((found.verdict().moves, found.verdict().lost), (drawn["moves"], drawn["lost"]))
 
     def test_they_solve_the_matches_of_a_contest(self) -> None:

@@ -2,14 +2,13 @@
 and one that decides nothing by time is silent. Without the held link no team is wrong."""
 from typing import List
 
-from arena_lab.play.matches import play
 from arena_lab.play.schedulers import Oblivious
-from arena_lab.play.teams import INSIDE, AgentWords, Together
+from arena_lab.play.teams import INSIDE, AgentWords
 from arena_lab.rules.delays import Delays
 from arena_lab.rules.engines import Program
 from arena_lab.rules.fixtures import Fixture, read_tournament
 from arena_lab.rules.rehearsal import Rehearsal
-from arena_lab.tests.playing import RING, InFolder, program
+from arena_lab.tests.playing import RING, InFolder, program, under
 
 # One agent steps to the next node and comes back, node after node. The other waits behind it, and takes it for
 # destroyed if it stays away for a long time.
@@ -53,8 +52,8 @@ class Practice(InFolder):
 
     def outcomes(self, team: AgentWords, fixture: Fixture) -> List[str]:
         """What a team's matches come to, by the model and by the program."""
-        return [play(engine, Together([team] * 2, fixture, 5), Oblivious(seed, self.delays), fixture).verdict().outcome
-                for seed in range(SEEDS) for engine in (Rehearsal(fixture), Program(fixture, program()))]
+        return [under(Oblivious(seed, self.delays), fixture, [team] * 2, engine).verdict().outcome
+                for seed in range(SEEDS) for engine in (Rehearsal, lambda it: Program(it, program()))]
 
     def test_a_timeout_takes_the_held_link_for_a_black_hole(self) -> None:
         self.assertEqual(self.outcomes(self.timed, self.fixture), ["wrong"] * 2 * SEEDS)

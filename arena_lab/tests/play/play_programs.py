@@ -9,13 +9,12 @@ from typing import List
 
 from arena_lab.play import kept_matches, schedulers
 from arena_lab.play.agent_files import NoAgent
-from arena_lab.play.matches import PlayedMatch, play
+from arena_lab.play.matches import PlayedMatch
 from arena_lab.play.schedules import schedule_of
-from arena_lab.play.teams import OUTSIDE, AgentWords, Together
+from arena_lab.play.teams import OUTSIDE, AgentWords
 from arena_lab.rules.networks import ring
-from arena_lab.rules.rehearsal import Rehearsal
 from arena_lab.sandbox.processes import listed, words_of
-from arena_lab.tests.playing import AGENTS, RING, fixture, played, program
+from arena_lab.tests.playing import AGENTS, RING, fixture, played, program, under
 
 PYTHON = AgentWords(OUTSIDE, f"{sys.executable} {AGENTS / 'ring.py'} {{host}} {{port}} {{key}} {{nodes}}")
 RUDE = pathlib.Path(__file__).resolve().parent / "rude.py"
@@ -42,8 +41,7 @@ def running(words: str) -> List[str]:
 
 class Programs(unittest.TestCase):
     def of(self, agents: List[AgentWords], seed: int, seconds: float = 5) -> PlayedMatch:
-        given = fixture(ring(8), 5)
-        return play(Rehearsal(given), Together(agents, given, seconds), schedulers.fair(seed), given)
+        return under(schedulers.fair(seed), fixture(ring(8), 5), agents, seconds=seconds)
 
     def test_programs_and_agents_inside_play_the_same(self) -> None:
         for seed in range(3):

@@ -6,16 +6,13 @@ import pathlib
 import threading
 import time
 from types import ModuleType
-from typing import List
 
 from examples.agents import client
-from arena_lab.play.matches import play
 from arena_lab.play.schedulers import Oblivious, Scheduler, fair
-from arena_lab.play.teams import INSIDE, AgentWords, Together
+from arena_lab.play.teams import INSIDE, AgentWords
 from arena_lab.rules.delays import Delays
 from arena_lab.rules.networks import ring
-from arena_lab.rules.rehearsal import Rehearsal
-from arena_lab.tests.playing import InFolder, program
+from arena_lab.tests.playing import InFolder, program, under
 from tests.support.servers import serve
 from tests.support.tournaments import match, write_cup
 
@@ -69,9 +66,8 @@ class ObliviousTest(InFolder):
 
     def inside(self, scheduler: Scheduler) -> bytes:
         """The replay of a match in the lab."""
-        agents: List[AgentWords] = [AgentWords(INSIDE, f"{self.file}:walks {number}") for number in range(len(STEPS))]
-        team = Together(agents, self.fixture, 5)
-        return play(Rehearsal(self.fixture), team, scheduler, self.fixture).replay
+        agents = [AgentWords(INSIDE, f"{self.file}:walks {number}") for number in range(len(STEPS))]
+        return under(scheduler, self.fixture, agents).replay
 
     def test_a_served_contest_and_the_lab_write_one_replay(self) -> None:
         wanted = self.inside(Oblivious(SEED, DELAYS))

@@ -9,20 +9,18 @@ from typing import Any, List, NamedTuple, Optional, Sequence, Set, Tuple
 
 from arena_lab.__main__ import main
 from arena_lab.play import schedulers
-from arena_lab.play.matches import play
 from arena_lab.play.players import Team
 from arena_lab.play.schedules import read
-from arena_lab.play.teams import INSIDE, AgentWords, Together
+from arena_lab.play.teams import INSIDE, AgentWords
 from arena_lab.rules.engines import TOP
 from arena_lab.rules.fixtures import Fixture, fixture_of
 from arena_lab.rules.model import AWAY, OUTSIDE, PRESENT, AgentState, Match, Object, Setup, command_of, judge, text_of
 from arena_lab.rules.networks import flipped_ring, ring
-from arena_lab.rules.rehearsal import Rehearsal
 from arena_lab.search.explore import TooMany
 from arena_lab.search.invariants import Candidate, Walk, Walked, walked
 from arena_lab.search.history_tree import HistoryState
 from arena_lab.search.configurations import After, At, Before, Bound, Bounds, Configuration, Position, World
-from arena_lab.tests.playing import AGENTS, FAULTY, MAP, InFolder, program
+from arena_lab.tests.playing import AGENTS, FAULTY, MAP, InFolder, program, under
 from tests.support.output import ran
 
 INVARIANTS = TOP / "examples" / "invariants"
@@ -256,7 +254,7 @@ class Invariants(InFolder):
                 breach = self.walked(fixture, SHUTTLE, Candidate(self.wrong(mistake))).walk.breach
                 assert breach is not None
                 choices = list(breach.choices)
-                played = play(Rehearsal(fixture), Together(SHUTTLE, fixture, 5), schedulers.recorded(choices), fixture)
+                played = under(schedulers.recorded(choices), fixture, SHUTTLE)
                 self.assertEqual(seen(played.match), shown_by(breach.picture))
                 accused = {place for place in breach.picture.accused if place}
                 self.assertEqual(set(played.match.accused), accused)
@@ -273,7 +271,7 @@ class Invariants(InFolder):
                 def choose(choices: Any, state: Any, fair: Any = fair, met: Any = met) -> Any:
                     met.add(seen(state.match))
                     return fair(choices, state)
-                played = play(Rehearsal(fixture), Together(SHUTTLE, fixture, 5), choose, fixture)
+                played = under(choose, fixture, SHUTTLE)
                 self.assertFalse(played.has_failed())
                 with self.subTest(hole=hole, seed=seed):
                     self.assertEqual(met - noting.found, set())

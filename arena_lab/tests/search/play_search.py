@@ -8,16 +8,14 @@ from unittest import mock
 from arena_lab.__main__ import main, parser
 from arena_lab.commands.words import games_of
 from arena_lab.play.games import play_seed
-from arena_lab.play.matches import play
 from arena_lab.play.schedulers import Choice
-from arena_lab.play.teams import INSIDE, AgentWords, Game, Together
+from arena_lab.play.teams import INSIDE, AgentWords, Game
 from arena_lab.rules import networks
 from arena_lab.rules.fixtures import Fixture
 from arena_lab.rules.model import Verdict
 from arena_lab.rules.networks import ring
-from arena_lab.rules.rehearsal import Rehearsal
 from arena_lab.search import explore, hunt, history_tree
-from arena_lab.tests.playing import FAULTY, MAP, RING, fixture, program
+from arena_lab.tests.playing import FAULTY, MAP, RING, fixture, program, under
 from tests.support.output import InTemporary, ran
 from tools.play import mutants
 
@@ -53,7 +51,7 @@ def one_by_one(given: Fixture, agent: AgentWords) -> Iterator[Verdict]:
         def choose(choices: Sequence[Choice], state: object) -> Choice:
             made.append((front[len(made)] if len(made) < len(front) else 0, len(choices)))
             return choices[made[-1][0]]
-        yield play(Rehearsal(given), Together([agent] * given.setup.agents, given, 5), choose, given).verdict()
+        yield under(choose, given, [agent] * given.setup.agents).verdict()
         for place in range(len(front), len(made)):
             before = [number for number, _ in made[:place]]
             fronts += [[*before, number] for number in range(1, made[place][1])]
