@@ -7,7 +7,7 @@ import functools
 import json
 import pathlib
 import tempfile
-from typing import Any, Dict, Iterable, List, Optional, Sequence, Tuple
+from typing import Any, Dict, Iterable, List, Mapping, Optional, Sequence, Tuple
 
 from arena_lab.pages.judging import lines_of, pasts_of, verdict_of
 from arena_lab.pages.parts import filled
@@ -134,17 +134,20 @@ def with_twin(program: str, match: Dict[str, Any], replay: str, node: int) -> Di
     return twin
 
 
+def shown_of(name: str, verdict: str, match: Dict[str, Any], pasts: Mapping[int, Iterable[int]]) -> Dict[str, Any]:
+    """What the page of a match shows that has no twin: its events as `read` gives them, and the places of the causal
+    past of each agent."""
+    return {"name": name, "verdict": verdict, "spots": layout(match["head"]), "match": match, "twin": None,
+            "pasts": {str(agent): runs(past) for agent, past in pasts.items()}}
+
+
 def data_of(program: Optional[str], replay: pathlib.Path, twin: Optional[int], title: str = "") -> Dict[str, Any]:
     """All that the page shows. Without a title it is called as the replay."""
-    verdict = "{} moves {} lost {}".format(*verdict_of(program, replay))
+    verdict = str(verdict_of(program, replay))
     with open(replay, encoding="utf-8", newline="\n") as lines:
         match = read(lines)
     met = {code[1:].partition(":")[0] for code in match["events"].split(",")} - {""}
-    pasts = {str(agent): runs(past) for agent, past in pasts_of(program, replay, sorted(map(int, met))).items()}
-    data = {
-        "name": title or replay.name, "verdict": verdict, "spots": layout(match["head"]), "pasts": pasts,
-        "match": match, "twin": None,
-    }
+    data = shown_of(title or replay.name, verdict, match, pasts_of(program, replay, sorted(map(int, met))))
     if twin is not None:
         if program is None:
             raise NoProgram("only the program makes twins: leave out --twin, or --engine model")

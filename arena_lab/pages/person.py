@@ -7,11 +7,8 @@ import tempfile
 from typing import Any, Dict, List, Protocol
 
 from arena_lab.pages.page import data_of, page_of
-from arena_lab.pages.parts import filled, part
-from arena_lab.pages.projector import SCRIPT, STRICT, STYLE, WHOLE, headers, refusal
-from arena_lab.support.missing import needed
+from arena_lab.pages.web_pages import JSON, STRICT, WHOLE, Handlers, answering, headers, run
 
-JSON = "application/json"
 # how long a request may be
 MOST_BYTES = 10_000
 
@@ -29,32 +26,20 @@ class PersonMatch(Protocol):
     def shown(self) -> Dict[str, Any]: ...
 
 
-class PersonHandlers:
+class PersonHandlers(Handlers):
     """The handlers of the web server."""
 
-    def __init__(self, web: Any, match: PersonMatch, title: str) -> None:
-        self._web, self._match, self._title = web, match, title
+    def __init__(self, match: PersonMatch, title: str) -> None:
+        super().__init__("play", title)
+        self._match = match
 
     def routes(self) -> List[Any]:
-        get, post = self._web.get, self._web.post
-        return [get("/", self.page), get("/play.js", self.script), get("/play.css", self.style),
-                get("/seen", self.seen), get("/match", self.whole), post("/say", self.say), post("/wait", self.wait),
-                post("/end", self.end)]
-
-    def _said(self, text: str, kind: str = "text/html", policy: str = STRICT) -> Any:
-        return self._web.Response(text=text, content_type=kind, headers=headers(policy))
+        get, post = self.web.get, self.web.post
+        return [*super().routes(), get("/seen", self.seen), get("/match", self.whole), post("/say", self.say),
+                post("/wait", self.wait), post("/end", self.end)]
 
     def _shown(self) -> Any:
-        return self._said(json.dumps(self._match.shown()), JSON)
-
-    async def page(self, _: Any) -> Any:
-        return self._said(filled("play.html", title=self._title))
-
-    async def script(self, _: Any) -> Any:
-        return self._said(part("play.js"), SCRIPT)
-
-    async def style(self, _: Any) -> Any:
-        return self._said(part("play.css"), STYLE)
+        return self.said(json.dumps(self._match.shown()), JSON)
 
     async def seen(self, _: Any) -> Any:
         return self._shown()
@@ -62,11 +47,11 @@ class PersonHandlers:
     async def whole(self, _: Any) -> Any:
         """The page of the whole match, once it is over."""
         if not self._match.is_over:
-            raise self._web.HTTPNotFound(text="the match is not over\n", headers=headers(STRICT))
+            raise self.web.HTTPNotFound(text="the match is not over\n", headers=headers(STRICT))
         with tempfile.TemporaryDirectory() as folder:
             replay = pathlib.Path(folder) / "match0.jsonl"
             replay.write_bytes(self._match.replay())
-            return self._said(page_of(data_of(None, replay, None, self._title)), policy=WHOLE)
+            return self.said(page_of(data_of(None, replay, None, self._title)), policy=WHOLE)
 
     async def say(self, request: Any) -> Any:
         found = await self._asked(request)
@@ -74,7 +59,7 @@ class PersonHandlers:
         if (not isinstance(agent, int) or isinstance(agent, bool)
                 or not 0 <= agent < len(self._match.shown()["agents"])
                 or not isinstance(command, dict) or not isinstance(command.get("do"), str)):
-            raise self._web.HTTPBadRequest(text="no agent says this\n", headers=headers(STRICT))
+            raise self.web.HTTPBadRequest(text="no agent says this\n", headers=headers(STRICT))
         if self._match.may_say(agent):
             self._match.say(agent, command)
         return self._shown()
@@ -97,26 +82,15 @@ class PersonHandlers:
             with contextlib.suppress(ValueError):
                 found = json.loads(await request.text())
         if not isinstance(found, dict):
-            raise self._web.HTTPBadRequest(text="no JSON object\n", headers=headers(STRICT))
+            raise self.web.HTTPBadRequest(text="no JSON object\n", headers=headers(STRICT))
         return found
 
 
 def application(match: PersonMatch, title: str) -> Any:
     """The web server's application, for pages of this machine alone."""
-    web = needed("aiohttp.web")
-
-    async def for_own_pages(request: Any, handler: Any) -> Any:
-        said = refusal(request.headers, ())
-        if said:
-            return web.Response(status=403, text=said, headers=headers(STRICT))
-        return await handler(request)
-    app = web.Application(middlewares=[web.middleware(for_own_pages)], client_max_size=MOST_BYTES)
-    app.add_routes(PersonHandlers(web, match, title).routes())
-    return app
+    return answering(PersonHandlers(match, title), client_max_size=MOST_BYTES)
 
 
 def serve(match: PersonMatch, title: str, port: int) -> None:
     """Serves the page to this machine until it is interrupted."""
-    web = needed("aiohttp.web")
-    web.run_app(application(match, title), host="127.0.0.1", port=port, access_log=None, shutdown_timeout=1,
-                print=lambda *_: print(f"play at http://127.0.0.1:{port}/", flush=True))
+    run(application(match, title), "127.0.0.1", port, "play at")

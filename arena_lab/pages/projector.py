@@ -1,32 +1,22 @@
 """A web server that shows a contest while it goes on, and tells no more than arena_lab/pages/screen.py allows."""
 import asyncio
 import contextlib
-import ipaddress
 import json
-import re
-import socket
 import time
-from typing import Any, Callable, Collection, Dict, List, Mapping, Optional, Tuple
+from typing import Any, Callable, Collection, Dict, List, Optional, Tuple
 
 from arena_lab.pages.contest_pages import Shown
 from arena_lab.pages.feeds import Feed
 from arena_lab.pages.judging import cut, footprints
-from arena_lab.pages.page import layout, page_of, read, runs
-from arena_lab.pages.parts import filled, part
+from arena_lab.pages.page import page_of, read, shown_of
 from arena_lab.pages.screen import WatchedMatch, standings, teams
+from arena_lab.pages.web_pages import JSON, STRICT, WHOLE, Handlers, answering, headers, run
 from arena_lab.rules.model import Match, judge
-from arena_lab.support.missing import needed
 
 # seconds between two looks at the files, and how many watchers there may be
 EVERY, MOST_WATCHERS = 0.5, 500
 # seconds after which a watcher that was told nothing new is asked whether it is there
 QUIET = 15
-STRICT = ("default-src 'none'; style-src 'self'; script-src 'self'; connect-src 'self'; base-uri 'none'; "
-          "form-action 'none'")
-# the page of a match has its style and its script in itself
-WHOLE = ("default-src 'none'; style-src 'unsafe-inline'; script-src 'unsafe-inline'; connect-src 'self'; "
-         "base-uri 'none'; form-action 'none'")
-SCRIPT, STYLE = "text/javascript", "text/css"
 
 
 class ContestView:
@@ -85,38 +75,23 @@ def data_of(name: str, match: Match) -> Dict[str, Any]:
     again = read([json.dumps(match.head()), *map(json.dumps, match.log)])
     events = footprints(match)
     met = sorted({event["agent"] for event in match.log if "agent" in event})
-    verdict = "{} moves {} lost {}".format(*judge(match)) if match.closed else "the match goes on"
-    return {"name": name, "verdict": verdict, "spots": layout(again["head"]), "match": again, "twin": None,
-            "pasts": {str(agent): runs(cut(agent, events)) for agent in met}}
+    verdict = str(judge(match)) if match.closed else "the match goes on"
+    return shown_of(name, verdict, again, {agent: cut(agent, events) for agent in met})
 
 
-class ProjectorHandlers:
+class ProjectorHandlers(Handlers):
     """The handlers of the web server."""
 
-    def __init__(self, web: Any, contest: ContestView, title: str, turns: Dict[str, int]) -> None:
-        self._web = web
+    def __init__(self, contest: ContestView, title: str, turns: Dict[str, int]) -> None:
+        super().__init__("watch", title)
         self._contest = contest
-        self._title = title
         self._turns = turns
         self._watchers = 0
 
     def routes(self) -> List[Any]:
-        get = self._web.get
-        return [get("/", self.page), get("/watch.js", self.script), get("/watch.css", self.style),
-                get("/standings", self.standings), get(r"/match/{number:\d{1,2}}", self.match),
+        get = self.web.get
+        return [*super().routes(), get("/standings", self.standings), get(r"/match/{number:\d{1,2}}", self.match),
                 get(r"/match/{number:\d{1,2}}/data", self.data), get(r"/match/{number:\d{1,2}}/news", self.news)]
-
-    def _said(self, text: str, kind: str = "text/html", policy: str = STRICT) -> Any:
-        return self._web.Response(text=text, content_type=kind, headers=headers(policy))
-
-    async def page(self, _: Any) -> Any:
-        return self._said(filled("watch.html", title=self._title))
-
-    async def script(self, _: Any) -> Any:
-        return self._said(part("watch.js"), SCRIPT)
-
-    async def style(self, _: Any) -> Any:
-        return self._said(part("watch.css"), STYLE)
 
     async def standings(self, request: Any) -> Any:
         """Tells what may be shown, now and whenever it changes."""
@@ -125,14 +100,14 @@ class ProjectorHandlers:
 
     async def news(self, request: Any) -> Any:
         """Tells whenever something has happened in a match."""
-        number = self._number(request)
+        number, _ = self._asked(request)
         return await self._events(request, lambda: {"grown": self._contest.grown(number)})
 
     async def _events(self, request: Any, told: Callable[[], Dict[str, Any]]) -> Any:
         """A stream of what is told, which is sent when it has changed, with the time of this machine."""
         if self._watchers >= MOST_WATCHERS:
-            raise self._web.HTTPServiceUnavailable(text="too many watch this contest; try again later\n")
-        response = self._web.StreamResponse(headers={**headers(STRICT), "Content-Type": "text/event-stream"})
+            raise self.web.HTTPServiceUnavailable(text="too many watch this contest; try again later\n")
+        response = self.web.StreamResponse(headers={**headers(STRICT), "Content-Type": "text/event-stream"})
         self._watchers += 1
         try:
             await response.prepare(request)
@@ -149,74 +124,34 @@ class ProjectorHandlers:
         finally:
             self._watchers -= 1
 
-    def _number(self, request: Any) -> int:
+    def _asked(self, request: Any) -> Tuple[int, Match]:
+        """The match that a request names, if its page may be shown."""
         number = int(request.match_info["number"])
         feed = self._contest.feed(number)
         if feed is None or feed.match is None or not self._contest.may_open(number):
-            raise self._web.HTTPNotFound(text="pages of matches come when all matches are closed\n",
-                                         headers=headers(STRICT))
-        return number
+            raise self.web.HTTPNotFound(text="pages of matches come when all matches are closed\n",
+                                        headers=headers(STRICT))
+        return number, feed.match
 
     def _data(self, request: Any) -> Dict[str, Any]:
-        number = self._number(request)
-        feed = self._contest.feed(number)
-        if feed is None or feed.match is None:
-            raise self._web.HTTPNotFound(headers=headers(STRICT))
-        is_open = not feed.match.closed
-        return {**data_of(f"match {number}", feed.match), "news": f"/match/{number}" if is_open else None}
+        number, match = self._asked(request)
+        return {**data_of(f"match {number}", match), "news": None if match.closed else f"/match/{number}"}
 
     async def match(self, request: Any) -> Any:
-        return self._said(page_of(self._data(request)), policy=WHOLE)
+        return self.said(page_of(self._data(request)), policy=WHOLE)
 
     async def data(self, request: Any) -> Any:
-        return self._said(json.dumps(self._data(request)), "application/json")
-
-
-def headers(policy: str) -> Dict[str, str]:
-    """What each answer has: nothing is taken from elsewhere, framed or kept."""
-    return {"Content-Security-Policy": f"{policy}; frame-ancestors 'none'", "X-Content-Type-Options": "nosniff",
-            "Referrer-Policy": "no-referrer", "Cache-Control": "no-store"}
-
-
-def is_own_name(host: str, names: Collection[str]) -> bool:
-    """Whether a host that is asked for is this machine by its address or by one of these names. Another name may be one
-    that a page elsewhere has led here, to read what this machine alone may see."""
-    name = host.rpartition(":")[0] if re.search(r":\d+$", host) else host
-    with contextlib.suppress(ValueError):
-        ipaddress.ip_address(name.strip("[]"))
-        return True
-    return name.lower() in {"localhost", socket.gethostname().lower(), *names}
-
-
-def refusal(asked: Mapping[str, str], names: Collection[str]) -> str:
-    """Why a request is refused, by its headers, or nothing. A page elsewhere may lead to these pages, and not read
-    them."""
-    host, origin, site = (asked.get(name, "") for name in ("Host", "Origin", "Sec-Fetch-Site"))
-    if not is_own_name(host, names):
-        return f"this is no page of {host}: ask by the address of this machine, or name {host} by --host\n"
-    is_other = origin not in ("", f"http://{host}") or site not in ("", "none", "same-origin")
-    if is_other and asked.get("Sec-Fetch-Mode") != "navigate":
-        return "pages of other hosts may not read this one\n"
-    return ""
+        return self.said(json.dumps(self._data(request)), JSON)
 
 
 def application(contest: ContestView, title: str, turns: Dict[str, int], names: Collection[str] = ()) -> Any:
     """The web server's application, which looks at the files while it serves. It answers for this machine and for hosts
     of these names."""
-    web = needed("aiohttp.web")
-
-    async def for_own_pages(request: Any, handler: Any) -> Any:
-        said = refusal(request.headers, names)
-        if said:
-            return web.Response(status=403, text=said, headers=headers(STRICT))
-        return await handler(request)
-
-    async def looking(app: Any) -> Any:
+    async def looking(_: Any) -> Any:
         task = asyncio.create_task(contest.watch())
         yield
         task.cancel()
-    app = web.Application(middlewares=[web.middleware(for_own_pages)])
-    app.add_routes(ProjectorHandlers(web, contest, title, turns).routes())
+    app = answering(ProjectorHandlers(contest, title, turns), names)
     app.cleanup_ctx.append(looking)
     return app
 
@@ -225,9 +160,6 @@ def show(contest: ContestView, title: str, place: Tuple[str, int], turns: Dict[s
          names: Collection[str] = ()) -> None:
     """Shows a contest at an address and port until it is interrupted. Names of hosts are those by which it may be asked
     for, besides addresses and this machine's name."""
-    web, (address, port) = needed("aiohttp.web"), place
-
     async def made() -> Any:
         return application(contest, title, turns, names)
-    web.run_app(made(), host=address, port=port, access_log=None, shutdown_timeout=1,
-                print=lambda *_: print(f"watch http://{address}:{port}/", flush=True))
+    run(made(), *place, "watch")
