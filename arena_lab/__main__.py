@@ -21,47 +21,35 @@ PLAYS, PAGES = ("greenlet", "tqdm"), ("jinja2", "networkx", "numpy", "scipy")
 
 
 class Command(NamedTuple):
-    """A command: the module that has its words and runs it, what it does in a line, and the modules that it needs of
-    Debian's packages."""
+    """A command: what it does in a line, and the modules that it needs of Debian's packages."""
 
-    module: str
     about: str
     needs: Tuple[str, ...] = PLAYS
 
 
+# by their names, which are those of the modules that have their words and run them
 COMMANDS = {
-    "new": Command("arena_lab.commands.new", "begin an agent in one of seven languages or as a module", ()),
-    "examples": Command("arena_lab.commands.examples", "say where the examples stand, or copy them", ()),
-    "play": Command("arena_lab.commands.play", "be the agents yourself, in the terminal or on a page", PAGES
-                    + ("aiohttp",)),
-    "run": Command("arena_lab.commands.run", "play a team under schedules of a scheduler", PLAYS + PAGES),
-    "check": Command("arena_lab.commands.check", "check an agent before it is handed in",
-                     PLAYS + PAGES + ("hypothesis",)),
-    "hunt": Command("arena_lab.commands.hunt", "look for a schedule after which the team fails, or moves most",
-                    PLAYS + PAGES + ("hypothesis",)),
-    "explore": Command("arena_lab.commands.explore", "try every schedule of a small network", PLAYS + PAGES),
-    "adversary": Command("arena_lab.commands.adversary", "make two agents on a ring move as much as every team must",
-                         PLAYS + PAGES),
-    "invariant": Command("arena_lab.commands.invariant", "try a candidate invariant on every picture of small networks",
-                         PLAYS + PAGES),
-    "replay": Command("arena_lab.commands.replay", "play a schedule again, and compare every byte", PLAYS + PAGES),
-    "serve": Command("arena_lab.commands.serve",
-                     "a stand-in for `arena serve`, to try agents without building the program",
-                     ()),
-    "network": Command("arena_lab.commands.network", "write a network file, or a page to see it", ("networkx",)),
-    "tournament": Command("arena_lab.commands.tournament",
-                          "write a tournament of teams, networks and black holes, or another try of a match",
+    "new": Command("begin an agent in one of seven languages or as a module", ()),
+    "examples": Command("say where the examples stand, or copy them", ()),
+    "play": Command("be the agents yourself, in the terminal or on a page", PAGES + ("aiohttp",)),
+    "run": Command("play a team under schedules of a scheduler", PLAYS + PAGES),
+    "check": Command("check an agent before it is handed in", PLAYS + PAGES + ("hypothesis",)),
+    "hunt": Command("look for a schedule after which the team fails, or moves most", PLAYS + PAGES + ("hypothesis",)),
+    "explore": Command("try every schedule of a small network", PLAYS + PAGES),
+    "adversary": Command("make two agents on a ring move as much as every team must", PLAYS + PAGES),
+    "invariant": Command("try a candidate invariant on every picture of small networks", PLAYS + PAGES),
+    "replay": Command("play a schedule again, and compare every byte", PLAYS + PAGES),
+    "serve": Command("a stand-in for `arena serve`, to try agents without building the program", ()),
+    "network": Command("write a network file, or a page to see it", ("networkx",)),
+    "tournament": Command("write a tournament of teams, networks and black holes, or another try of a match",
                           ("networkx",)),
-    "sweep": Command("arena_lab.commands.sweep", "play teams over a grid of networks and schedules, and write a report",
+    "sweep": Command("play teams over a grid of networks and schedules, and write a report",
                      PLAYS + PAGES + ("matplotlib",)),
-    "grade": Command("arena_lab.commands.grade", "grade the programs of a course, or repeat a graded course once more",
-                     PLAYS + PAGES),
-    "hall": Command("arena_lab.commands.hall",
-                    "serve a hall, where teams practise, try again, and are ranked for a term",
+    "grade": Command("grade the programs of a course, or repeat a graded course once more", PLAYS + PAGES),
+    "hall": Command("serve a hall, where teams practise, try again, and are ranked for a term",
                     PLAYS + PAGES + ("django", "rest_framework", "waitress", "whitenoise")),
-    "page": Command("arena_lab.commands.page", "write a page of a match that has ended, or of each match of a contest",
-                    PAGES),
-    "watch": Command("arena_lab.commands.watch", "show a contest that goes on, for a projector", PAGES + ("aiohttp",)),
+    "page": Command("write a page of a match that has ended, or of each match of a contest", PAGES),
+    "watch": Command("show a contest that goes on, for a projector", PAGES + ("aiohttp",)),
 }
 
 ABOUT = """Plays agents under a schedule that you choose, records it, and plays it again byte for byte.
@@ -83,7 +71,7 @@ def parser(name_of_lab: str = IN_CLONE, called: Collection[str] = tuple(COMMANDS
         if name not in called:
             commands.add_parser(name, help=command.about)
             continue
-        module = importlib.import_module(command.module)
+        module = importlib.import_module(f"arena_lab.commands.{name}")
         about = (module.__doc__ or "").replace(IN_CLONE, name_of_lab)
         words = commands.add_parser(name, help=command.about, description=about, epilog=STATUS,
                                     formatter_class=argparse.RawDescriptionHelpFormatter)

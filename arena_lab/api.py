@@ -234,7 +234,7 @@ def explore(network: Union[NetworkLike, Sequence[NetworkLike]], agents: Union[Ag
     all_asked, path = [game(one, agents, **more) for one in networks_in(network)], path_of(engine)
     if path is not None:
         most = exploring.MOST_STATES if draws is not None else fitting(OF_PROGRAM)
-        return by_program([ExploreJob(one, path, states or most, check, draws) for one in all_asked], draws is not None)
+        return by_program(all_asked, ExploreJob(all_asked[0].matches(), path, states or most, check, draws))
     if draws is not None:
         raise ValueError("draws need a program: name it by engine, or hunt")
     with bar(None, "state") as shown:
@@ -254,19 +254,20 @@ def networks_in(network: Union[NetworkLike, Sequence[NetworkLike]]) -> List[Netw
     return list(networks.in_range(network)) if isinstance(network, str) else [network]
 
 
-def by_program(jobs: Sequence[ExploreJob[Game]], is_drawn: bool) -> SearchResult:
-    """What the program finds of the schedules of games, up to the first match that fails or is not tried as a whole."""
+def by_program(games: Sequence[Game], job: ExploreJob) -> SearchResult:
+    """What the program finds of the schedules of games, up to the first match that fails or is not tried as a whole.
+    All are tried as the job says of one."""
     rows, counted, worst = [], Counted(), None
-    for job in jobs:
-        search = Search(job)
+    for one in games:
+        search = Search(job._replace(matches=one.matches()))
         with bar(None, "answer") as shown:
-            rows += [row_of(job.game, tried) for tried in search.tried(shown)]
+            rows += [row_of(one, tried) for tried in search.tried(shown)]
         counted, last = counted.more(search.checks), search.tries[-1]
         if last.has_failed():
-            worst = play_again(failing(job.game, last), job.program)
+            worst = play_again(failing(one, last), job.program)
         if last.has_failed() or not last.is_whole():
             break
-    return SearchResult(rows, str(counted), worst, is_drawn)
+    return SearchResult(rows, str(counted), worst, job.draws is not None)
 
 
 def failing(given: Game, tried: MatchResult) -> Schedule:

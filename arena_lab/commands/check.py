@@ -26,7 +26,7 @@ import signal
 import sys
 import threading
 import time
-from typing import Any, Iterator, List, NamedTuple, Optional, Sequence, Tuple
+from typing import Any, List, NamedTuple, Optional, Sequence, Tuple
 
 import arena_lab
 from arena_lab import api
@@ -247,17 +247,16 @@ def under(schedule: Schedule, where: str, asked: Checked) -> ToMend:
 
 def every(asked: Checked) -> Step:
     """Tries every schedule of a small network, unless they are too many or the agent cannot be explored."""
-    name = asked.smallest([EXPLORED])[0]
-    alarm: Optional[Alarm] = None
+    name, alarm = asked.smallest([EXPLORED])[0], Alarm(LONGER * asked.seconds)
     try:
-        with within(LONGER * asked.seconds) as alarm:
+        with alarm:
             found: Any = api.explore(name, asked.game(name).agents, engine=asked.program or MODEL, limit=asked.limit,
                                      states=MOST)
     except (NoAgent, NoFunction) as fault:
         print(f"not every schedule of {name} was tried: {fault}")
         return "", None
     except KeyboardInterrupt:
-        if alarm is None or not alarm.has_rung:
+        if not alarm.has_rung:
             raise
         found = None
     if found is not None and found.fails and found.worst is not None:
@@ -289,28 +288,22 @@ class TimedProgress:
 
 
 class Alarm:
-    """Interrupts the main thread, as Ctrl-C does, once its time is up and now and then after that: a single interrupt
-    may be lost, as in what runs when Python collects garbage. Says whether it has rung."""
+    """Used by `with`, interrupts the main thread, as Ctrl-C does, once its time is up and now and then after that: a
+    single interrupt may be lost, as in what runs when Python collects garbage. A search gives then what it has found.
+    Says whether it has rung."""
 
     def __init__(self, seconds: float) -> None:
-        self.has_rung = False
+        self.has_rung, self._seconds = False, seconds
         self._stopped = threading.Event()
-        threading.Thread(target=self._wait, args=(seconds,), daemon=True).start()
 
-    def stop(self) -> None:
+    def __enter__(self) -> None:
+        threading.Thread(target=self._wait, daemon=True).start()
+
+    def __exit__(self, *_: object) -> None:
         self._stopped.set()
 
-    def _wait(self, seconds: float) -> None:
+    def _wait(self) -> None:
+        seconds = self._seconds
         while not self._stopped.wait(seconds):
             self.has_rung, seconds = True, AGAIN
             signal.pthread_kill(threading.main_thread().ident or 0, signal.SIGINT)
-
-
-@contextlib.contextmanager
-def within(seconds: float) -> Iterator[Alarm]:
-    """Interrupts what takes longer. A search gives then what it has found."""
-    alarm = Alarm(seconds)
-    try:
-        yield alarm
-    finally:
-        alarm.stop()

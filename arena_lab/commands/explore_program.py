@@ -52,9 +52,9 @@ class ExploreRequest(NamedTuple):
     before: Sequence[MatchResult] = ()
     write: Optional[Callable[[MatchResult], None]] = None
 
-    def job(self, draws: Optional[SampleRequest] = None) -> ExploreJob[Game]:
+    def job(self, draws: Optional[SampleRequest] = None) -> ExploreJob:
         """What a process needs to try the matches."""
-        return ExploreJob(self.game, self.program, self.states, self.check, draws)
+        return ExploreJob(self.game.matches(), self.program, self.states, self.check, draws)
 
     def elsewhere(self) -> Optional[Parallelism]:
         """Who else tries them, if this process does not. What is written is tried by a process that reads no other

@@ -1,5 +1,7 @@
 """`explore --draws` by the program: it draws schedules of matches that have too many to try, and the lab answers what
 agents do (arena_lab/search/program_search.py). The worst schedule is kept, and the agents play it."""
+import bisect
+import itertools
 import statistics
 from typing import List, NamedTuple, Sequence, Tuple
 
@@ -23,20 +25,10 @@ class MoveStatistics(NamedTuple):
 
 def moves_of(pairs: Pairs) -> MoveStatistics:
     """Sums up pairs of a number of moves and how many schedules made it, in order of the moves."""
-    numbers = [number for number, _ in pairs]
-    count = sum(times for _, times in pairs)
-    mean = sum(number * times for number, times in pairs) / count
-    return MoveStatistics(numbers[0], mean, statistics.fmean((at(pairs, (count - 1) // 2), at(pairs, count // 2))),
-                          numbers[-1])
-
-
-def at(pairs: Pairs, place: int) -> int:
-    """The number at this place of the list that repeats each number as often as its pair says."""
-    for number, times in pairs:
-        if place < times:
-            return number
-        place -= times
-    raise IndexError(place)
+    numbers, times = zip(*pairs)
+    ends = list(itertools.accumulate(times))
+    middle = [numbers[bisect.bisect(ends, place)] for place in ((ends[-1] - 1) // 2, ends[-1] // 2)]
+    return MoveStatistics(numbers[0], statistics.fmean(numbers, times), statistics.fmean(middle), numbers[-1])
 
 
 def run(all_wanted: Sequence[ExploreRequest], draws: SampleRequest) -> int:

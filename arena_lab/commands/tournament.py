@@ -36,8 +36,8 @@ from arena_lab.commands.words import not_negative
 from arena_lab.pages.contest_pages import AGAIN, TOURNAMENT
 from arena_lab.rules import networks
 from arena_lab.rules.delays import ADAPTIVE, OBLIVIOUS, ODDS, SCALES, Delays
-from arena_lab.rules.fixtures import Fixture, read_tournament, tournament_text
-from arena_lab.rules.limits import MOST_AGENTS, MOST_BOARD, MOST_QUOTA, SMALL_BOARD, SMALL_QUOTA
+from arena_lab.rules.fixtures import Fixture, checked, read_tournament, tournament_text
+from arena_lab.rules.limits import MOST_AGENTS, SMALL_BOARD, SMALL_QUOTA
 from arena_lab.rules.model import Setup
 from arena_lab.rules.networks import Network, NoNetwork
 
@@ -69,25 +69,10 @@ def holes_of(words: argparse.Namespace, name: str, network: Network) -> List[int
     return sorted(secrets.SystemRandom().sample(others, words.holes))
 
 
-def agents_on(words: argparse.Namespace, network: Network) -> int:
-    """How many agents a team has on a network."""
-    return max(network.degrees()) + 1 if words.agents == DEGREE else int(words.agents)
-
-
-def check_limits(words: argparse.Namespace) -> None:
-    """Refuses what no match may have."""
+def check_words(words: argparse.Namespace) -> None:
+    """Refuses teams of one name, and delays that no tournament may have."""
     if len(set(words.team)) < len(words.team):
         raise NoNetwork("two teams have the same name: name each by a --team of its own")
-    if not 1 <= words.quota <= MOST_QUOTA:
-        raise NoNetwork(f"an agent has 1 to {MOST_QUOTA} commands, and not {words.quota}: name another number by "
-                        "--quota")
-    if not 0 <= words.board <= MOST_BOARD:
-        raise NoNetwork(f"a whiteboard has 0 to {MOST_BOARD} bytes, and not {words.board}: name another number by "
-                        "--board")
-
-
-def check_delays(words: argparse.Namespace) -> None:
-    """Refuses delays that no tournament may have."""
     if not 0 <= words.delay_scales <= MOST_SCALES:
         raise NoNetwork(f"delays have 0 to {MOST_SCALES} scales, and not {words.delay_scales}: name another number by "
                         "--delay-scales")
@@ -142,12 +127,13 @@ def places_on(words: argparse.Namespace, number: int, name: str) -> List[Planned
     network = network_for(name, words)
     if not 0 <= words.home < network.nodes:
         raise NoNetwork(f"{name}: it has no node {words.home} for a home base; name another by --home")
-    agents = agents_on(words, network)
+    agents = max(network.degrees()) + 1 if words.agents == DEGREE else words.agents
     if not 1 <= agents <= MOST_AGENTS:
         raise NoNetwork(f"{name}: a match has 1 to {MOST_AGENTS} agents, and not {agents}; name another number by "
                         "--agents")
-    return [Planned(Setup(network.nodes, network.links, words.home, [hole], agents, words.quota, words.board), [],
-                  file_of(words.network, number)) for hole in holes_of(words, name, network)]
+    setup = Setup(network.nodes, network.links, words.home, [], agents, words.quota, words.board)
+    return [Planned(checked(setup._replace(holes=[hole])), [], file_of(words.network, number))
+            for hole in holes_of(words, name, network)]
 
 
 def key_of(team: str) -> str:
@@ -230,8 +216,7 @@ def run(words: argparse.Namespace) -> int:
 
 def write_all(words: argparse.Namespace) -> int:
     """Writes the tournament of all teams."""
-    check_limits(words)
-    check_delays(words)
+    check_words(words)
     path = words.out / TOURNAMENT
     entries = entries_of(words)
     setups = {words.out / entry.file: entry.fixture.setup for entry in entries}
@@ -242,16 +227,12 @@ def write_all(words: argparse.Namespace) -> int:
     words.out.mkdir(parents=True, exist_ok=True)
     for file, setup in setups.items():
         file.write_text(networks.text_of(networks.Network(setup.nodes, setup.links)), encoding="utf-8")
-    for file, text in secret_files(words.team, entries, delays_of(words)).items():
+    delays = Delays(words.delay_scales, words.delay_odds) if words.schedule == OBLIVIOUS else None
+    for file, text in secret_files(words.team, entries, delays).items():
         write_secret(words.out / file, text)
     print(f"{path}: {len(entries)} matches of {len(words.team)} teams; try `arena check {TOURNAMENT}` in the folder")
     print("give each team its sheet: " + ", ".join(str(words.out / sheet_name(team)) for team in words.team))
     return 0
-
-
-def delays_of(words: argparse.Namespace) -> Optional[Delays]:
-    """The delays of the oblivious schedule, if the tournament is to have it."""
-    return Delays(words.delay_scales, words.delay_odds) if words.schedule == OBLIVIOUS else None
 
 
 def secret_files(teams: Sequence[str], entries: Sequence[TournamentMatch], delays: Optional[Delays]) -> Dict[str, str]:

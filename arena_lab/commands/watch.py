@@ -21,7 +21,7 @@ import argparse
 import pathlib
 
 from arena_lab.pages.contest_pages import matches_of
-from arena_lab.pages.feeds import feeds
+from arena_lab.pages.feeds import Feed
 from arena_lab.pages.projector import ContestView, show
 
 
@@ -48,6 +48,7 @@ def run(words: argparse.Namespace) -> int:
     turns = {"turns": words.turns, "pause": words.pause} if words.turns and words.pause else {}
     matches = matches_of(words.tournament)
     gather, pause = (None if it is None else it / 1000 for it in (words.gather, words.pause))
-    contest = ContestView(matches, feeds(words.prefix, len(matches), gather, pause), words.open)
+    feeds = [Feed(words.prefix, number, gather, pause) for number in range(len(matches))]
+    contest = ContestView(matches, feeds, words.open)
     show(contest, words.tournament.stem, (words.address, words.port), turns, words.host)
     return 0

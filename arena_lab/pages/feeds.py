@@ -92,8 +92,3 @@ class Feed:
             self.match = begun(line)
         elif "do" in line:
             self.match.play(line)
-
-
-def feeds(prefix: str, count: int, gather: Optional[float] = None, pause: Optional[float] = None) -> List[Feed]:
-    """The matches of a contest."""
-    return [Feed(prefix, number, gather, pause) for number in range(count)]

@@ -141,14 +141,9 @@ def note_of(notes: Notes, event: str, given: Any) -> None:
             notes.reaches = notes.reaches or "what lies outside, since it writes a file"
 
 
-def read_by(thread: Any) -> Dict[str, str]:
-    """The SHA-256 of each file that a program has read, also while its file was loaded first, and of each installed
-    package, by their names."""
-    return read_in(notes_of(thread))
-
-
-def read_in(of_program: Notes) -> Dict[str, str]:
-    """The same of a program's notes."""
+def read_by(of_program: Notes) -> Dict[str, str]:
+    """The SHA-256 of each file that a program with these notes has read, also while its file was loaded first, and of
+    each installed package, by their names."""
     found: Set[str] = set()
     for notes in (of_program, LOADED) if IS_WATCHED else ():
         files = (source_of(os.path.abspath(file)) for file in notes.files)

@@ -14,7 +14,7 @@ from typing import Any, Callable, Deque, Dict, List, Mapping, Optional, Sequence
 
 from arena_lab.play.agent_files import Script
 from arena_lab.play.bounds import LIMIT
-from arena_lab.play.foreign_files import read_by
+from arena_lab.play.foreign_files import notes_of, read_by
 from arena_lab.play.own_modules import OwnModules
 from arena_lab.rules.model import GONE, LAST, spelled
 from arena_lab.support.missing import needed
@@ -71,7 +71,7 @@ class Player:
 
     def read(self) -> Dict[str, str]:
         """The SHA-256 of each file that the program has read, by their names, if that is noted."""
-        return read_by(self._thread)
+        return read_by(notes_of(self._thread))
 
     def told(self, text: str) -> str:
         """What the agent has said is the same on each run."""

@@ -20,7 +20,7 @@ import subprocess
 import threading
 import time
 from collections import deque
-from typing import Any, Callable, Deque, Dict, List, Mapping, NamedTuple, Optional, Protocol, Sequence, Sized, Tuple
+from typing import Any, Callable, Deque, Dict, List, Mapping, Optional, Protocol, Sequence, Sized, Tuple
 
 from arena_lab.play import wasm_modules
 from arena_lab.play.agent_files import NoAgent, facts_of
@@ -120,29 +120,15 @@ class LocalRunner:
         return ""
 
 
-class Nowhere(NamedTuple):
+class Nowhere(LocalRunner):
     """No program can run; says why."""
 
-    why: str
-    facts: Mapping[str, str] = {}
+    def __init__(self, why: str) -> None:
+        super().__init__()
+        self._why = why
 
     def start(self, words: Sequence[str], seed: int, errors: Any) -> Started:
-        raise NoStart(self.why)
-
-    def kill(self, child: "subprocess.Popen[bytes]") -> None:
-        pass
-
-    def hurry(self, child: "subprocess.Popen[bytes]") -> None:
-        pass
-
-    def told(self, text: str) -> str:
-        return text
-
-    def hint(self, words: str) -> str:
-        return ""
-
-    def fault(self) -> str:
-        return ""
+        raise NoStart(self._why)
 
 
 class Lines:

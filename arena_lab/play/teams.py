@@ -121,6 +121,14 @@ def alone(number: int, agent: AgentWords, again: Fixture, fixture: Fixture, seco
     return Outside(again, {number: agent.words}, seconds, seeds=seeds_of(fixture))
 
 
+class Matches(NamedTuple):
+    """The matches of one team: its agents, the matches, and how many seconds an agent may compute."""
+
+    agents: List[AgentWords]
+    fixtures: List[Fixture]
+    limit: float
+
+
 class Game(NamedTuple):
     """What is played, as far as a seed does not choose it: a network by its name, a team, and what destroys; if nothing
     does, each seed has a black hole of its own. Or else the match of a tournament."""
@@ -158,6 +166,9 @@ class Game(NamedTuple):
     def fixtures(self) -> List[Fixture]:
         """Its matches: one, or one for each node but the home base as the black hole."""
         return [self.fixture(seed) for seed in range(1 if self.is_fixed() else self.network.nodes - 1)]
+
+    def matches(self) -> Matches:
+        return Matches(self.agents, self.fixtures(), self.limit)
 
     def is_fixed(self) -> bool:
         """Whether all seeds have the same match."""

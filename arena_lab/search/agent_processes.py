@@ -71,26 +71,17 @@ class AgentProcesses:
         self._fixture, self._agents = fixture, agents
         inside = [agent for agent in agents if agent.kind == INSIDE]
         self._scripts: Dict[str, Script] = {agent.words: agent.script(fixture.setup) for agent in inside}
-        self._team, self._outside = Team(fixture.keys, {}, seconds), programs.Team(fixture, {}, seconds)
+        # the team inside the lab, whose clocks end programs that compute without end
+        self.team, self._outside = Team(fixture.keys, {}, seconds), programs.Team(fixture, {}, seconds)
+        self.start, self.stop = self.team.start, self.team.stop
         # what the programs of all agents inside the lab read and reach
         self.notes = Notes()
-
-    def start(self) -> None:
-        self._team.start()
-
-    def stop(self) -> None:
-        self._team.stop()
-
-    @property
-    def team(self) -> Team:
-        """The team inside the lab, whose clocks end programs that compute without end."""
-        return self._team
 
     def begun(self, agent: int) -> AgentProcess:
         """The program of an agent, which has begun."""
         words, key = self._agents[agent].words, self._fixture.keys[agent]
         if self._agents[agent].kind == INSIDE:
-            player: Any = Player(self._team, agent, key, self._scripts[words])
+            player: Any = Player(self.team, agent, key, self._scripts[words])
             vars(player._thread)["notes"] = self.notes
             one = AgentProcess(player)
             player.go_on()

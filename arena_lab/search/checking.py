@@ -1,9 +1,9 @@
 """How `explore` checks that agents are machines, which always answer a history alike. The agents play drawn schedules,
 other processes play histories again, the Python model searches small matches too, and merges of declared memories are
 followed."""
-from typing import Any, FrozenSet, List, NamedTuple, Optional, Protocol
+from typing import Any, FrozenSet, NamedTuple, Optional
 
-from arena_lab.play.teams import INSIDE, AgentWords
+from arena_lab.play.teams import INSIDE, Matches
 from arena_lab.rules.engines import Differs
 from arena_lab.rules.fixtures import Fixture
 from arena_lab.search.explore import Explored, explored
@@ -66,29 +66,19 @@ class Counted(NamedTuple):
         return f"checked, and all agree: {', '.join(said)}"
 
 
-class Matches(Protocol):
-    """Matches that one team plays, such as those of a `Game`."""
-
-    @property
-    def agents(self) -> List[AgentWords]: ...
-    @property
-    def limit(self) -> float: ...
-    def fixtures(self) -> List[Fixture]: ...
-
-
 class Checks:
     """What was checked of a search."""
 
-    def __init__(self, machines: Machines, game: Matches, schedules: int, matches: int) -> None:
+    def __init__(self, machines: Machines, matches: Matches, schedules: int) -> None:
         """Of this many schedules each match gets its part."""
-        self._machines, self._game, self._matches = machines, game, matches
+        self._machines, self._matches, self._count = machines, matches, len(matches.fixtures)
         # of modules nothing is taken for granted that could be checked
         self._wanted = 0 if machines.modules else schedules
         self._seen = self._schedules = self._searched = self._apart = 0
         # the memories before this number were told in other processes
         self._told = 0
         # whether the Python model's search of each match has come to an end in time so far
-        self._is_small = all(agent.kind == INSIDE for agent in game.agents)
+        self._is_small = all(agent.kind == INSIDE for agent in matches.agents)
 
     def check(self, fixture: Fixture, found: Optional[Finding], shown: Any, number: int) -> None:
         """Checks the match of a number, of which the program has found this."""
@@ -97,9 +87,9 @@ class Checks:
             return
         if isinstance(found, SOLVED):
             self._play_apart(fixture, number)
-            first, last = (self._wanted * it // self._matches for it in (number, number + 1))
+            first, last = (self._wanted * it // self._count for it in (number, number + 1))
             for seed in range(first, last):
-                follow(fixture, self._game.agents, self._machines, seed, self._game.limit)
+                follow(fixture, self._matches.agents, self._machines, seed, self._matches.limit)
             self._schedules += last - first
         if not isinstance(found, Comes) and self._is_small:
             self._is_small = self._is_searched(fixture, found, shown)
@@ -107,16 +97,16 @@ class Checks:
 
     def _play_apart(self, fixture: Fixture, number: int) -> None:
         """Has other processes tell the agents histories of the match of a number."""
-        histories = histories_of(self._machines, self._game.agents, self._told)
+        histories = histories_of(self._machines, self._matches.agents, self._told)
         self._told = len(self._machines.ways)
-        for place in range(-(-PROCESSES // self._matches)):
-            seed = 1 + number + place * self._matches
-            self._apart += play_apart(fixture, self._game.agents, self._game.limit, histories, seed)
+        for place in range(-(-PROCESSES // self._count)):
+            seed = 1 + number + place * self._count
+            self._apart += play_apart(fixture, self._matches.agents, self._matches.limit, histories, seed)
 
     def _is_searched(self, fixture: Fixture, found: Finding, shown: Any) -> bool:
         """Whether the Python model's search comes to an end in time; then it must come to the same."""
         try:
-            beside = explored(fixture, self._game.agents, shown, STATES, self._game.limit, SECONDS)
+            beside = explored(fixture, self._matches.agents, shown, STATES, self._matches.limit, SECONDS)
         except NoFunction:
             # it refuses agents that enter as another one, of which the program says that they fail
             if isinstance(found, Solves):

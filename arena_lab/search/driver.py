@@ -7,12 +7,12 @@ import pickle
 import signal
 import sys
 import time
-from typing import Any, Callable, Dict, Generator, Generic, Iterator, List, NamedTuple, Optional, Sequence, TypeVar
+from typing import Any, Callable, Dict, Generator, Iterator, List, NamedTuple, Optional, Sequence
 
 from arena_lab.play.agent_files import digests
 from arena_lab.play.parallel import Parallelism
-from arena_lab.play.teams import digests_of
-from arena_lab.search.checking import Checks, Counted, Matches
+from arena_lab.play.teams import Matches, digests_of
+from arena_lab.search.checking import Checks, Counted
 from arena_lab.search.findings import ExploreAnswer
 from arena_lab.search.history_tree import NoFunction
 from arena_lab.search.machines import Machines
@@ -21,8 +21,6 @@ from arena_lab.search.match_results import MatchResult
 from arena_lab.search.program_search import STOPPED, SampleRequest, asked
 from arena_lab.support.progress import NO_PROGRESS
 
-# what is tried: matches of one team
-Tried = TypeVar("Tried", bound=Matches)
 # how many drawn schedules of a search are played by the agents
 CHECKED = 20
 # what is made of a match that the program has tried, such as one that the Python model searches too
@@ -42,10 +40,10 @@ class ExploreJobResult(NamedTuple):
     counted: Counted
 
 
-class ExploreJob(NamedTuple, Generic[Tried]):
-    """What a process needs to try the matches of a game."""
+class ExploreJob(NamedTuple):
+    """What a process needs to try matches."""
 
-    game: Tried
+    matches: Matches
     program: str
     states: int
     check: int
@@ -59,22 +57,22 @@ class ExploreJob(NamedTuple, Generic[Tried]):
 
     def digests(self) -> Dict[str, str]:
         """The SHA-256 of each file that what is found depends on."""
-        return {**digests_of(self.game.agents), **digests([self.program])}
+        return {**digests_of(self.matches.agents), **digests([self.program])}
 
 
 class LocalMatches:
     """The matches of a game that this process tries."""
 
-    def __init__(self, job: ExploreJob[Any]) -> None:
-        self._job, self._fixtures = job, job.game.fixtures()
-        self._machines = Machines(self._fixtures[0], job.game.agents, job.game.limit, MERGES if job.check else 0)
-        self._checks = Checks(self._machines, job.game, job.check, len(self._fixtures))
+    def __init__(self, job: ExploreJob) -> None:
+        self._job, matches = job, job.matches
+        self._machines = Machines(matches.fixtures[0], matches.agents, matches.limit, MERGES if job.check else 0)
+        self._checks = Checks(self._machines, matches, job.check)
         self._machines.start()
         self.stop, self.read = self._machines.stop, self._machines.read
 
     def done(self, number: int, shown: Any = NO_PROGRESS) -> ExploreJobResult:
         """Tries the match of a number, and checks it."""
-        fixture, counted = self._fixtures[number], self._checks.counted()
+        fixture, counted = self._job.matches.fixtures[number], self._checks.counted()
         tried = MatchResult(fixture, asked(self._job.program, fixture, self._machines, self._job.states, shown,
                                            self._job.draws))
         shown.clear()
@@ -87,7 +85,7 @@ class LocalMatches:
 HERE: Dict[bytes, LocalMatches] = {}
 
 
-def here(job: ExploreJob[Any]) -> LocalMatches:
+def here(job: ExploreJob) -> LocalMatches:
     """The matches of a job in this process. Asked to end, it ends the program that searches first."""
     sent = pickle.dumps(job)
     if sent not in HERE:
@@ -101,7 +99,7 @@ def here(job: ExploreJob[Any]) -> LocalMatches:
 class Search:
     """The matches of a game that were tried so far, what was checked of them, and the seconds that it took."""
 
-    def __init__(self, job: ExploreJob[Any], way: Optional[Parallelism] = None, before: Sequence[MatchResult] = (),
+    def __init__(self, job: ExploreJob, way: Optional[Parallelism] = None, before: Sequence[MatchResult] = (),
                  after: After = lambda tried, _: tried) -> None:
         """This process tries them if no way is named. Those of earlier runs come first, and are not tried again."""
         self.tries: List[MatchResult] = list(before)
@@ -124,13 +122,13 @@ class Search:
     def _here(self, shown: Any) -> Generator[ExploreJobResult, None, None]:
         matches = LocalMatches(self._job)
         try:
-            for number in range(len(self.tries), len(self._job.game.fixtures())):
+            for number in range(len(self.tries), len(self._job.matches.fixtures)):
                 yield matches.done(number, shown)
         finally:
             matches.stop()
 
     def _elsewhere(self, way: Parallelism, shown: Any) -> Generator[ExploreJobResult, None, None]:
-        fixtures = self._job.game.fixtures()
+        fixtures = self._job.matches.fixtures
         cases = [NumberedMatch(number) for number in range(len(self.tries), len(fixtures))]
         try:
             with contextlib.closing(way.results(self._job, cases, is_long=True)) as results:

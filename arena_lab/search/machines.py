@@ -12,7 +12,7 @@ import hashlib
 import json
 from typing import Any, Dict, FrozenSet, List, Optional, OrderedDict, Tuple
 
-from arena_lab.play.foreign_files import read_in, watch
+from arena_lab.play.foreign_files import read_by, watch
 from arena_lab.play.imports import PACKAGE
 from arena_lab.play.players import DONE, TRAVELS, WAKES, Player
 from arena_lab.play.teams import INSIDE, AgentWords, digests_of, modules_of
@@ -182,7 +182,7 @@ class Machines:
 
     def read(self) -> Dict[str, str]:
         """The SHA-256 of each file that programs inside the lab have read, by their names."""
-        return read_in(self._processes.notes)
+        return read_by(self._processes.notes)
 
     def _inside(self) -> List[AgentWords]:
         return [agent for agent in self._agents if agent.kind == INSIDE]

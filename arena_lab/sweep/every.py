@@ -6,7 +6,7 @@ from typing import Dict, List, NamedTuple, Sequence, Tuple
 
 from arena_lab.play.agent_files import digests
 from arena_lab.play.parallel import Parallelism
-from arena_lab.play.teams import NAPS, AgentWords
+from arena_lab.play.teams import NAPS, Matches
 from arena_lab.rules.engines import Differs, name_of
 from arena_lab.rules.fixtures import Fixture
 from arena_lab.search import driver
@@ -17,7 +17,7 @@ from arena_lab.support.progress import along
 from arena_lab.sweep import grid
 from arena_lab.sweep.grid import Case, Grid
 from arena_lab.sweep.report import Row, is_solved
-from arena_lab.sweep.tables import NoTable, cells_in, checked, line_of
+from arena_lab.sweep.tables import cells_in, check_asked, checked, line_of
 
 EVERY = "every.csv"
 # of a match: which it is; what was found, and in how many states; if every schedule solves it, the most moves, lost
@@ -42,17 +42,6 @@ class SweepMatch(NamedTuple):
         return self.cases[self.place]
 
 
-class SweepTeam(NamedTuple):
-    """A team with its matches on one network. It is asked once what its agents do."""
-
-    agents: List[AgentWords]
-    matches: Tuple[Fixture, ...]
-    limit: float
-
-    def fixtures(self) -> List[Fixture]:
-        return list(self.matches)
-
-
 class SweepExploreJob(NamedTuple):
     """What a process needs to try the matches of a sweep: its text, the program, how many states of a match may be
     visited, and how many seconds an agent may compute."""
@@ -65,8 +54,9 @@ class SweepExploreJob(NamedTuple):
     def play(self, match: SweepMatch) -> List[str]:
         """Tries a match, and gives its row."""
         spec = grid.grid_of(self.text)
-        fixtures = tuple(spec.fixture(case)._replace(naps=NAPS) for case in match.cases)
-        team = SweepTeam([match.case.team.words] * fixtures[0].setup.agents, fixtures, self.limit)
+        fixtures = [spec.fixture(case)._replace(naps=NAPS) for case in match.cases]
+        # a team is asked once on each network what its agents do
+        team = Matches([match.case.team.words] * fixtures[0].setup.agents, fixtures, self.limit)
         done = driver.here(driver.ExploreJob(team, self.program, self.states, driver.CHECKED)).done(match.place)
         return row_of(match, fixtures[match.place], done.tried.answered, self.states)
 
@@ -105,11 +95,8 @@ class SweepRows:
     def __init__(self, folder: pathlib.Path, spec: Grid) -> None:
         self.path, self.matches = folder / EVERY, matches_of(spec)
         self._rows = cells_in(self.path, COLUMNS) if self.path.exists() else []
-        for number, row in enumerate(self._rows):
-            wanted = self.matches[number:number + 1]
-            if not wanted or row[:COLUMNS.index("found")] != asked_of(wanted[0], spec.fixture(wanted[0].case)):
-                raise NoTable(f"{self.path}: line {number + 2} is of another match than the sweep has there: name "
-                              "another folder")
+        check_asked(self.path, self._rows, (asked_of(it, spec.fixture(it.case)) for it in self.matches),
+                    "match than the sweep has there: name another folder")
 
     def rows(self) -> List[Row]:
         """What was found so far."""

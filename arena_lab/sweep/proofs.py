@@ -10,7 +10,7 @@ from arena_lab.search.findings import ExploreAnswer, Solves
 from arena_lab.search.match_results import MatchResult
 from arena_lab.sweep.grid import BOUNDS
 from arena_lab.sweep.report import COLOURS, POINTS, moves_up, new_figure, over_nodes, svg_of
-from arena_lab.sweep.tables import NoTable, cells_in, checked, line_of, made_by, note_read, prepared
+from arena_lab.sweep.tables import NoTable, cells_in, check_asked, checked, line_of, made_by, note_read, prepared
 
 MATCHES, PLOT = "matches.csv", "moves.svg"
 # of a match: where it stands, what was found of it, and how many memories sleep and were never woken once more
@@ -43,15 +43,8 @@ class Folder:
         matches = ((game, fixture) for game in games for fixture in game.fixtures())
         self._asked = [asked_of(number, *match) for number, match in enumerate(matches)]
         self._count = prepared(path, made_of(games, program), MATCHES, COLUMNS)
-        self._check()
-
-    def _check(self) -> None:
-        """Refuses rows that are not those of these matches."""
-        path = self._path / MATCHES
-        for number, row in enumerate(cells_in(path, COLUMNS)):
-            wanted = self._asked[number] if number < len(self._asked) else []
-            if row[:len(wanted)] != wanted or not wanted:
-                raise NoTable(f"{path}: line {number + 2} is of another match than these: name another folder by --out")
+        check_asked(path / MATCHES, cells_in(path / MATCHES, COLUMNS), self._asked,
+                    "match than these: name another folder by --out")
 
     def of(self, games: Sequence[Game], place: int) -> List[MatchResult]:
         """The matches of a game that have rows."""

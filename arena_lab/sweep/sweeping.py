@@ -18,8 +18,8 @@ from arena_lab.support.fields import WrongFile
 from arena_lab.support.progress import along
 from arena_lab.sweep import every, grid, report, verify
 from arena_lab.sweep.grid import Case, Grid
-from arena_lab.sweep.tables import (COLUMNS, RUNS, NoTable, cells_in, changed_in, checked, done_in, line_of, made_by,
-                              note_read, rows_in)
+from arena_lab.sweep.tables import (COLUMNS, RUNS, NoTable, cells_in, changed_in, check_asked, checked, done_in,
+                                    line_of, made_by, note_read, rows_in)
 
 SUMMARY, REPORT, WORST = "summary.csv", "report.html", "worst"
 # an agent may wait for a processor that has much other work: a row is not to depend on that
@@ -71,7 +71,7 @@ def cells_for(case: Case, fixture: Fixture, summary: Summary) -> List[str]:
 
 
 def asked_of(case: Case, fixture: Fixture) -> Dict[str, Any]:
-    """The columns of a row that say which run it is."""
+    """The first columns of a row, which say which run it is."""
     setup = fixture.setup
     return {"run": case.number, "network": case.network, "nodes": setup.nodes, "links": len(setup.links),
             "home": setup.home, "hole": case.hole, "team": case.team.name, "agents": setup.agents,
@@ -84,11 +84,9 @@ def check_rows(spec: Grid, cases: Sequence[Case], folder: pathlib.Path) -> None:
     rows = cells_in(path)
     if len(rows) > len(cases):
         raise NoTable(f"{path}: it has {len(rows)} rows, and the sweep has {len(cases)} runs: name another folder")
-    for case, row in zip(cases, rows):
-        wanted = asked_of(case, spec.fixture(case))
-        if any(cell != str(wanted[name]) for name, cell in zip(COLUMNS, row) if name in wanted):
-            raise NoTable(f"{path}: line {case.number + 2} is of another run than the sweep has there: name another "
-                          "folder, or remove this line and all below it, and start the same command again")
+    check_asked(path, rows, (list(map(str, asked_of(case, spec.fixture(case)).values())) for case in cases),
+                "run than the sweep has there: name another folder, or remove this line and all below it, and start "
+                "the same command again")
 
 
 def made_of(spec: Grid, text: str, program: Optional[str]) -> Dict[str, Any]:

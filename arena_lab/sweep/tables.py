@@ -66,6 +66,16 @@ def cells_in(path: pathlib.Path, columns: Sequence[str] = COLUMNS) -> List[List[
     return rows
 
 
+def check_asked(path: pathlib.Path, rows: Iterable[List[str]], asked: Iterable[List[str]], other: str) -> None:
+    """Refuses rows of other matches than are asked for, which the first cells of a row say; `other` ends what is said
+    of such a row."""
+    wanted = iter(asked)
+    for number, row in enumerate(rows, 2):
+        cells = next(wanted, None)
+        if cells is None or row[:len(cells)] != cells:
+            raise NoTable(f"{path}: line {number} is of another {other}")
+
+
 def rows_in(path: pathlib.Path) -> List[Row]:
     """The rows of a file by their columns. A row ends with a field for each fault, and `faults` has them all."""
     return [row_of(cells) for cells in cells_in(path)]

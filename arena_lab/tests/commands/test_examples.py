@@ -1,22 +1,20 @@
 """Examples that were copied run where they stand, by the lab that copied them."""
 import json
 import os
-import pathlib
 import subprocess
 import sys
-import tempfile
-import unittest
 
 from arena_lab.__main__ import main
 from arena_lab.rules.engines import TOP
 from arena_lab.tests.needing import needs
-from tests.support.output import ran
+from tests.support.output import InTemporary, ran
 
 
 @needs("greenlet", "jinja2", "networkx", "numpy", "scipy", "tqdm")
-class Copies(unittest.TestCase):
+class Copies(InTemporary):
     def setUp(self) -> None:
-        self.folder = pathlib.Path(self.enterContext(tempfile.TemporaryDirectory())) / "mine"
+        super().setUp()
+        self.folder /= "mine"
         self.assertEqual(ran(main, ["examples", str(self.folder)]).status, 0)
 
     def said(self, *words: str) -> str:

@@ -1,6 +1,4 @@
 """The page that lists the matches of a contest."""
-import pathlib
-import tempfile
 import unittest
 from unittest import mock
 
@@ -8,6 +6,7 @@ from arena_lab.pages import contest_pages
 from arena_lab.pages.contest_pages import BETTER, LAST, Shown, Tries, matches_of, page_of, write_pages
 from arena_lab.rules.model import Verdict
 from arena_lab.rules.networks import NoNetwork
+from tests.support.output import InTemporary
 
 TOURNAMENT = """version = 2
 [[match]]
@@ -46,9 +45,9 @@ class Lists(unittest.TestCase):
         self.assertNotIn("<i>", page)
 
 
-class Writes(unittest.TestCase):
+class Writes(InTemporary):
     def setUp(self) -> None:
-        self.folder = pathlib.Path(self.enterContext(tempfile.TemporaryDirectory()))
+        super().setUp()
         self.file = self.folder / "cup.toml"
         self.file.write_text(TOURNAMENT)
 

@@ -1,21 +1,18 @@
 """Parts of replays are read as they grow: whole lines alone, and since when a match runs."""
 import os
-import pathlib
-import tempfile
 import time
-import unittest
 from typing import Optional
 
 from arena_lab.pages.feeds import Feed
 from arena_lab.rules.model import Match, Setup, spelled
 from arena_lab.rules.networks import ring
+from tests.support.output import InTemporary
 
 
-class Feeds(unittest.TestCase):
+class Feeds(InTemporary):
     def setUp(self) -> None:
-        folder = tempfile.TemporaryDirectory()
-        self.addCleanup(folder.cleanup)
-        self.part = pathlib.Path(folder.name) / "m0.jsonl.part"
+        super().setUp()
+        self.part = self.folder / "m0.jsonl.part"
         self.match = Match(Setup(3, ring(3).links, 0, [2], 2, 10, 8))
         self.feed = Feed(str(self.part.with_name("m")), 0)
 

@@ -1,17 +1,15 @@
 """What the Python model says of a replay: the verdict and causal pasts that the program says of it."""
-import pathlib
-import tempfile
-import unittest
 
 from arena_lab.pages import judging
 from arena_lab.play.agent_files import TOP
 from arena_lab.rules.engines import EngineRefused
 from arena_lab.rules.model import Verdict
+from tests.support.output import InTemporary
 
 EXAMPLES = TOP / "examples"
 
 
-class Judging(unittest.TestCase):
+class Judging(InTemporary):
     def test_verdicts_are_those_of_the_examples(self) -> None:
         for name, verdict in (("first0.jsonl", Verdict("solved", 13, 1)), ("guess0.jsonl", Verdict("guess 1", 0, 0)),
                               ("triangle0.jsonl", Verdict("silent", 1, 0)), ("guess.twin", Verdict("wrong", 0, 0))):
@@ -25,10 +23,9 @@ class Judging(unittest.TestCase):
     def test_what_is_no_replay_is_refused(self) -> None:
         text = (EXAMPLES / "first0.jsonl").read_text(encoding="utf-8")
         lines = text.splitlines(keepends=True)
-        with tempfile.TemporaryDirectory() as folder:
-            path = pathlib.Path(folder) / "it.jsonl"
-            for bent in ("", "{}\n", "x", text[:-1], "".join(lines[:-2] + lines[-1:]), text.replace("noted", "bye"),
-                         text.replace('"agent":1', '"agent":9'), text.replace('"port":0', '"port":"0"')):
-                path.write_text(bent, encoding="utf-8")
-                with self.assertRaisesRegex(EngineRefused, "it.jsonl: this is no replay of a match by the rules"):
-                    judging.verdict_of(None, path)
+        path = self.folder / "it.jsonl"
+        for bent in ("", "{}\n", "x", text[:-1], "".join(lines[:-2] + lines[-1:]), text.replace("noted", "bye"),
+                     text.replace('"agent":1', '"agent":9'), text.replace('"port":0', '"port":"0"')):
+            path.write_text(bent, encoding="utf-8")
+            with self.assertRaisesRegex(EngineRefused, "it.jsonl: this is no replay of a match by the rules"):
+                judging.verdict_of(None, path)

@@ -1,21 +1,18 @@
 """The kits of four languages are written, built and played; `python3 -m tools.play.kits PROGRAM` plays all."""
-import pathlib
-import tempfile
-import unittest
 
 from arena_lab.play.kits import KITS
 from arena_lab.tests.play.kits_played import Played
 from arena_lab.tests.playing import program
+from tests.support.output import InTemporary
 from tools import packages
 
 
-class TestKits(unittest.TestCase):
+class TestKits(InTemporary):
     def play(self, language: str) -> None:
         absent = packages.missing(KITS[language].packages)
         if absent:
             self.skipTest(f"Debian's {', '.join(absent)} is not installed")
-        with tempfile.TemporaryDirectory() as folder:
-            Played(language, pathlib.Path(folder), program()).all()
+        Played(language, self.folder, program()).all()
 
     def test_python(self) -> None:
         self.play("python")

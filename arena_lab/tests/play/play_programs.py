@@ -3,7 +3,6 @@ import pathlib
 import shutil
 import subprocess
 import sys
-import tempfile
 import unittest
 from typing import List
 
@@ -15,6 +14,7 @@ from arena_lab.play.teams import OUTSIDE, AgentWords
 from arena_lab.rules.networks import ring
 from arena_lab.sandbox.processes import listed, words_of
 from arena_lab.tests.playing import AGENTS, RING, fixture, played, program, under
+from tests.support.output import InTemporary
 
 PYTHON = AgentWords(OUTSIDE, f"{sys.executable} {AGENTS / 'ring.py'} {{host}} {{port}} {{key}} {{nodes}}")
 RUDE = pathlib.Path(__file__).resolve().parent / "rude.py"
@@ -39,7 +39,7 @@ def running(words: str) -> List[str]:
     return [line for line in found if words in line]
 
 
-class Programs(unittest.TestCase):
+class Programs(InTemporary):
     def of(self, agents: List[AgentWords], seed: int, seconds: float = 5) -> PlayedMatch:
         return under(schedulers.fair(seed), fixture(ring(8), 5), agents, seconds=seconds)
 
@@ -55,26 +55,24 @@ class Programs(unittest.TestCase):
         match = self.of([PYTHON, dies], 0)
         self.assertEqual(list(match.errors), [1])
         schedule = schedule_of(fixture(ring(8), 5), [PYTHON, dies], "a test", match.choices)
-        with tempfile.TemporaryDirectory() as name:
-            folder = pathlib.Path(name)
-            kept_matches.write_find(folder, schedule, match, None)
-            self.assertIn("no such map", (folder / "errors1.txt").read_text())
-            self.assertFalse((folder / "errors0.txt").exists())
-            # it is no part of the match
-            (folder / "errors1.txt").write_text("another time")
-            self.assertEqual(kept_matches.changed_in(folder, schedule, match, None), [])
+        folder = self.folder
+        kept_matches.write_find(folder, schedule, match, None)
+        self.assertIn("no such map", (folder / "errors1.txt").read_text())
+        self.assertFalse((folder / "errors0.txt").exists())
+        # it is no part of the match
+        (folder / "errors1.txt").write_text("another time")
+        self.assertEqual(kept_matches.changed_in(folder, schedule, match, None), [])
 
     @unittest.skipUnless(shutil.which("cc"), "no C compiler")
     def test_programs_in_c_are_played_again_on_both_engines(self) -> None:
-        with tempfile.TemporaryDirectory() as folder:
-            made = f"{folder}/ring"
-            subprocess.run(["cc", "-O2", "-o", made, str(AGENTS / "ring.c")], check=True)
-            agents = [AgentWords(OUTSIDE, f"{made} {{port}} {{key}} 8"), PYTHON]
-            once = self.of(agents, 7)
-            self.assertFalse(once.has_failed())
-            schedule = schedule_of(fixture(ring(8), 5), agents, "fair 7", once.choices)
-            for engine in (None, program()):
-                self.assertEqual(kept_matches.played_again(schedule, engine).replay, once.replay)
+        made = f"{self.folder}/ring"
+        subprocess.run(["cc", "-O2", "-o", made, str(AGENTS / "ring.c")], check=True)
+        agents = [AgentWords(OUTSIDE, f"{made} {{port}} {{key}} 8"), PYTHON]
+        once = self.of(agents, 7)
+        self.assertFalse(once.has_failed())
+        schedule = schedule_of(fixture(ring(8), 5), agents, "fair 7", once.choices)
+        for engine in (None, program()):
+            self.assertEqual(kept_matches.played_again(schedule, engine).replay, once.replay)
 
     def test_who_keeps_to_no_rule_is_named_and_ended(self) -> None:
         for how, fault in FAULTS.items():

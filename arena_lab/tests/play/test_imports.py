@@ -2,14 +2,13 @@
 import hashlib
 import os
 import pathlib
-import tempfile
-import unittest
 from typing import Dict
 
 from arena_lab.play import imports
 from arena_lab.play.imports import digest_named, files_behind, names_in
 from arena_lab.play.parallel import other_files
 from arena_lab.play.teams import INSIDE, OUTSIDE, AgentWords, digests_of
+from tests.support.output import InTemporary
 
 FILES = {
     "agent.py": "import one\nfrom two import three\n\n"
@@ -21,12 +20,11 @@ FILES = {
 }
 
 
-class Imports(unittest.TestCase):
+class Imports(InTemporary):
     def setUp(self) -> None:
-        folder = tempfile.TemporaryDirectory()
-        self.addCleanup(folder.cleanup)
+        super().setUp()
         self.addCleanup(os.chdir, os.getcwd())
-        self.folder = pathlib.Path(folder.name).resolve()
+        self.folder = self.folder.resolve()
         for name, text in FILES.items():
             path = self.folder / name
             path.parent.mkdir(parents=True, exist_ok=True)

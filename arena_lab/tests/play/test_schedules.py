@@ -1,6 +1,5 @@
 """Schedules in files."""
 import pathlib
-import tempfile
 import unittest
 from typing import List, Tuple, cast
 
@@ -11,6 +10,7 @@ from arena_lab.play.teams import INSIDE, AgentWords
 from arena_lab.rules.fixtures import Fixture
 from arena_lab.rules.model import Setup
 from arena_lab.rules.networks import ring
+from tests.support.output import InTemporary
 
 PATH = pathlib.Path("schedule.txt")
 ZERO, ONE = Choice(ANSWER, 0), Choice(ANSWER, 1)
@@ -54,29 +54,19 @@ class Follows(unittest.TestCase):
         self.assertTrue(60 < made.count(ZERO) < 140)
 
 
-class Texts(unittest.TestCase):
+class Texts(InTemporary):
     def schedule(self, text: str) -> Schedule:
-        with tempfile.NamedTemporaryFile("w", suffix=".txt") as file:
-            file.write(text)
-            file.flush()
-            return read(pathlib.Path(file.name))
+        (self.folder / "schedule.txt").write_text(text)
+        return read(self.folder / "schedule.txt")
 
-    def test_a_schedule_has_its_limit(self) -> None:
+    def test_a_schedule_has_its_limit_and_its_naps(self) -> None:
         fixture = Fixture("lab", Setup(3, ring(3).links, 0, [2], 1, 10, 8), ["k"], [], 3)
         made = Schedule(fixture, [AgentWords(INSIDE, "examples/agents/ring.py 3")], "trial", [], {}, 0.5)
         text = text_of(made)
-        self.assertEqual(self.schedule(text).limit, 0.5)
+        self.assertEqual((self.schedule(text).limit, self.schedule(text).fixture.naps), (0.5, 3))
         self.assertIn('"limit":60,', text_of(made._replace(limit=60.0)))
         # a schedule of an earlier version has none
         self.assertEqual(self.schedule(text.replace('"limit":0.5,', "")).limit, LIMIT)
         for wrong in ("0", "-1", '"5"', "true", "1e999", "null"):
             with self.subTest(wrong), self.assertRaisesRegex(NoSchedule, "its first line is no head"):
                 self.schedule(text.replace("0.5", wrong))
-
-    def test_a_schedule_has_its_naps(self) -> None:
-        fixture = Fixture("lab", Setup(3, ring(3).links, 0, [2], 1, 10, 8), ["k"], [], 3)
-        made = Schedule(fixture, [AgentWords(INSIDE, "examples/agents/ring.py 3")], "trial", [], {})
-        with tempfile.NamedTemporaryFile("w", suffix=".txt") as file:
-            file.write(text_of(made))
-            file.flush()
-            self.assertEqual(read(pathlib.Path(file.name)).fixture.naps, 3)

@@ -1,8 +1,6 @@
 """An agent inside the lab may compute for a while; a machine that lets it wait does not end it."""
-import pathlib
 import subprocess
 import sys
-import tempfile
 import time
 import unittest
 from typing import Any, Callable, List
@@ -11,6 +9,7 @@ from unittest import mock
 from arena_lab.play import players
 from arena_lab.play.players import Team, faults_of
 from arena_lab.rules.engines import TOP
+from tests.support.output import InTemporary
 
 SECONDS = 0.2
 
@@ -51,15 +50,14 @@ ENDLESS = """def search(agent, key):
 """
 
 
-class Ends(unittest.TestCase):
+class Ends(InTemporary):
     def test_who_ends_the_lab_ends_it_while_an_agent_computes(self) -> None:
-        with tempfile.TemporaryDirectory() as folder:
-            path = pathlib.Path(folder) / "endless.py"
-            path.write_text(ENDLESS)
-            words = [sys.executable, "-m", "arena_lab", "run", "--engine", "model", "--timeout", "1000", "--agent",
-                     str(path)]
-            with subprocess.Popen(words, cwd=TOP, stdout=subprocess.PIPE, text=True) as ran:
-                self.assertEqual(ran.stdout.readline(), "begun\n")
-                ran.terminate()
-                self.assertEqual(ran.communicate(timeout=60)[0], "")
+        path = self.folder / "endless.py"
+        path.write_text(ENDLESS)
+        words = [sys.executable, "-m", "arena_lab", "run", "--engine", "model", "--timeout", "1000", "--agent",
+                 str(path)]
+        with subprocess.Popen(words, cwd=TOP, stdout=subprocess.PIPE, text=True) as ran:
+            self.assertEqual(ran.stdout.readline(), "begun\n")
+            ran.terminate()
+            self.assertEqual(ran.communicate(timeout=60)[0], "")
         self.assertEqual(ran.returncode, 143)

@@ -4,16 +4,14 @@ import os
 import pathlib
 import stat
 import subprocess
-import tempfile
 import tomllib
-import unittest
 from typing import Tuple
 
 from arena_lab.__main__ import main
 from arena_lab.rules.fixtures import read_tournament
 from arena_lab.rules.networks import Network, cut_of
 from arena_lab.tests.playing import program
-from tests.support.output import ran
+from tests.support.output import InTemporary, ran
 
 NAMES = ("ring:32", "grid:4x5", "wheel:7", "petersen:5x2", "torus:5x5", "hypercube:4", "complete:8", "ccc:3",
          "random:40:deg4:seed7", "random:12:deg3:seed1", "random:5")
@@ -25,12 +23,11 @@ def lab(*words: str) -> Tuple[int, str, str]:
     return status, said, errors
 
 
-class Written(unittest.TestCase):
+class Written(InTemporary):
     def setUp(self) -> None:
-        folder = tempfile.TemporaryDirectory()
-        self.addCleanup(folder.cleanup)
+        super().setUp()
         self.addCleanup(os.chdir, os.getcwd())
-        os.chdir(folder.name)
+        os.chdir(self.folder)
 
     def checked(self, folder: str) -> str:
         """What `arena check` says of the tournament in a folder."""

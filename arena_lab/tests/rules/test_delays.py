@@ -1,7 +1,5 @@
 """The stand-in: its oblivious schedule tells an agent nothing of others, and who does not read keeps nobody waiting."""
-import pathlib
 import socket
-import tempfile
 import threading
 import unittest
 from typing import List, Optional
@@ -11,6 +9,7 @@ from arena_lab.rules.delays import Delays
 from arena_lab.rules.fixtures import Tournament, fixture_of, read_tournament, tournament_text
 from arena_lab.rules.model import AWAY, Setup
 from arena_lab.rules.networks import ring
+from tests.support.output import InTemporary
 
 DELAYS = Delays(3, 4)
 SEED = "07" * 32
@@ -57,7 +56,7 @@ class Clients(unittest.TestCase):
             self.assertFalse(other.is_alive())
 
 
-class DelaysTest(unittest.TestCase):
+class DelaysTest(InTemporary):
     def test_the_delay_of_a_word(self) -> None:
         rows = {0: 1, 1: 2, 5: 3, 2: 4, 6: 5, 10: 6, 14: 7, 18: 4, 3: 0, 7: 0}
         self.assertEqual({word: DELAYS.by_word(word) for word in rows}, rows)
@@ -71,12 +70,11 @@ class DelaysTest(unittest.TestCase):
         self.assertLess(means[0] + 1, means[1])
 
     def test_a_tournament_with_delays_is_written_and_read(self) -> None:
-        with tempfile.TemporaryDirectory() as name:
-            path = pathlib.Path(name, "t.toml")
-            for delays in (None, DELAYS):
-                path.write_text(tournament_text("0" * 64, [], delays) + ("" if delays else "match = []\n"))
-                text = path.read_text()
-                self.assertEqual(text.splitlines()[0], f"version = {3 if delays else 2}")
-                if delays:
-                    path.write_text(text + "match = []\n")
-                self.assertEqual(read_tournament(str(path)).delays, delays)
+        path = self.folder / "t.toml"
+        for delays in (None, DELAYS):
+            path.write_text(tournament_text("0" * 64, [], delays) + ("" if delays else "match = []\n"))
+            text = path.read_text()
+            self.assertEqual(text.splitlines()[0], f"version = {3 if delays else 2}")
+            if delays:
+                path.write_text(text + "match = []\n")
+            self.assertEqual(read_tournament(str(path)).delays, delays)

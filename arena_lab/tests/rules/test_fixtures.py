@@ -1,12 +1,11 @@
 """What the lab refuses of a match, as the program does."""
 import os
-import pathlib
-import tempfile
 import unittest
 
 from arena_lab.rules.fixtures import SEED, NoMatch, checked, fixture_of, read_tournament, tournament_text
 from arena_lab.rules.model import Match, Setup
 from arena_lab.rules.networks import NoNetwork, in_file, ring, text_of
+from tests.support.output import InTemporary
 
 NETWORK = ring(4)
 RIGHT = Setup(4, NETWORK.links, 0, [2], 2, 1000, 4096)
@@ -53,51 +52,47 @@ class Versions(unittest.TestCase):
         self.assertEqual(Match(Setup(257, ring(257).links, 0, [2], 1, 10, 8)).head()["replay"], 3)
 
 
-class Files(unittest.TestCase):
+class Files(InTemporary):
     def test_files_of_another_kind_are_told(self) -> None:
-        with tempfile.TemporaryDirectory() as name:
-            file = pathlib.Path(name) / "file"
-            for text, why in (("# words", "it has no key 'nodes'"), ("nodes = 3\nlinks = 4", "not iterable"),
-                              ("nodes", "Expected '=' after a key")):
-                file.write_text(text, encoding="utf-8")
-                with self.subTest(text), self.assertRaisesRegex(NoNetwork, why):
-                    in_file(str(file))
-                with self.subTest(text), self.assertRaisesRegex(NoMatch, "it is no tournament"):
-                    read_tournament(str(file))
+        file = self.folder / "file"
+        for text, why in (("# words", "it has no key 'nodes'"), ("nodes = 3\nlinks = 4", "not iterable"),
+                          ("nodes", "Expected '=' after a key")):
+            file.write_text(text, encoding="utf-8")
+            with self.subTest(text), self.assertRaisesRegex(NoNetwork, why):
+                in_file(str(file))
+            with self.subTest(text), self.assertRaisesRegex(NoMatch, "it is no tournament"):
+                read_tournament(str(file))
 
     def test_a_match_without_black_holes_lacks_the_key_of_later_versions(self) -> None:
-        with tempfile.TemporaryDirectory() as folder:
-            (pathlib.Path(folder) / "four.toml").write_text(text_of(NETWORK))
-            cup = pathlib.Path(folder) / "cup.toml"
-            cup.write_text(tournament_text(SEED, [(fixture_of(RIGHT), "four.toml")]).replace("holes", "hloes"))
-            with self.assertRaisesRegex(NoMatch, "it has no key 'holes'"):
-                read_tournament(str(cup))
+        (self.folder / "four.toml").write_text(text_of(NETWORK))
+        cup = self.folder / "cup.toml"
+        cup.write_text(tournament_text(SEED, [(fixture_of(RIGHT), "four.toml")]).replace("holes", "hloes"))
+        with self.assertRaisesRegex(NoMatch, "it has no key 'holes'"):
+            read_tournament(str(cup))
 
     def test_version_3_has_no_other_keys(self) -> None:
-        with tempfile.TemporaryDirectory() as folder:
-            (pathlib.Path(folder) / "four.toml").write_text(text_of(NETWORK))
-            cup = pathlib.Path(folder) / "cup.toml"
-            text = tournament_text(SEED, [(fixture_of(RIGHT), "four.toml")])
-            for word in ("seed = ", "held = "):
-                strange = text.replace(word, f"hled = 0\n{word}")
-                with self.subTest(word):
-                    cup.write_text(strange)
-                    self.assertEqual(len(read_tournament(str(cup)).fixtures), 1)
-                    cup.write_text(strange.replace("version = 2", "version = 3"))
-                    with self.assertRaisesRegex(NoMatch, "unknown key hled: the keys here are"):
-                        read_tournament(str(cup))
+        (self.folder / "four.toml").write_text(text_of(NETWORK))
+        cup = self.folder / "cup.toml"
+        text = tournament_text(SEED, [(fixture_of(RIGHT), "four.toml")])
+        for word in ("seed = ", "held = "):
+            strange = text.replace(word, f"hled = 0\n{word}")
+            with self.subTest(word):
+                cup.write_text(strange)
+                self.assertEqual(len(read_tournament(str(cup)).fixtures), 1)
+                cup.write_text(strange.replace("version = 2", "version = 3"))
+                with self.assertRaisesRegex(NoMatch, "unknown key hled: the keys here are"):
+                    read_tournament(str(cup))
 
     def test_a_network_is_looked_for_as_the_program_does(self) -> None:
-        with tempfile.TemporaryDirectory() as name:
-            folder, elsewhere = pathlib.Path(name, "week"), pathlib.Path(name, "elsewhere")
-            for place, nodes in ((folder, 5), (elsewhere, 4)):
-                place.mkdir()
-                (place / "net.toml").write_text(text_of(ring(nodes)), encoding="utf-8")
-            tournament = folder / "t.toml"
-            tournament.write_text(tournament_text(SEED, [(fixture_of(RIGHT), "net.toml")]), encoding="utf-8")
-            before = os.getcwd()
-            self.addCleanup(os.chdir, before)
-            for place, nodes in ((name, 5), (elsewhere, 4), (folder, 5)):
-                os.chdir(place)
-                self.assertEqual(read_tournament(str(tournament)).fixtures[0].setup.nodes, nodes)
-            os.chdir(before)
+        folder, elsewhere = self.folder / "week", self.folder / "elsewhere"
+        for place, nodes in ((folder, 5), (elsewhere, 4)):
+            place.mkdir()
+            (place / "net.toml").write_text(text_of(ring(nodes)), encoding="utf-8")
+        tournament = folder / "t.toml"
+        tournament.write_text(tournament_text(SEED, [(fixture_of(RIGHT), "net.toml")]), encoding="utf-8")
+        before = os.getcwd()
+        self.addCleanup(os.chdir, before)
+        for place, nodes in ((self.folder, 5), (elsewhere, 4), (folder, 5)):
+            os.chdir(place)
+            self.assertEqual(read_tournament(str(tournament)).fixtures[0].setup.nodes, nodes)
+        os.chdir(before)

@@ -4,7 +4,6 @@ import contextlib
 import io
 import pathlib
 import random
-import tempfile
 import unittest
 import warnings
 
@@ -12,12 +11,13 @@ from arena_lab.__main__ import main
 from arena_lab.commands.network import ports_seed
 from arena_lab.commands.tournament import file_of, number_or, team_name
 from arena_lab.rules import networks
+from arena_lab.support.built import TOP
 from arena_lab.support.missing import needed
 from arena_lab.tests.needing import needs
-from tests.support.output import ran
+from tests.support.output import InTemporary, ran
 
 NAMES = ("ring:5", "hypercube:3", "torus:3x4", "complete:5", "ccc:3", "ccc:5", "random:7", "grid:3x4", "grid:2x2",
-         "wheel:3", "wheel:6", "petersen:5x2", "petersen:7x3")
+         "wheel:3", "wheel:6", "petersen:5x2", "petersen:7x3", str(TOP / "examples/torus25.toml"))
 
 
 def far_ends(network: networks.Network) -> dict:
@@ -26,7 +26,7 @@ def far_ends(network: networks.Network) -> dict:
     return {**ends, **{far: near for near, far in ends.items()}}
 
 
-class Networks(unittest.TestCase):
+class Networks(InTemporary):
     def test_each_node_has_its_ports_in_a_row(self) -> None:
         for name in NAMES:
             network = networks.named(name)
@@ -34,6 +34,11 @@ class Networks(unittest.TestCase):
                 with self.subTest(name):
                     wanted = [(v, p) for v, degree in enumerate(made.degrees()) for p in range(degree)]
                     self.assertEqual(sorted(far_ends(made)), wanted)
+
+    def test_sizes(self) -> None:
+        for name, nodes, degree in (("ring:5", 5, 2), ("hypercube:3", 8, 3), ("torus:3x4", 12, 4), ("complete:5", 5, 4),
+                                    (str(TOP / "examples/torus25.toml"), 25, 4)):
+            self.assertEqual(networks.named(name).degrees(), [degree] * nodes, name)
 
     def test_cube_connected_cycles(self) -> None:
         far = far_ends(networks.named("ccc:3"))
@@ -52,17 +57,16 @@ class Networks(unittest.TestCase):
     @needs("networkx")
     def test_a_graph_in_graphml(self) -> None:
         networkx = needed("networkx")
-        with tempfile.TemporaryDirectory() as folder:
-            path = str(pathlib.Path(folder) / "it.graphml")
-            networkx.write_graphml(networkx.petersen_graph(), path)
-            network = networks.biconnected(path)
-            self.assertEqual((network.nodes, len(network.links)), (10, 15))
-            networkx.write_graphml(networkx.path_graph(4), path)
-            with self.assertRaisesRegex(networks.NoNetwork, "without node 1 some other nodes are apart"):
-                networks.biconnected(path)
-            pathlib.Path(path).write_text("nodes")
-            with self.assertRaisesRegex(networks.NoNetwork, "it is no GraphML"):
-                networks.named(path)
+        path = str(self.folder / "it.graphml")
+        networkx.write_graphml(networkx.petersen_graph(), path)
+        network = networks.biconnected(path)
+        self.assertEqual((network.nodes, len(network.links)), (10, 15))
+        networkx.write_graphml(networkx.path_graph(4), path)
+        with self.assertRaisesRegex(networks.NoNetwork, "without node 1 some other nodes are apart"):
+            networks.biconnected(path)
+        pathlib.Path(path).write_text("nodes")
+        with self.assertRaisesRegex(networks.NoNetwork, "it is no GraphML"):
+            networks.named(path)
 
     @needs("networkx")
     def test_graphml_that_is_to_fill_the_machine_is_refused_in_a_line_at_once(self) -> None:
@@ -79,32 +83,30 @@ class Networks(unittest.TestCase):
             "4300 digits": data.format("int") + "{}" + values, "zork": data.format("zork") + "{}",
             "999": data.format("boolean") + "{}" + values}
         head = '<graphml xmlns="http://graphml.graphdrawing.org/xmlns">'
-        with tempfile.TemporaryDirectory() as folder:
-            path = pathlib.Path(folder) / "it.graphml"
-            for why, text in files.items():
-                before, _, behind = text.partition("{}")
-                is_key = before.startswith("<key")
-                path.write_text(f'{before * (not is_key)}{head}{before * is_key}<graph edgedefault="undirected">{ring}'
-                                f'{behind}</graph></graphml>')
-                with self.subTest(why), self.assertRaisesRegex(networks.NoNetwork, f"it is no GraphML .*{why}") as told:
-                    networks.named(str(path))
-                self.assertLess(len(str(told.exception)), 300)
-            port = ring.replace('<node id="1"/>', '<node id="1"><port name="x"/></node>')
-            path.write_text(f'{head}<graph edgedefault="undirected">{port}</graph></graphml>')
-            with warnings.catch_warnings():
-                warnings.simplefilter("error")
-                self.assertEqual(networks.named(str(path)).nodes, 5)
+        path = self.folder / "it.graphml"
+        for why, text in files.items():
+            before, _, behind = text.partition("{}")
+            is_key = before.startswith("<key")
+            path.write_text(f'{before * (not is_key)}{head}{before * is_key}<graph edgedefault="undirected">{ring}'
+                            f'{behind}</graph></graphml>')
+            with self.subTest(why), self.assertRaisesRegex(networks.NoNetwork, f"it is no GraphML .*{why}") as told:
+                networks.named(str(path))
+            self.assertLess(len(str(told.exception)), 300)
+        port = ring.replace('<node id="1"/>', '<node id="1"><port name="x"/></node>')
+        path.write_text(f'{head}<graph edgedefault="undirected">{port}</graph></graphml>')
+        with warnings.catch_warnings():
+            warnings.simplefilter("error")
+            self.assertEqual(networks.named(str(path)).nodes, 5)
 
     @needs("networkx", "numpy", "scipy", "jinja2")
     def test_a_page_has_each_node_and_each_port(self) -> None:
-        with tempfile.TemporaryDirectory() as folder:
-            page, file = (pathlib.Path(folder) / name for name in ("it.html", "it.toml"))
-            status, said, _ = ran(main, ["network", "petersen:5x2", "--page", str(page), "--out", str(file)])
-            self.assertEqual(status, 0)
-            text = page.read_text()
-            self.assertEqual((text.count("<circle"), text.count("<line"), text.count('class="port"')), (10, 15, 30))
-            self.assertEqual(said.splitlines()[0], f"see it: {page}")
-            self.assertIn("nodes = 10", file.read_text())
+        page, file = (self.folder / name for name in ("it.html", "it.toml"))
+        status, said, _ = ran(main, ["network", "petersen:5x2", "--page", str(page), "--out", str(file)])
+        self.assertEqual(status, 0)
+        text = page.read_text()
+        self.assertEqual((text.count("<circle"), text.count("<line"), text.count('class="port"')), (10, 15, 30))
+        self.assertEqual(said.splitlines()[0], f"see it: {page}")
+        self.assertIn("nodes = 10", file.read_text())
 
     def test_shuffled_ports_join_the_same_nodes_by_other_labels(self) -> None:
         network = networks.named("torus:4x4")
@@ -124,13 +126,18 @@ class Networks(unittest.TestCase):
                 self.assertEqual({len(pair) for pair in pairs}, {2})
                 self.assertLessEqual(max(network.degrees()), networks.LARGEST_DEGREE)
                 self.assertGreaterEqual(min(network.degrees()), 2)
+                self.assertTrue(3 <= network.nodes <= networks.LARGEST)
+                self.assertEqual(network, networks.named(f"random:{seed}"))
 
     def test_names_that_name_none(self) -> None:
         for name, said in (("ccc:2", "cube-connected cycles 3 dimensions or more"), ("hypercube:40", "3 to 4096 nodes"),
                            ("complete:100000", "3 to 4096 nodes"), ("ccc:9", "this one has 4608"),
                            ("random:9:deg3:seed1", "N times K is even"), ("ring:8:deg2:seed1", "a network is ring:N"),
                            ("random:5000:deg3:seed1", "3 to 4096 nodes"), ("grid:1x9", "a grid 2"),
-                           ("wheel:2", "around a hub 3 nodes"), ("petersen:4x2", "petersen:NxK")):
+                           ("wheel:2", "around a hub 3 nodes"), ("petersen:4x2", "petersen:NxK"),
+                           ("ring", "there is no such file"), ("ring:2", "3 to 4096 nodes"), ("ring:x", "is ring:N"),
+                           ("torus:2x5", "a torus 3 rows"), ("torus:3", "is ring:N"), ("star:4", "is ring:N"),
+                           ("ring:4097", "3 to 4096 nodes")):
             with self.subTest(name), self.assertRaisesRegex(networks.NoNetwork, said):
                 networks.named(name)
 

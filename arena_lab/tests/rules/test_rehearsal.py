@@ -4,7 +4,6 @@ import functools
 import importlib
 import io
 import os
-import pathlib
 import signal
 import sys
 import tempfile
@@ -24,6 +23,7 @@ from arena_lab.support import built
 from arena_lab.support import missing as lab_missing
 from arena_lab.support.missing import Missing, needed
 from arena_lab.support.signals import Terminated, come_again, end
+from tests.support.output import InTemporary
 
 ENTER = [b'{"do":"enter","key":"k0"}', b'{"do":"enter","key":"k1"}']
 HERE = '{"board":"","from":null,"ok":"here","ports":2}'
@@ -80,33 +80,16 @@ class Connections(unittest.TestCase):
         self.assertEqual(self.engine.script, [b"0 " + ENTER[0], b"draw 0 3", b"end 0", b"close 0"])
 
 
-class Files(unittest.TestCase):
+class Files(InTemporary):
     def test_a_tournament_is_written_and_read(self) -> None:
         setup = Setup(4, networks.ring(4).links, 1, [0, 3], 2, 9, 7, [(1, 0)])
         fixture = Fixture("red", setup, ['a "key"', "\u20ac"], [(2, 1)])
-        with tempfile.TemporaryDirectory() as name, contextlib.chdir(name):
-            write_tournament(fixture, pathlib.Path(name))
+        write_tournament(fixture, self.folder)
+        with contextlib.chdir(self.folder):
             self.assertEqual(read_tournament("tournament.toml").fixtures, [fixture])
 
-    def test_networks_by_name(self) -> None:
-        for name, nodes, degree in (("ring:5", 5, 2), ("hypercube:3", 8, 3), ("torus:3x4", 12, 4), ("complete:5", 5, 4),
-                                    (str(TOP / "examples/torus25.toml"), 25, 4)):
-            network = networks.named(name)
-            ends = sorted([(v, p) for v, p, _, _ in network.links] + [(w, q) for _, _, w, q in network.links])
-            with self.subTest(name):
-                self.assertEqual(ends, [(node, port) for node in range(nodes) for port in range(degree)])
-        for name in ("ring", "ring:2", "ring:x", "torus:2x5", "star:4", "torus:3", "ring:4097"):
-            with self.subTest(name), self.assertRaises(networks.NoNetwork):
-                networks.named(name)
 
-    def test_networks_by_a_seed_are_networks(self) -> None:
-        for seed in range(20):
-            network = networks.named(f"random:{seed}")
-            self.assertEqual(network, networks.named(f"random:{seed}"))
-            self.assertTrue(3 <= network.nodes <= 24 and 2 <= min(network.degrees()) <= max(network.degrees()) <= 6)
-
-
-class CommandLine(unittest.TestCase):
+class CommandLine(InTemporary):
     def told(self, *words: str) -> str:
         """What a command line that is refused says."""
         errors = io.StringIO()
@@ -144,6 +127,9 @@ class CommandLine(unittest.TestCase):
                     self.assertIn(said, self.told(*words))
 
     def test_a_signal_is_not_lost_where_python_drops_what_is_raised(self) -> None:
+        class Forgotten:
+            """Nobody keeps it."""
+
         class Told(Dict[object, int]):
             def __delitem__(self, key: object) -> None:
                 os.kill(os.getpid(), signal.SIGINT)
@@ -154,10 +140,10 @@ class CommandLine(unittest.TestCase):
             time.sleep(9)
 
         def forgets() -> None:
-            held[CommandLine()] = 1
+            held[Forgotten()] = 1
             time.sleep(9)
 
-        held: "weakref.WeakKeyDictionary[CommandLine, int]" = weakref.WeakKeyDictionary()
+        held: "weakref.WeakKeyDictionary[Forgotten, int]" = weakref.WeakKeyDictionary()
         held.data = Told()
         sent = [signal.SIGTERM]
         os.register_at_fork(after_in_parent=lambda: sent and os.kill(os.getpid(), sent.pop()))
@@ -194,7 +180,7 @@ class CommandLine(unittest.TestCase):
         self.assertEqual(str(EngineRefused("", 6)), "the program ended with status 6")
 
     def test_a_program_that_is_not_proved_is_told(self) -> None:
-        folder = pathlib.Path(self.enterContext(tempfile.TemporaryDirectory())).resolve()
+        folder = self.folder.resolve()
         refusing = f"echo '{built.SAID}' >&2\necho 'replay: line 1' >&2\nexit 3\n"
         for name, text, said in (("one", refusing, built.SAID + "\n"), ("two", "exit 0\n", "")):
             program, errors = folder / name, io.StringIO()

@@ -2,10 +2,8 @@
 import contextlib
 import importlib.util
 import io
-import pathlib
 import subprocess
 import sys
-import tempfile
 import unittest
 from typing import List
 from unittest import mock
@@ -15,7 +13,7 @@ from arena_lab.play import parallel
 from arena_lab.play.parallel import digest_of, other_files
 from arena_lab.sweep import tables
 from arena_lab.tests.playing import InFolder, program
-from tests.support.output import ran
+from tests.support.output import InTemporary, ran
 
 TEXT = """title = "A trial"
 networks = ["ring:5", "ring:8"]
@@ -89,14 +87,13 @@ class Clusters(InFolder):
             self.check_fault("tcp://127.0.0.1:9", "no Dask scheduler answers at tcp://127.0.0.1:9")
 
 
-class OtherMachines(unittest.TestCase):
+class OtherMachines(InTemporary):
     def test_a_machine_with_another_file_is_found_out(self) -> None:
-        with tempfile.TemporaryDirectory() as folder:
-            path = pathlib.Path(folder) / "agent.py"
-            path.write_text("one")
-            files: List[dict] = [{str(path): digest_of(path)}]
-            self.assertEqual(other_files(files[0]), [])
-            path.write_text("other")
-            self.assertEqual(other_files(files[0]), [str(path)])
-            path.unlink()
-            self.assertEqual(other_files(files[0]), [str(path)])
+        path = self.folder / "agent.py"
+        path.write_text("one")
+        files: List[dict] = [{str(path): digest_of(path)}]
+        self.assertEqual(other_files(files[0]), [])
+        path.write_text("other")
+        self.assertEqual(other_files(files[0]), [str(path)])
+        path.unlink()
+        self.assertEqual(other_files(files[0]), [str(path)])

@@ -1,22 +1,19 @@
 """`compare` tells a program that refuses what it must take, and one whose verdict is another in its moves alone."""
-import pathlib
-import tempfile
-import unittest
 from unittest import mock
 
 from arena_lab.rules.model import Match, Setup, Verdict
 from arena_lab.rules.networks import ring
+from tests.support.output import InTemporary
 from tools.play import compare
 
 
-class Compared(unittest.TestCase):
+class Compared(InTemporary):
     def test_a_refusal_is_told(self) -> None:
-        with tempfile.TemporaryDirectory() as folder:
-            program = pathlib.Path(folder) / "program"
-            program.write_text('#!/bin/sh\necho "cup.toml: wrong" >&2\nexit 3\n')
-            program.chmod(0o755)
-            with mock.patch.object(compare, "along", lambda seeds, *_: seeds):
-                self.assertNotEqual(compare.compare(str(program), range(2))[1], [])
+        program = self.folder / "program"
+        program.write_text('#!/bin/sh\necho "cup.toml: wrong" >&2\nexit 3\n')
+        program.chmod(0o755)
+        with mock.patch.object(compare, "along", lambda seeds, *_: seeds):
+            self.assertNotEqual(compare.compare(str(program), range(2))[1], [])
 
     def test_moves_are_compared_too(self) -> None:
         match = Match(Setup(3, ring(3).links, 0, [2], 2, 10, 8))

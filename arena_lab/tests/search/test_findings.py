@@ -103,7 +103,7 @@ class Driver(unittest.TestCase):
 
     def tried(self, *answers: ExploreAnswer, after: driver.After = lambda tried, _: tried) -> List[MatchResult]:
         """The matches that are tried, if the program answers so."""
-        job = driver.ExploreJob(GAME, "arena", 10, 0)
+        job = driver.ExploreJob(GAME.matches(), "arena", 10, 0)
         with mock.patch.object(driver, "asked", side_effect=answers), mock.patch.object(driver, "Machines") as machines:
             machines.return_value.configure_mock(modules=[], seen=frozenset)
             machines.return_value.beside.configure_mock(checked=0, merged=0)

@@ -2,10 +2,6 @@
 import contextlib
 import hashlib
 import io
-import os
-import pathlib
-import tempfile
-import unittest
 from typing import Dict, List
 from unittest import mock
 
@@ -17,7 +13,7 @@ from arena_lab.rules.engines import TOP
 from arena_lab.search.ring_bounds import most_moves
 from arena_lab.sweep import grid, report, sweeping, tables
 from arena_lab.sweep.sweeping import SweepJob
-from arena_lab.tests.playing import program
+from arena_lab.tests.playing import InFolder, program
 
 DOCUMENT = make.DOCUMENT
 SMALL = {"rings": ("rings", ["ring:4", "ring:6"]), "no-map": ("no_map", ["hypercube:3"]),
@@ -44,13 +40,10 @@ def rows_by_network(name: str) -> Dict[str, List[str]]:
     return {row[0]: row for row in table(name)}
 
 
-class Experiments(unittest.TestCase):
+class Experiments(InFolder):
     def setUp(self) -> None:
-        self.addCleanup(os.chdir, os.getcwd())
-        os.chdir(TOP)
-        folder = tempfile.TemporaryDirectory()
-        self.addCleanup(folder.cleanup)
-        self.asked = make.Asked(pathlib.Path(folder.name), ["--engine", "model"])
+        super().setUp()
+        self.asked = make.Asked(self.folder, ["--engine", "model"])
 
     def test_small_parts_of_the_sweeps(self) -> None:
         for name, (file, networks) in SMALL.items():

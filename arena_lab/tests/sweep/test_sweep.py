@@ -1,8 +1,6 @@
 """What a sweep's file says, and what is made of rows."""
 import contextlib
 import io
-import pathlib
-import tempfile
 import unittest
 from typing import Dict, List
 from unittest import mock
@@ -12,6 +10,7 @@ from arena_lab.support.fields import WrongFile
 from arena_lab.sweep import report, statistic, tables, verify
 from arena_lab.sweep.grid import Grid, grid_of
 from arena_lab.sweep.tables import NoTable
+from tests.support.output import InTemporary
 
 HEAD = 'title = "T"\nnetworks = ["ring:4", "ring:5"]\n'
 TEAM = '[[team]]\nname = "a"\nagent = "examples/agents/ring.py {nodes}"\n'
@@ -131,11 +130,10 @@ class Statistics(unittest.TestCase):
         self.assertEqual(statistic.spread_of([7]), (7, 0, 7, 7, 7))
 
 
-class Tables(unittest.TestCase):
+class Tables(InTemporary):
     def setUp(self) -> None:
-        folder = tempfile.TemporaryDirectory()
-        self.addCleanup(folder.cleanup)
-        self.folder = pathlib.Path(folder.name) / "made"
+        super().setUp()
+        self.folder /= "made"
         self.path = self.folder / tables.RUNS
 
     def prepared(self, **made: object) -> int:
