@@ -227,8 +227,7 @@ def loaded_function(function: Callable[..., Any], setup: Setup, modules: OwnModu
                     **more: Any) -> Callable[[Any, Any], Any]:
     """A function of this process with variables of its own, which is given by their names what its parameters ask for
     behind the first two."""
-    values = {**more, "nodes": setup.nodes, "links": len(setup.links), "home": setup.home,
-              "network": tuple(setup.links)}
+    values: Dict[str, Any] = {**more, **facts_of(setup), "network": tuple(setup.links)}
     asked = list(inspect.signature(function).parameters)[2:]
     modules.begin([])
     own, given = with_own_variables(function, modules.random), {name: values[name] for name in asked if name in values}

@@ -14,7 +14,7 @@ from arena_lab.pages.page import data_of, page_of
 from arena_lab.play import kept_matches, referee, schedulers
 from arena_lab.play.agent_files import NoAgent, member
 from arena_lab.play.matches import PlayedMatch
-from arena_lab.play.repeating import all_repeated
+from arena_lab.play.repeating import with_repeats
 from arena_lab.play.schedules import Schedule, schedule_of
 from arena_lab.play.parallel import over_processes
 from arena_lab.play.summaries import Summary, summary_of, verdict_by
@@ -106,9 +106,7 @@ class Record(NamedTuple):
 
     def repeated(self, seconds: float) -> "Record":
         """The match with what its agents say otherwise when each is repeated alone, unless one of them has a fault."""
-        schedule = self.schedule
-        found = [] if self.played.faults else all_repeated(self.replay, schedule.agents, schedule.fixture, seconds)
-        return self._replace(played=self.played._replace(faults=[*self.played.faults, *found]))
+        return self._replace(played=with_repeats(self.played, self.schedule.agents, self.schedule.fixture, seconds))
 
     def judged(self) -> Verdict:
         """The verdict of the engine that played it."""

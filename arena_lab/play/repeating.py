@@ -16,7 +16,7 @@ import secrets
 from typing import List, NamedTuple, Optional, Sequence
 
 from arena_lab.play import mistakes, programs
-from arena_lab.play.matches import MOST_REFUSED, Player, Team
+from arena_lab.play.matches import MOST_REFUSED, PlayedMatch, Player, Team
 from arena_lab.play.players import SLEEPS, WAITS
 from arena_lab.play.teams import AgentWords, alone
 from arena_lab.rules.fixtures import Fixture
@@ -159,9 +159,12 @@ def repeated(team: Team, fixture: Fixture, past: Sequence[Said]) -> Optional[Oth
         team.stop()
 
 
-def all_repeated(replay: str, agents: Sequence[AgentWords], fixture: Fixture, seconds: float) -> List[str]:
-    """Repeats all agents of a match, one after the other, where they have played; gives what they say otherwise."""
-    again = with_new_keys(fixture)
+def with_repeats(played: PlayedMatch, agents: Sequence[AgentWords], fixture: Fixture, seconds: float) -> PlayedMatch:
+    """The match with what its agents say otherwise when each is repeated alone, one after the other, where they have
+    played; as it is if one of them has a fault."""
+    if played.faults:
+        return played
+    again, replay = with_new_keys(fixture), played.replay.decode()
     found = [repeated(alone(number, agents[number], again, fixture, seconds), again, past_of(replay, number))
              for number in range(len(agents))]
-    return [str(it) for it in found if it]
+    return played._replace(faults=[str(it) for it in found if it])

@@ -49,20 +49,20 @@ def fair(seed: int) -> Scheduler:
     return lambda choices, state: chance.choice(choices)
 
 
+def weighted(chance: random.Random, weight: Callable[[Choice, MatchView], float]) -> Scheduler:
+    """Choices are as likely as they weigh."""
+    return lambda choices, state: chance.choices(choices, [weight(choice, state) for choice in choices])[0]
+
+
 def slow_agents(seed: int) -> Scheduler:
     """Some agents are slow to be answered, and some to arrive, for the whole match; sleepers wake seldom."""
     chance = random.Random(seed)
     waking = chance.choice(WAKINGS)
     paces: Dict[Tuple[str, int], float] = {}
 
-    def weight(choice: Choice) -> float:
-        if choice.do == WAKE:
-            return waking
-        return paces.setdefault(choice, chance.choice(PACES))
-
-    def choose(choices: Sequence[Choice], state: MatchView) -> Choice:
-        return chance.choices(choices, [weight(choice) for choice in choices])[0]
-    return choose
+    def weight(choice: Choice, state: MatchView) -> float:
+        return waking if choice.do == WAKE else paces.setdefault(choice, chance.choice(PACES))
+    return weighted(chance, weight)
 
 
 def slow_links(seed: int) -> Scheduler:
@@ -75,10 +75,7 @@ def slow_links(seed: int) -> Scheduler:
             return 1
         agent = state.match.agents[choice.agent]
         return paces.setdefault((agent.node, agent.port), chance.choice(PACES))
-
-    def choose(choices: Sequence[Choice], state: MatchView) -> Choice:
-        return chance.choices(choices, [weight(choice, state) for choice in choices])[0]
-    return choose
+    return weighted(chance, weight)
 
 
 def last_departed(seed: int) -> Scheduler:

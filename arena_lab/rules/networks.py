@@ -84,14 +84,11 @@ def flipped_ring(nodes: int, chance: random.Random) -> Network:
 
 
 def hypercube(dimension: int) -> Network:
-    nodes = 2 ** dimension
-    pairs = [(v, bit) for v in range(nodes) for bit in range(dimension)]
-    return Network(nodes, [(v, bit, v ^ 1 << bit, bit) for v, bit in pairs if v < v ^ 1 << bit])
+    return of_neighbours([[v ^ 1 << bit for bit in range(dimension)] for v in range(2 ** dimension)])
 
 
 def complete(nodes: int) -> Network:
-    pairs = [(v, w) for v in range(nodes) for w in range(v + 1, nodes)]
-    return Network(nodes, [(v, w - v - 1, w, v - w + nodes - 1) for v, w in pairs])
+    return of_neighbours([[(v + port + 1) % nodes for port in range(nodes - 1)] for v in range(nodes)])
 
 
 def torus(rows: int, columns: int) -> Network:

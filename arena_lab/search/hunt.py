@@ -5,13 +5,14 @@ Whether a team fails has no degrees that a search could climb, and some mistakes
 one of four hundred of Hypothesis's; of others it is the other way round. So a hunt for a failure begins with the
 schedules that `run` plays.
 """
+import functools
 import pathlib
 import unittest
-from typing import Any, Callable, Dict, List, NamedTuple, Optional, Sequence, Tuple
+from typing import Any, Callable, List, NamedTuple, Optional, Sequence, Tuple
 
 from arena_lab.play import teams
 from arena_lab.play.matches import PlayedMatch, play
-from arena_lab.play.repeating import all_repeated
+from arena_lab.play.repeating import with_repeats
 from arena_lab.play.schedulers import Scheduler, fair, in_runs
 from arena_lab.play.schedules import Schedule, schedule_of
 from arena_lab.play.teams import Game
@@ -78,7 +79,7 @@ class Hunter:
         self.was_stopped = False
         self._shown = shown
         self._kept: Any = None
-        self._fixtures: Dict[Tuple[int, int], Fixture] = {}
+        self._fixture = functools.lru_cache(maxsize=None)(asked.game.fixture)
         game = asked.game
         nodes = game.network.nodes
         self._holes = 1 if game.is_fixed() else nodes - 1
@@ -86,11 +87,10 @@ class Hunter:
 
     def play(self, home: int, hole: int, scheduler: Scheduler) -> Trial:
         """Plays a schedule, and keeps it if it is the best."""
-        fixture = self._fixtures.get((home, hole))
-        if fixture is None:
-            fixture = self._fixtures[home, hole] = self.asked.game.fixture(hole, home)
-        team = teams.Together(self.asked.game.agents, fixture, self.asked.game.limit)
-        played = self._repeated(play(Rehearsal(fixture), team, scheduler, fixture), fixture)
+        fixture, game = self._fixture(hole, home), self.asked.game
+        played = play(Rehearsal(fixture), teams.Together(game.agents, fixture, game.limit), scheduler, fixture)
+        if self.asked.repeats:
+            played = with_repeats(played, game.agents, fixture, game.limit)
         verdict = played.verdict()
         worth = {FAILURE: 0, MOVES: verdict.moves, LOST: verdict.lost}[self.asked.looked_for]
         trial = Trial(worth, played.has_failed(), fixture, played)
@@ -141,13 +141,6 @@ class Hunter:
             raise ValueError("nothing was tried")
         game = self.asked.game
         return schedule_of(self.best.fixture, game.agents, self.asked.origin(), self.best.played.choices, game.limit)
-
-    def _repeated(self, played: PlayedMatch, fixture: Fixture) -> PlayedMatch:
-        """The match, with what its agents say otherwise when they are repeated, if that is asked for."""
-        if not self.asked.repeats or played.faults:
-            return played
-        game = self.asked.game
-        return played._replace(faults=all_repeated(played.replay.decode(), game.agents, fixture, game.limit))
 
     def _database(self) -> Any:
         """Where Hypothesis keeps its examples: in a folder, or as long as the hunt goes on."""

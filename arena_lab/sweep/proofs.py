@@ -9,7 +9,7 @@ from arena_lab.rules.fixtures import Fixture
 from arena_lab.search.findings import ExploreAnswer, Solves
 from arena_lab.search.match_results import MatchResult
 from arena_lab.sweep.grid import BOUNDS
-from arena_lab.sweep.report import COLOURS, POINTS, moves_up, new_figure, over_nodes, svg_of
+from arena_lab.sweep.report import COLOURS, draw_curve, moves_up, new_figure, over_nodes, svg_of
 from arena_lab.sweep.tables import NoTable, cells_in, check_asked, checked, line_of, made_by, note_read, prepared
 
 MATCHES, PLOT = "matches.csv", "moves.svg"
@@ -102,10 +102,8 @@ def plot(found: Sequence[MostMoves], bounds: Sequence[str]) -> str:
     nodes = [one.nodes for one in found]
     axes.plot(nodes, [one.moves for one in found], color=COLOURS[0], linestyle="", marker="o", markersize=4,
               label="most moves under every schedule")
-    first, last = min(nodes), max(nodes)
-    across = [first + (last - first) * point / POINTS for point in range(POINTS + 1)]
     for name, colour in zip(bounds, COLOURS[1:]):
-        axes.plot(across, [BOUNDS[name](it) for it in across], linestyle="--", color=colour, linewidth=1, label=name)
+        draw_curve(axes, BOUNDS[name], nodes, color=colour, label=name)
     over_nodes(axes)
     moves_up(axes)
     return svg_of(figure)

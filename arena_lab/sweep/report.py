@@ -1,6 +1,6 @@
 """The report of a sweep: its summary, its plots and its page."""
 import io
-from typing import Any, Dict, List, NamedTuple, Optional, Sequence, Tuple
+from typing import Any, Callable, Collection, Dict, List, NamedTuple, Optional, Sequence, Tuple
 
 from arena_lab.pages.parts import as_is, filled
 from arena_lab.support.missing import needed
@@ -218,15 +218,21 @@ def draw_line(axes: Any, groups: Sequence[RunGroup], spots: Dict[str, float], st
 def draw_bound(axes: Any, spec: Grid, spots: Dict[str, float]) -> None:
     if spec.bound is None:
         return
-    bound, style = BOUNDS[spec.bound], {"color": "#555555", "linewidth": 1, "label": spec.bound}
+    bound, style = BOUNDS[spec.bound], {"color": "#555555", "label": spec.bound}
     if is_one_family(spec):
         # a curve, and not a line from network to network
-        first, last = min(spots.values()), max(spots.values())
-        across = [first + (last - first) * point / POINTS for point in range(POINTS + 1)]
-        axes.plot(across, [bound(nodes) for nodes in across], linestyle="--", **style)
+        draw_curve(axes, bound, spots.values(), **style)
     else:
         heights = [bound(spec.networks[name].nodes) for name in spec.names]
-        axes.plot([spots[name] for name in spec.names], heights, linestyle="", marker="_", markersize=14, **style)
+        axes.plot([spots[name] for name in spec.names], heights, linestyle="", marker="_", linewidth=1,
+                  markersize=14, **style)
+
+
+def draw_curve(axes: Any, bound: Callable[[float], float], nodes: Collection[float], **style: Any) -> None:
+    """Draws a bound over the numbers of nodes between the least and the greatest of these."""
+    first, last = min(nodes), max(nodes)
+    across = [first + (last - first) * point / POINTS for point in range(POINTS + 1)]
+    axes.plot(across, [bound(it) for it in across], linestyle="--", linewidth=1, **style)
 
 
 def label_axes(axes: Any, spec: Grid, spots: Dict[str, float]) -> None:

@@ -1,8 +1,6 @@
 """Old spellings of the lab's commands and options: they still work, and say the new one."""
 import argparse
-import contextlib
 import importlib.util
-import io
 import sys
 import unittest
 from typing import Tuple
@@ -11,6 +9,7 @@ from unittest import mock
 from arena_lab import called
 from arena_lab.__main__ import COMMANDS, main, parser
 from arena_lab.commands.spellings import MODULES, SPELLINGS
+from tests.support.output import ran
 
 
 PARSER = parser()
@@ -18,19 +17,16 @@ PARSER = parser()
 
 def read(*words: str) -> Tuple[argparse.Namespace, str]:
     """The words as they are read, and what is said on standard error."""
-    said = io.StringIO()
-    with contextlib.redirect_stderr(said):
-        return PARSER.parse_args(words), said.getvalue()
+    found, _, said = ran(PARSER.parse_args, words)
+    return found, said
 
 
 class Commands(unittest.TestCase):
     def refused(self, *words: str) -> str:
         """What a command line that ends here says."""
-        said = io.StringIO()
-        with contextlib.redirect_stderr(said), self.assertRaises(SystemExit) as ended:
-            main(list(words))
-        self.assertEqual(ended.exception.code, 2)
-        return said.getvalue()
+        status, _, errors = ran(main, list(words))
+        self.assertEqual(status, 2)
+        return str(errors)
 
     def test_an_old_command_is_the_new_one(self) -> None:
         for old, new, needs in (("pages t.toml cup", "page", "by --out FOLDER"),
@@ -74,9 +70,7 @@ class Spellings(unittest.TestCase):
             self.assertEqual(said, f"./arena-lab {command}: {old} is called {SPELLINGS[old]} now\n")
 
     def test_a_value_is_refused_as_by_the_new_one(self) -> None:
-        with self.assertRaises(SystemExit), contextlib.redirect_stderr(io.StringIO()) as said:
-            PARSER.parse_args(["explore", "--by", "nobody"])
-        self.assertIn("invalid choice: 'nobody'", said.getvalue())
+        self.assertIn("invalid choice: 'nobody'", read("explore", "--by", "nobody")[1])
 
     def test_the_help_has_the_new_ones_alone(self) -> None:
         commands = next(it for it in PARSER._actions if it.dest == "command").choices

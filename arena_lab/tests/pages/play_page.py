@@ -1,6 +1,4 @@
 """What a page of a match holds. How the page looks and steps is for tools/play/test_pages.py."""
-import contextlib
-import io
 import json
 import re
 import sys
@@ -9,7 +7,7 @@ from unittest import mock
 from arena_lab.__main__ import main
 from arena_lab.pages import page
 from arena_lab.rules.model import Match, Setup
-from tests.support.output import InTemporary
+from tests.support.output import InTemporary, ran
 
 TRIANGLE = [(0, 0, 1, 0), (1, 1, 2, 0), (2, 1, 0, 1)]
 HOSTILE = "</script><b>\u202e{{title}}"
@@ -52,10 +50,7 @@ class Pages(InTemporary):
             (self.folder / word).write_text(text, encoding="utf-8")
 
     def written(self, *words: str) -> int:
-        errors = io.StringIO()
-        with contextlib.redirect_stderr(errors):
-            status = main(["page", str(self.replay), "--program", str(self.program), *words])
-        self.errors = errors.getvalue()
+        status, _, self.errors = ran(main, ["page", str(self.replay), "--program", str(self.program), *words])
         return status
 
     def data(self) -> dict:

@@ -2,7 +2,6 @@
 import concurrent.futures
 import contextlib
 import functools
-import io
 import os
 import pathlib
 import signal
@@ -22,6 +21,7 @@ from arena_lab.rules.networks import ring
 from arena_lab.sandbox.processes import is_alive, listed
 from arena_lab.support import missing
 from arena_lab.tests.playing import RING, InFolder, fixture, played, program
+from tests.support.output import ran
 
 MODEL = ("--engine", "model")
 RUN = ("run", "--network", "ring:4")
@@ -66,13 +66,8 @@ class Lines(InFolder):
     def said(self, *words: str) -> Tuple[int, str]:
         """The exit status of a command, and what it says on standard error."""
         more = [] if "model" in words or words[0] == "network" else ["--program", program()]
-        errors = io.StringIO()
-        with contextlib.redirect_stderr(errors), contextlib.redirect_stdout(io.StringIO()):
-            try:
-                status = main([*words, *more])
-            except SystemExit as ended:
-                status = int(str(ended.code))
-        return status, errors.getvalue()
+        status, _, errors = ran(main, [*words, *more])
+        return status, errors
 
     def test_each_fault_is_a_line(self) -> None:
         os.chdir(self.folder)
@@ -113,10 +108,9 @@ class Lines(InFolder):
         self.assertNotIn("\\ud83d\\ude00", text)
         found = played(given, RING, 0, engine=lambda it: Program(it, program()))
         self.assertEqual(found.verdict().outcome, "solved")
-        with contextlib.redirect_stdout(io.StringIO()):
-            schedule = schedule_of(given, [RING] * 2, "a test", found.choices)
-            self.assertEqual(keep(self.folder, schedule, program()).replay, found.replay)
-            self.assertEqual(main(["replay", str(self.folder), "--program", program()]), 0)
+        schedule = schedule_of(given, [RING] * 2, "a test", found.choices)
+        self.assertEqual(ran(keep, self.folder, schedule, program()).status.replay, found.replay)
+        self.assertEqual(ran(main, ["replay", str(self.folder), "--program", program()]).status, 0)
         self.assertEqual(read(self.folder / "schedule.txt").fixture, given)
         os.chdir(self.folder)
         self.assertEqual(read_tournament("tournament.toml").fixtures[0].keys, given.keys)

@@ -1,8 +1,6 @@
 """What `run` and `explore` find of agents that sleep, crash or are refused, and of links that are held: a search that
 forgets a wake or a nap, that wakes nobody at a write, or that crosses a held link comes to other ends."""
 import argparse
-import contextlib
-import io
 from typing import Dict, List
 from unittest import mock
 
@@ -11,7 +9,7 @@ from arena_lab.commands.words import games_of
 from arena_lab.rules.networks import ring
 from arena_lab.search import explore
 from arena_lab.tests.playing import FAULTY, RING
-from tests.support.output import InTemporary
+from tests.support.output import InTemporary, ran
 from tests.support.tournaments import match, write_cup
 
 # The black hole of ring:3 is node 1. One agent walks by node 2, writes x and then y at home, and accuses.
@@ -140,8 +138,8 @@ class Sleepers(InTemporary):
 
     def has_failed(self, names: List[str], *words: str) -> bool:
         """Whether some of twenty drawn schedules fails."""
-        with contextlib.redirect_stdout(io.StringIO()):
-            return main(["run", *WITHOUT_NAPS, *words, *self.agents(names), "--runs", "20", "--engine", "model"]) == 1
+        given = ["run", *WITHOUT_NAPS, *words, *self.agents(names), "--runs", "20", "--engine", "model"]
+        return bool(ran(main, given).status == 1)
 
     def test_sleepers_that_may_nap_wake_without_a_change(self) -> None:
         for name in ("wants_news_at_each_wake", "sleeps_before_it_enters"):

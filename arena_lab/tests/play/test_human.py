@@ -1,5 +1,4 @@
 """A person who plays agents sees what agents see: a black hole and a slow link look alike until the match is over."""
-import contextlib
 import io
 import random
 import unittest
@@ -13,6 +12,7 @@ from arena_lab.rules.fixtures import fixture_of
 from arena_lab.rules.model import Setup
 from arena_lab.rules.networks import ring
 from arena_lab.tests.needing import needs
+from tests.support.output import ran
 
 RING = ring(4)
 # agent 0 departs over port 0, agent 1 over port 1 and back
@@ -59,10 +59,10 @@ class Twins(unittest.TestCase):
 @needs("networkx")
 class Terminal(unittest.TestCase):
     def played(self, lines: str, *words: str) -> str:
-        told = io.StringIO()
-        with mock.patch("sys.stdin", io.StringIO(lines)), contextlib.redirect_stdout(told):
-            self.assertEqual(0, main(["play", "--network", "ring:4", "--hole", "1", "--seed", "1", *words]))
-        return told.getvalue()
+        with mock.patch("sys.stdin", io.StringIO(lines)):
+            status, told, _ = ran(main, ["play", "--network", "ring:4", "--hole", "1", "--seed", "1", *words])
+        self.assertEqual(0, status)
+        return str(told)
 
     def test_a_search_from_its_beginning_to_its_end(self) -> None:
         wait = "wait\n" * 10
@@ -99,6 +99,6 @@ class Terminal(unittest.TestCase):
         self.assertEqual({"There is no black hole: nobody arrives at node 2.", "The black hole is node 2."}, found)
 
     def test_a_second_person_has_no_page(self) -> None:
-        with contextlib.redirect_stderr(io.StringIO()) as told:
-            self.assertEqual(2, main(["play", "--page", "--second-person"]))
-        self.assertIn("leave out --page or --second-person", told.getvalue())
+        status, _, told = ran(main, ["play", "--page", "--second-person"])
+        self.assertEqual(2, status)
+        self.assertIn("leave out --page or --second-person", told)

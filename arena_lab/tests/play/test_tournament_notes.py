@@ -1,6 +1,4 @@
 """What is said of a tournament beside the program's lines: keys that are ignored, and the schedule."""
-import contextlib
-import io
 import os
 import pathlib
 from typing import List
@@ -8,7 +6,7 @@ from unittest import mock
 
 from arena_lab import __main__ as lab
 from arena_lab.play.tournament_notes import IGNORED, MOST_LINES, SCHEDULE, main
-from tests.support.output import InTemporary
+from tests.support.output import InTemporary, ran
 
 MATCH = ('team = "red"\nnetwork = "tri.toml"\nhome = 0\nholes = [1]\ndark = []\nquota = 9\nboard = 9\nkeys = ["a"]\n'
          "held = [[0, 1], [2, 0]]\n")
@@ -99,6 +97,6 @@ class Notes(InTemporary):
         self.assertEqual((len(found[0]) < 200, found[1].partition(" is")[0]), (True, r"\x1b[2J\n"))
 
     def test_check_of_the_lab_names_the_program_s(self) -> None:
-        with contextlib.redirect_stderr(io.StringIO()) as said:
-            self.assertEqual(lab.main(["check", "cup.toml", "--engine", "model"]), 2)
-        self.assertIn("cup.toml: that is no agent; of a tournament it is `arena check cup.toml`", said.getvalue())
+        status, _, errors = ran(lab.main, ["check", "cup.toml", "--engine", "model"])
+        self.assertEqual(status, 2)
+        self.assertIn("cup.toml: that is no agent; of a tournament it is `arena check cup.toml`", errors)

@@ -1,6 +1,5 @@
 """The engines agree, what a schedule says is played again byte for byte, and a wrong engine is found out."""
 import contextlib
-import io
 import random
 import re
 import subprocess
@@ -15,7 +14,7 @@ from arena_lab.rules.engines import Differs, Program
 from arena_lab.rules.networks import ring
 from arena_lab.rules.rehearsal import Rehearsal
 from arena_lab.tests.playing import AGENTS, MAP, RING, fixture, network_fixture, played, program
-from tests.support.output import InTemporary
+from tests.support.output import InTemporary, ran
 from tools.play import compare
 
 MATCHES = 60
@@ -73,9 +72,9 @@ class Engines(unittest.TestCase):
 
 class Schedules(InTemporary):
     def command(self, *words: str) -> int:
-        self.said = io.StringIO()
-        with contextlib.redirect_stdout(self.said), contextlib.redirect_stderr(self.said):
-            return main([str(word) for word in words])
+        status, said, errors = ran(main, [str(word) for word in words])
+        self.said = said + errors
+        return status
 
     def test_a_schedule_is_written_and_read(self) -> None:
         given = network_fixture(random.Random(3))
@@ -90,11 +89,11 @@ class Schedules(InTemporary):
         kept = self.folder / "kept"
         words = ["--network", "ring:8", "--agent", RING.words, "--scheduler", "slow-agents", "--program", program()]
         self.assertEqual(self.command("run", *words, "--runs", "3", "--keep", kept), 0)
-        self.assertIn("3 schedules: solved 3; failed 0", self.said.getvalue())
-        self.assertIn("the program's verdict: solved moves 37 lost 1", self.said.getvalue())
+        self.assertIn("3 schedules: solved 3; failed 0", self.said)
+        self.assertIn("the program's verdict: solved moves 37 lost 1", self.said)
         for engine in (["--program", program()], ["--engine", "model"]):
             self.assertEqual(self.command("replay", kept, *engine), 0)
-            self.assertIn("the same, byte for byte", self.said.getvalue())
+            self.assertIn("the same, byte for byte", self.said)
         with open(kept / "script.txt", "rb") as script:
             subprocess.run([program(), "rehearse", "tournament.toml", "--replay", "again"], cwd=kept, stdin=script,
                            stdout=subprocess.DEVNULL, check=True)
@@ -108,13 +107,13 @@ class Schedules(InTemporary):
         schedule = schedule_of(given, [RING] * 2, "by hand", [])
         (self.folder / "s").write_text(text_of(schedule) + "answer 0\narrive 1\n", encoding="utf-8")
         self.assertEqual(self.command("replay", self.folder / "s", "--engine", "model"), 1)
-        self.assertIn("choice 2 is `arrive 1`, and what may happen there is: answer 0, answer 1", self.said.getvalue())
+        self.assertIn("choice 2 is `arrive 1`, and what may happen there is: answer 0, answer 1", self.said)
         (self.folder / "s").write_text(text_of(schedule).replace('["agent ', '["agnt '), encoding="utf-8")
         self.assertEqual(self.command("replay", self.folder / "s", "--engine", "model"), 2)
-        self.assertIn("its first line is no head of a schedule", self.said.getvalue())
+        self.assertIn("its first line is no head of a schedule", self.said)
         (self.folder / "s").write_text(text_of(schedule) + "answer 0\nnothing\n", encoding="utf-8")
         self.assertEqual(self.command("replay", self.folder / "s", "--engine", "model"), 2)
-        self.assertIn("line 3 is no choice", self.said.getvalue())
+        self.assertIn("line 3 is no choice", self.said)
 
     def test_agents_that_changed_are_told(self) -> None:
         agent = self.folder / "mine.py"
@@ -123,7 +122,7 @@ class Schedules(InTemporary):
         self.assertEqual(self.command(*words), 0)
         agent.write_text(agent.read_text(encoding="utf-8") + "\n", encoding="utf-8")
         self.assertEqual(self.command("replay", self.folder / "kept", "--engine", "model"), 1)
-        self.assertIn("is another file than when the schedule was made", self.said.getvalue())
+        self.assertIn("is another file than when the schedule was made", self.said)
 
     def test_each_change_of_what_was_kept_is_told(self) -> None:
         kept = self.folder / "kept"
@@ -135,6 +134,6 @@ class Schedules(InTemporary):
                 self.assertRegex(text, old)
                 (kept / file).write_text(re.sub(old, new, text, count=1), encoding="utf-8")
                 self.assertEqual(self.command("replay", kept, "--engine", "model"), status)
-                self.assertIn(said, self.said.getvalue())
+                self.assertIn(said, self.said)
                 (kept / file).write_text(text, encoding="utf-8")
         self.assertEqual(self.command("replay", kept, "--engine", "model"), 0)

@@ -1,7 +1,5 @@
 """Networks by name, and how their ports are numbered."""
 import argparse
-import contextlib
-import io
 import pathlib
 import random
 import unittest
@@ -151,10 +149,8 @@ class Ranges(unittest.TestCase):
             networks.in_range("ring:5..3")
 
     def test_a_second_network_is_refused_and_not_taken_in_silence(self) -> None:
-        said = io.StringIO()
-        with contextlib.redirect_stderr(said), self.assertRaises(SystemExit):
-            main(["run", "--network", "ring:3", "--network", "ring:4", "--agent", "examples/agents/ring.py 4"])
-        self.assertIn("--network is given twice: name one", said.getvalue())
+        words = ["run", "--network", "ring:3", "--network", "ring:4", "--agent", "examples/agents/ring.py 4"]
+        self.assertIn("--network is given twice: name one", ran(main, words).errors)
 
 
 class Words(unittest.TestCase):

@@ -2,7 +2,6 @@
 import contextlib
 import functools
 import importlib
-import io
 import os
 import signal
 import sys
@@ -23,7 +22,7 @@ from arena_lab.support import built
 from arena_lab.support import missing as lab_missing
 from arena_lab.support.missing import Missing, needed
 from arena_lab.support.signals import Terminated, come_again, end
-from tests.support.output import InTemporary
+from tests.support.output import InTemporary, ran
 
 ENTER = [b'{"do":"enter","key":"k0"}', b'{"do":"enter","key":"k1"}']
 HERE = '{"board":"","from":null,"ok":"here","ports":2}'
@@ -92,10 +91,9 @@ class Files(InTemporary):
 class CommandLine(InTemporary):
     def told(self, *words: str) -> str:
         """What a command line that is refused says."""
-        errors = io.StringIO()
-        with contextlib.redirect_stderr(errors):
-            self.assertEqual(main(list(words)), 2)
-        return errors.getvalue()
+        status, _, errors = ran(main, list(words))
+        self.assertEqual(status, 2)
+        return str(errors)
 
     def test_a_package_that_is_missing_is_named(self) -> None:
         for name, package in (("greenlet", "python3-greenlet"), ("hypothesis.strategies", "python3-hypothesis")):
@@ -167,11 +165,8 @@ class CommandLine(InTemporary):
 
     def test_each_command_has_a_help(self) -> None:
         for name in COMMANDS:
-            said = io.StringIO()
-            with self.subTest(name), contextlib.redirect_stdout(said), self.assertRaises(SystemExit) as ended:
-                main([name, "--help"])
-            self.assertEqual(ended.exception.code, 0)
-            self.assertIn("exit status", said.getvalue())
+            status, said, _ = ran(main, [name, "--help"])
+            self.assertEqual((status, "exit status" in said), (0, True), name)
 
     def test_a_program_is_named_or_built(self) -> None:
         with tempfile.NamedTemporaryFile() as file:
@@ -183,13 +178,11 @@ class CommandLine(InTemporary):
         folder = self.folder.resolve()
         refusing = f"echo '{built.SAID}' >&2\necho 'replay: line 1' >&2\nexit 3\n"
         for name, text, said in (("one", refusing, built.SAID + "\n"), ("two", "exit 0\n", "")):
-            program, errors = folder / name, io.StringIO()
+            program = folder / name
             program.write_text(f"#!/bin/sh\n{text}")
             program.chmod(0o755)
             with mock.patch.object(built, "any_program", return_value=program):
-                with contextlib.redirect_stderr(errors):
-                    self.assertEqual(program_at(None), str(program))
-            self.assertEqual(errors.getvalue(), said)
+                self.assertEqual(ran(program_at, None), (str(program), "", said))
             self.assertEqual(name_of(str(program)), built.UNPROVED if said else built.UNKNOWN)
         with self.assertRaises(EngineRefused) as refused:
             asked(str(folder / "one"), "judge")

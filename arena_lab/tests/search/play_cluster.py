@@ -1,7 +1,5 @@
 """A sweep over the workers of a Dask scheduler gives the rows of a sweep over processes, byte for byte."""
-import contextlib
 import importlib.util
-import io
 import subprocess
 import sys
 import unittest
@@ -77,10 +75,10 @@ class Clusters(InFolder):
         self.assertEqual(self.swept("program", "--program", program(), "--cluster", address), few)
 
     def check_fault(self, address: str, wanted: str) -> None:
-        with contextlib.redirect_stderr(io.StringIO()) as errors:
-            words = ["sweep", str(self.file), "--out", str(self.folder / "none"), "--engine", "model"]
-            self.assertEqual(main([*words, "--cluster", address]), 2)
-        self.assertIn(wanted, errors.getvalue())
+        words = ["sweep", str(self.file), "--out", str(self.folder / "none"), "--engine", "model"]
+        status, _, errors = ran(main, [*words, "--cluster", address])
+        self.assertEqual(status, 2)
+        self.assertIn(wanted, errors)
 
     def test_an_address_at_which_nobody_listens(self) -> None:
         with mock.patch.object(parallel, "SECONDS_TO_ANSWER", 1):

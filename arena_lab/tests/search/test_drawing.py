@@ -1,6 +1,4 @@
 """What is said of drawn schedules: counts of all matches, the worst of all, and failures that are counted alone."""
-import contextlib
-import io
 import unittest
 from typing import Any, List
 from unittest import mock
@@ -13,6 +11,7 @@ from arena_lab.rules.networks import ring
 from arena_lab.search.findings import Comes, ExploreAnswer, SampleCounts
 from arena_lab.search.match_results import MatchResult
 from arena_lab.search.program_search import SampleRequest
+from tests.support.output import ran
 
 
 def tried(hole: int, moves: int, lost: int, solved: int = 7, failed: int = 0) -> MatchResult:
@@ -23,11 +22,11 @@ def tried(hole: int, moves: int, lost: int, solved: int = 7, failed: int = 0) ->
 
 class Drawing(unittest.TestCase):
     def told(self, tries: List[MatchResult], hunt: Any = None) -> str:
-        said, wanted = io.StringIO(), mock.Mock()
-        with contextlib.redirect_stdout(said), mock.patch.object(explore_samples, "keep"):
-            search, draws = mock.Mock(tries=tries, checks="checked", seconds=1.25), SampleRequest(7, 1, "fair", hunt)
-            self.assertEqual(explore_samples.report_samples(wanted, draws, search), 0)
-        return said.getvalue()
+        search, draws = mock.Mock(tries=tries, checks="checked", seconds=1.25), SampleRequest(7, 1, "fair", hunt)
+        with mock.patch.object(explore_samples, "keep"):
+            status, said, _ = ran(explore_samples.report_samples, mock.Mock(), draws, search)
+        self.assertEqual(status, 0)
+        return said
 
     def test_counts_are_those_of_all_matches_and_the_seconds_those_that_passed(self) -> None:
         self.assertIn("14 drawn schedules, 18 steps in 1.2 s: none of them fails", self.told([tried(2, 1, 0)] * 2))

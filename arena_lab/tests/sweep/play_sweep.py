@@ -1,8 +1,6 @@
 """A sweep gives the same rows by any number of workers, by either engine, and after an interruption."""
-import contextlib
 import functools
 import hashlib
-import io
 import pathlib
 import re
 import signal
@@ -102,9 +100,9 @@ class Sweeps(InFolder):
 
     def refused(self, out: str, *more: str) -> str:
         """What is said of a sweep that is refused."""
-        with contextlib.redirect_stderr(io.StringIO()) as errors:
-            self.assertEqual(main(self.words(out, *more)), 2)
-        return errors.getvalue()
+        status, _, errors = ran(main, self.words(out, *more))
+        self.assertEqual(status, 2)
+        return errors
 
     def small(self, agent: pathlib.Path) -> None:
         self.file.write_text(TEXT.partition("[[team]]")[0] + f'[[team]]\nname = "own"\nagent = "{agent} {{nodes}}"\n')
@@ -115,10 +113,9 @@ class Sweeps(InFolder):
                                             "    helper.search(agent, key, nodes)\n")
         helper.write_text((agents / "ring.py").read_text())
         self.small(self.folder / "own.py")
-        with contextlib.redirect_stdout(io.StringIO()):
-            self.assertEqual(main(self.words("out", *MODEL)), 0)
-            self.assertEqual(main(["run", "--agent", f"{self.folder}/own.py {{nodes}}", "--keep",
-                                   str(self.folder / "find"), *MODEL]), 0)
+        self.assertEqual(ran(main, self.words("out", *MODEL)).status, 0)
+        self.assertEqual(ran(main, ["run", "--agent", f"{self.folder}/own.py {{nodes}}", "--keep",
+                                    str(self.folder / "find"), *MODEL]).status, 0)
         helper.write_text((TOP / "arena_lab" / "mutants" / "reads_once.py").read_text())
         self.assertIn(f"made otherwise: {helper}", self.refused("out", *MODEL))
         errors = ran(main, ["replay", str(self.folder / "find"), *MODEL]).errors
