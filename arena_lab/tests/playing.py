@@ -2,7 +2,7 @@
 import contextlib
 import os
 import random
-from typing import Any, Sequence
+from typing import Any, List, Sequence
 
 from arena_lab.play import schedulers
 from arena_lab.play.matches import PlayedMatch, play
@@ -20,6 +20,7 @@ RING = AgentWords(INSIDE, f"{AGENTS / 'ring.py'} {{nodes}}")
 RING_STEP = AgentWords(INSIDE, f"{AGENTS / 'ring_step.py'} {{nodes}}")
 MAP = AgentWords(INSIDE, f"{AGENTS / 'map.py'} {{nodes}} {{links}}")
 KNOWN_MAP = AgentWords(INSIDE, str(AGENTS / "known_map.py"))
+RING3 = AgentWords(INSIDE, f"{AGENTS / 'ring3.py'} {{nodes}}")
 
 # agents with a fault each, which several tests play: the text of a file
 FAULTY = '''
@@ -59,6 +60,11 @@ def crashes_when_it_is_over(agent, key, port):
 def program() -> str:
     """The built program: ARENA_PROGRAM names it, as tools/play/lab_tests.py does."""
     return program_at(os.environ.get("ARENA_PROGRAM"))
+
+
+def two(name: str, *words: str) -> List[AgentWords]:
+    """A sample agent, once for each side."""
+    return [AgentWords(INSIDE, " ".join([str(AGENTS / name), *words, str(side)])) for side in (0, 1)]
 
 
 def fixture(network: Network, hole: int, agents: int = 2, board: int = 4096, home: int = 0) -> Fixture:

@@ -1,18 +1,14 @@
 """The commands of arena_lab/README.md and docs/PROVING.md say what stands below them."""
-import os
-import pathlib
 import re
 import shlex
 import sys
-import tempfile
 import textwrap
-import unittest
 from typing import Iterator, List, Tuple
 
 from arena_lab.__main__ import main
 from arena_lab.rules.engines import TOP, name_of
 from arena_lab.support import built
-from arena_lab.tests.playing import program
+from arena_lab.tests.playing import InFolder, program
 from tests.support.output import ran
 
 README = TOP / "arena_lab" / "README.md"
@@ -36,23 +32,17 @@ def examples() -> Iterator[Tuple[str, List[str]]]:
             said.append(text)
 
 
-class Readme(unittest.TestCase):
-    def setUp(self) -> None:
-        before = os.getcwd()
-        self.addCleanup(os.chdir, before)
-        os.chdir(TOP)
-
+class Readme(InFolder):
     def test_each_command_says_what_stands_below_it(self) -> None:
         found = list(examples())
         self.assertGreater(len(found), 7)
-        with tempfile.TemporaryDirectory() as folder:
-            for command, wanted in found:
-                with self.subTest(command):
-                    said = self.said(command, pathlib.Path(folder))
-                    for line in wanted:
-                        line = line.replace("out/", f"{folder}/").replace(built.PROGRAM, name_of(program()))
-                        parts = [re.escape(part) for part in line.split("..")]
-                        self.assertRegex(said, re.compile("^" + ".*".join(parts) + "$", re.M))
+        for command, wanted in found:
+            with self.subTest(command):
+                said = self.said(command)
+                for line in wanted:
+                    line = line.replace("out/", f"{self.folder}/").replace(built.PROGRAM, name_of(program()))
+                    parts = [re.escape(part) for part in line.split("..")]
+                    self.assertRegex(said, re.compile("^" + ".*".join(parts) + "$", re.M))
 
     def test_the_adversary_is_the_one_of_the_examples(self) -> None:
         head = "    def writers_wait"
@@ -60,12 +50,11 @@ class Readme(unittest.TestCase):
         code = textwrap.dedent(head + block).strip()
         self.assertIn(code, (TOP / "examples" / "adversaries.py").read_text(encoding="utf-8"))
 
-    def said(self, command: str, folder: pathlib.Path) -> str:
-        words = [word.replace("out/", f"{folder}/").replace("python3 ", f"{sys.executable} ")
+    def said(self, command: str) -> str:
+        words = [word.replace("out/", f"{self.folder}/").replace("python3 ", f"{sys.executable} ")
                  for word in shlex.split(command)]
         if words[0] == "hunt":
-            words += ["--database", str(folder / "database")]
+            words += ["--database", str(self.folder / "database")]
         if words[0] not in NO_PROGRAM:
             words += ["--program", program()]
-        said = ran(main, words).said
-        return said
+        return str(ran(main, words).said)

@@ -1,13 +1,10 @@
 """The agents that divide a ring into halves, and those of the shuttle, solve it within the moves of the theorems."""
 import random
 import unittest
-from types import SimpleNamespace
 from typing import Any, Callable, Dict, List, NamedTuple
 
 from arena_lab.play import schedulers
-from arena_lab.play.agent_files import AGENTS
 from arena_lab.play.matches import PlayedMatch
-from arena_lab.play.teams import INSIDE, AgentWords
 from arena_lab.rules.engines import Program
 from arena_lab.rules.fixtures import Fixture, fixture_of
 from arena_lab.rules.model import Setup, Verdict
@@ -15,7 +12,8 @@ from arena_lab.rules.networks import Network, flipped_ring, ring
 from arena_lab.rules.rehearsal import Rehearsal
 from arena_lab.search.explore import explored
 from arena_lab.search.ring_bounds import most_moves, rounds
-from arena_lab.tests.playing import program, under
+from arena_lab.support.progress import NO_PROGRESS
+from arena_lab.tests.playing import program, two, under
 
 # the sizes of the rings that are drawn
 SIZES = (3, 4, 5, 7, 8, 11, 16, 17, 27, 33)
@@ -44,10 +42,6 @@ def shuttle(nodes: int) -> Bounds:
 SEARCHES: Dict[str, Callable[[int], Bounds]] = {"halves.py": halves, "shuttle.py": shuttle}
 
 
-def team(name: str) -> List[AgentWords]:
-    return [AgentWords(INSIDE, f"{AGENTS / name} {{nodes}} {side}") for side in (0, 1)]
-
-
 def fixture(network: Network, hole: int, home: int, quota: int) -> Fixture:
     """A match with the least whiteboards and the least quota of the theorems."""
     return fixture_of(Setup(network.nodes, network.links, home, [hole], 2, quota, 4))
@@ -68,7 +62,7 @@ class Protocols(unittest.TestCase):
     def moves(self, name: str, nodes: int, hole: int, first: int, bounds: Bounds) -> int:
         """The moves of a match in which one agent goes on until it is lost, and then the other."""
         given = fixture(ring(nodes), hole, 0, bounds.commands)
-        found = under(one_after_the_other(first), given, team(name))
+        found = under(one_after_the_other(first), given, two(name, "{nodes}"))
         self.check(found, bounds)
         self.assertEqual(found.verdict().lost, 1)
         return found.verdict().moves
@@ -94,8 +88,7 @@ class Protocols(unittest.TestCase):
 
     def worst(self, name: str, nodes: int, hole: int, bounds: Bounds) -> Verdict:
         """The worst of all schedules, none of which fails."""
-        shown = SimpleNamespace(update=lambda count: None)
-        found = explored(fixture(ring(nodes), hole, 0, bounds.commands), team(name), shown)
+        found = explored(fixture(ring(nodes), hole, 0, bounds.commands), two(name, "{nodes}"), NO_PROGRESS)
         self.assertTrue(found.is_whole and not found.explorer.worst.has_failed)
         return found.explorer.worst.verdict
 
@@ -128,4 +121,4 @@ class Protocols(unittest.TestCase):
                     given = fixture(network, hole, home, bounds.commands)
                     for engine in engines[:1 + (seed < ON_THE_PROGRAM)]:
                         with self.subTest(name, scheduler=scheduler, seed=seed, nodes=nodes, home=home, hole=hole):
-                            self.check(under(maker(seed), given, team(name), engine), bounds)
+                            self.check(under(maker(seed), given, two(name, "{nodes}"), engine), bounds)

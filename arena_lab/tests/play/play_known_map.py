@@ -1,7 +1,6 @@
 """Two agents that have a map solve every biconnected network, whatever the schedule."""
 import random
 import unittest
-from types import SimpleNamespace
 from typing import Iterator, Tuple
 
 from arena_lab.play import schedulers
@@ -10,6 +9,7 @@ from arena_lab.rules.fixtures import Fixture
 from arena_lab.rules.networks import Network, drawn, named, numbered, shuffled
 from arena_lab.search.explore import explored
 from arena_lab.support.missing import needed
+from arena_lab.support.progress import NO_PROGRESS
 from arena_lab.tests.playing import KNOWN_MAP, fixture, played, program
 
 NETWORKS = ("ring:32", "hypercube:5", "torus:6x6", "complete:20", "ccc:3")
@@ -31,11 +31,10 @@ def matches_on(network: Network) -> Iterator[Tuple[int, int]]:
 
 class KnownMap(unittest.TestCase):
     def test_no_schedule_fails_on_any_network_of_three_to_five_nodes(self) -> None:
-        shown = SimpleNamespace(update=lambda count: None)
         count = 0
         for network in small_networks(5):
             for home, hole in matches_on(network):
-                found = explored(fixture(network, hole, home=home), [KNOWN_MAP] * 2, shown)
+                found = explored(fixture(network, hole, home=home), [KNOWN_MAP] * 2, NO_PROGRESS)
                 count += 1
                 with self.subTest(links=network.links, home=home, hole=hole):
                     self.assertTrue(found.is_whole)

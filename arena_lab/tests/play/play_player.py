@@ -14,8 +14,8 @@ from arena_lab.play.teams import OUTSIDE, AgentWords
 from arena_lab.rules.fixtures import Fixture, fixture_of
 from arena_lab.rules.model import Setup
 from arena_lab.rules.networks import Network, flipped_ring, ring
-from arena_lab.tests.play.play_halves import SEARCHES, fixture, team
-from arena_lab.tests.playing import TOP, InFolder, program, under
+from arena_lab.tests.play.play_halves import SEARCHES, fixture
+from arena_lab.tests.playing import TOP, InFolder, program, two, under
 from tests.support.servers import HOST, Server
 from tests.support.tournaments import write_cup
 
@@ -104,7 +104,7 @@ class Players(InFolder):
                         found = under(maker(seed), game.fixture, agents(game.runs), seconds=20)
                         self.assertFalse(found.has_failed())
                         self.assertLessEqual(found.verdict().moves, game.moves)
-                        self.assertEqual(found.replay, under(maker(seed), game.fixture, team(name)).replay)
+                        self.assertEqual(found.replay, under(maker(seed), game.fixture, two(name, "{nodes}")).replay)
 
     def test_modules_solve_what_they_are_proved_to_solve(self) -> None:
         for scheduler, maker in sorted(schedulers.NAMED.items()):

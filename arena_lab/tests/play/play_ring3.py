@@ -1,21 +1,17 @@
 """Two agents that divide a ring into three parts solve it, with as few moves as were counted."""
 import random
 import unittest
-from types import SimpleNamespace
 
 from experiments import adversary, turns
 from experiments.division import Table, of_ring3, ring3
 from arena_lab.play import schedulers
-from arena_lab.play.agent_files import AGENTS
-from arena_lab.play.teams import INSIDE, AgentWords
 from arena_lab.rules.fixtures import Fixture, fixture_of
 from arena_lab.rules.model import Setup
 from arena_lab.rules.networks import Network, flipped_ring, ring
 from arena_lab.search.explore import explored
-from arena_lab.tests.playing import played
+from arena_lab.support.progress import NO_PROGRESS
+from arena_lab.tests.playing import RING3, played
 from arena_lab.tests.play.test_ring3 import most_moves
-
-RING3 = AgentWords(INSIDE, f"{AGENTS / 'ring3.py'} {{nodes}}")
 
 
 def fixture(network: Network, hole: int, home: int = 0) -> Fixture:
@@ -25,9 +21,8 @@ def fixture(network: Network, hole: int, home: int = 0) -> Fixture:
 
 class Ring3(unittest.TestCase):
     def test_every_schedule_of_small_rings(self) -> None:
-        shown = SimpleNamespace(update=lambda count: None)
         for nodes in range(3, 8):
-            found = [explored(fixture(ring(nodes), hole), [RING3] * 2, shown) for hole in range(1, nodes)]
+            found = [explored(fixture(ring(nodes), hole), [RING3] * 2, NO_PROGRESS) for hole in range(1, nodes)]
             with self.subTest(nodes=nodes):
                 self.assertTrue(all(it.is_whole and not it.explorer.worst.has_failed for it in found))
                 self.assertEqual(max(it.explorer.worst.verdict.moves for it in found), most_moves(nodes))

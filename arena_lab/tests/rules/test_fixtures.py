@@ -63,17 +63,13 @@ class Files(InTemporary):
             with self.subTest(text), self.assertRaisesRegex(NoMatch, "it is no tournament"):
                 read_tournament(str(file))
 
-    def test_a_match_without_black_holes_lacks_the_key_of_later_versions(self) -> None:
+    def test_a_key_that_is_missing_and_one_that_version_3_does_not_have(self) -> None:
         (self.folder / "four.toml").write_text(text_of(NETWORK))
-        cup = self.folder / "cup.toml"
-        cup.write_text(tournament_text(SEED, [(fixture_of(RIGHT), "four.toml")]).replace("holes", "hloes"))
+        cup, text = self.folder / "cup.toml", tournament_text(SEED, [(fixture_of(RIGHT), "four.toml")])
+        # a match without black holes lacks the key of later versions
+        cup.write_text(text.replace("holes", "hloes"))
         with self.assertRaisesRegex(NoMatch, "it has no key 'holes'"):
             read_tournament(str(cup))
-
-    def test_version_3_has_no_other_keys(self) -> None:
-        (self.folder / "four.toml").write_text(text_of(NETWORK))
-        cup = self.folder / "cup.toml"
-        text = tournament_text(SEED, [(fixture_of(RIGHT), "four.toml")])
         for word in ("seed = ", "held = "):
             strange = text.replace(word, f"hled = 0\n{word}")
             with self.subTest(word):

@@ -8,10 +8,9 @@ from arena_lab.play.teams import INSIDE, AgentWords, Game
 from arena_lab.rules.networks import Network, complete, flipped_ring, ring
 from arena_lab.search.adversary import Adversary, Beaten, NotARing, Phase, steps_of
 from arena_lab.search.ring_bounds import least_moves
-from arena_lab.tests.playing import AGENTS, RING, InFolder
+from arena_lab.tests.playing import RING, RING3, InFolder, two
 from tests.support.output import ran
 
-RING3 = AgentWords(INSIDE, f"{AGENTS / 'ring3.py'} {{nodes}}")
 # wrong teams: the text of a file, and of each what is said of it
 WRONG = '''
 def straight(agent, key, nodes, side):
@@ -43,12 +42,8 @@ SAID = {"straight": "both agents come to links to node", "hasty": "alone does no
         "idle": "no agent departs", "follower": "alone does not accuse node"}
 
 
-def two(name: str) -> List[AgentWords]:
-    """A sample agent, once for each side."""
-    return [AgentWords(INSIDE, f"{AGENTS / name} {{nodes}} {side}") for side in (0, 1)]
-
-
-TEAMS = {"halves": two("halves.py"), "shuttle": two("shuttle.py"), "ring": [RING] * 2, "ring3": [RING3] * 2}
+TEAMS = {"halves": two("halves.py", "{nodes}"), "shuttle": two("shuttle.py", "{nodes}"), "ring": [RING] * 2,
+         "ring3": [RING3] * 2}
 
 
 def game(network: Network, agents: List[AgentWords], home: int = 0) -> Game:

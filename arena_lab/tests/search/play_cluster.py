@@ -26,7 +26,9 @@ SCHEDULER, WORKER = "distributed.cli.dask_scheduler", "distributed.cli.dask_work
 
 
 @unittest.skipUnless(HAS_DASK, "Debian's python3-distributed is not installed")
-class Clusters(InFolder):
+class OnCluster(InFolder):
+    """Tests that start a cluster."""
+
     def setUp(self) -> None:
         super().setUp()
         self.file = self.folder / "sweep.toml"
@@ -62,6 +64,8 @@ class Clusters(InFolder):
         self.assertEqual(status, 0, said + errors)
         return (self.folder / out / tables.RUNS).read_bytes()
 
+
+class Clusters(OnCluster):
     def test_two_workers_give_the_rows_of_this_machine(self) -> None:
         address = self.scheduler()
         self.check_fault(address, "has no workers: start some by")

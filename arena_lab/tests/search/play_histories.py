@@ -94,15 +94,17 @@ class Histories(InExplore):
         (self.folder / "hides.py").write_text(text, encoding="utf-8")
         return self.command("--network", "ring:3", "--hole", 1, *words)
 
+    def hidden(self, hides: Hides, good: str) -> int:
+        """The status of a team whose reader hides a text so, and is right if it finds this one again."""
+        file = f"{self.folder}/hides.py"
+        return self.explored(TEXT.format(**hides._asdict(), good=good), "--agent", f"{file}:writer", "--agent",
+                             f"{file}:reader")
+
     def test_what_hides_a_bit_hides_nothing_from_its_history(self) -> None:
-        for name, (lines, hides, finds, waits) in HIDDEN.items():
+        for name, hides in HIDDEN.items():
             for good in ("", "x"):
                 with self.subTest(name, good=good):
-                    text = TEXT.format(lines=lines.replace("{folder}", str(self.folder)), hides=hides, finds=finds,
-                                       waits=waits, good=good)
-                    file = f"{self.folder}/hides.py"
-                    status = self.explored(text, "--agent", f"{file}:writer", "--agent", f"{file}:reader")
-                    self.assertEqual(status, 1, self.said)
+                    self.assertEqual(self.hidden(hides, good), 1, self.said)
                     self.assertIn("a schedule fails", self.said)
 
     def test_roles(self) -> None:
@@ -162,17 +164,14 @@ class Histories(InExplore):
         self.assertIn("no schedule fails by the program, and one by the Python model's search", self.said)
 
     def test_who_changes_what_the_lab_plays_it_by_fails(self) -> None:
-        file = f"{self.folder}/hides.py"
         parts = dict.fromkeys(("number", "modules", "_team", "_heard", "_thread"), ("'x'", "None", "True"))
         parts |= {"__dict__": ("{}", "dict(vars(agent._lines))",),
                   "__class__": ("type('X', (type(agent._lines),), {'memo': b})",)}
         for part, values in parts.items():
             for value in values:
                 with self.subTest(part, value=value):
-                    text = TEXT.format(lines="", hides=f"setattr(agent._lines, {part!r}, {value})", finds="''", good="",
-                                       waits="agent.depart(1)")
-                    status = self.explored(text, "--agent", f"{file}:writer", "--agent", f"{file}:reader")
-                    self.assertEqual(status, 1, self.said)
+                    sets = Hides("", f"setattr(agent._lines, {part!r}, {value})", "''")
+                    self.assertEqual(self.hidden(sets, ""), 1, self.said)
                     said = "the class or the dict" if "__" in part else part
                     self.assertIn(f"agent 1: has changed {said} of its lines, by which the lab plays it", self.said)
 
@@ -187,9 +186,6 @@ class Histories(InExplore):
     def test_a_line_that_is_no_text(self) -> None:
         for value in ("5", "b''", "[]"):
             with self.subTest(value):
-                text = TEXT.format(lines="", hides=f"setattr(agent._lines, 'line', {value})", finds="''", good="",
-                                   waits="agent._lines.receive()")
-                file = f"{self.folder}/hides.py"
-                status = self.explored(text, "--agent", f"{file}:writer", "--agent", f"{file}:reader")
-                self.assertEqual(status, 2, self.said)
+                sets = Hides("", f"setattr(agent._lines, 'line', {value})", "''", "agent._lines.receive()")
+                self.assertEqual(self.hidden(sets, ""), 2, self.said)
                 self.assertIn(f"agent 1 sends {value}, which is no line", self.said)

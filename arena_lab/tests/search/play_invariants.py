@@ -4,7 +4,6 @@ import contextlib
 import pathlib
 import random
 import re
-from types import SimpleNamespace
 from typing import Any, List, NamedTuple, Optional, Sequence, Set, Tuple
 
 from arena_lab.__main__ import main
@@ -20,11 +19,11 @@ from arena_lab.search.explore import TooMany
 from arena_lab.search.invariants import Candidate, Walk, Walked, walked
 from arena_lab.search.history_tree import HistoryState
 from arena_lab.search.configurations import After, At, Before, Bound, Bounds, Configuration, Position, World
-from arena_lab.tests.playing import AGENTS, FAULTY, MAP, InFolder, program, under
+from arena_lab.support.progress import NO_PROGRESS
+from arena_lab.tests.playing import FAULTY, MAP, InFolder, program, two, under
 from tests.support.output import ran
 
 INVARIANTS = TOP / "examples" / "invariants"
-SHOWN = SimpleNamespace(update=lambda count: None, clear=lambda: None)
 SEEDS = 20
 
 
@@ -51,11 +50,7 @@ MISTAKES = {
 }
 
 
-def team(name: str, *words: str) -> List[AgentWords]:
-    return [AgentWords(INSIDE, " ".join([str(AGENTS / name), *words, str(side)])) for side in (0, 1)]
-
-
-SHUTTLE, TRIANGLE = team("shuttle.py", "{nodes}"), team("triangle.py")
+SHUTTLE, TRIANGLE = two("shuttle.py", "{nodes}"), two("triangle.py")
 
 
 def place_of(agent: AgentState) -> Position:
@@ -200,7 +195,7 @@ class Invariants(InFolder):
         return path
 
     def walked(self, fixture: Fixture, agents: Sequence[AgentWords], candidate: Any) -> Walked:
-        return walked(fixture, agents, candidate, SHOWN, 100_000, 5)
+        return walked(fixture, agents, candidate, NO_PROGRESS, 100_000, 5)
 
     def fixture(self, nodes: int, hole: int, labels: int, agents: int = 2, board: int = 4) -> Fixture:
         network = flipped_ring(nodes, random.Random(labels)) if labels else ring(nodes)

@@ -2,20 +2,18 @@
 import argparse
 import itertools
 import re
-from typing import Iterator, List, Sequence
+from typing import List
 from unittest import mock
 
 from arena_lab.__main__ import main, parser
 from arena_lab.commands.words import games_of
 from arena_lab.play.games import play_seed
-from arena_lab.play.schedulers import Choice
 from arena_lab.play.teams import INSIDE, AgentWords, Game
 from arena_lab.rules import networks
-from arena_lab.rules.fixtures import Fixture
-from arena_lab.rules.model import Verdict
 from arena_lab.rules.networks import ring
 from arena_lab.search import explore, hunt, history_tree
-from arena_lab.tests.playing import FAULTY, MAP, RING, fixture, program, under
+from arena_lab.tests.playing import FAULTY, MAP, RING, fixture, program
+from arena_lab.tests.search.play_brute import played
 from tests.support.output import InTemporary, ran
 from tools.play import mutants
 
@@ -40,21 +38,6 @@ def computes(agent, key):
 
 
 FORGETFUL = mutants.FOLDER / "forgets_to_mark.py"
-
-
-def one_by_one(given: Fixture, agent: AgentWords) -> Iterator[Verdict]:
-    """The verdict under each schedule, each played from its beginning."""
-    fronts: List[List[int]] = [[]]
-    while fronts:
-        front, made = fronts.pop(), []
-
-        def choose(choices: Sequence[Choice], state: object) -> Choice:
-            made.append((front[len(made)] if len(made) < len(front) else 0, len(choices)))
-            return choices[made[-1][0]]
-        yield under(choose, given, [agent] * given.setup.agents).verdict()
-        for place in range(len(front), len(made)):
-            before = [number for number, _ in made[:place]]
-            fronts += [[*before, number] for number in range(1, made[place][1])]
 
 
 class Searches(InTemporary):
@@ -100,10 +83,13 @@ class Exploring(Searches):
         for name, words in (("the search", RING.words), ("a wrong one", f"{FORGETFUL} {{nodes}}")):
             with self.subTest(name):
                 found = self.explored("--network", "ring:3", "--hole", "1", "--agent", words)
-                ends = list(one_by_one(fixture(ring(3), 1), AgentWords(INSIDE, words)))
-                self.assertGreater(len(ends), 100)
-                self.assertIn(found.worst.verdict, ends)
-                self.assertEqual(found.worst.has_failed, any(end.outcome != "solved" for end in ends))
+                given = fixture(ring(3), 1)
+                scripts = [AgentWords(INSIDE, words).script(given.setup)] * 2
+                self.assertIsNone(played(given, scripts, 100), "there are few schedules")
+                ends = played(given, scripts, 100_000)
+                assert ends is not None
+                self.assertIn((*found.worst.verdict, found.worst.has_failed), ends)
+                self.assertEqual(found.worst.has_failed, any(end.has_failed for end in ends))
                 if not found.worst.has_failed:
                     self.assertEqual(found.worst.verdict.moves, max(end.moves for end in ends))
 

@@ -2,7 +2,6 @@
 import re
 import subprocess
 import sys
-import unittest
 from typing import List, Tuple
 from unittest import mock
 
@@ -12,7 +11,7 @@ from arena_lab.search.match_results import MatchResult
 from arena_lab.sweep import proofs
 from arena_lab.sweep.tables import NoTable
 from arena_lab.tests.search.exploring import InExplore
-from arena_lab.tests.search.play_cluster import HAS_DASK, Clusters
+from arena_lab.tests.search.play_cluster import OnCluster
 from arena_lab.tests.playing import RING, RING_STEP, program
 from tests.support.output import ran
 
@@ -126,12 +125,7 @@ class Workers(InExplore):
             self.assertIn(why, self.said)
 
 
-@unittest.skipUnless(HAS_DASK, "Debian's python3-distributed is not installed")
-class OnCluster(Clusters):
-    # the tests of sweeps are played once
-    test_two_workers_give_the_rows_of_this_machine = None
-    test_an_address_at_which_nobody_listens = None
-
+class Clusters(OnCluster):
     def test_a_cluster_proves_the_same(self) -> None:
         address, found = self.scheduler(), []
         self.worker(address)

@@ -1,6 +1,5 @@
 """`sweep --explore` tries every schedule of a sweep's matches, and says what was found beside the runs."""
 import csv
-import unittest
 from typing import Dict, List, Tuple
 from unittest import mock
 
@@ -10,7 +9,7 @@ from arena_lab.rules.engines import Differs
 from arena_lab.search.history_tree import NoFunction
 from arena_lab.sweep import every, sweeping, tables
 from arena_lab.sweep.grid import grid_of
-from arena_lab.tests.search import play_cluster
+from arena_lab.tests.search.play_cluster import OnCluster
 from arena_lab.tests.playing import InFolder, program
 from tests.support.output import ran
 
@@ -145,12 +144,7 @@ class Every(InFolder):
                                  for number, (network, team, hole, place) in enumerate(teams)])
 
 
-@unittest.skipUnless(play_cluster.HAS_DASK, "Debian's python3-distributed is not installed")
-class OnCluster(play_cluster.Clusters):
-    # the tests of sweeps are played once
-    test_two_workers_give_the_rows_of_this_machine = None
-    test_an_address_at_which_nobody_listens = None
-
+class Clusters(OnCluster):
     def test_a_cluster_finds_the_same(self) -> None:
         self.file.write_text(TEXT.partition("[[team]]\nname = \"wrong\"")[0].replace(', "ring:4"', ""))
         address, found = self.scheduler(), []
