@@ -99,8 +99,7 @@ def add_words(parser: argparse.ArgumentParser) -> None:
     parser.add_argument("--network", metavar="NAME", action="append", help=f"a network ({', '.join(NETWORKS)})")
     parser.add_argument("--agents", metavar="N", type=at_least_one, default=2, help="how many agents there are (2)")
     parser.add_argument("--timeout", dest="limit", metavar="SECONDS", type=float, default=LIMIT,
-                        help="how long an agent may take to "
-                        f"send or to wait ({LIMIT})")
+                        help=f"how long an agent may take to send or to wait ({LIMIT})")
     parser.add_argument("--seconds", metavar="S", type=at_least_one, default=SECONDS, help="how long the hunt may "
                         f"take; the search of all schedules may take {LONGER} times as long ({SECONDS})")
     parser.add_argument("--no-repeat", action="store_true", help="do not repeat agents alone")

@@ -104,20 +104,16 @@ SCHEDULERS, HUNTS = ("fair", "last-departed", "starved", "slow-agents", "slow-li
 def add_words(parser: argparse.ArgumentParser) -> None:
     """The words of the command `explore`."""
     add_match(parser, several=True)
-    parser.add_argument("--max-states", dest="states", metavar="N", type=at_least_one,
-                        help="the most states of a match to visit (as many "
-                        "as take half of the memory that is left). A million take 20 to 100 megabytes, and by the "
-                        "Python model half a gigabyte to one")
+    parser.add_argument("--max-states", dest="states", metavar="N", type=at_least_one, help="the most states of a "
+                        "match to visit (as many as take half of the memory that is left). A million take 20 to 100 "
+                        "megabytes, and by the Python model half a gigabyte to one")
     parser.add_argument("--draws", metavar="N", type=at_least_one, help="draw this many schedules of each match "
                         "instead of trying all; for networks with too many states. --max-states then bounds the turns "
-                        "of "
-                        "each")
+                        "of each")
     parser.add_argument("--seed", metavar="S", type=not_negative, help="draw them from this seed (0)")
-    parser.add_argument("--scheduler", dest="by", choices=SCHEDULERS,
-                        help="whose turn it is in them (fair)")
-    parser.add_argument("--objective", dest="hunt", choices=HUNTS,
-                        help="begin every second one as the worst so far began, to find more "
-                        "moves or more agents lost")
+    parser.add_argument("--scheduler", dest="by", choices=SCHEDULERS, help="whose turn it is in them (fair)")
+    parser.add_argument("--objective", dest="hunt", choices=HUNTS, help="begin every second one as the worst so far "
+                        "began, to find more moves or more agents lost")
     parser.add_argument("--keep", metavar="FOLDER", type=pathlib.Path, default=FOLDER, help="write the schedule that "
                         f"is told there ({FOLDER})")
     parser.add_argument("--search", choices=(PROGRAM, MODEL), help="who tries the schedules: the program, or the "

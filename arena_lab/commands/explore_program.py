@@ -59,7 +59,7 @@ class ExploreRequest(NamedTuple):
     def elsewhere(self) -> Optional[Parallelism]:
         """Who else tries them, if this process does not. What is written is tried by a process that reads no other
         files."""
-        return None if self.way.is_here() and not self.write else self.way
+        return None if self.way == Parallelism() and not self.write else self.way
 
 
 def run(all_wanted: Sequence[ExploreRequest]) -> int:

@@ -31,10 +31,8 @@ DATABASE = pathlib.Path("out/hunted")
 def add_words(parser: argparse.ArgumentParser) -> None:
     """The words of the command `hunt`."""
     add_match(parser)
-    parser.add_argument("--objective", dest="looked_for", choices=(FAILURE, MOVES, LOST),
-                        default=FAILURE,
-                        help="look for a "
-                        "team that fails, or for the most moves or lost agents (failure)")
+    parser.add_argument("--objective", dest="looked_for", choices=(FAILURE, MOVES, LOST), default=FAILURE,
+                        help="look for a team that fails, or for the most moves or lost agents (failure)")
     parser.add_argument("--any-home", action="store_true", help="draw the home base too")
     parser.add_argument("--runs", metavar="N", type=at_least_one, default=RUNS,
                         help=f"how many schedules to try ({RUNS})")

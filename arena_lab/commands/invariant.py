@@ -51,13 +51,11 @@ def add_words(parser: argparse.ArgumentParser) -> None:
     """The words of the command `invariant`."""
     parser.add_argument("candidate", metavar="CANDIDATE.py", help="the file with the candidate")
     add_match(parser, several=True)
-    parser.add_argument("--max-states", dest="states", metavar="N", type=at_least_one,
-                        default=MOST_STATES,
-                        help="the most pictures of a "
-                        f"match to try ({MOST_STATES})")
+    parser.add_argument("--max-states", dest="states", metavar="N", type=at_least_one, default=MOST_STATES,
+                        help=f"the most pictures of a match to try ({MOST_STATES})")
     parser.add_argument("--keep", metavar="FOLDER", type=pathlib.Path, default=kept_matches.FOLDER,
-                        help="write the schedule "
-                        f"to the first picture at which the candidate is wrong there ({kept_matches.FOLDER})")
+                        help="write the schedule to the first picture at which the candidate is wrong there "
+                        f"({kept_matches.FOLDER})")
 
 
 def run(words: argparse.Namespace) -> int:

@@ -32,9 +32,8 @@ def add_words(parser: argparse.ArgumentParser) -> None:
     parser.add_argument("--follow", action="store_true", help="follow the schedule as far as the agents go along, and "
                         "go on fairly")
     parser.add_argument("--keep", metavar="FOLDER", type=pathlib.Path, help="with --follow: write the match there")
-    parser.add_argument("--timeout", dest="limit", metavar="SECONDS", type=float,
-                        help="how long an agent may take to send or to wait "
-                        "(as long as when the schedule was made)")
+    parser.add_argument("--timeout", dest="limit", metavar="SECONDS", type=float, help="how long an agent may take to "
+                        "send or to wait (as long as when the schedule was made)")
     add_engine(parser)
 
 

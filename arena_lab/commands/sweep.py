@@ -42,7 +42,7 @@ from arena_lab.sweep.sweeping import SweepJob, SweepRequest, made_of, swept, ver
 from arena_lab.sweep.tables import alone_in, prepared
 
 # what a report is made by, without which a sweep would stop at its end
-NEEDED = ("jinja2", "matplotlib")
+NEEDED = ("jinja2", "matplotlib", "scipy")
 
 
 def add_words(parser: argparse.ArgumentParser) -> None:

@@ -83,12 +83,10 @@ def add_match(parser: argparse.ArgumentParser, several: bool = False) -> None:
                       "and {home}")
     team.add_argument("--agents", metavar="N", type=int, help="how many agents there are (2, or as many as are named)")
     team.add_argument("--timeout", dest="limit", metavar="SECONDS", type=float, default=LIMIT,
-                      help="how long an agent may take to "
-                      f"send or to wait ({LIMIT})")
-    team.add_argument("--spurious-wakeups", dest="naps", metavar="N", type=not_negative,
-                      default=NAPS,
-                      help="how often an agent inside that "
-                      f"sleeps may wake again though nothing has changed in front of it ({NAPS})")
+                      help=f"how long an agent may take to send or to wait ({LIMIT})")
+    team.add_argument("--spurious-wakeups", dest="naps", metavar="N", type=not_negative, default=NAPS,
+                      help="how often an agent inside that sleeps may wake again though nothing has changed in front "
+                      f"of it ({NAPS})")
 
 
 def team_of(words: argparse.Namespace) -> List[AgentWords]:
@@ -104,18 +102,14 @@ def game_of(words: argparse.Namespace) -> Game:
     match = read_fixture(words) if words.tournament else None
     network = Network(match.setup.nodes, match.setup.links) if match else networks.named(words.network)
     return Game(words.tournament or words.network, network, team_of(words), words.home, words.hole or [], words.dark,
-                words.quota, words.board, words.naps, words.limit, match, origin_of(words, ""))
+                words.quota, words.board, words.naps, words.limit, match,
+                f", match {words.match} of {words.tournament}" if match else "")
 
 
 def games_of(words: argparse.Namespace) -> List[Game]:
     """The games that the words of a command name, one for each network."""
     names = [name for given in words.networks or [NETWORK] for name in networks.in_range(given)]
     return [game_of(argparse.Namespace(**{**vars(words), "network": name})) for name in names]
-
-
-def origin_of(words: argparse.Namespace, how: str) -> str:
-    """How a schedule was found, and in which match of a tournament, as its head says it."""
-    return f"{how}, match {words.match} of {words.tournament}" if words.tournament else how
 
 
 def read_fixture(words: argparse.Namespace) -> Fixture:

@@ -160,6 +160,14 @@ def page_of(data: Dict[str, Any], refused: Sequence[str] = ()) -> str:
     return filled("page.html", title=data["name"], scripts=SCRIPTS, shown=data, refused=refused)
 
 
+def page_of_replay(program: Optional[str], replay: bytes, title: str, refused: Sequence[str] = ()) -> str:
+    """The page of a replay that stands in no file."""
+    with tempfile.NamedTemporaryFile(suffix=".jsonl") as file:
+        file.write(replay)
+        file.flush()
+        return page_of(data_of(program, pathlib.Path(file.name), None, title), refused)
+
+
 def write_page(program: Optional[str], replay: pathlib.Path, page: pathlib.Path, twin: Optional[int] = None,
                title: str = "", refused: Sequence[str] = ()) -> None:
     """Writes the page of a replay, with what is said of lines that were refused: a replay does not have these."""

@@ -2,11 +2,9 @@
 agents have seen, and nothing else."""
 import contextlib
 import json
-import pathlib
-import tempfile
 from typing import Any, Dict, List, Protocol
 
-from arena_lab.pages.page import data_of, page_of
+from arena_lab.pages.page import page_of_replay
 from arena_lab.pages.web_pages import JSON, STRICT, WHOLE, Handlers, answering, headers, run
 
 # how long a request may be
@@ -48,10 +46,7 @@ class PersonHandlers(Handlers):
         """The page of the whole match, once it is over."""
         if not self._match.is_over:
             raise self.web.HTTPNotFound(text="the match is not over\n", headers=headers(STRICT))
-        with tempfile.TemporaryDirectory() as folder:
-            replay = pathlib.Path(folder) / "match0.jsonl"
-            replay.write_bytes(self._match.replay())
-            return self.said(page_of(data_of(None, replay, None, self._title)), policy=WHOLE)
+        return self.said(page_of_replay(None, self._match.replay(), self._title), policy=WHOLE)
 
     async def say(self, request: Any) -> Any:
         found = await self._asked(request)

@@ -28,31 +28,26 @@ class ContestView:
         self._matches = matches
         self._feeds = found
         self._changed = asyncio.Condition()
-        self._grown = [0] * len(matches)
+        # of each match a number that rises whenever something happens in it
+        self.grown = [0] * len(matches)
         self.rows = self._standings()
 
-    def feed(self, number: int) -> Optional[Feed]:
-        return self._feeds[number] if number < len(self._feeds) else None
-
-    def may_open(self, number: int) -> bool:
-        """Whether the page of a match may be shown."""
-        return self.is_open or any(row["match"] == number and row["page"] for row in self.rows)
+    def shown(self, number: int) -> Optional[Match]:
+        """The match of a number, if its page may be shown."""
+        may_open = self.is_open or any(row["match"] == number and row["page"] for row in self.rows)
+        return self._feeds[number].match if may_open and number < len(self._feeds) else None
 
     def teams(self) -> Dict[str, Any]:
         """The standings of teams."""
         traps = [match.number for match in self._matches if match.is_trap]
         return teams(self.rows, [match.name for match in self._matches], traps)
 
-    def grown(self, number: int) -> int:
-        """A number that rises whenever something happens in a match."""
-        return self._grown[number]
-
     async def watch(self) -> None:
         """Looks at the files again and again."""
         while True:
             changed = [number for number, feed in enumerate(self._feeds) if feed.look()]
             for number in changed:
-                self._grown[number] += 1
+                self.grown[number] += 1
             rows = self._standings() if changed else self.rows
             if rows != self.rows or changed and self.is_open:
                 self.rows, self.version = rows, self.version + 1
@@ -101,7 +96,7 @@ class ProjectorHandlers(Handlers):
     async def news(self, request: Any) -> Any:
         """Tells whenever something has happened in a match."""
         number, _ = self._asked(request)
-        return await self._events(request, lambda: {"grown": self._contest.grown(number)})
+        return await self._events(request, lambda: {"grown": self._contest.grown[number]})
 
     async def _events(self, request: Any, told: Callable[[], Dict[str, Any]]) -> Any:
         """A stream of what is told, which is sent when it has changed, with the time of this machine."""
@@ -127,11 +122,11 @@ class ProjectorHandlers(Handlers):
     def _asked(self, request: Any) -> Tuple[int, Match]:
         """The match that a request names, if its page may be shown."""
         number = int(request.match_info["number"])
-        feed = self._contest.feed(number)
-        if feed is None or feed.match is None or not self._contest.may_open(number):
+        match = self._contest.shown(number)
+        if match is None:
             raise self.web.HTTPNotFound(text="pages of matches come when all matches are closed\n",
                                         headers=headers(STRICT))
-        return number, feed.match
+        return number, match
 
     def _data(self, request: Any) -> Dict[str, Any]:
         number, match = self._asked(request)

@@ -85,6 +85,6 @@ def answering(handlers: Handlers, names: Collection[str] = (), **more: Any) -> A
 
 
 def run(made: Any, address: str, port: int, said: str) -> None:
-    """Serves an application until it is interrupted; says where, once it does."""
+    """Serves an application until it is interrupted, and prints its address once it serves."""
     needed("aiohttp.web").run_app(made, host=address, port=port, access_log=None, shutdown_timeout=1,
                                   print=lambda *_: print(f"{said} http://{address}:{port}/", flush=True))

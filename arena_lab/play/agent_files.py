@@ -76,14 +76,9 @@ def compiled(path: str, text: bytes) -> CodeType:
     return made
 
 
-def module_name(path: pathlib.Path) -> str:
-    """What the module in a file is called."""
-    return f"lab_agent_{path.stem}"
-
-
 def executed(path: pathlib.Path) -> ModuleType:
     """The module in a file, which is executed now."""
-    spec = importlib.util.spec_from_file_location(module_name(path), path)
+    spec = importlib.util.spec_from_file_location(f"lab_agent_{path.stem}", path)
     if spec is None or not isinstance(spec.loader, SourceFileLoader):
         raise NoAgent(f"{path}: it is not in Python: its name ends with .py then")
     module = importlib.util.module_from_spec(spec)

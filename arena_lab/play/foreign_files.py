@@ -72,9 +72,9 @@ LOADED = Notes()
 
 
 @contextlib.contextmanager
-def loading(notes: Notes = LOADED) -> Iterator[None]:
+def loading() -> Iterator[None]:
     """Notes what agents' files reach and read while they are loaded for the first time."""
-    LOADING.append(notes)
+    LOADING.append(LOADED)
     try:
         yield
     finally:

@@ -7,10 +7,9 @@ import hashlib
 import html
 import json
 import pathlib
-import tempfile
 from typing import Any, Dict, Iterator, List, NamedTuple, Optional, Sequence, Union
 
-from arena_lab.pages.page import data_of, page_of
+from arena_lab.pages.page import page_of_replay
 from arena_lab.play import kept_matches, referee, schedulers
 from arena_lab.play.agent_files import NoAgent, member
 from arena_lab.play.matches import PlayedMatch
@@ -18,7 +17,7 @@ from arena_lab.play.repeating import with_repeats
 from arena_lab.play.schedules import Schedule, schedule_of
 from arena_lab.play.parallel import over_processes
 from arena_lab.play.summaries import Summary, summary_of, verdict_by
-from arena_lab.play.teams import Game
+from arena_lab.play.teams import Game, digests_of
 from arena_lab.rules.engines import Differs
 from arena_lab.rules.model import Verdict
 from arena_lab.support.faults import Fault
@@ -81,10 +80,7 @@ class Record(NamedTuple):
 
     def page(self) -> str:
         """A page of HTML on which one watches it."""
-        with tempfile.TemporaryDirectory() as folder:
-            path = pathlib.Path(folder) / kept_matches.REPLAY
-            path.write_bytes(self.played.replay)
-            return page_of(data_of(self.program, path, None, self.schedule.title()), self.played.refused)
+        return page_of_replay(self.program, self.played.replay, self.schedule.title(), self.played.refused)
 
     def keep(self, folder: Union[str, pathlib.Path]) -> List[str]:
         """Writes all that shows it to a folder, as `--keep` does; gives what is to be said of it."""
@@ -187,7 +183,7 @@ class Rows(NamedTuple):
 
     def digests(self) -> Dict[str, str]:
         """The SHA-256 of each file of agents."""
-        return {name: digest for agent in self.game.agents for name, digest in agent.digests().items()}
+        return digests_of(self.game.agents)
 
 
 def rows_of(asked: Sequence[Asked], workers: int = 1) -> Iterator[Row]:

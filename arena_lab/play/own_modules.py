@@ -52,7 +52,7 @@ def is_elsewhere(module: ModuleType) -> bool:
     return any(folder and not f"{folder}{os.sep}".startswith(NOT_READ) for folder in folders_of(module))
 
 
-def own_names(folders: Collection[str], shared: Collection[str] = ()) -> List[str]:
+def own_names(folders: Collection[str], shared: Collection[str]) -> List[str]:
     """The names of the loaded modules that stand in these folders, and of what is in them if they are packages; none of
     the lab's, and none of the shared files."""
     if folders is FOLDERS and len(FOREIGN_TO) != len(FOLDERS):

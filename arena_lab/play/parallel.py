@@ -15,7 +15,7 @@ import sys
 import time
 from concurrent.futures.process import BrokenProcessPool
 from types import FrameType
-from typing import Any, Dict, Generator, Iterable, List, NamedTuple, Optional, Protocol, Sequence
+from typing import Any, Dict, Generator, List, NamedTuple, Optional, Protocol, Sequence
 
 from arena_lab.play.imports import digest_named, digest_of
 from arena_lab.support.built import TOP
@@ -73,9 +73,6 @@ class Parallelism(NamedTuple):
 
     workers: int = 1
     cluster: Optional[str] = None
-
-    def is_here(self) -> bool:
-        return self.workers == 1 and self.cluster is None
 
     def results(self, job: Job, cases: Sequence[NumberedTask], is_long: bool = False) -> Generator[Result, None, None]:
         """The results of all matches, in order."""
@@ -161,7 +158,7 @@ def end_all(processes: Sequence[Any]) -> None:
         process.kill()
 
 
-def over_cluster(job: Job, cases: Sequence[NumberedTask], address: str, is_long: bool = False
+def over_cluster(job: Job, cases: Sequence[NumberedTask], address: str, is_long: bool
                  ) -> Generator[Result, None, None]:
     """The results of all matches, in order, by the workers of a Dask scheduler.
 
@@ -228,8 +225,4 @@ def serve() -> None:
     if others:
         sys.exit(f"{others[0]} is not the file that it is on the machine of the command: a worker needs the same "
                  "folder at the same path")
-    pickle.dump(played(job, batch), answers)
-
-
-def played(job: Job, batch: Iterable[NumberedTask]) -> List[Result]:
-    return [result_of(job, case) for case in batch]
+    pickle.dump([result_of(job, case) for case in batch], answers)

@@ -97,7 +97,9 @@ def read_tournament(path: str) -> Tournament:
             for row, known in [(found, FILE_KEYS), *((row, MATCH_KEYS) for row in found["match"])]:
                 only_known(row, known[found["version"]])
         fixtures = [fixture_in(row, pathlib.Path(path).parent) for row in found["match"]]
-        return Tournament(seed_in(found), fixtures, delays_in(found))
+        is_oblivious = found.get("schedule") == OBLIVIOUS
+        return Tournament(seed_in(found), fixtures,
+                          Delays(found["delay_scales"], found["delay_odds"]) if is_oblivious else None)
     except (ValueError, KeyError, TypeError) as fault:
         raise NoMatch(f"{path}: it is no tournament ({networks.fault_text(fault)}); `arena check` says more") from None
 
@@ -114,11 +116,6 @@ def seed_in(found: Object) -> str:
     if len(bytes.fromhex(seed)) != SEED_BYTES:
         raise ValueError(f"its seed has not {2 * SEED_BYTES} hexadecimal digits")
     return seed
-
-
-def delays_in(found: Object) -> Optional[Delays]:
-    """The delays of a tournament whose schedule is the oblivious one."""
-    return Delays(found["delay_scales"], found["delay_odds"]) if found.get("schedule") == OBLIVIOUS else None
 
 
 def fixture_in(row: Dict[str, Any], folder: pathlib.Path) -> Fixture:

@@ -111,8 +111,10 @@ class Configurations:
     def of(self, state: HistoryState) -> Configuration:
         """The picture of a state."""
         pasts = state.pasts
+        # the link that each agent has accused, by its node and port
+        accused = tuple(past.accused[-1] if past.accused else None for past in pasts)
         return Configuration(tuple(map(position_of, pasts)), tuple(map(self._history, pasts)), state.woken,
-                       tuple(past.agent.used for past in pasts), state.boards, tuple(map(accused_by, pasts)),
+                       tuple(past.agent.used for past in pasts), state.boards, accused,
                        frozenset().union(*(past.reached for past in pasts)), sum(past.moves for past in pasts))
 
     def _history(self, past: Past) -> History:
@@ -153,8 +155,3 @@ def position_of(past: Past) -> Position:
     if agent.standing == PRESENT:
         return At(agent.node, agent.came)
     return Bound(agent.node, agent.port) if agent.standing == AWAY else After()
-
-
-def accused_by(past: Past) -> Optional[Place]:
-    """The link that an agent has accused, by its node and port."""
-    return past.accused[-1] if past.accused else None

@@ -87,8 +87,8 @@ class Machines:
         self._starts: Dict[int, int] = {}
         self._after: Dict[Tuple[int, str], int] = {}
         self._news: Dict[bytes, str] = {}
-        # of each memory, what was answered of it first
-        self._first: Dict[int, Tuple[str, int]] = {}
+        # of each memory what was told first at it, and the memory after it
+        self.first: Dict[int, Tuple[str, int]] = {}
         most = MOST_LEFT if all(agent.kind == INSIDE for agent in agents) else MOST_PROCESSES
         self._left = Left(most)
         self._replayed = 0
@@ -125,7 +125,7 @@ class Machines:
             found = self._after[before, news] = self._held_as(machine, machine.next(held, news), (before, news))
             return found
         found = self._after[before, news] = self._number(self.told((before, news)), (before, news))
-        self._first.setdefault(before, (news, found))
+        self.first.setdefault(before, (news, found))
         self.beside.answered(before, news, found)
         return found
 
@@ -137,31 +137,19 @@ class Machines:
             found = self._news[told] = WAKES if "wakes" in question else spelled(question["hears"])
         return found
 
-    def told_at(self, memory: int) -> Optional[Tuple[str, int]]:
-        """What was told first at a memory, and the memory after it."""
-        return self._first.get(memory)
-
     def way_to(self, memory: int) -> Tuple[int, List[str]]:
         """The agent that was played to a memory first, and what has happened to it, in order."""
-        return self._along(self.ways, memory)
+        return along(self.ways, memory)
 
     def steps_to(self, memory: int) -> List[AgentStep]:
         """What the agent did that was played to a memory first: at the start, and after each thing that happened."""
-        found = [self.steps[memory]]
-        while self.ways[memory][0] >= 0:
-            memory = self.ways[memory][0]
-            found.append(self.steps[memory])
-        return found[::-1]
+        return [*(self.steps[before] for before, _ in all_ways(self.ways, memory)[1:]), self.steps[memory]]
 
     def seen_by(self, memory: int) -> Optional[str]:
         """What an agent that was played to a memory is told if it looks and nothing has changed since it saw its node
         last; None if it has seen none."""
-        pairs, way = [], self.ways[memory]
-        while way[0] >= 0:
-            pairs.append(way)
-            way = self.ways[way[0]]
         here: Object = {}
-        for before, news in reversed(pairs):
+        for before, news in all_ways(self.ways, memory)[1:]:
             reply: Object = {} if news == WAKES else json.loads(news)
             if reply.get("ok") == "here":
                 here = reply
@@ -173,7 +161,8 @@ class Machines:
     def seen(self) -> FrozenSet[str]:
         """What the programs inside the lab read or reach besides replies: each ends a sentence about them."""
         found, notes = set(self._processes.notes.reads), self._processes.notes
-        packages = sorted(name[len(PACKAGE):] for name in digests_of(self._inside()) if name.startswith(PACKAGE))
+        inside = [agent for agent in self._agents if agent.kind == INSIDE]
+        packages = sorted(name[len(PACKAGE):] for name in digests_of(inside) if name.startswith(PACKAGE))
         if packages:
             found.add(f"share the installed {', '.join(packages)}")
         if notes.reaches:
@@ -183,9 +172,6 @@ class Machines:
     def read(self) -> Dict[str, str]:
         """The SHA-256 of each file that programs inside the lab have read, by their names."""
         return read_by(self._processes.notes)
-
-    def _inside(self) -> List[AgentWords]:
-        return [agent for agent in self._agents if agent.kind == INSIDE]
 
     def looks(self, memory: int) -> bool:
         """Whether a program that has this memory looks next."""
@@ -239,7 +225,7 @@ class Machines:
             found = self._left_before(memory)
             if found is not None:
                 return found
-        agent, all_news = self._along(self._short, memory)
+        agent, all_news = along(self._short, memory)
         return self._processes.begun(agent), all_news
 
     def _left_before(self, memory: int) -> Optional[Tuple[AgentProcess, List[str]]]:
@@ -254,15 +240,6 @@ class Machines:
             memory, news = short[memory]
             all_news.append(news)
         return None
-
-    @staticmethod
-    def _along(ways: List[Way], memory: int) -> Tuple[int, List[str]]:
-        """The agent that comes to a memory on these ways, and what happens to it, in order."""
-        (before, news), all_news = ways[memory], []
-        while before >= 0:
-            all_news.append(news)
-            before, news = ways[before]
-        return -1 - before, all_news[::-1]
 
     def _number(self, one: AgentProcess, way: Way) -> int:
         """The number of a program's memory. The program is left there, or goes on beside the one that was there
@@ -305,6 +282,20 @@ class Machines:
         """Takes a way to a memory if it is shorter than those known. What is played again then takes it."""
         if self._length_of(way) < self._length[number]:
             self._short[number], self._length[number] = way, self._length_of(way)
+
+
+def all_ways(ways: List[Way], memory: int) -> List[Way]:
+    """The ways on which an agent comes to a memory, from its start on."""
+    found = [ways[memory]]
+    while found[-1][0] >= 0:
+        found.append(ways[found[-1][0]])
+    return found[::-1]
+
+
+def along(ways: List[Way], memory: int) -> Tuple[int, List[str]]:
+    """The agent that comes to a memory on these ways, and what happens to it, in order."""
+    (start, _), *others = all_ways(ways, memory)
+    return -1 - start, [news for _, news in others]
 
 
 def declared_in(line: bytes) -> Any:

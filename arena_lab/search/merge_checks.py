@@ -66,7 +66,7 @@ class MergeChecks:
         if not second.steps or second.one.is_over():
             self._machines.leave(memory, second.one)
             return
-        told = self._machines.told_at(memory)
+        told = self._machines.first.get(memory)
         if told is None:
             self._waiting.setdefault(memory, []).append(second)
             self._count += 1

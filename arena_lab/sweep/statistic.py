@@ -3,6 +3,8 @@ import math
 import statistics
 from typing import NamedTuple, Sequence
 
+from arena_lab.support.missing import needed
+
 # how sure one is that the mean of all runs that could be drawn is within the confidence
 SURE = 0.95
 
@@ -17,29 +19,9 @@ class Confidence(NamedTuple):
     high: float
 
 
-def within(t: float, freedom: int) -> float:
-    """How likely a number drawn by Student's distribution with these degrees of freedom is between -t and t."""
-    angle = math.atan(t / math.sqrt(freedom))
-    cosine, term, total = math.cos(angle), 1.0, 0.0
-    is_odd = freedom % 2 == 1
-    for step in range(freedom // 2):
-        total += term
-        # the next of the series in powers of the cosine, whose sum the likelihood is
-        term *= cosine * cosine * ((2 * step + 2) / (2 * step + 3) if is_odd else (2 * step + 1) / (2 * step + 2))
-    if is_odd:
-        return 2 / math.pi * (angle + math.sin(angle) * cosine * total)
-    return math.sin(angle) * total
-
-
 def student(freedom: int, sure: float = SURE) -> float:
     """How many standard errors to either side of a mean one goes to be so sure, by Student's distribution."""
-    low, high = 0.0, 1.0
-    while within(high, freedom) < sure:
-        high *= 2
-    for _ in range(80):
-        middle = (low + high) / 2
-        low, high = (middle, high) if within(middle, freedom) < sure else (low, middle)
-    return high
+    return float(needed("scipy.special").stdtrit(freedom, (1 + sure) / 2))
 
 
 def spread_of(numbers: Sequence[int]) -> Confidence:

@@ -67,8 +67,8 @@ def cells_in(path: pathlib.Path, columns: Sequence[str] = COLUMNS) -> List[List[
 
 
 def check_asked(path: pathlib.Path, rows: Iterable[List[str]], asked: Iterable[List[str]], other: str) -> None:
-    """Refuses rows of other matches than are asked for, which the first cells of a row say; `other` ends what is said
-    of such a row."""
+    """Refuses rows of other matches than these. The first cells of a row say of which match it is; `other` ends the
+    sentence on a row of another one."""
     wanted = iter(asked)
     for number, row in enumerate(rows, 2):
         cells = next(wanted, None)

@@ -10,6 +10,7 @@ from arena_lab.support.fields import WrongFile
 from arena_lab.sweep import report, statistic, tables, verify
 from arena_lab.sweep.grid import Grid, grid_of
 from arena_lab.sweep.tables import NoTable
+from arena_lab.tests.needing import needs
 from tests.support.output import InTemporary
 
 HEAD = 'title = "T"\nnetworks = ["ring:4", "ring:5"]\n'
@@ -94,6 +95,7 @@ def row(run: int, moves: int, outcome: str = "solved", network: str = "ring:4", 
     return dict(zip(tables.COLUMNS, map(str, values)))
 
 
+@needs("numpy", "scipy")
 class Reports(unittest.TestCase):
     def test_a_summary(self) -> None:
         grid = grid_of(text('bound = "n^2"\n'))
@@ -116,6 +118,7 @@ class Reports(unittest.TestCase):
         self.assertEqual(report.groups_of([row(0, 4, fault="agent 1: raises")], grid)[0].solved, 0)
 
 
+@needs("numpy", "scipy")
 class Statistics(unittest.TestCase):
     def test_students_t(self) -> None:
         """As tables of it have it, for 95 %."""
