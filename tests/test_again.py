@@ -35,7 +35,3 @@ class Compared(unittest.TestCase):
     def test_a_difference_between_sections(self) -> None:
         self.other.write_bytes(self.bytes + b"\0")
         self.assertIn("no section", self.told())
-
-
-if __name__ == "__main__":
-    unittest.main()

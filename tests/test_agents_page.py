@@ -62,7 +62,3 @@ class Words(unittest.TestCase):
         for why in re.findall(r'"(\w+)": [A-Z]\w+[,\n]', CLIENT.partition("REFUSALS = {")[2].partition("}")[0]):
             with self.subTest(why):
                 self.assertRegex(PAGE, rf"\| (`\w+`, )*`{why}`(, `\w+`)* \|")
-
-
-if __name__ == "__main__":
-    unittest.main()

@@ -3,7 +3,6 @@ packages: an active environment's, or else Debian's."""
 import os
 import pathlib
 import subprocess
-import unittest
 
 from tests.support.output import InTemporary
 
@@ -43,7 +42,3 @@ class Command(InTemporary):
             self.assertIn("usage: ./arena-lab", said)
         else:
             self.assertNotIn("usage: lab", said)
-
-
-if __name__ == "__main__":
-    unittest.main()

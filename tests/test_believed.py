@@ -22,7 +22,3 @@ class Believed(unittest.TestCase):
                  "    first : Two", "abbrev pub three : ℕ", "three = 3"]
         self.assertEqual([(name, len(block)) for name, block in believed.blocks(lines)],
                          [("one", 3), ("Two", 3), ("three", 2)])
-
-
-if __name__ == "__main__":
-    unittest.main()

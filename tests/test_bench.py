@@ -114,7 +114,3 @@ class Tables(unittest.TestCase):
         matches = tomllib.loads((contest.TOP / contest.TOURNAMENT).read_text())["match"]
         keys = {match["team"]: len(match["keys"]) for match in matches}
         self.assertEqual(keys, {team: len(agents) for team, agents in contest.TEAMS.items()})
-
-
-if __name__ == "__main__":
-    unittest.main()

@@ -90,7 +90,3 @@ class Counts(unittest.TestCase):
         with unittest.mock.patch.object(instructions, "VALGRIND", "no-such-command"):
             with self.assertRaisesRegex(SystemExit, "valgrind is missing"):
                 instructions.main([self.made("one", "exit")])
-
-
-if __name__ == "__main__":
-    unittest.main()

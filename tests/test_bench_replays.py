@@ -77,7 +77,3 @@ class TwoPrograms(unittest.TestCase):
         given = replays.given_words(["one", "two", "--rounds", "5"])
         self.assertEqual((str(given.program), str(given.other), given.rounds), ("one", "two", 5))
         self.assertEqual(replays.given_words([]).program, replays.PROGRAM)
-
-
-if __name__ == "__main__":
-    unittest.main()

@@ -94,7 +94,3 @@ class Programs(InTemporary):
     def test_faults_have_no_numbers(self) -> None:
         self.assertEqual(bent_inputs.fault_of(bent_inputs.Said(3, b"", b"note\n/tmp/a: event 13\n")), "event N")
         self.assertEqual(bent_inputs.fault_of(bent_inputs.Said(0, b"", b"note\n")), "none")
-
-
-if __name__ == "__main__":
-    unittest.main()

@@ -180,7 +180,3 @@ class GateTimes(unittest.TestCase):
 
     def test_its_help_names_what_it_takes(self) -> None:
         self.assertIn("--keep", module(TOP / "tools" / "prove" / "gate_times").__doc__)
-
-
-if __name__ == "__main__":
-    unittest.main()

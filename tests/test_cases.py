@@ -74,7 +74,3 @@ class Waiting(unittest.TestCase):
                  if isinstance(node, ast.Attribute) and node.attr == "select" and isinstance(node.value, ast.Name)
                  and node.value.id == "select"]
         self.assertEqual(found, [])
-
-
-if __name__ == "__main__":
-    unittest.main()

@@ -141,7 +141,3 @@ class ContractsTest(unittest.TestCase):
         named = tomllib.loads(contracts.TESTED.read_text(encoding="utf-8"))["refused_by_form"]
         self.assertEqual([(crate, name) for crate, names in named.items() for name in names
                           if not list((CRATES / crate).glob(f"*/{name}.edit"))], [])
-
-
-if __name__ == "__main__":
-    unittest.main()

@@ -129,7 +129,3 @@ class SearchInC(Served):
                 self.assertEqual(self.outcome()[1:3], ["red", "solved"])
                 for agent in agents:
                     agent.wait()
-
-
-if __name__ == "__main__":
-    unittest.main()

@@ -88,7 +88,3 @@ class Options(unittest.TestCase):
 
     def test_a_hostile_tool_tries_each_option(self) -> None:
         self.assertEqual([option for option in self.declared if not tried(option)], [])
-
-
-if __name__ == "__main__":
-    unittest.main()

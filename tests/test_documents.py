@@ -115,7 +115,3 @@ class Toolchain(unittest.TestCase):
             for named in KIT.findall(path.read_text(encoding="utf-8")):
                 with self.subTest(path.name):
                     self.assertIn(named, said)
-
-
-if __name__ == "__main__":
-    unittest.main()

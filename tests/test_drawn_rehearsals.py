@@ -53,7 +53,3 @@ class Rehearsals(unittest.TestCase):
                   "here", "gone", "written", "changed", "end of an agent",
                   *(f"no {why}" for why in ("enter", "key", "taken", "twice", "spent", "line", "port", "long"))]
         self.assertEqual([kind for kind in wanted if not seen[kind]], [])
-
-
-if __name__ == "__main__":
-    unittest.main()

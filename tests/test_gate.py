@@ -138,7 +138,3 @@ class Gate(unittest.TestCase):
         status, said, _ = ran(gate.main, ["anew"])
         self.assertEqual(status, 2)
         self.assertIn("tools/gate [--anew | --played]", said)
-
-
-if __name__ == "__main__":
-    unittest.main()

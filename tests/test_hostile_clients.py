@@ -88,7 +88,3 @@ class Checks(unittest.TestCase):
         row = "  1 team-0           silent          0    0\n"
         check_table("  # team             outcome     moves lost\n" + row, found)
         self.assertRaises(Wrong, check_table, row, found)
-
-
-if __name__ == "__main__":
-    unittest.main()

@@ -28,7 +28,3 @@ class Replays(unittest.TestCase):
 
     def test_no_program_leaves_nothing(self) -> None:
         self.assertIsNotNone(killed_servers.fault_of("/bin/false", kills(1, 1)[0]))
-
-
-if __name__ == "__main__":
-    unittest.main()

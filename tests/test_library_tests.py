@@ -70,7 +70,3 @@ class LibraryTests(unittest.TestCase):
     def test_a_run_that_fails_or_counts_none_is_a_failure(self) -> None:
         self.assertEqual(self.counted(67, 0, 4), (67, 1))
         self.assertEqual(self.counted(0, 0, 0), (0, 1))
-
-
-if __name__ == "__main__":
-    unittest.main()

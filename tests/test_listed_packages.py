@@ -69,7 +69,3 @@ class Installing(unittest.TestCase):
         self.assertEqual(packages.missing(["no-such-package"]), ["no-such-package"])
         with unittest.mock.patch.object(packages.subprocess, "run", side_effect=FileNotFoundError):
             self.assertEqual(packages.missing(["bash"]), ["bash"])
-
-
-if __name__ == "__main__":
-    unittest.main()

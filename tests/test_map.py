@@ -72,7 +72,3 @@ class Map(unittest.TestCase):
             for name in files_in(section(head)):
                 with self.subTest(name):
                     self.assertTrue((TOP / name).exists())
-
-
-if __name__ == "__main__":
-    unittest.main()

@@ -33,7 +33,3 @@ class Faults(unittest.TestCase):
         found = collections.Counter(fault_of(*drawn(number)).rstrip("0123456789 ") for number in range(600))
         self.assertEqual(len(found), 9)
         self.assertGreaterEqual(found["none"], 300)
-
-
-if __name__ == "__main__":
-    unittest.main()

@@ -65,7 +65,3 @@ class Bare(unittest.TestCase):
         self.assertEqual((passes, lines[:2], lines[-3:]), (False, ["FAILED a row", str(99 - bare.LINES)], [
             "98", "all lines are in logs/a-gate.log", "FAILED: a gate"]))
         self.assertEqual(len((top / "logs" / "a-gate.log").read_text().splitlines()), 100)
-
-
-if __name__ == "__main__":
-    unittest.main()

@@ -214,7 +214,3 @@ class DebianPackages(unittest.TestCase):
 
     def test_two_are_alike(self) -> None:
         self.assertEqual(self.packed(), self.packed())
-
-
-if __name__ == "__main__":
-    unittest.main()

@@ -74,7 +74,3 @@ class Words(unittest.TestCase):
                                      ("the other match's link is held", words, {SIDES[1 - number].held})):
                 with self.subTest(body=name, team=side.team):
                     self.assertFalse(made_by(ADAPTIVE, replay(side, used, held, 1), {side.held}, words))
-
-
-if __name__ == "__main__":
-    unittest.main()

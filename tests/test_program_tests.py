@@ -125,7 +125,3 @@ class Read(unittest.TestCase):
         self.assertGreater(len(tests), 250)
         self.assertEqual(len({(test.place, test.title) for test in tests}), len(tests))
         self.assertNotIn(None, program_cases.CASES.values())
-
-
-if __name__ == "__main__":
-    unittest.main()

@@ -355,7 +355,3 @@ class ServedTest(unittest.TestCase):
                             ("memory", {"run": Run(-6, b"listening N\n", "")})):
             with self.subTest(mode=mode, given=given), self.assertRaises(refusals.Otherwise):
                 self.outcome(mode, **given)
-
-
-if __name__ == "__main__":
-    unittest.main()

@@ -190,7 +190,3 @@ class Versions(Repositories):
         with unittest.mock.patch.object(version, "TOP", TOP):
             self.assertRegex(version.version(), r"^\d+\.\d+\.\d+$")
             self.assertTrue(f"## {version.version()}, " in (TOP / "CHANGELOG.md").read_text())
-
-
-if __name__ == "__main__":
-    unittest.main()

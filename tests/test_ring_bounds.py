@@ -31,7 +31,3 @@ class Bounds(unittest.TestCase):
     def test_halves_make_as_many_moves_as_they_may(self) -> None:
         found = explored("ring_step.py")
         self.assertEqual(found, {nodes: most_moves(nodes) for nodes in found})
-
-
-if __name__ == "__main__":
-    unittest.main()

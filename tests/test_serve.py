@@ -113,7 +113,3 @@ class Programs(unittest.TestCase):
         with self.assertRaisesRegex(Wrong, "no such words"):
             with Server(["sh", "-c", "echo no such words >&2; exit 2"], port=1, errors=self.bench.folder / "errors"):
                 self.fail("it did not start")
-
-
-if __name__ == "__main__":
-    unittest.main()

@@ -30,7 +30,3 @@ class Tool(unittest.TestCase):
         plain = "The exit status is 0, the status for a bad command line, or the status of a fault."
         self.assertGreater(prose.total(f"# Head\n\n{riddle}\n\n| {riddle} | b |\n"), 2 * prose.total(riddle) - 0.1)
         self.assertEqual(prose.total(f"{plain}\n\n    {riddle}\n\n```\n{riddle}\n```\n"), 0)
-
-
-if __name__ == "__main__":
-    unittest.main()

@@ -197,7 +197,3 @@ class Theorems(unittest.TestCase):
             text = re.sub(r"\s+", " ", (TOP / page).read_text(encoding="utf-8"))
             with self.subTest(page):
                 self.assertEqual([size for size in sizes if size not in text], [])
-
-
-if __name__ == "__main__":
-    unittest.main()

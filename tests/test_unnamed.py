@@ -101,7 +101,3 @@ class Python(unittest.TestCase):
         found = [f"{path} {name}" for path, text in programs() if not path.endswith("__init__.py")
                  for name in imports(text) if len(re.findall(rf"\b{name}\b", text)) == 1]
         self.assertEqual(found, [])
-
-
-if __name__ == "__main__":
-    unittest.main()

@@ -21,7 +21,3 @@ class Versions(unittest.TestCase):
         self.assertEqual(cited, [VERSION])
         noted = re.findall(r"Version (\S+)}", (TOP / "docs" / "PROTOCOLS.md").read_text())
         self.assertEqual(noted, [VERSION])
-
-
-if __name__ == "__main__":
-    unittest.main()

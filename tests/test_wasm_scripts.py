@@ -98,7 +98,3 @@ class Counted(unittest.TestCase):
 
     def test_a_fault_is_no_trap(self) -> None:
         self.assertEqual(self.failed(Told("index at byte 9"), command("assert_trap", "run")), ["one:1"])
-
-
-if __name__ == "__main__":
-    unittest.main()

@@ -33,7 +33,3 @@ class Width(unittest.TestCase):
         found = [f"{file.relative_to(TOP)}:{number}" for file in chosen for number, line in lines_of(file)
                  if len(line) > WIDTH]
         self.assertEqual(found, [])
-
-
-if __name__ == "__main__":
-    unittest.main()

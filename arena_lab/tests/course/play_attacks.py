@@ -718,7 +718,3 @@ class NotAsRoot(unittest.TestCase):
                 env={**os.environ, "ARENA_AS_NOBODY": "yes", "HOME": home, "TMPDIR": home}, capture_output=True,
                 text=True, timeout=300)
         self.assertEqual(ran.returncode, 0, ran.stderr)
-
-
-if __name__ == "__main__":
-    unittest.main()

@@ -77,7 +77,3 @@ class Ended(unittest.TestCase):
 def agents_of(grading: int) -> List[int]:
     """The agents that a grading has started."""
     return [process for process in below(grading) if words_of(process)[:2] == AGENT]
-
-
-if __name__ == "__main__":
-    unittest.main()

@@ -7,7 +7,6 @@ import pathlib
 import shutil
 import subprocess
 import sys
-import unittest
 import xml.etree.ElementTree as ElementTree
 from typing import Any, Dict, List
 
@@ -128,7 +127,3 @@ class Autograder(InFolder):
         where = self.place / "submission"
         shutil.copy(AUTOGRADER / "course.toml", where)
         self.check_workflow(steps, where, where / "out")
-
-
-if __name__ == "__main__":
-    unittest.main()

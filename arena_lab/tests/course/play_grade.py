@@ -298,7 +298,3 @@ class Spies(unittest.TestCase):
 def in_one_folder(cell: Cell) -> Iterator[List[Cell]]:
     """Cells as a careless body would make them."""
     yield [cell, cell]
-
-
-if __name__ == "__main__":
-    unittest.main()

@@ -197,7 +197,3 @@ class TestReal(unittest.TestCase):
                 ran = subprocess.run([*group.words(), "sort", "-S", "1G", "/dev/zero"], stdout=subprocess.DEVNULL)
                 self.assertEqual((ran.returncode, group.has_met_its_bound()), (-9, True))
         self.assertEqual(list(pathlib.Path(folder).glob("arena-*")), [])
-
-
-if __name__ == "__main__":
-    unittest.main()

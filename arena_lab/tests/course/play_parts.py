@@ -1,5 +1,4 @@
 """Pages escape what strangers write, and are given all that they ask for."""
-import unittest
 
 from arena_lab.course import league
 from arena_lab.course.league import Failure
@@ -82,7 +81,3 @@ class Escapes(Folder):
     def test_a_page_without_what_it_asks_for_is_a_fault(self) -> None:
         with self.assertRaisesRegex(Exception, "'(title|styles|matches)' is undefined"):
             parts.filled("contest.html", solved=0)
-
-
-if __name__ == "__main__":
-    unittest.main()

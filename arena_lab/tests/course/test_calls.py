@@ -165,7 +165,3 @@ clone(child_stack=NULL, flags=0x1000|17) = 3
                 found, out, errors = ran(calls.main, given)
                 self.assertEqual(found, status)
                 self.assertIn(said, out + errors)
-
-
-if __name__ == "__main__":
-    unittest.main()

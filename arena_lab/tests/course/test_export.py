@@ -185,7 +185,3 @@ class Students(unittest.TestCase):
         with self.assertRaisesRegex(WrongFile, "students.csv: there is no such file; write a table"):
             export_of(["moodle"], None, pathlib.Path("/nosuch"), ["amber"])
         self.assertEqual(export_of(["csv", "csv"], None, pathlib.Path("/nosuch"), []), Export(("csv",)))
-
-
-if __name__ == "__main__":
-    unittest.main()

@@ -356,7 +356,3 @@ class Budgets(unittest.TestCase):
         job: Any = mock.Mock(play=lambda match: pool.TimedResult(match, 6.0, 2 << 20))
         with concurrent.futures.ThreadPoolExecutor(workers) as executor:
             return [it.found for it in pool.MatchQueue(job, matches, limited).results(executor, workers)]
-
-
-if __name__ == "__main__":
-    unittest.main()

@@ -104,7 +104,3 @@ class HandIns(unittest.TestCase):
             os.close(old)
         os.close(at)
         self.assertEqual(self.read().refusal, "its folders are more than 32 deep")
-
-
-if __name__ == "__main__":
-    unittest.main()

@@ -131,7 +131,3 @@ class RepeatingTest(unittest.TestCase):
         self.assertEqual(len(set(found)), 200)
         self.assertTrue(all(0 <= seed < 2 ** 31 for seed in found))
         self.assertEqual(seed_of("k0"), found[0])
-
-
-if __name__ == "__main__":
-    unittest.main()

@@ -388,7 +388,3 @@ class Commands(Halls):
 
 def have(name: str) -> bool:
     return any((pathlib.Path(folder) / name).exists() for folder in os.environ["PATH"].split(":"))
-
-
-if __name__ == "__main__":
-    unittest.main()

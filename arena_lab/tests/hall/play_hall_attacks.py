@@ -24,7 +24,6 @@ minutes there. The numbers of matches and hand-ins tell how many all teams have 
 long others are graded, but not whose.
 """
 import re
-import unittest
 import zipfile
 from typing import Any, Dict, List, Tuple
 from unittest import mock
@@ -263,7 +262,3 @@ class Questions(Hall):
             content = client.get(path).content
             self.assertNotIn(b"<script>alert", content, path)
             self.assertIn(b"&lt;script&gt;alert", content, path)
-
-
-if __name__ == "__main__":
-    unittest.main()

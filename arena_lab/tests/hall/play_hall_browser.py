@@ -16,7 +16,3 @@ class Browser(unittest.TestCase):
         from tools.play import hall_in_browser
         with tempfile.TemporaryDirectory() as folder:
             self.assertEqual(hall_in_browser.main(program(), pathlib.Path(folder)), 0)
-
-
-if __name__ == "__main__":
-    unittest.main()

@@ -84,7 +84,3 @@ class Example(unittest.TestCase):
         self.wait(self.teams, "a team has asked for a match")
         child.send_signal(signal.SIGTERM)
         self.ended(child, 128 + signal.SIGTERM)
-
-
-if __name__ == "__main__":
-    unittest.main()

@@ -181,7 +181,3 @@ class Headers(unittest.TestCase):
                 connection.request("GET", "/api/networks", headers=headers)
                 found.append(connection.getresponse().status)
         self.assertIn(429, found)
-
-
-if __name__ == "__main__":
-    unittest.main()

@@ -1,6 +1,5 @@
 """The pages of a hall, as a team, another team and a stranger ask for them."""
 import re
-import unittest
 from typing import List, Optional
 from unittest import mock
 
@@ -295,7 +294,3 @@ class Isolation(Hall):
         self.assertEqual(told["matches"][0]["after"]["holes"], [1])
         replay = self.rest("get", f"/api/matches/{attempt.pk}/replays/0")
         self.assertEqual(b"".join(replay.streaming_content).decode(), attempt.matches.get().replay.read_text())
-
-
-if __name__ == "__main__":
-    unittest.main()

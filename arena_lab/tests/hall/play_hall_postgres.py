@@ -97,7 +97,3 @@ class Postgres(unittest.TestCase):
         for agent in agents:
             self.addCleanup(agent.wait)
             self.addCleanup(agent.kill)
-
-
-if __name__ == "__main__":
-    unittest.main()

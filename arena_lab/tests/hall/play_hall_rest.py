@@ -2,7 +2,6 @@
 import pathlib
 import re
 import tempfile
-import unittest
 from typing import Any, Dict
 from unittest import mock
 
@@ -431,7 +430,3 @@ class Documented(Hall):
         found = {"/" + re.sub("<number:(number|match)>", lambda it: {"number": "{id}", "match": "{match}"}[it[1]],
                               str(entry.pattern)) for entry in API}
         self.assertEqual(set(document["paths"]), found)
-
-
-if __name__ == "__main__":
-    unittest.main()

@@ -126,7 +126,3 @@ class Service(unittest.TestCase):
         place = folder / "told" / "told.json"
         self.assertTrue(place.exists(), said)
         return json.loads(place.read_text())
-
-
-if __name__ == "__main__":
-    unittest.main()

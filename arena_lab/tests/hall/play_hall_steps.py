@@ -2,7 +2,6 @@
 import datetime
 import itertools
 import shutil
-import unittest
 from typing import Any
 from unittest import mock
 
@@ -181,7 +180,3 @@ class Queues(TestCase):
         self.assertTrue(asking.close(running))
         self.assertTrue(Attempt.objects.filter(pk=running.pk, closing=True, state=RUNNING).exists())
         self.assertFalse(step(running, machine.CANCEL, "", models.Q(state=WAITING)))
-
-
-if __name__ == "__main__":
-    unittest.main()

@@ -85,7 +85,3 @@ class Upgrade(unittest.TestCase):
         self.assertEqual(self.rows("count(*) FROM handins_grading"), [(2,)])
         # the unveiling had shown the marks of programs too
         self.assertEqual(self.rows("what FROM standings_reveal ORDER BY id"), [("freeze",), ("secret",)])
-
-
-if __name__ == "__main__":
-    unittest.main()

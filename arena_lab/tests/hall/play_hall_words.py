@@ -48,7 +48,3 @@ class Words(unittest.TestCase):
             with tempfile.NamedTemporaryFile() as made:
                 subprocess.run(["msgfmt", "--check-format", "-o", made.name, f"{path}.po"], check=True)
                 self.assertEqual(pathlib.Path(made.name).read_bytes(), pathlib.Path(f"{path}.mo").read_bytes())
-
-
-if __name__ == "__main__":
-    unittest.main()

@@ -384,7 +384,3 @@ class Commands(unittest.TestCase):
                 found = tar.getnames()
             self.assertEqual(sum(it.startswith("it.hall/attempts/") for it in found), 1)
             self.assertLessEqual({"it.toml", "it.hall/hall.sqlite3", "it.hall/hall.json"}, set(found))
-
-
-if __name__ == "__main__":
-    unittest.main()
