@@ -19,7 +19,7 @@ from typing import Iterator, Tuple
 from arena_lab.rules.networks import ring
 from bench.inputs import peak_so_far
 from bench.servers import serving
-from tests.support.counts import Wrong
+from tests.support.counts import Wrong, require
 from tests.support.tournaments import match, write_cup
 
 # the largest quota and whiteboard
@@ -43,8 +43,7 @@ class Agent:
         self.socket.sendall((json.dumps(command).encode() + b"\n") * times)
         for _ in range(times):
             answer = json.loads(self.answers.readline() or b"{}")
-            if answer.get("ok") != wanted:
-                raise Wrong(f"{command['do']} is answered {str(answer)[:60]}")
+            require(answer.get("ok") == wanted, f"{command['do']} is answered {str(answer)[:60]}")
 
 
 def measured(looks: int, size: int) -> Iterator[Tuple[str, float, float]]:

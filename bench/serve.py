@@ -39,7 +39,7 @@ from arena_lab.rules.networks import text_of, torus
 from arena_lab.support.ports import free_port
 from bench.servers import MAX_SESSIONS, prepare, serving
 from tests import TOP
-from tests.support.counts import Wrong
+from tests.support.counts import Wrong, require
 from tests.support.servers import Server
 
 SOURCES = TOP / "bench" / "serve"
@@ -118,8 +118,7 @@ class Bench(NamedTuple):
         """Loads a server."""
         ran = subprocess.run(self.words_of_load(port, load), input=keys(load), capture_output=True, text=True,
                              timeout=LIMIT)
-        if ran.returncode != 0:
-            raise Wrong(ran.stderr.strip())
+        require(ran.returncode == 0, ran.stderr.strip())
         found = json.loads(ran.stdout)
         return Figures(found["commands"] / found["seconds"], found["p50"], found["p99"])
 
@@ -143,8 +142,7 @@ class Bench(NamedTuple):
                 # it reads all keys before it connects, and prints one line or none
                 holder.stdin.write(keys(load))
                 holder.stdin.close()
-                if holder.stdout.readline() != "open\n":
-                    raise Wrong("the sessions could not be opened")
+                require(holder.stdout.readline() == "open\n", "the sessions could not be opened")
                 return [before, peak_so_far(server.child)]
             finally:
                 holder.kill()

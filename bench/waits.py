@@ -23,7 +23,7 @@ from arena_lab.rules.delays import Delays
 from arena_lab.rules.model import Place
 from arena_lab.rules.networks import ring
 from bench.servers import serving
-from tests.support.counts import Wrong
+from tests.support.counts import Wrong, require
 from tests.support.tournaments import match, write_cup
 
 NODES = 8
@@ -46,8 +46,7 @@ class Agent(NamedTuple):
 
     def hears(self) -> dict:
         line = self.lines.readline()
-        if not line:
-            raise Wrong("a session ended before its time")
+        require(line, "a session ended before its time")
         return json.loads(line)
 
     def goes(self, port: int) -> None:
@@ -60,8 +59,7 @@ def entered(port: int, key: str) -> Agent:
     connection = socket.create_connection(("127.0.0.1", port), timeout=LIMIT)
     connection.setsockopt(socket.IPPROTO_TCP, socket.TCP_NODELAY, 1)
     agent = Agent(connection, connection.makefile("r"))
-    if agent.says(do="enter", key=key).get("ok") != "here":
-        raise Wrong(f"the agent with the key {key} could not enter")
+    require(agent.says(do="enter", key=key).get("ok") == "here", f"the agent with the key {key} could not enter")
     return agent
 
 

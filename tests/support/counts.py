@@ -11,10 +11,15 @@ class Wrong(Exception):
     """Something is not as it should be."""
 
 
+def require(holds: object, *told: object) -> None:
+    """Fails with what is told, unless something holds."""
+    if not holds:
+        raise Wrong(" ".join(map(str, told)))
+
+
 def wants(what: str, found: object, wanted: object) -> None:
     """Fails if something else was found."""
-    if found != wanted:
-        raise Wrong(f"{what}: {found!r} and not {wanted!r}")
+    require(found == wanted, f"{what}: {found!r} and not {wanted!r}")
 
 
 def concluded(passed: int, failed: int) -> int:

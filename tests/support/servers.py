@@ -11,7 +11,7 @@ from typing import Any, NamedTuple, Optional, Sequence, Tuple
 from arena_lab.support.ports import free_port
 from arena_lab.support.waiting import is_ready
 from tests import TOP
-from tests.support.counts import Wrong
+from tests.support.counts import Wrong, require
 
 HOST = "127.0.0.1"
 # seconds within which a server says that it listens, within which it answers, and within which it has ended
@@ -92,8 +92,7 @@ class Server:
         while wanted not in told and time.monotonic() < until:
             if is_ready(self.child.stderr, 0.1):
                 told += os.read(self.child.stderr.fileno(), 65_536).decode()
-        if wanted not in told:
-            raise Wrong(f"{wanted!r} is not told, but {told!r}")
+        require(wanted in told, f"{wanted!r} is not told, but {told!r}")
         return told
 
     def ended(self) -> Run:

@@ -15,7 +15,7 @@ from typing import Callable, Dict, List, NamedTuple, Optional, Sequence
 from bench.inputs import MAX_AGENTS, MAX_BOARD, MIB, key
 from bench.servers import MAX_SESSIONS
 from arena_lab.rules.model import spelled
-from tests.support.counts import Wrong
+from tests.support.counts import Wrong, require
 from tests.support.servers import Server, enter
 from tools.hostile.session_lines import (BYE, DEPART, HERE, LEAVE, LOOK, LOOKS, NO_ENTER, NO_KEY, NO_LATE, NO_LINE,
                                          NO_TAKEN, WRITTEN)
@@ -78,11 +78,9 @@ def hear(client: socket.socket, expected: bytes, limit: float = PROMPT) -> None:
             heard += piece
     except OSError as fault:
         raise Wrong(f"{fault}, where {expected[:60]!r} should come") from fault
-    if heard != expected:
-        raise Wrong(f"{heard[:60]!r}, where {expected[:60]!r} should come")
+    require(heard == expected, f"{heard[:60]!r}, where {expected[:60]!r} should come")
     took = time.monotonic() - begin
-    if took > limit:
-        raise Wrong(f"an answer took {took:.1f} s")
+    require(took <= limit, f"an answer took {took:.1f} s")
 
 
 def hear_end(client: socket.socket) -> None:
@@ -93,16 +91,14 @@ def hear_end(client: socket.socket) -> None:
         return
     except OSError as fault:
         raise Wrong(f"{fault}, where the connection should end") from fault
-    if heard:
-        raise Wrong("an answer came, where the connection should end")
+    require(not heard, "an answer came, where the connection should end")
 
 
 def wait_for_lines(client: socket.socket, count: int) -> None:
     """Waits until this many lines have come, and leaves them unread."""
     end = time.monotonic() + PROMPT
     while client.recv(SMALL_BUFFER, socket.MSG_PEEK).count(b"\n") < count:
-        if time.monotonic() > end:
-            raise Wrong("an answer did not come")
+        require(time.monotonic() <= end, "an answer did not come")
         time.sleep(0.001)
 
 
@@ -201,8 +197,7 @@ def slow_end(siege: Siege) -> str:
     if siege.slow is None:
         raise Wrong("they have not begun")
     siege.slow.join()
-    if siege.slow.fault:
-        raise Wrong(siege.slow.fault)
+    require(not siege.slow.fault, siege.slow.fault)
     return "both were answered when the line had ended, and not before"
 
 
@@ -273,8 +268,7 @@ def is_cut_off(client: socket.socket, piece: bytes, count: int) -> None:
         client.sendall(b"\n")
     with client, contextlib.suppress(OSError):
         heard = client.recv(len(NO_LATE) + 1)
-    if heard not in (b"", NO_LATE):
-        raise Wrong(f"who sends too much before it enters is answered {heard!r}")
+    require(heard in (b"", NO_LATE), f"who sends too much before it enters is answered {heard!r}")
 
 
 def flood(siege: Siege) -> str:

@@ -42,7 +42,7 @@ from examples.agents.client import Agent, Lines, Refused
 from arena_lab.play.server import table
 from arena_lab.rules.model import ENDED, Match, judge, played, spelled
 from arena_lab.rules.networks import ring, text_of
-from tests.support.counts import Wrong, concluded
+from tests.support.counts import Wrong, concluded, require
 from tools.hostile.hostile_attacks import (ATTACKS, HOST, HOSTILE, LATER, PATIENCE, POLITE, PROMPT, STRANGER, Attack,
                                            Siege, Sizes, hear)
 from tools.hostile.session_lines import DEPART, GONE, HERE, OVER
@@ -163,32 +163,27 @@ def ending_of(siege: Siege, witness: Witness) -> Ending:
 def match_of(folder: pathlib.Path, number: int) -> Match:
     """The match that the server has written the replay of."""
     replay = folder / f"match{number}.jsonl"
-    if not replay.exists():
-        raise Wrong(f"match {number} has no replay")
+    require(replay.exists(), f"match {number} has no replay")
     text = replay.read_text(encoding="utf-8")
     try:
         match = played(text)
     except (ValueError, LookupError, TypeError) as fault:
         raise Wrong(f"the replay of match {number} is none: {fault!r}") from fault
-    if match.replay() != text:
-        raise Wrong(f"the replay of match {number} is another when it is played anew")
+    require(match.replay() == text, f"the replay of match {number} is another when it is played anew")
     return match
 
 
 def check_end(ending: Ending) -> str:
     told = f"status {ending.status}, {ending.seconds:.1f} s after its matches and its clients"
-    if not ending.is_over:
-        raise Wrong("the matches did not end")
-    if ending.status != 0:
-        raise Wrong(told)
+    require(ending.is_over, "the matches did not end")
+    require(ending.status == 0, told)
     return told
 
 
 def check_memory(ending: Ending, sizes: Sizes) -> str:
     bound = BASE_KIB + EACH_KIB * sizes.sessions
     told = f"{ending.peak} KiB of {bound} KiB: {BASE_KIB} KiB, and {EACH_KIB} KiB for each of {sizes.sessions} sessions"
-    if ending.peak > bound:
-        raise Wrong(told)
+    require(ending.peak <= bound, told)
     return told
 
 
@@ -199,12 +194,10 @@ def check_replays(matches: Sequence[Match]) -> str:
 def check_polite(client: Polite, match: Match) -> None:
     """One polite client was answered what the replay says, and in time."""
     name = f"client {client.number}"
-    if client.fault:
-        raise Wrong(f"{name}: {client.fault}")
+    require(not client.fault, f"{name}: {client.fault}")
     if client.lines.answers != [spelled(event["reply"]) for event in match.log if event.get("agent") == client.number]:
         raise Wrong(f"{name} was answered other lines than its replay has")
-    if client.lines.slowest > PROMPT:
-        raise Wrong(f"an answer to {name} took {client.lines.slowest:.1f} s")
+    require(client.lines.slowest <= PROMPT, f"an answer to {name} took {client.lines.slowest:.1f} s")
 
 
 def check_team(polite: Sequence[Polite], match: Match) -> str:
@@ -219,21 +212,18 @@ def check_team(polite: Sequence[Polite], match: Match) -> str:
 
 def check_vanished(siege: Siege, match: Match) -> str:
     staying = [agent for agent in siege.vanished if match.agents[agent].standing != ENDED]
-    if staying:
-        raise Wrong(f"agents {staying} have not left")
+    require(not staying, f"agents {staying} have not left")
     return f"{len(siege.vanished)} agents left when their clients were gone"
 
 
 def check_stranger(folder: pathlib.Path) -> str:
-    if match_of(folder, HOSTILE).agents[STRANGER].standing != ENDED:
-        raise Wrong("it has not left")
+    require(match_of(folder, HOSTILE).agents[STRANGER].standing == ENDED, "it has not left")
     return "the client that came after all others entered and left"
 
 
 def check_table(printed: str, matches: Sequence[Match]) -> str:
     expected = table([(f"team-{number}", judge(match)) for number, match in enumerate(matches)])
-    if printed != expected:
-        raise Wrong(f"it should be\n{expected}and is\n{printed}")
+    require(printed == expected, f"it should be\n{expected}and is\n{printed}")
     return f"{len(matches)} rows, by the verdicts on the replays"
 
 

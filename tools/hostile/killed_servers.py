@@ -33,9 +33,10 @@ import time
 from typing import Dict, List, NamedTuple, Optional
 
 from arena_lab.rules.delays import Delays
-from tests.support.counts import Wrong, concluded
+from tests.support.counts import Wrong, concluded, require
 from tests.support.servers import enter, serve
 from tests.support.tournaments import TRIANGLE, match, write_cup
+from tools.hostile.session_lines import DEPART, GONE, LOOK
 
 TEAMS = ["red", "blue"]
 # seconds: how old an event is that must be there, and how long a short and a long contest are killed in at most
@@ -51,9 +52,6 @@ class Kill(NamedTuple):
     turns: int
 
 
-LOOK, GO = b'{"do":"look"}\n', b'{"do":"depart","port":0}\n'
-
-
 class Client(threading.Thread):
     """An agent that enters, looks, and goes to and fro between its home base and the next node; and when it was
     answered."""
@@ -67,11 +65,9 @@ class Client(threading.Thread):
     def run(self) -> None:
         with contextlib.suppress(OSError), socket.create_connection(("127.0.0.1", self.port)) as client:
             answers = client.makefile("rb")
-            lines = itertools.chain([enter(f"{self.team}-0")],
-                                    itertools.cycle([LOOK, LOOK, GO]))
-            for line in lines:
+            for line in itertools.chain([enter(f"{self.team}-0")], itertools.cycle([LOOK, LOOK, DEPART])):
                 client.sendall(line)
-                if line == GO and answers.readline() != b'{"ok":"gone"}\n':
+                if line == DEPART and answers.readline() != GONE:
                     return
                 if not answers.readline().startswith(b'{"board"'):
                     return
@@ -85,8 +81,7 @@ def replay_of(program: str, folder: pathlib.Path, number: int) -> bytes:
     if replay.exists():
         return replay.read_bytes()
     made = subprocess.run([program, "recover", f"{replay}.part"], capture_output=True, timeout=PATIENCE)
-    if made.returncode:
-        raise Wrong(f"recover of match {number}: {made.stderr!r}")
+    require(not made.returncode, f"recover of match {number}: {made.stderr!r}")
     return made.stdout
 
 
@@ -98,8 +93,7 @@ def finish(program: str, folder: pathlib.Path) -> List[bytes]:
     if recovered.returncode or recovered.stderr:
         raise Wrong(f"recover: {recovered.stderr!r}")
     names = [f"match{number}.jsonl" for number in range(len(TEAMS))]
-    if replays != [(folder / name).read_bytes() for name in names]:
-        raise Wrong("recover has written other replays")
+    require(replays == [(folder / name).read_bytes() for name in names], "recover has written other replays")
     words = ["table", *(f"{team}={name}" for team, name in zip(TEAMS, names))]
     if recovered.stdout != subprocess.run([program, *words], cwd=folder, capture_output=True, check=True,
                                           timeout=PATIENCE).stdout:
@@ -108,17 +102,20 @@ def finish(program: str, folder: pathlib.Path) -> List[bytes]:
     return replays
 
 
+def appeal_to(number: int) -> List[str]:
+    """The words of an appeal to a match of cup.toml, with the turns beside its replay."""
+    return ["judge", f"match{number}.jsonl", "--turns", f"match{number}.turns", "--tournament", "cup.toml", "--match",
+            str(number)]
+
+
 def stand_appeals(program: str, folder: pathlib.Path) -> None:
     """Each match of what was finished has turns with which it stands its appeal, and there is no part."""
     for number in range(len(TEAMS)):
-        words = ["judge", f"match{number}.jsonl", "--turns", f"match{number}.turns", "--tournament", "cup.toml",
-                 "--match", str(number)]
-        judged = subprocess.run([program, *words], cwd=folder, capture_output=True, timeout=PATIENCE)
+        judged = subprocess.run([program, *appeal_to(number)], cwd=folder, capture_output=True, timeout=PATIENCE)
         if judged.returncode or not judged.stdout:
             raise Wrong(f"the appeal of match {number}: {judged.stderr!r}")
     parts = sorted(path.name for path in folder.glob("match*.part"))
-    if parts:
-        raise Wrong(f"recover has left {parts}")
+    require(not parts, f"recover has left {parts}")
 
 
 def told_events(replay: bytes) -> int:
@@ -142,8 +139,7 @@ def try_kill(program: str, kill: Kill, folder: pathlib.Path) -> None:
     for number, (client, replay) in enumerate(zip(clients, finish(program, folder))):
         found = told_events(replay)
         old = sum(moment < end - OLD for moment in client.answered)
-        if found < old:
-            raise Wrong(f"match {number} has {found} commands, and {old} were answered {OLD} s before")
+        require(found >= old, f"match {number} has {found} commands, and {old} were answered {OLD} s before")
 
 
 def fault_of(program: str, kill: Kill) -> Optional[str]:

@@ -19,23 +19,24 @@ from typing import List, Optional, Sequence, Tuple
 from arena_lab.rules.delays import Delays
 from arena_lab.rules.fixtures import Fixture
 from arena_lab.rules.networks import ring
-from tests.support.counts import Wrong, wants
+from bench.inputs import peak_so_far
+from tests.support.counts import Wrong, require, wants
 from tests.support.servers import Server, enter, serve
 from tests.support.tournaments import match, write_cup
 from tools.hostile.cases import Cases
-from tools.hostile.session_lines import BYE, HERE, LOOK, NO_LINE, OVER, WRITTEN
-from tools.hostile.spoilers import TEAMS, WAITING, answer, serving, tournament
+from tools.hostile.killed_servers import appeal_to
+from tools.hostile.session_lines import BYE, DEPART, HERE, LEAVE, LOOK, NO_FULL, NO_LATE, NO_LINE, OVER, WRITTEN
+from tools.hostile.spoilers import TEAMS, WAITING, answer, entered, looks, serving, tournament
 
 # turns that no test waits for
 LONG = 1_000_000
-LEAVE, ACCUSE = b'{"do":"leave"}\n', b'{"do":"accuse","port":1}\n'
+ACCUSE = b'{"do":"accuse","port":1}\n'
 # the row of the last of two teams
 LAST_ROW = "  2 "
 # how many looks, at a text of how many bytes, and by how many kilobytes a server may grow meanwhile
 LOOKS, BOARD, MOST_GROWN = 3000, 60_000, 20_000
 # how many cases run beside each other
 BESIDE = 12
-FULL, LATE = b'{"no":"full"}\n', b'{"no":"late"}\n'
 
 CASES = Cases(BESIDE)
 case = CASES.case
@@ -52,16 +53,9 @@ def asked(server: Server, last: str = LAST_ROW) -> str:
     return server.tells(last)
 
 
-def peak_of(server: Server) -> int:
-    """The most kilobytes that a server has had in memory."""
-    status = pathlib.Path(f"/proc/{server.child.pid}/status").read_text()
-    return int(found(r"VmHWM:\s+(\d+) kB", status)[0])
-
-
 def found(pattern: str, text: str) -> Tuple[str, ...]:
     match = re.search(pattern, text, re.M)
-    if not match:
-        raise Wrong(f"{pattern!r} is not in {text!r}")
+    require(match, f"{pattern!r} is not in {text!r}")
     return match.groups()
 
 
@@ -81,17 +75,14 @@ def on_ring(*teams: str, **more: int) -> List[Fixture]:
 
 @case("an agent that entered is not cut off when ten seconds have passed")
 def plays_on(program: str, folder: pathlib.Path) -> None:
-    with serving(program, folder, turns=LONG) as server, server.connect(enter("red-0")) as client:
-        wants("enter", answer(client, len(HERE)), HERE)
+    with serving(program, folder, turns=LONG) as server, entered(server, "red-0") as client:
         time.sleep(12)
-        client.sendall(LOOK)
-        wants("a look after 12 s", answer(client, len(HERE)), HERE)
+        looks(client, "a look after 12 s")
 
 
 @case("a client that is denied ends no agent's time of grace")
 def denied_in_grace(program: str, folder: pathlib.Path) -> None:
-    with serving(program, folder, turns=200, grace=5000) as server, server.connect(enter("blue-0")) as client:
-        wants("enter", answer(client, len(HERE)), HERE)
+    with serving(program, folder, turns=200, grace=5000) as server, entered(server, "blue-0") as client:
         for number in range(5):
             with server.connect(enter(f"no-{number}")) as stranger:
                 answer(stranger, 100)
@@ -118,8 +109,7 @@ def dripping(program: str, folder: pathlib.Path) -> None:
         with contextlib.suppress(OSError):
             while time.monotonic() - begun < 6:
                 sent += client.send(b"\n" * 4096)
-        if time.monotonic() - begun > 5.5:
-            raise Wrong(f"it was let send {sent} bytes")
+        require(time.monotonic() - begun <= 5.5, f"it was let send {sent} bytes")
 
 
 @case("a client that was denied takes no room of the next, however few may be connected")
@@ -132,8 +122,7 @@ def denied_makes_room(program: str, folder: pathlib.Path) -> None:
                 with server.connect() as client:
                     client.settimeout(0.02)
                     with contextlib.suppress(socket.timeout):
-                        if client.recv(100) == FULL:
-                            raise Wrong(f"client {number} was told full, though nobody plays")
+                        require(client.recv(100) != NO_FULL, f"client {number} was told full, though nobody plays")
             time.sleep(0.02)
 
 
@@ -170,28 +159,24 @@ def told_cut(program: str, folder: pathlib.Path) -> None:
 @case("thousands of looks at a whiteboard of 60,000 bytes keep its text once")
 def looks_keep_one_text(program: str, folder: pathlib.Path) -> None:
     with played(program, folder, on_ring("red", agents=1, quota=65_535, board=65_535)) as server, \
-            server.connect(enter("red-0")) as client:
-        wants("enter", answer(client, len(HERE)), HERE)
+            entered(server, "red-0") as client:
         client.sendall(b'{"do":"write","expect":"","put":"%b"}\n' % (b"x" * BOARD))
         wants("write", answer(client, len(WRITTEN)), WRITTEN)
-        before, shown = peak_of(server), len(HERE) + BOARD
+        before, shown = peak_so_far(server.child), len(HERE) + BOARD
         for _ in range(LOOKS // 10):
             client.sendall(LOOK * 10)
-            if len(answer(client, 10 * shown)) != 10 * shown:
-                raise Wrong("the looks are not answered")
-        grown = peak_of(server) - before
-    if grown > MOST_GROWN:
-        raise Wrong(f"{LOOKS} looks took {grown} KB")
+            require(len(answer(client, 10 * shown)) == 10 * shown, "the looks are not answered")
+        grown = peak_so_far(server.child) - before
+    require(grown <= MOST_GROWN, f"{LOOKS} looks took {grown} KB")
 
 
 @case("each client has a number of its own in the log")
 def own_numbers(program: str, folder: pathlib.Path) -> None:
     with heard(program, folder, "--log", sessions=1) as server:
-        with server.connect(enter("red-0")) as client:
-            wants("enter", answer(client, len(HERE)), HERE)
+        with entered(server, "red-0") as client:
             for _ in range(3):
                 with server.connect(b"x\n") as other:
-                    wants("a client more", answer(other, len(FULL)), FULL)
+                    wants("a client more", answer(other, len(NO_FULL)), NO_FULL)
         server.says(b"close\n")
         told = server.ended().texts()[2]
     wants("the numbers of those who came", re.findall(r"serve: session (\d+) from", told), ["0", "1", "2", "3"])
@@ -216,8 +201,7 @@ def slow_beside_flood(program: str, folder: pathlib.Path) -> None:
         time.sleep(2)
         slow.sendall(enter("red-0"))
         wants("the slow agent", answer(slow, len(HERE)), HERE)
-        quick = stack.enter_context(server.connect(enter("red-1"), HOMES % 2))
-        wants("an agent that comes later", answer(quick, len(HERE)), HERE)
+        stack.enter_context(entered(server, "red-1", "an agent that comes later", source=HOMES % 2))
 
 
 @case("in a network the flood of one address cuts off no client of another")
@@ -235,8 +219,7 @@ def apart(program: str, folder: pathlib.Path) -> None:
         slow = stack.enter_context(server.connect())
         flood(stack, server, 100)
         for key in ("red-1", "blue-0", "blue-1"):
-            client = stack.enter_context(server.connect(enter(key)))
-            wants(key, answer(client, len(HERE)), HERE)
+            stack.enter_context(entered(server, key))
         slow.sendall(enter("red-0"))
         wants("the agent that came first", answer(slow, len(HERE)), HERE)
 
@@ -244,27 +227,24 @@ def apart(program: str, folder: pathlib.Path) -> None:
 @case("when as many play as may, one that waited is told that there is no room, and its key is not used up")
 def no_room_to_play(program: str, folder: pathlib.Path) -> None:
     with serving(program, folder, turns=LONG, sessions=1) as server, server.connect() as waits:
-        with server.connect(enter("red-0")) as plays:
-            wants("the agent that plays", answer(plays, len(HERE)), HERE)
+        with entered(server, "red-0", "the agent that plays"):
             waits.sendall(enter("red-1"))
-            wants("the agent that waited", answer(waits, len(FULL)), FULL)
+            wants("the agent that waited", answer(waits, len(NO_FULL)), NO_FULL)
         time.sleep(0.5)
-        with server.connect(enter("red-1")) as again:
-            wants("its next try", answer(again, len(HERE)), HERE)
+        entered(server, "red-1", "its next try").close()
 
 
 @case("an address from which an agent entered keeps room for one client while others flood from there")
 def kept_room(program: str, folder: pathlib.Path) -> None:
     with serving(program, folder, turns=LONG) as server, contextlib.ExitStack() as stack:
-        with server.connect(enter("red-0"), STRANGERS % 1) as first:
-            wants("an agent", answer(first, len(HERE)), HERE)
+        entered(server, "red-0", source=STRANGERS % 1).close()
         slow = stack.enter_context(server.connect(source=STRANGERS % 1))
         strangers = flood(stack, server, WAITING - 1, places=1)
         time.sleep(1.6)
         strangers += flood(stack, server, 20, places=1)
         slow.sendall(enter("red-1"))
         wants("the slow agent", answer(slow, len(HERE)), HERE)
-        wants("the oldest stranger", answer(strangers[0], len(LATE)), LATE)
+        wants("the oldest stranger", answer(strangers[0], len(NO_LATE)), NO_LATE)
 
 
 # ---- what is told
@@ -279,8 +259,7 @@ def many_events(program: str, folder: pathlib.Path) -> None:
         _status, printed, told = server.ended().texts()
     line = next(line for line in (now + told).splitlines() if "match 0 (red) closed" in line)
     row = next(line for line in printed.splitlines() if " red " in line).split()
-    if row[2] not in line:
-        raise Wrong(f"{row} and {line!r}")
+    require(row[2] in line, f"{row} and {line!r}")
     stands = next(line for line in now.splitlines() if " red " in line).split()
     wants("the row of the status", stands[1:], row[1:])
     events = (folder / "match0.jsonl").read_text().count("\n") - 2
@@ -294,8 +273,7 @@ def status_once(program: str, folder: pathlib.Path) -> None:
         time.sleep(2.5)
         server.says(b"close\n")
         told = server.ended().texts()[2]
-    if "serve: sessions" in told:
-        raise Wrong(told)
+    require("serve: sessions" not in told, told)
 
 
 @case("the status ranks each match by its own verdict")
@@ -330,8 +308,7 @@ def gathers_as_long_as_said(program: str, folder: pathlib.Path) -> None:
         time.sleep(22)
         wants("turns after 22 s", turns(), 0)
         time.sleep(5)
-        if not turns():
-            raise Wrong("the match has not begun after 27 s")
+        require(turns(), "the match has not begun after 27 s")
 
 
 @case("the status tells the events of each match")
@@ -369,8 +346,7 @@ def closed_once(program: str, folder: pathlib.Path) -> None:
         server.tells("match 1 (blue) closed")
         server.says(b"close 1\n")
         told = asked(server)
-    if "the operator closes match 1" in told:
-        raise Wrong(told)
+    require("the operator closes match 1" not in told, told)
 
 
 @case("the lines of the log have the times since the server began")
@@ -390,8 +366,7 @@ def each_minute(program: str, folder: pathlib.Path) -> None:
         while time.monotonic() < until and b"is open: turns" not in told:
             told += server.child.stderr.read() or b""
             time.sleep(0.5)
-    if b"is open: turns" not in told:
-        raise Wrong(told.decode())
+    require(b"is open: turns" in told, told.decode())
 
 
 @case("of a hundred strangers each is told or counted, and only once")
@@ -406,8 +381,7 @@ def strangers(program: str, folder: pathlib.Path) -> None:
         told += server.ended().texts()[2]
     lines = told.count("it was denied")
     more = sum(int(count) for count in re.findall(r"serve: (\d+) more clients", told))
-    if lines + more != 100:
-        raise Wrong(f"{lines} lines and {more} more")
+    require(lines + more == 100, f"{lines} lines and {more} more")
 
 
 # ---- files
@@ -491,13 +465,11 @@ def turns_of_each_match(program: str, folder: pathlib.Path) -> None:
     for _ in range(2):
         with played(program, folder, on_ring(*TEAMS), Delays(2, 2), turns=1500) as server:
             for team, steps in (("red", 3), ("blue", 1)):
-                with server.connect(enter(f"{team}-0") + b'{"do":"depart","port":0}\n' * steps + LEAVE) as client:
+                with server.connect(enter(f"{team}-0") + DEPART * steps + LEAVE) as client:
                     answer(client, 10_000)
             wants("the status", server.ended()[0], 0)
         for number in range(2):
-            judged = subprocess.run([program, "judge", f"match{number}.jsonl", "--turns", f"match{number}.turns",
-                                     "--tournament", "cup.toml", "--match", str(number)], cwd=folder,
-                                    capture_output=True)
+            judged = subprocess.run([program, *appeal_to(number)], cwd=folder, capture_output=True)
             wants(f"the appeal of match {number}", judged.returncode, 0)
     wants("files of turns", sorted(path.name for path in folder.glob("match*turns*")),
           ["match0.turns", "match0.turns.old", "match1.turns", "match1.turns.old"])

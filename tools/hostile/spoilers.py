@@ -22,8 +22,8 @@ import time
 from typing import Callable, Iterator, List, Sequence, Tuple
 
 from arena_lab.rules.networks import ring
-from tests.support.counts import Wrong, wants
-from tests.support.servers import PATIENCE, Server, enter, serve
+from tests.support.counts import Wrong, require, wants
+from tests.support.servers import HOST, PATIENCE, Server, enter, serve
 from tests.support.tournaments import match, write_cup
 from tools.hostile.cases import Cases
 from tools.hostile.session_lines import HERE, LOOK, NO_FULL, NO_LATE, NO_MEMORY, NO_SPENT, NO_TWICE, OVER
@@ -53,9 +53,21 @@ def serving(program: str, folder: pathlib.Path, *options: str, **more: object) -
 
 def goes_on(server: Server, what: str) -> None:
     """An agent is still answered, and the server has not ended."""
-    with server.connect(enter("blue-1")) as client:
-        wants(f"an agent after {what}", answer(client, len(HERE)), HERE)
+    entered(server, "blue-1", f"an agent after {what}").close()
     wants(f"the server after {what}", server.child.poll(), None)
+
+
+def entered(server: Server, key: str, what: str = "an agent", source: str = HOST) -> socket.socket:
+    """An agent that has entered by this key and was answered."""
+    client = server.connect(enter(key), source)
+    wants(what, answer(client, len(HERE)), HERE)
+    return client
+
+
+def looks(client: socket.socket, what: str = "an agent") -> None:
+    """An agent looks at an empty whiteboard of the home base, and is answered."""
+    client.sendall(LOOK)
+    wants(what, answer(client, len(HERE)), HERE)
 
 
 def answer(client: socket.socket, count: int) -> bytes:
@@ -77,8 +89,7 @@ def strangers(program: str, folder: pathlib.Path) -> None:
     with serving(program, folder) as server:
         for _ in range(300):
             server.connect().close()
-        with server.connect(enter("blue-0")) as client:
-            wants("an agent that comes after them", answer(client, len(HERE)), HERE)
+        entered(server, "blue-0", "an agent that comes after them").close()
         status, printed, _ = server.ended().texts()
         wants("the status", status, 0)
 
@@ -86,8 +97,7 @@ def strangers(program: str, folder: pathlib.Path) -> None:
 @case("commands that use up no quota are answered one a millisecond, and others play on")
 def unheard(program: str, folder: pathlib.Path) -> None:
     quota, more = 1000, 500
-    with serving(program, folder, turns=4000) as server, server.connect(enter("red-0")) as client:
-        wants("the agent", answer(client, len(HERE)), HERE)
+    with serving(program, folder, turns=4000) as server, entered(server, "red-0") as client:
         waits(client, more, enter("red-0"), NO_TWICE)
         client.sendall(quota * LOOK)
         wants("its commands", answer(client, quota * len(HERE)), quota * HERE)
@@ -101,8 +111,7 @@ def waits(client: socket.socket, count: int, said: bytes, wanted: bytes) -> None
     client.sendall(count * said)
     wants("commands that use up no quota", answer(client, count * len(wanted)), count * wanted)
     took = time.monotonic() - begun
-    if took < count / 1000:
-        raise Wrong(f"{count} commands that use up no quota were answered within {took:.3f} s")
+    require(took >= count / 1000, f"{count} commands that use up no quota were answered within {took:.3f} s")
 
 
 @case("wrong keys use up no session")
@@ -111,8 +120,7 @@ def wrong_keys(program: str, folder: pathlib.Path) -> None:
         for number in range(150):
             with server.connect(enter(f"nobody-{number}")) as client:
                 wants("a wrong key", answer(client, 100), b'{"no":"key"}\n')
-        with server.connect(enter("blue-0")) as client:
-            wants("an agent that comes after them", answer(client, len(HERE)), HERE)
+        entered(server, "blue-0", "an agent that comes after them").close()
 
 
 @case("silent clients of one address make room after a second, the oldest first, and are told why")
@@ -134,8 +142,7 @@ def makes_room_in_time(program: str, folder: pathlib.Path) -> bool:
         wants("one that comes at once", said, NO_FULL)
         time.sleep(1.6)
         clients += [stack.enter_context(server.connect()) for _ in range(20)]
-        with server.connect(enter("blue-0")) as client:
-            wants("an agent that comes after them", answer(client, len(HERE)), HERE)
+        entered(server, "blue-0", "an agent that comes after them").close()
         wants("the oldest", answer(clients[0], 100), NO_LATE)
         clients[-1].sendall(enter("red-0"))
         wants("the newest", answer(clients[-1], len(HERE)), HERE)
@@ -152,16 +159,13 @@ def late(program: str, folder: pathlib.Path) -> None:
 
 @case("when the sessions of all agents go on, who comes is told that there is no room")
 def full(program: str, folder: pathlib.Path) -> None:
-    with serving(program, folder, sessions=2, turns=4000) as server, server.connect(enter("red-0")) as one, \
-            server.connect(enter("red-1")) as two:
-        wants("the first", answer(one, len(HERE)), HERE)
-        wants("the second", answer(two, len(HERE)), HERE)
+    with serving(program, folder, sessions=2, turns=4000) as server, entered(server, "red-0", "the first"), \
+            entered(server, "red-1", "the second") as two:
         with server.connect() as third:
             wants("the third", answer(third, 100), NO_FULL)
         two.close()
         time.sleep(0.5)
-        with server.connect(enter("blue-0")) as fourth:
-            wants("the one that comes when there is room again", answer(fourth, len(HERE)), HERE)
+        entered(server, "blue-0", "the one that comes when there is room again").close()
 
 
 @case("the log says why a client is not let in, and when there are fewer sessions than agents")
@@ -173,8 +177,7 @@ def told_why(program: str, folder: pathlib.Path) -> None:
         told = server.ended().texts()[2]
     for line in ("serve: --sessions 2 is below the number of agents, 4", "since its first line was no enter",
                  "since no agent has its key", "since its key was used before"):
-        if line not in told:
-            raise Wrong(f"{line!r} is not told, but {told!r}")
+        require(line in told, f"{line!r} is not told, but {told!r}")
 
 
 # The end.
@@ -197,8 +200,7 @@ def flooding(server: Server, stop: threading.Event, clients: int) -> None:
 
 @case("clients that send line feeds do not hold up the end")
 def flooded_end(program: str, folder: pathlib.Path) -> None:
-    with serving(program, folder, turns=300) as server, server.connect(enter("red-0")) as client:
-        wants("an agent", answer(client, len(HERE)), HERE)
+    with serving(program, folder, turns=300) as server, entered(server, "red-0") as client:
         stop = threading.Event()
         flood = threading.Thread(target=flooding, args=(server, stop, 60))
         flood.start()
@@ -258,14 +260,12 @@ def earlier_files(program: str, folder: pathlib.Path) -> None:
 
 @case("a second server with the same prefix is refused, and leaves all files alone")
 def two_servers(program: str, folder: pathlib.Path) -> None:
-    with serving(program, folder, turns=2000) as first, first.connect(enter("red-0")) as client:
-        wants("an agent", answer(client, len(HERE)), HERE)
+    with serving(program, folder, turns=2000) as first, entered(first, "red-0"):
         before = sorted((path.name, path.read_bytes()) for path in folder.glob("match*") if path.suffix != ".part")
         second = serve(program, folder)
         status, printed, told = second.ended().texts()
         wants("the status of the second", (status, printed), (REFUSED, ""))
-        if "match0.jsonl.part: busy" not in told:
-            raise Wrong(f"the second told {told!r}")
+        require("match0.jsonl.part: busy" in told, f"the second told {told!r}")
         after = sorted((path.name, path.read_bytes()) for path in folder.glob("match*") if path.suffix != ".part")
         wants("the files", after, before)
 
@@ -285,8 +285,7 @@ def closed_in(folder: pathlib.Path) -> List[str]:
 @case("the operator closes all matches: the replays are written, the table is printed, and the server ends")
 def operator_closes(program: str, folder: pathlib.Path) -> None:
     with serving(program, folder, turns=LONG, stdin=subprocess.PIPE) as server, \
-            server.connect(enter("red-0")) as client:
-        wants("an agent", answer(client, len(HERE)), HERE)
+            entered(server, "red-0") as client:
         server.says(b"clo")
         time.sleep(0.3)
         server.says(b"se\n")
@@ -294,16 +293,13 @@ def operator_closes(program: str, folder: pathlib.Path) -> None:
     wants("the status", status, 0)
     wants("the teams of the table", sorted(line.split()[1] for line in printed.splitlines()[1:]), sorted(TEAMS))
     wants("the replays", closed_in(folder), ["match0.jsonl", "match1.jsonl"])
-    if "serve: the operator closes all matches\n" not in told:
-        raise Wrong(f"told was {told!r}")
+    require("serve: the operator closes all matches\n" in told, f"told was {told!r}")
 
 
 def closes_one(program: str, folder: pathlib.Path, game: int) -> None:
     closed, other = TEAMS[game], TEAMS[1 - game]
     with serving(program, folder, "--log", turns=LONG, stdin=subprocess.PIPE) as server, \
-            server.connect(enter(f"{closed}-0")) as ends, server.connect(enter(f"{other}-0")) as stays:
-        for client in (ends, stays):
-            wants("an agent", answer(client, len(HERE)), HERE)
+            entered(server, f"{closed}-0") as ends, entered(server, f"{other}-0") as stays:
         server.says(b"close %d\n" % game)
         server.tells(f"serve: match {game} ({closed}) closed: ")
         for client, heard in ((ends, OVER), (stays, HERE)):
@@ -312,8 +308,7 @@ def closes_one(program: str, folder: pathlib.Path, game: int) -> None:
         server.says(b"close %d\n" % (1 - game))
         status, printed, told = server.ended().texts()
     wants("the status and the lines of the table", (status, len(printed.splitlines())), (0, 3))
-    if f"serve: match {1 - game} ({other}) closed: " not in told:
-        raise Wrong(f"told was {told!r}")
+    require(f"serve: match {1 - game} ({other}) closed: " in told, f"told was {told!r}")
 
 
 @case("the operator closes one match, and the other goes on")
@@ -342,8 +337,7 @@ def asks(program: str, folder: pathlib.Path, options: Sequence[str]) -> None:
     with serving(program, folder, *options, turns=LONG, stdin=subprocess.PIPE) as server, \
             server.connect(enter("blue-1") + b'{"do":"accuse","port":1}\n') as client:
         answer(client, 1000)
-        with server.connect(enter("red-0")) as stays:
-            wants("an agent", answer(stays, len(HERE)), HERE)
+        with entered(server, "red-0") as stays:
             server.says(b"status\n")
             told = server.tells("  2 ")
             server.says(b"close 1\nstatus\n")
@@ -351,11 +345,9 @@ def asks(program: str, folder: pathlib.Path, options: Sequence[str]) -> None:
     for line in (" serve: sessions 1, agents to come 2, open matches 2\n", " serve: match 0 (red) is open: turns ",
                  f" of {LONG} events 1\n", " serve: match 0 (red) misses agents 1\n",
                  " serve: match 1 (blue) misses agents 0\n", " serve: if all matches were closed now:\n", *RANKED):
-        if line not in told:
-            raise Wrong(f"{line!r} is not told, but {told!r}")
+        require(line in told, f"{line!r} is not told, but {told!r}")
     for line in (", open matches 1\n", " serve: match 1 (blue) is closed: turns ", *RANKED):
-        if line not in later:
-            raise Wrong(f"{line!r} is not told, but {later!r}")
+        require(line in later, f"{line!r} is not told, but {later!r}")
 
 
 @case("the end of standard input, and a line that it cuts off, close nothing")
@@ -386,8 +378,7 @@ def input_floods(program: str, folder: pathlib.Path) -> None:
         goes_on(server, "the flood")
         status, printed, told = server.ended().texts()
     wants("the status", (status, len(printed.splitlines())), (0, 3))
-    if "dropped" in told:
-        raise Wrong("lines of the log were dropped")
+    require("dropped" not in told, "lines of the log were dropped")
 
 
 @case("a client is not the operator, where standard input is closed")
@@ -436,8 +427,7 @@ def in_front(program: str, folder: pathlib.Path) -> None:
     with in_terminal(program, folder, False) as (server, typing):
         os.write(typing, b"close\n")
         wants("the status", server.ended()[0], 0)
-        if time.monotonic() - server.begun > 5:
-            raise Wrong("it was not closed at once")
+        require(time.monotonic() - server.begun <= 5, "it was not closed at once")
 
 
 # What a machine lacks.
@@ -462,8 +452,7 @@ def no_threads(program: str, folder: pathlib.Path) -> None:
     folder.chmod(0o777)
     status, printed, told = serving(program, folder, preexec_fn=threads(4)).ended().texts()
     wants("the status and what was printed", (status, printed), (NO_THREADS, ""))
-    if "serve: threads" not in told:
-        raise Wrong(f"it told {told!r}")
+    require("serve: threads" in told, f"it told {told!r}")
 
 
 # threads of a contest of two matches before it listens: its own, one of each match, and five more
@@ -485,17 +474,14 @@ def no_thread_for_a_session(program: str, folder: pathlib.Path) -> None:
         waits = [key for key, (_, said) in heard.items() if said == NO_MEMORY]
         if not plays or not waits or len(plays) + len(waits) != len(heard):
             raise Wrong(f"the agents heard {[said for _, said in heard.values()]}")
-        plays[0].sendall(LOOK)
-        wants("an agent whose session goes on", answer(plays[0], len(HERE)), HERE)
+        looks(plays[0], "an agent whose session goes on")
         plays[0].close()
         time.sleep(0.5)
-        client = stack.enter_context(server.connect(enter(waits[0])))
-        wants("the same key once there is a thread", answer(client, len(HERE)), HERE)
+        stack.enter_context(entered(server, waits[0], "the same key once there is a thread"))
         stack.pop_all().close()
         status, printed, told = server.ended().texts()
     wants("the status and the lines of the table", (status, len(printed.splitlines())), (0, 3))
-    if "it was not served, since memory or threads ran out" not in told:
-        raise Wrong(f"told was {told!r}")
+    require("it was not served, since memory or threads ran out" in told, f"told was {told!r}")
 
 
 @case("parts are written on while descriptors are used up")
@@ -504,16 +490,13 @@ def few_descriptors(program: str, folder: pathlib.Path) -> None:
         resource.setrlimit(resource.RLIMIT_NOFILE, (24, 24))
 
     with serving(program, folder, turns=4000, preexec_fn=limit) as server, contextlib.ExitStack() as stack:
-        client = stack.enter_context(server.connect(enter("red-0")))
-        wants("an agent", answer(client, len(HERE)), HERE)
+        client = stack.enter_context(entered(server, "red-0"))
         for _ in range(40):
             stack.enter_context(server.connect())
-        client.sendall(LOOK)
-        wants("an agent", answer(client, len(HERE)), HERE)
+        looks(client)
         time.sleep(3)
         part = (folder / "match0.jsonl.part").read_bytes()
-        if part.count(b"\n") != 3:
-            raise Wrong(f"the part is {part!r}")
+        require(part.count(b"\n") == 3, f"the part is {part!r}")
 
 
 @case("a part goes on once there is room")
@@ -529,8 +512,7 @@ def part_goes_on(program: str, folder: pathlib.Path) -> None:
             answer(client, (1 + looks) * len(HERE))
             time.sleep(1.5)
             part = folder / "match0.jsonl.part"
-            if part.stat().st_size > room:
-                raise Wrong(f"the part has {part.stat().st_size} bytes")
+            require(part.stat().st_size <= room, f"the part has {part.stat().st_size} bytes")
             resource.prlimit(server.child.pid, resource.RLIMIT_FSIZE, (resource.RLIM_INFINITY, resource.RLIM_INFINITY))
             time.sleep(1.5)
             lines = part.read_text().splitlines()
@@ -549,8 +531,7 @@ def course(program: str, folder: pathlib.Path) -> None:
                     wants("an agent", answer(client, 1000), HERE + b'{"ok":"bye"}\n')
         told = server.ended().texts()[2]
     wants("the replays", sorted(path.name for path in folder.glob("cup*l")), ["cup.toml", "cup0.jsonl", "cup1.jsonl"])
-    if "serve: session 0 plays match 0 (red) agent 0" not in told:
-        raise Wrong(f"told was {told!r}")
+    require("serve: session 0 plays match 0 (red) agent 0" in told, f"told was {told!r}")
 
 
 @case("a name controls no terminal")

@@ -9,9 +9,9 @@ import time
 from typing import Callable, List, Optional, Sequence
 
 from arena_lab.support.ports import free_port
-from tests.support.counts import Wrong
-from tests.support.servers import Run, Server, enter, serve
-from tools.hostile.killed_servers import kills, try_kill
+from tests.support.counts import Wrong, require
+from tests.support.servers import Server, enter, serve
+from tools.hostile.killed_servers import appeal_to, kills, try_kill
 from tools.hostile.session_lines import HERE, LEAVE, LOOKS
 from tools.play.program_cases import MATCH, SEED, TABLE_HEAD, TRIANGLE, case, writes
 from tools.play.program_rows import DONE, FAILED_STREAM, PATIENCE, REFUSED_TEXT, Stage, expect
@@ -56,10 +56,8 @@ def holds_up(stage: Stage, attack: Attack) -> None:
         run = server.ended()
         took = time.monotonic() - server.begun
     expect(run, BLUE_GUESSES)
-    if not heard.startswith(HERE):
-        raise Wrong(f"blue heard {heard!r}")
-    if took > SOON:
-        raise Wrong(f"the server took {took:.1f} s")
+    require(heard.startswith(HERE), f"blue heard {heard!r}")
+    require(took <= SOON, f"the server took {took:.1f} s")
     expect(stage.run(["judge", "match1.jsonl"]), b"guess 1 moves 0 lost 0\n")
     expect(stage.run(["judge", "match0.jsonl"]), b"silent moves 0 lost 0\n")
 
@@ -103,8 +101,7 @@ def nobody(stage: Stage) -> None:
         expect(server.ended(), table("  1 blue             silent          0    0",
                                      "  2 red              silent          0    0"))
         took = time.monotonic() - server.begun
-    if took > SOON:
-        raise Wrong(f"the server took {took:.1f} s")
+    require(took <= SOON, f"the server took {took:.1f} s")
 
 
 @case("a contest whose sessions have all ended waits for nobody")
@@ -124,8 +121,7 @@ def waits_long(stage: Stage, waits: Sequence[float]) -> None:
             client.sendall(b'{"do":"look"}\n')
             last = answers.readline()
         server.child.kill()
-    if last != b'{"ok":"over"}\n':
-        raise Wrong(f"a client heard {last!r} after the close")
+    require(last == b'{"ok":"over"}\n', f"a client heard {last!r} after the close")
 
 
 @case("a session goes on within the grace period")
@@ -148,8 +144,7 @@ def early(stage: Stage) -> None:
             heard = [answers.readline() for _ in range(3)]
         expect(server.ended(), table("  1 blue             guess 1         0    0",
                                      "  2 red              silent          1    1"))
-    if heard != [HERE, b'{"ok":"gone"}\n', b'{"ok":"over"}\n']:
-        raise Wrong(f"the lost agent heard {heard!r}")
+    require(heard == [HERE, b'{"ok":"gone"}\n', b'{"ok":"over"}\n'], f"the lost agent heard {heard!r}")
 
 
 @case("with --early a contest goes on while an agent may still act")
@@ -174,8 +169,7 @@ def gather(stage: Stage) -> None:
         run = server.ended()
         took = time.monotonic() - begin
     expect(run, table("  1 blue             silent          0    0", "  2 red              silent          0    0"))
-    if took > SOON:
-        raise Wrong(f"the server took {took:.1f} s")
+    require(took <= SOON, f"the server took {took:.1f} s")
 
 
 @case("with --gather the turns begin when its milliseconds have passed, at the latest")
@@ -183,8 +177,7 @@ def gather_ends(stage: Stage) -> None:
     with served(stage, "--gather", "400", turns=1, grace=0) as server:
         server.ended()
         took = time.monotonic() - server.begun
-    if not 0.4 <= took <= SOON:
-        raise Wrong(f"the server took {took:.1f} s")
+    require(0.4 <= took <= SOON, f"the server took {took:.1f} s")
 
 
 # Files.
@@ -201,13 +194,10 @@ def old_files(stage: Stage) -> None:
         begun = names(stage)
         server.ended()
     kept = ["match0.jsonl.old", "match0.turns.old", "match0.turns.old2", "match1.jsonl.part.old"]
-    if begun != sorted([*kept, "match0.jsonl.part", "match1.jsonl.part"]):
-        raise Wrong(f"at the beginning there are {begun}")
-    if names(stage) != sorted([*kept, "match0.jsonl", "match1.jsonl"]):
-        raise Wrong(f"at the end there are {names(stage)}")
+    require(begun == sorted([*kept, "match0.jsonl.part", "match1.jsonl.part"]), f"at the beginning there are {begun}")
+    require(names(stage) == sorted([*kept, "match0.jsonl", "match1.jsonl"]), f"at the end there are {names(stage)}")
     for name, was in zip(kept, ("match0.jsonl", "match0.turns.old", "match0.turns", "match1.jsonl.part")):
-        if (stage.folder / name).read_text() != was:
-            raise Wrong(f"the earlier file {name} is another")
+        require((stage.folder / name).read_text() == was, f"the earlier file {name} is another")
 
 
 @case("files that appear while a contest goes on get other names at its end")
@@ -251,8 +241,7 @@ def two_servers(stage: Stage) -> None:
                  "--replay", "match"]
         told = b"serve: listen\n  another program listens on this port: end it, or give another --port\n"
         expect(stage.run(words), b"", told, FAILED_STREAM)
-        if names(stage) != ["match0.jsonl.part", "match1.jsonl.part"]:
-            raise Wrong(f"there are {names(stage)}")
+        require(names(stage) == ["match0.jsonl.part", "match1.jsonl.part"], f"there are {names(stage)}")
 
 
 def wait_for(holds: Callable[[], bool]) -> bool:
@@ -273,8 +262,7 @@ def killed(stage: Stage) -> None:
     with served(stage, turns=LONG) as server:
         server.hears(enter("ba") + b'{"do":"accuse","port":1}\n')
         part = stage.folder / "match1.jsonl.part"
-        if not wait_for(lambda: part.read_bytes().count(b"\n") == 3):
-            raise Wrong(f"the part is {part.read_bytes()!r}")
+        require(wait_for(lambda: part.read_bytes().count(b"\n") == 3), f"the part is {part.read_bytes()!r}")
         server.child.kill()
     whole = part.read_bytes()
     part.write_bytes(whole + b'{"event":"tell","ag')
@@ -295,11 +283,9 @@ def finished(stage: Stage) -> None:
     with served(stage, cup=IN_TURNS, turns=LONG) as server:
         server.hears(enter("ba") + b'{"do":"accuse","port":1}\n')
         part = stage.folder / "match1.jsonl.part"
-        if not wait_for(lambda: part.read_bytes().count(b"\n") == 3):
-            raise Wrong(f"the part is {part.read_bytes()!r}")
+        require(wait_for(lambda: part.read_bytes().count(b"\n") == 3), f"the part is {part.read_bytes()!r}")
         expect(stage.run(words), b"", b"match0.jsonl.part: busy\n", FAILED_STREAM)
-        if names(stage) != [f"{name}.part" for name in whole]:
-            raise Wrong(f"there are {names(stage)}")
+        require(names(stage) == [f"{name}.part" for name in whole], f"there are {names(stage)}")
         server.child.kill()
     replay = stage.run(["recover", part.name]).printed
     ranked = table("  1 blue             guess 1         0    0", "  2 red              silent          0    0")
@@ -309,13 +295,7 @@ def finished(stage: Stage) -> None:
     if any((stage.folder / name).stat().st_mode & 0o777 != 0o600 for name in whole):
         raise Wrong("others may read what was recovered")
     expect(stage.run(["table", *words[1:]]), ranked)
-    expect(appeal(stage, 1), b"guess 1 moves 0 lost 0\n")
-
-
-def appeal(stage: Stage, match: int) -> Run:
-    """The appeal to a match with the turns beside its replay."""
-    return stage.run(["judge", f"match{match}.jsonl", "--turns", f"match{match}.turns", "--tournament", "cup.toml",
-                      "--match", str(match)])
+    expect(stage.run(appeal_to(1)), b"guess 1 moves 0 lost 0\n")
 
 
 @case("a match that is closed has its replay and turns while others go on, and they are there after a kill")
@@ -324,14 +304,11 @@ def closed_before(stage: Stage) -> None:
         for key in ("ba", "bb"):
             server.hears(enter(key) + b'{"do":"accuse","port":1}\n')
         wanted = ["match0.jsonl.part", "match0.turns.part", "match1.jsonl", "match1.turns"]
-        if not wait_for(lambda: names(stage) == wanted):
-            raise Wrong(f"there are {names(stage)}")
+        require(wait_for(lambda: names(stage) == wanted), f"there are {names(stage)}")
         server.child.kill()
-    if stage.run(["recover", "cup.toml", "--replay", "match"]).status != DONE:
-        raise Wrong("the contest is not finished")
+    require(stage.run(["recover", "cup.toml", "--replay", "match"]).status == DONE, "the contest is not finished")
     for match in (0, 1):
-        if appeal(stage, match).status != DONE:
-            raise Wrong(f"match {match} does not stand its appeal")
+        require(stage.run(appeal_to(match)).status == DONE, f"match {match} does not stand its appeal")
 
 
 @case("a text that is no part is not recovered")
@@ -354,8 +331,7 @@ def log(stage: Stage) -> None:
         timed = server.ended().told.decode().splitlines()
     told = [TIME.sub("", line, count=1) for line in timed]
     found = sorted(re.sub(r"from 127\.0\.0\.1:\d+$", "from PEER", line) for line in told)
-    if not all(map(TIME.match, timed)):
-        raise Wrong(f"a line has no time: {timed}")
+    require(all(map(TIME.match, timed)), f"a line has no time: {timed}")
     if found != ["serve: match 0 (red) closed: turns 20 events 1, silent moves 0 lost 0",
                  "serve: match 1 (blue) closed: turns 20 events 3, guess 1 moves 0 lost 0",
                  "serve: session 0 from PEER", SESSION_0_ENDED, SESSION_0_PLAYS,
@@ -375,8 +351,7 @@ def address(stage: Stage) -> None:
     for address in ("localhost", "192.0.2.7"):
         expect(stage.run([*words, address]), b"", told, FAILED_STREAM)
     run = stage.run([*words, "::1"])
-    if run.status != DONE:
-        raise Wrong(f"the server ended with {run}")
+    require(run.status == DONE, f"the server ended with {run}")
 
 
 ROOM = 900
@@ -403,8 +378,7 @@ def no_room(stage: Stage) -> None:
         raise Wrong(f"there are {names(stage)}, with {events} events")
     expect(stage.run(["judge", "match0.jsonl"]), b"silent moves 0 lost 0\n")
     recovered = stage.run(["recover", part.name]).printed
-    if not recovered.endswith(CLOSE + b'{"end":%d}\n' % (events + 1)):
-        raise Wrong(f"recovered is {recovered!r}")
+    require(recovered.endswith(CLOSE + b'{"end":%d}\n' % (events + 1)), f"recovered is {recovered!r}")
 
 
 @case("a part for which there was no room is recovered with the turns of its events")
@@ -417,7 +391,7 @@ def no_room_for_events(stage: Stage) -> None:
     for match in (0, 1):
         if match == 1 and stage.run(["recover", "cup.toml", "--replay", "match"]).status != DONE:
             raise Wrong("the contest is not finished")
-        expect(appeal(stage, match), b"silent moves 0 lost 0\n")
+        expect(stage.run(appeal_to(match)), b"silent moves 0 lost 0\n")
 
 
 @case("servers that are killed leave what happened")

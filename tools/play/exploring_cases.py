@@ -6,8 +6,9 @@ import subprocess
 import threading
 from typing import Any, Callable, Dict, List, NamedTuple, Sequence, Tuple, Union
 
+from tests.support.counts import require
 from tools.play.program_cases import MAX_TEXT, SEED, TRIANGLE, case, writes
-from tools.play.program_rows import DONE, PATIENCE, REFUSED_TEXT, Stage, Wrong, expect
+from tools.play.program_rows import DONE, PATIENCE, REFUSED_TEXT, Stage, expect
 
 FAILING = 1
 WAKES = "wakes"
@@ -97,11 +98,6 @@ def explored(stage: Stage, agents: Sequence[Agent], *words: object, quota: int =
     return Answer(child.returncode, found, counts, fault)
 
 
-def want(holds: bool, *told: object) -> None:
-    if not holds:
-        raise Wrong(" ".join(map(str, told)))
-
-
 # Agents.
 
 def solves(agent: int, history: List[str]) -> Step:
@@ -157,7 +153,7 @@ def first_failing(stage: Stage) -> None:
                  if it.counts["failed"])
     for draws in (60, 200):
         found = explored(stage, RACE, "--draws", draws, "--seed", 3).found
-        want(found == first.found, draws, found, first.found)
+        require(found == first.found, draws, found, first.found)
 
 
 @case("a drawn schedule that fails is told though others make more moves")
@@ -165,25 +161,25 @@ def failing_is_told(stage: Stage) -> None:
     for seed in range(5):
         told = explored(stage, RACE, "--draws", 100, "--seed", seed)
         wanted = (FAILING, "fails") if told.counts["failed"] else (DONE, "comes")
-        want((told.status, told.found["found"]) == wanted, seed, told)
+        require((told.status, told.found["found"]) == wanted, seed, told)
 
 
 @case("an agent that has failed at its start has failed under the first drawn schedule")
 def fails_at_once(stage: Stage) -> None:
     told = explored(stage, [fails, as_agent(1, solves)], "--draws", 2)
-    want(told.found == {"found": "breaks", "agent": 0, "failure": "program", "schedule": []}, told)
+    require(told.found == {"found": "breaks", "agent": 0, "failure": "program", "schedule": []}, told)
 
 
 @case("an agent that sleeps and has not entered has failed under a drawn schedule")
 def asleep(stage: Stage) -> None:
     told = explored(stage, [SOLVER, sleeps], "--draws", 2, "--spurious-wakeups", 0)
-    want(told.found.get("failure") == "asleep", told)
+    require(told.found.get("failure") == "asleep", told)
 
 
 @case("all agents that are lost are counted")
 def two_lost(stage: Stage) -> None:
     told = explored(stage, [as_agent(0, is_lost), as_agent(1, is_lost)], "--draws", 3)
-    want(told.counts["lost"] == [[2, 3]], told)
+    require(told.counts["lost"] == [[2, 3]], told)
 
 
 def walks_or_is_lost(history: List[str]) -> Step:
@@ -207,9 +203,9 @@ def writes_and_solves(history: List[str]) -> Step:
 def hunts(stage: Stage) -> None:
     team = [writes_and_solves, walks_or_is_lost]
     lost = explored(stage, team, "--draws", 200, "--objective", "lost")
-    want(lost.found["found"] == "comes" and lost.found["lost"] == 1, lost)
+    require(lost.found["found"] == "comes" and lost.found["lost"] == 1, lost)
     moves = explored(stage, team, "--draws", 200, "--objective", "moves")
-    want(moves.found["found"] == "comes" and moves.found["moves"] == moves.counts["moves"][-1][0] > 5, moves)
+    require(moves.found["found"] == "comes" and moves.found["moves"] == moves.counts["moves"][-1][0] > 5, moves)
 
 
 # Which schedules are drawn.
@@ -217,20 +213,20 @@ def hunts(stage: Stage) -> None:
 @case("both agents of a race come first under drawn schedules")
 def both_come(stage: Stage) -> None:
     told = explored(stage, RACE, "--draws", 200)
-    want(50 < told.counts["solved"] < 150, told)
+    require(50 < told.counts["solved"] < 150, told)
 
 
 @case("other seeds draw other schedules, also those of more than 16 bits")
 def seeds(stage: Stage) -> None:
     told = {json.dumps(explored(stage, RACE, "--draws", 200, "--seed", seed).counts)
             for seed in (0, 1, 256, 65_536, 65_537)}
-    want(len(told) > 3, told)
+    require(len(told) > 3, told)
 
 
 @case("the schedules behind the first 256 are others")
 def streams(stage: Stage) -> None:
     once, twice = (explored(stage, RACE, "--draws", draws).counts["solved"] for draws in (256, 512))
-    want(twice != 2 * once, once, twice)
+    require(twice != 2 * once, once, twice)
 
 
 def counted(stage: Stage, draws: int, *words: object) -> Tuple[int, int, int]:
@@ -249,13 +245,13 @@ def counted_of(stage: Stage, number: int, *words: object) -> List[int]:
 def every_second(stage: Stage) -> None:
     for number in range(0, 24, 2):
         hunted, drawn = (counted_of(stage, number, *words) for words in (("--objective", "moves"), ()))
-        want(hunted == drawn, number, hunted, drawn)
+        require(hunted == drawn, number, hunted, drawn)
 
 
 @case("each schedule starves another agent")
 def starved(stage: Stage) -> None:
     told = explored(stage, RACE, "--draws", 2, "--scheduler", "starved")
-    want(told.counts["solved"] == told.counts["failed"] == 1, told)
+    require(told.counts["solved"] == told.counts["failed"] == 1, told)
 
 
 def walks_once(agent: int, history: List[str]) -> Step:
@@ -272,7 +268,7 @@ def last_departed(stage: Stage) -> None:
         # an agent's second turn departs, and its third arrives
         turns = [[at for at, other in enumerate(schedule) if other == agent] for agent in (0, 1)]
         last = max((0, 1), key=lambda agent: turns[agent][1])
-        want(turns[last][2] < turns[1 - last][2], seed, schedule)
+        require(turns[last][2] < turns[1 - last][2], seed, schedule)
 
 
 def looks_and_solves(history: List[str]) -> Step:
@@ -301,7 +297,7 @@ def sleepers_wake_seldom(stage: Stage) -> None:
     told = explored(stage, [looks_and_solves, sleeps_and_writes], "--draws", 2_000, "--scheduler", "slow-agents",
                     "--spurious-wakeups", 10)
     # with weight 10 in all schedules it would be some 420 of them, with weight 1 some 60
-    want(150 < told.counts["failed"] < 320, told.counts)
+    require(150 < told.counts["failed"] < 320, told.counts)
 
 
 # Limits and lines.
@@ -309,13 +305,13 @@ def sleepers_wake_seldom(stage: Stage) -> None:
 @case("a search stops at --max-states")
 def states(stage: Stage) -> None:
     told = explored(stage, [SOLVER, stops], "--max-states", 2)
-    want((told.status, told.fault) == (REFUSED_TEXT, "host: states"), told)
+    require((told.status, told.fault) == (REFUSED_TEXT, "host: states"), told)
 
 
 @case("each agent that has failed at its start is found")
 def second_fails(stage: Stage) -> None:
     told = explored(stage, [stops, fails])
-    want(told.found == {"found": "breaks", "agent": 1, "failure": "program", "schedule": []}, told)
+    require(told.found == {"found": "breaks", "agent": 1, "failure": "program", "schedule": []}, told)
 
 
 def sends(line: bytes) -> Agent:
@@ -326,9 +322,9 @@ def sends(line: bytes) -> Agent:
 @case("a line that is longer than a server takes is denied, and a long text is written")
 def long_lines(stage: Stage) -> None:
     told = explored(stage, [sends(b" " * 65_537), stops])
-    want(told.found.get("found") == "fails" and told.counts["boards"] == 1, told)
+    require(told.found.get("found") == "fails" and told.counts["boards"] == 1, told)
     told = explored(stage, [sends(say("write", expect="", put="x" * 5_500)), stops])
-    want(told.found.get("found") == "fails" and told.counts["boards"] == 2, told)
+    require(told.found.get("found") == "fails" and told.counts["boards"] == 2, told)
 
 
 @case("a line of a host has at most 1,048,576 bytes, in whatever pieces it is read")
@@ -353,16 +349,16 @@ def looks_again(history: List[str]) -> Step:
 def rounds(stage: Stage) -> None:
     for other, is_fair in ((stops, True), (as_agent(1, solves), False), (sleeps, True)):
         told = explored(stage, [as_agent(0, enters_again), other], "--spurious-wakeups", 0, keeps=1)
-        want([told.found.get(it) for it in ("found", "round", "fair")] == ["endless", [0], is_fair], told)
-        want(told.status == FAILING, told)
+        require([told.found.get(it) for it in ("found", "round", "fair")] == ["endless", [0], is_fair], told)
+        require(told.status == FAILING, told)
 
 
 @case("a round in which an agent uses commands ends with its quota, so nothing is said of it")
 def rounds_that_end(stage: Stage) -> None:
     for quota in (1, 10, 200):
         told = explored(stage, [looks_again, stops], quota=quota, keeps=1)
-        want(told.found == {"found": "exceeds", "agent": 0, "commands": quota + 1}, quota, told)
-        want(told.status == REFUSED_TEXT, told)
+        require(told.found == {"found": "exceeds", "agent": 0, "commands": quota + 1}, quota, told)
+        require(told.status == REFUSED_TEXT, told)
 
 
 def waits(patience: int, history: List[str]) -> Step:
@@ -392,8 +388,8 @@ def naps(stage: Stage) -> None:
     told = [explored(stage, [walks_and_writes, functools.partial(waits, 9)], "--spurious-wakeups", count).found
             for count in range(10)]
     for count, found in enumerate(told[:9]):
-        want(found["found"] == "solves" and found["naps"] == count, count, found)
+        require(found["found"] == "solves" and found["naps"] == count, count, found)
         # each nap is a waking and a look more, before agent 0 has written; to leave is not counted
-        want(found["commands"] == [4, count + 2], count, found)
-        want(found["turns"] == told[0]["turns"] + 2 * count, count, found, told[0])
-    want(told[9]["found"] == "fails", told[9])
+        require(found["commands"] == [4, count + 2], count, found)
+        require(found["turns"] == told[0]["turns"] + 2 * count, count, found, told[0])
+    require(told[9]["found"] == "fails", told[9])

@@ -17,7 +17,7 @@ import sys
 import tempfile
 from typing import Callable, Dict, List, Sequence
 
-from tests.support.counts import Wrong, concluded
+from tests.support.counts import Wrong, concluded, require
 from tools.play import roots
 
 TOP = pathlib.Path(__file__).resolve().parents[2]
@@ -47,8 +47,7 @@ def ran(words: Sequence[object], folder: pathlib.Path, status: int = 0) -> str:
 
 
 def wants(said: str, wanted: str) -> None:
-    if wanted not in said:
-        raise Wrong(f"{wanted!r} is not in {said[-1500:]!r}")
+    require(wanted in said, f"{wanted!r} is not in {said[-1500:]!r}")
 
 
 def made(out: pathlib.Path, words: Sequence[str]) -> Dict[str, pathlib.Path]:
@@ -63,8 +62,7 @@ def are_alike(one: Dict[str, pathlib.Path], other: Dict[str, pathlib.Path]) -> N
     if sorted(one) != [".deb", ".gz", ".whl"] or sorted(other) != sorted(one):
         raise Wrong(f"the release has {sorted(path.name for path in one.values())}")
     for ending, path in one.items():
-        if path.read_bytes() != other[ending].read_bytes():
-            raise Wrong(f"{path.name} has other bytes when it is made again")
+        require(path.read_bytes() == other[ending].read_bytes(), f"{path.name} has other bytes when it is made again")
 
 
 def plays(lab: Sequence[object], arena: Sequence[object], folder: pathlib.Path, is_proved: bool) -> None:
@@ -94,8 +92,7 @@ def wheel_plays(wheel: pathlib.Path, is_proved: bool, is_system: bool) -> None:
         ran([binaries / "pip", "install", "-q", f"{wheel}[{EXTRAS}]"], folder)
         plays([binaries / "arena-lab"], [binaries / "arena"], folder, is_proved)
         for path in ("man/man1/arena-serve.1", "man/man1/arena-lab-run.1", "bash-completion/completions/arena"):
-            if not (folder / "own" / "share" / path).is_file():
-                raise Wrong(f"the wheel installs no share/{path}")
+            require((folder / "own" / "share" / path).is_file(), f"the wheel installs no share/{path}")
 
 
 def package_plays(package: pathlib.Path, root: pathlib.Path, is_proved: bool) -> None:
@@ -108,19 +105,16 @@ def package_plays(package: pathlib.Path, root: pathlib.Path, is_proved: bool) ->
         ran([*inside, "apt-get", "update"], TOP)
         ran([*inside, "apt-get", "install", "-y", "--reinstall", "--allow-downgrades", f"/home/{package.name}"], TOP)
         contest = ran([*inside, "python3", "/usr/share/doc/arena/examples/contest.py"], TOP)
-        if contest.count(" solved its network\n") != 4:
-            raise Wrong(contest)
+        require(contest.count(" solved its network\n") == 4, contest)
         # commands run inside, and files are looked at from outside
         for path in ("small", "first"):
             ran([*inside, "rm", "-rf", path], TOP)
         plays_inside([*inside], home, is_proved)
         for path in ("usr/share/man/man1/arena-serve.1.gz", "usr/share/man/man1/arena-lab-run.1.gz",
                      "usr/share/bash-completion/completions/arena-lab", "usr/share/doc/arena/README.md"):
-            if not (root / path).exists():
-                raise Wrong(f"the package installs no {path}")
+            require((root / path).exists(), f"the package installs no {path}")
         ran([*inside, "apt-get", "remove", "-y", "arena"], TOP)
-        if (root / "usr" / "lib" / "arena").exists():
-            raise Wrong("/usr/lib/arena is left when the package is removed")
+        require(not (root / "usr" / "lib" / "arena").exists(), "/usr/lib/arena is left when the package is removed")
 
 
 def plays_inside(inside: List[object], home: pathlib.Path, is_proved: bool) -> None:

@@ -6,6 +6,7 @@ import sys
 import threading
 from typing import List, Sequence
 
+from tests.support.counts import require
 from tools.play.program_cases import CASES, ENTER, HERE, LOOK, MAX_TEXT, TOP, case, drawn_script
 from tools.play.program_rows import DONE, PATIENCE, REFUSED_TEXT, Stage, Wrong, difference, expect
 
@@ -76,8 +77,7 @@ def refused_line(stage: Stage) -> None:
     script = f"0 {ENTER}\nclose 0\njump\n0 {LOOK}\n"
     expect(stage.run([*INTERACTIVE, "--replay", "ended"], script.encode()), (HERE + "\n\n").encode(),
            b"script: line 3\n", REFUSED_TEXT)
-    if list(stage.folder.glob("ended*")):
-        raise Wrong("a replay was written")
+    require(not list(stage.folder.glob("ended*")), "a replay was written")
 
 
 @case("the adversary of the examples delivers the agent that departed last")
@@ -85,5 +85,4 @@ def adversary(stage: Stage) -> None:
     ran = subprocess.run([sys.executable, TOP / "examples" / "last_departed.py", stage.program], timeout=PATIENCE,
                          stdout=subprocess.PIPE, env={**os.environ, "PYTHONDONTWRITEBYTECODE": "1"})
     difference("last_departed.py", (TOP / "examples" / "last_departed.printed").read_bytes(), ran.stdout)
-    if ran.returncode:
-        raise Wrong(f"it ended with {ran.returncode}")
+    require(not ran.returncode, f"it ended with {ran.returncode}")

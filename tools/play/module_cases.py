@@ -9,6 +9,7 @@ import sys
 import unittest
 from typing import Dict, List
 
+from tests.support.counts import require
 from tools.play.program_cases import CRAMPED, CUP, NO_MEMORY, TOP, TRIANGLE, case, writes
 from tools.play.program_rows import DONE, REFUSED_TEXT, Stage, Wrong, expect
 from tools.play.wasm_modules import Call, Function, checks, constant, in_memory, module, numeric, told_by_node
@@ -72,8 +73,7 @@ def solved(stage: Stage) -> None:
     digest = hashlib.sha256(RING.read_bytes()).hexdigest()
     if ran.status != DONE or not lines[0].startswith('{"found":"solves","moves":'):
         raise Wrong(f"{ran.status}: {lines} {ran.told!r}")
-    if lines[2:] != [f'{{"module":"{digest}","arguments":[8]}}']:
-        raise Wrong(f"the last lines are {lines[2:]}")
+    require(lines[2:] == [f'{{"module":"{digest}","arguments":[8]}}'], f"the last lines are {lines[2:]}")
 
 
 @case("the sample module is what clang makes of its source, as far as searches tell")
@@ -217,8 +217,7 @@ def with_section(kind: int, body: bytes) -> bytes:
 @case("files with changed bytes are explored or refused")
 def changed(stage: Stage) -> None:
     for seed in range(CHANGED):
-        if not is_harmless(stage, RING, seed):
-            raise Wrong(f"seed {seed}")
+        require(is_harmless(stage, RING, seed), f"seed {seed}")
 
 
 def is_harmless(stage: Stage, file: pathlib.Path, seed: int) -> bool:

@@ -9,7 +9,7 @@ import socket
 import sys
 from typing import Callable, Dict, NamedTuple, Sequence, Tuple
 
-from tests.support.counts import Wrong
+from tests.support.counts import require
 from tests.support.servers import enter, serve
 from tools.play.program_rows import DONE, FAILED_STREAM, REFUSED_TEXT, SOME_HELP, Stage, difference, expect
 
@@ -91,8 +91,7 @@ def most_nodes(stage: Stage) -> None:
     ran = stage.run(["rehearse", "cup.toml", "--replay", "ring"], f"0 {ENTER}\nclose 0\n".encode())
     expect(ran, HERE.encode())
     head = (stage.folder / "ring0.jsonl").read_text().partition("\n")[0]
-    if not head.endswith('"nodes":4096,"quota":10,"replay":3}'):
-        raise Wrong(f"the head ends with {head[-60:]}")
+    require(head.endswith('"nodes":4096,"quota":10,"replay":3}'), f"the head ends with {head[-60:]}")
     expect(stage.run(["judge", "ring0.jsonl"]), b"silent moves 0 lost 0\n")
 
 
@@ -197,8 +196,7 @@ def feeds_are_cut(seeds: Sequence[int], stage: Stage) -> None:
         expect(ran, ran.printed)
         difference(f"seed {seed}, cut", ran.printed, stage.run(["rehearse"], cut.encode()).printed)
         longest = max(longest, len(ran.printed))
-    if longest <= LONG:
-        raise Wrong(f"the longest prints {longest} bytes")
+    require(longest > LONG, f"the longest prints {longest} bytes")
 
 
 for first_seed in range(0, 200, 25):
@@ -304,8 +302,7 @@ def long_help(stage: Stage) -> None:
         ran = stage.run(words.split())
         expect(ran, ran.printed)
         for part in (*parts, HELP_LINE):
-            if part not in ran.printed.decode():
-                raise Wrong(f"{words}: nothing reads {part!r}")
+            require(part in ran.printed.decode(), f"{words}: nothing reads {part!r}")
 
 
 # Streams that fail.
@@ -436,9 +433,7 @@ def contest(stage: Stage) -> None:
         heard, run = server.hears(enter("ka")), server.ended()
     row = "  1 red              silent          0    0"
     expect(run, f"{TABLE_HEAD}\n{row}\n".encode())
-    if heard not in (SIGHT, OVER):
-        raise Wrong(f"the client heard {heard!r}")
+    require(heard in (SIGHT, OVER), f"the client heard {heard!r}")
     replays = sorted(path.name for path in stage.folder.glob("*.jsonl"))
-    if replays != ["hosted0.jsonl"]:
-        raise Wrong(f"the replays are {replays}")
+    require(replays == ["hosted0.jsonl"], f"the replays are {replays}")
     expect(stage.run(["judge", "hosted0.jsonl"]), b"silent moves 0 lost 0\n")

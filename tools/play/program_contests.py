@@ -16,7 +16,7 @@ from arena_lab.rules.delays import Delays
 from arena_lab.rules.fixtures import Fixture
 from arena_lab.rules.model import AWAY, OVER, Match, Object, Place, begun, judge, objects_of, spelled
 from arena_lab.rules.networks import ring
-from tests.support.counts import Wrong
+from tests.support.counts import Wrong, require
 from tests.support.servers import Run, Server, enter, serve
 from tests.support.tournaments import match, write_cup
 from tools.play.program_cases import case
@@ -153,8 +153,7 @@ def contest(stage: Stage, rule: Rule) -> Heard:
     run, heard = played(stage)
     expect(run, run.printed)
     names = sorted(path.name for path in stage.folder.glob("*.jsonl"))
-    if names != [f"hosted{number}.jsonl" for number in range(len(SIDES))]:
-        raise Wrong(f"the replays are {names}")
+    require(names == [f"hosted{number}.jsonl" for number in range(len(SIDES))], f"the replays are {names}")
     return Heard(run, heard, [(stage.folder / name).read_text() for name in names])
 
 
@@ -169,8 +168,7 @@ def match_of(side: Side, replay: str) -> Match:
         raise Wrong(f"the replay of {side.team} is of another match: {spelled(head)}")
     for event in events:
         match.play(event)
-    if match.replay() != replay:
-        raise Wrong(f"the replay of {side.team} is another when it is played anew")
+    require(match.replay() == replay, f"the replay of {side.team} is another when it is played anew")
     return match
 
 
@@ -190,11 +188,9 @@ def check_side(rule: Rule, number: int, side: Side, replay: str, heard: Sequence
     lost, held = len(side.agents) - 2, len(side.agents) - 1
     if any(event["do"] == "deliver" and event["agent"] == held for event in match.log):
         raise Wrong(f"{side.key(held)} was delivered over the link that is held")
-    if not match.agents[lost].lost:
-        raise Wrong(f"{side.key(lost)} was not destroyed")
+    require(match.agents[lost].lost, f"{side.key(lost)} was not destroyed")
     waiting = {agent for agent, one in enumerate(match.agents) if one.standing == AWAY}
-    if waiting != {lost, held}:
-        raise Wrong(f"in the match of {side.team} agents {sorted(waiting)} are on links at the end")
+    require(waiting == {lost, held}, f"in the match of {side.team} agents {sorted(waiting)} are on links at the end")
     for agent, text in enumerate(heard):
         if text != told_to(match, agent):
             raise Wrong(f"{side.key(agent)} heard {text!r}, and its replay has {told_to(match, agent)!r}")
@@ -211,8 +207,7 @@ def is_telling(rule: Rule, replays: Sequence[str]) -> bool:
 def check_table(stage: Stage, printed: bytes, matches: Sequence[Match]) -> None:
     """The table has the verdict on each match beside its team, and so has its replay."""
     verdicts = [judge(match) for match in matches]
-    if [verdict.outcome for verdict in verdicts] != ["guess 4", "silent"]:
-        raise Wrong(f"the verdicts are {verdicts}")
+    require([verdict.outcome for verdict in verdicts] == ["guess 4", "silent"], f"the verdicts are {verdicts}")
     for number, (outcome, moves, lost) in enumerate(verdicts):
         expect(stage.run(["judge", f"hosted{number}.jsonl"]), f"{outcome} moves {moves} lost {lost}\n".encode())
     rows = [(side.team, verdict) for side, verdict in zip(SIDES, verdicts)]

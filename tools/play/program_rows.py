@@ -39,7 +39,7 @@ import tempfile
 import unittest
 from typing import Any, Callable, Dict, Iterator, List, NamedTuple, Sequence, Tuple, Union
 
-from tests.support.counts import Wrong
+from tests.support.counts import Wrong, require
 from tests.support.servers import Run
 
 PATIENCE = 60
@@ -95,8 +95,7 @@ def difference(what: str, wanted: bytes, came: bytes) -> None:
         return
     pairs = itertools.zip_longest(wanted.splitlines(True), came.splitlines(True))
     for number, (line, other) in enumerate(pairs, 1):
-        if line != other:
-            raise Wrong(f"{what}, line {number}: wanted {shown(line)}, came {shown(other)}")
+        require(line == other, f"{what}, line {number}: wanted {shown(line)}, came {shown(other)}")
 
 
 def shown(line: Union[bytes, None]) -> str:
@@ -113,8 +112,7 @@ def expect(ran: Run, printed: bytes, told: bytes = b"", status: int = DONE) -> N
     """What a run told and printed, and its status, are these."""
     difference("told", helped(told, ran.told), ran.told)
     difference("printed", printed, ran.printed)
-    if ran.status != status:
-        raise Wrong(f"exit status: wanted {status}, came {ran.status}")
+    require(ran.status == status, f"exit status: wanted {status}, came {ran.status}")
 
 
 def helped(wanted: bytes, came: bytes) -> bytes:

@@ -6,6 +6,7 @@ import os
 import tty
 from typing import List, Sequence
 
+from tests.support.counts import require
 from tools.play.program_cases import MATCH, SEED, TABLE_HEAD, TRIANGLE, case, writes
 from tools.play.program_rows import Stage, Wrong, expect
 
@@ -26,8 +27,7 @@ def twelve_replays(stage: Stage) -> None:
     cup = SEED + "".join(MATCH.format(network="tri.toml", key=f"k{match}-") for match in range(12))
     rehearsed(stage, cup, "".join(f"close {match}\n" for match in range(12)))
     names = sorted(path.name for path in stage.folder.glob("m*.jsonl"))
-    if names != sorted(f"m{match}.jsonl" for match in range(12)):
-        raise Wrong(f"there are {names}")
+    require(names == sorted(f"m{match}.jsonl" for match in range(12)), f"there are {names}")
 
 
 @case("a table takes a hundred replays")
@@ -53,8 +53,7 @@ def long_replays(stage: Stage) -> None:
     last = '0 {"do":"accuse","port":1}\n'
     rehearsed(stage, cup, f"0 {ENTER}\n" + f"0 {LOOK}\n" * 999 + last + "close 0\n")
     text = (stage.folder / "m0.jsonl").read_bytes()
-    if len(text) < LONG:
-        raise Wrong(f"the replay has {len(text)} bytes alone")
+    require(len(text) >= LONG, f"the replay has {len(text)} bytes alone")
     lines = text.splitlines(keepends=True)
     (stage.folder / "part").write_bytes(b"".join(lines[:-2]))
     expect(stage.run(["recover", "part"]), text)
@@ -128,8 +127,7 @@ def explained_controls(stage: Stage) -> None:
     lines = replay_of_controls(stage)
     shown = shown_on_terminal(stage, ["explain", "m0.jsonl", "0"]).decode().split("\n")[:-1]
     for line in shown:
-        if any(map(controls, line)):
-            raise Wrong(f"{line!r} has a character that controls a terminal")
+        require(not any(map(controls, line)), f"{line!r} has a character that controls a terminal")
     parts = [line.split(" ", 1) for line in shown]
     if [int(place) for place, _ in parts] != list(range(len(lines))):
         raise Wrong(f"the places of {len(parts)} lines of {len(lines)} are {[place for place, _ in parts]}")

@@ -8,7 +8,7 @@ import socket
 import time
 from typing import Iterator, List
 
-from tests.support.counts import Wrong
+from tests.support.counts import Wrong, require
 from tests.support.servers import Server, enter
 from tools.hostile.session_lines import BYE, DEPART, GONE, HERE, LEAVE, LOOK, OVER
 from tools.play.contest_cases import LONG, full_disk, served, wait_for
@@ -30,8 +30,7 @@ def told_lines(server: Server) -> List[str]:
 def wants(lines: List[str], *wanted: str) -> None:
     """Each of these is the end of some line."""
     missing = [text for text in wanted if not any(line.endswith(text) for line in lines)]
-    if missing:
-        raise Wrong(f"{missing} is not told, but {lines}")
+    require(not missing, f"{missing} is not told, but {lines}")
 
 
 def told_so_far(server: Server, text: bytes) -> bytes:
@@ -59,10 +58,8 @@ def begins_alone(stage: Stage, match: int, keys: str) -> None:
         for agent in "ab":
             server.hears(enter(keys + agent) + LEAVE)
         told = told_so_far(server, closed_line(match))
-    if closed_line(match) not in told:
-        raise Wrong(f"match {match} waits for more than its own agents: {told!r}")
-    if closed_line(1 - match) in told:
-        raise Wrong(f"match {1 - match} does not wait for its own agents: {told!r}")
+    require(closed_line(match) in told, f"match {match} waits for more than its own agents: {told!r}")
+    require(closed_line(1 - match) not in told, f"match {1 - match} does not wait for its own agents: {told!r}")
 
 
 @case("with --gather the first match waits for its own agents alone")
@@ -80,8 +77,7 @@ def all_turns(stage: Stage) -> None:
     with served(stage, "--log", turns=1200, pause=0, sessions=1, grace=0) as server:
         lines = told_lines(server)
     for match in (0, 1):
-        if not any(closed_line(match).decode() + "1200 " in line for line in lines):
-            raise Wrong(f"told was {lines}")
+        require(any(closed_line(match).decode() + "1200 " in line for line in lines), f"told was {lines}")
 
 
 @case("with --early a match goes on while an agent is on a link")
@@ -127,8 +123,7 @@ def last_agent(stage: Stage) -> None:
     cup = SEED + re.sub(r"keys = .*", f"keys = [{keys}]", MATCH.format(network="tri.toml", key="r"))
     with served(stage, cup=cup, turns=LONG) as server:
         heard = server.hears(enter("k63") + LEAVE)
-    if heard != HERE + BYE:
-        raise Wrong(f"the last agent heard {heard!r}")
+    require(heard == HERE + BYE, f"the last agent heard {heard!r}")
 
 
 @case("the first who enters after the close is told that the match is over")
@@ -136,8 +131,7 @@ def enters_after_the_close(stage: Stage) -> None:
     with served(stage, turns=1, grace=PATIENCE) as server:
         time.sleep(0.5)
         heard = server.hears(enter("ra"))
-    if heard != OVER:
-        raise Wrong(f"it heard {heard!r}")
+    require(heard == OVER, f"it heard {heard!r}")
 
 
 FEW_DESCRIPTORS = 12
@@ -154,8 +148,7 @@ def descriptors_used_up(stage: Stage) -> None:
         for client in clients:
             client.close()
         heard = server.hears(enter("ra") + LEAVE)
-    if heard != HERE + BYE:
-        raise Wrong(f"it heard {heard!r}")
+    require(heard == HERE + BYE, f"it heard {heard!r}")
 
 
 # Answers past the first thousand, or past what a connection holds back.
@@ -164,8 +157,7 @@ def descriptors_used_up(stage: Stage) -> None:
 def long_session(stage: Stage) -> None:
     with served(stage, cup=ROOMY, turns=LONG) as server:
         heard = server.hears(enter("ra") + LOOK * 1000 + LEAVE)
-    if heard != HERE * 1001 + BYE:
-        raise Wrong(f"it heard {heard.count(b'here')} sights in {len(heard)} bytes")
+    require(heard == HERE * 1001 + BYE, f"it heard {heard.count(b'here')} sights in {len(heard)} bytes")
 
 
 @case("more answers than a connection holds back come whole and in order")
@@ -191,8 +183,7 @@ def told_before_it_waits(stage: Stage) -> None:
                 heard = answers.readline() + answers.readline()
             except OSError as fault:
                 raise Wrong(f"it was not told: {fault}") from fault
-    if heard != HERE + GONE:
-        raise Wrong(f"it heard {heard!r}")
+    require(heard == HERE + GONE, f"it heard {heard!r}")
 
 
 @case("an agent that moves fifty times is told of each arrival")
@@ -240,8 +231,7 @@ def playing_red(stage: Stage, lines: bytes) -> Iterator[Server]:
 def many_events_at_a_look(stage: Stage) -> None:
     with playing_red(stage, enter("ra") + LOOK * 998 + LEAVE):
         time.sleep(1.2)
-        if events_of_part(stage, 0) != 1000:
-            raise Wrong(f"the part has {events_of_part(stage, 0)} events")
+        require(events_of_part(stage, 0) == 1000, f"the part has {events_of_part(stage, 0)} events")
 
 
 @case("a part is written again and again")
@@ -258,5 +248,4 @@ def failed_part(stage: Stage) -> None:
     with served(stage, grace=0, turns=150, limit=full_disk) as server:
         server.hears(enter("ba") + LOOK * 9 + LEAVE)
         told = server.ended().told
-    if told.count(b"the part of match 1 stops") != 1:
-        raise Wrong(f"told was {told!r}")
+    require(told.count(b"the part of match 1 stops") == 1, f"told was {told!r}")

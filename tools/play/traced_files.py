@@ -6,7 +6,7 @@ import shutil
 import unittest
 from typing import Dict, Iterator, List, NamedTuple, Tuple
 
-from tests.support.counts import Wrong
+from tests.support.counts import Wrong, require
 from tests.support.servers import enter, serve
 from tools.hostile.session_lines import LEAVE, LOOK
 from tools.play.program_cases import MATCH, SEED, TRIANGLE, case, writes
@@ -78,8 +78,7 @@ def traced(stage: Stage, cup: str, turns: int, *says: bytes, prefix: str = "matc
             for client in clients:
                 stack.enter_context(client.makefile("rb")).read()
         run = server.ended()
-    if run.status != DONE:
-        raise Wrong(f"the server ended with {run}")
+    require(run.status == DONE, f"the server ended with {run}")
     return list(calls_in((stage.folder / "trace").read_text(), str(stage.folder)))
 
 
