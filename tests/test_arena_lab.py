@@ -4,7 +4,7 @@ import os
 import pathlib
 import subprocess
 
-from tests.support.output import InTemporary
+from tests.support.output import InTemporary, write
 
 TOP = pathlib.Path(__file__).resolve().parent.parent
 # stands for the Python of an environment: says whether it has packages, or which words it was given
@@ -17,10 +17,8 @@ echo "{name}: $* path=$PYTHONPATH"
 
 class Command(InTemporary):
     def environment(self, name: str, has_packages: bool) -> str:
-        python = self.folder / name / "bin" / "python3"
-        python.parent.mkdir(parents=True)
-        python.write_text(PYTHON.format(name=name, status=0 if has_packages else 1))
-        python.chmod(0o755)
+        text = PYTHON.format(name=name, status=0 if has_packages else 1)
+        write(self.folder / name / "bin" / "python3", text, 0o755)
         return str(self.folder / name)
 
     def said(self, *words: str, **variables: str) -> str:

@@ -2,18 +2,16 @@
 import contextlib
 import io
 import json
-import pathlib
-import tempfile
 import tomllib
 import unittest
 import unittest.mock
 
 from arena_lab.rules.model import judge, played
 from bench import instructions
-from tests.support.output import ran
+from tests.support.output import InTemporary, ran, write
 
 
-class Inputs(unittest.TestCase):
+class Inputs(InTemporary):
     def plays(self, play: instructions.Play, events: int, verdict: str) -> None:
         """A replay of version 1 has the events of its match, and a node that nobody reaches."""
         head, *lines = instructions.replay(play, 3)
@@ -30,32 +28,23 @@ class Inputs(unittest.TestCase):
         self.plays(instructions.texts, 16 + 1 + 2 * 16 + 16 + 1, "silent moves 0 lost 0")
 
     def test_small_inputs(self) -> None:
-        with tempfile.TemporaryDirectory() as name:
-            folder = pathlib.Path(name)
-            works = instructions.written(folder, instructions.SMALL)
-            self.assertEqual(len({work.title for work in works}), 8)
-            for work in works:
-                self.assertTrue((folder / work.source).exists() and (folder / work.words[1]).exists())
-            self.assertGreater((folder / "script").read_text().count("\n"), 3000)
+        works = instructions.written(self.folder, instructions.SMALL)
+        self.assertEqual(len({work.title for work in works}), 8)
+        for work in works:
+            self.assertTrue((self.folder / work.source).exists() and (self.folder / work.words[1]).exists())
+        self.assertGreater((self.folder / "script").read_text().count("\n"), 3000)
 
 
-class Counts(unittest.TestCase):
-    def setUp(self) -> None:
-        self.folder = pathlib.Path(self.enterContext(tempfile.TemporaryDirectory()))
-
+class Counts(InTemporary):
     def made(self, name: str, text: str) -> str:
         """A script in the place of a program."""
-        made = self.folder / name
-        made.write_text(f"#!/bin/sh\n{text}\n")
-        made.chmod(0o700)
-        return str(made)
+        return str(write(self.folder / name, f"#!/bin/sh\n{text}\n", 0o700))
 
     def printed(self, said: str) -> str:
         """What is printed of two programs, with this script in the place of valgrind."""
-        told = io.StringIO()
         programs = [self.made("one", "exit"), "--peer", self.made("two", "exit")]
-        valgrind = self.made("valgrind", said)
-        with unittest.mock.patch.object(instructions, "VALGRIND", valgrind), contextlib.redirect_stdout(told):
+        with unittest.mock.patch.object(instructions, "VALGRIND", self.made("valgrind", said)), \
+                contextlib.redirect_stdout(io.StringIO()) as told:
             instructions.main([*programs, "--small"])
         return told.getvalue()
 

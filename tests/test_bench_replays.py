@@ -1,8 +1,5 @@
 """The replays that the benchmarks write."""
 import io
-import pathlib
-import stat
-import tempfile
 import unittest
 from typing import Iterator
 
@@ -10,7 +7,7 @@ from tests import needs
 from bench import inputs
 from bench import replays
 from arena_lab.rules.model import judge, played
-from tests.support.output import ran
+from tests.support.output import InTemporary, ran, write
 
 
 class LargeReplays(unittest.TestCase):
@@ -42,20 +39,18 @@ class LargeReplays(unittest.TestCase):
 
 
 @needs("cc", "gcc")
-class TwoPrograms(unittest.TestCase):
+class TwoPrograms(InTemporary):
     """How two programs are compared."""
 
     KIND = replays.Kind("none", lambda commands: iter(()), 1, lambda _: 1, lambda _: 0, 0)
 
     def setUp(self) -> None:
-        self.folder = pathlib.Path(self.enterContext(tempfile.TemporaryDirectory()))
+        super().setUp()
         (self.folder / "empty").write_text("")
 
     def program(self, name: str, twin: str) -> str:
-        made = self.folder / name
-        made.write_text(f'#!/bin/sh\nif [ "$1" = twin ]; then {twin}; else echo silent moves 0 lost 0; fi\n')
-        made.chmod(made.stat().st_mode | stat.S_IXUSR)
-        return str(made)
+        text = f'#!/bin/sh\nif [ "$1" = twin ]; then {twin}; else echo silent moves 0 lost 0; fi\n'
+        return str(write(self.folder / name, text, 0o755))
 
     def compared(self, twin: str) -> "tuple[bool, str]":
         programs = [self.program("one", "echo twin"), self.program("two", twin)]

@@ -1,12 +1,11 @@
 """The replays and scripts that tools/hostile/bent_inputs.py makes, and how it compares two programs."""
 import collections
 import random
-import stat
 import unittest
 from unittest import mock
 
 from arena_lab.rules.model import MAX_LINE, played
-from tests.support.output import InTemporary
+from tests.support.output import InTemporary, write
 from tools.hostile import bent_inputs
 
 REPLAY = b'{"nodes":3}\n{"agent":0,"do":"look","reply":{"no":"away"}}\n{"do":"close","reply":null}\n{"end":2}\n'
@@ -26,7 +25,7 @@ class Bends(unittest.TestCase):
             self.assertEqual(played(text).replay(), text)
 
     def test_each_bend_changes_most_texts(self) -> None:
-        replay, drawn = bent_inputs.drawn_replay(random.Random(7)), bent_inputs.drawn_script(random.Random(7))
+        replay, drawn = bent_inputs.drawn_replay(random.Random(8)), bent_inputs.drawn_script(random.Random(8))
         for bends, long in ((bent_inputs.REPLAY_BENDS, replay), (bent_inputs.SCRIPT_BENDS, drawn.script)):
             for bend in bends:
                 found = [bend(long, random.Random(seed)) != long for seed in range(40)]
@@ -68,10 +67,7 @@ class Bends(unittest.TestCase):
 
 class Programs(InTemporary):
     def program(self, name: str, other: str) -> str:
-        made = self.folder / name
-        made.write_text(PROGRAM.replace("{other}", other))
-        made.chmod(made.stat().st_mode | stat.S_IXUSR)
-        return str(made)
+        return str(write(self.folder / name, PROGRAM.replace("{other}", other), 0o755))
 
     def differing(self, other: str) -> collections.Counter:
         kept = self.folder / "kept"

@@ -11,7 +11,7 @@ import unittest.mock
 
 from tests import TOP
 from tests.test_gate import module
-from tests.support.output import ran
+from tests.support.output import ran, write
 from tools import version
 from tools.prove import bar
 from tools.prove import prover
@@ -89,24 +89,17 @@ class Build(unittest.TestCase):
         self.top = pathlib.Path(self.enterContext(tempfile.TemporaryDirectory()))
         self.crates, kit = self.top / "crates", self.top / "kit"
         for name in ALL:
-            self.write(self.crates / name / "src" / "lib.rt", "whole\n")
-        self.write(kit / "KIT-ID", "kit 1\n")
+            write(self.crates / name / "src" / "lib.rt", "whole\n")
+        write(kit / "KIT-ID", "kit 1\n")
         for name, text in (("rattle", RATTLE), ("rattle-link", LINK)):
-            self.write(kit / "bin" / name, text).chmod(0o755)
+            write(kit / "bin" / name, text, 0o755)
         for name in ("crates.txt", "HANDLES", "tools/prove/is_current"):
-            self.write(self.top / name, (TOP / name).read_text()).chmod(0o755)
+            write(self.top / name, (TOP / name).read_text(), 0o755)
         self.build = module(TOP / "tools" / "build")
         self.record = prover.record_of(self.crates, "bhs_main")
         for owner, found in ((prover, {"BUILT": self.crates}), (self.build, {"libraries_of": lambda: ALL})):
-            for name, value in {**found, "CRATES": self.crates, "KIT": kit, "TOP": self.top}.items():
-                self.enterContext(unittest.mock.patch.object(owner, name, value))
+            self.enterContext(unittest.mock.patch.multiple(owner, CRATES=self.crates, KIT=kit, TOP=self.top, **found))
         self.enterContext(unittest.mock.patch.object(version, "KIT", kit))
-
-    @staticmethod
-    def write(path: pathlib.Path, text: str) -> pathlib.Path:
-        path.parent.mkdir(parents=True, exist_ok=True)
-        path.write_text(text)
-        return path
 
     def said(self, status: int) -> str:
         errors = io.StringIO()
@@ -138,25 +131,25 @@ class Build(unittest.TestCase):
         late = time.time() + 10
         os.utime(self.crates / "left" / "src" / "lib.rt", (late, late))
         self.assertEqual(self.said(0), "arena: the programs are proved and built of the sources as they are\n")
-        source = self.write(self.crates / "left" / "src" / "lib.rt", "changed\n")
+        source = write(self.crates / "left" / "src" / "lib.rt", "changed\n")
         self.assertEqual(self.build.unbuilt(LIBRARIES, ["low", "left", "right", "bhs_main"]), {"left", "bhs_main"})
         said = self.said(0)
         self.assertIn("3 of 5 crates are proved", said)
         self.assertNotIn("the first time", said)
-        self.write(source, "broken\n")
+        write(source, "broken\n")
         said = self.said(1)
         self.assertIn("left was not proved: see crates/left/out/build.log\n", said)
         self.assertNotIn("all 5 crates are proved", said)
 
     def test_a_source_that_is_put_in_its_place_is_proved_whatever_its_time(self) -> None:
         self.said(0)
-        source = self.write(self.crates / "low" / "src" / "lib.rt", "an older one\n")
+        source = write(self.crates / "low" / "src" / "lib.rt", "an older one\n")
         os.utime(source, (1, 1))
         self.assertIn("0 of 5 crates are proved", self.said(0))
 
     def test_what_changes_meanwhile_is_not_recorded_as_proved(self) -> None:
         change = f"import pathlib\npathlib.Path({str(self.crates / 'low' / 'src' / 'lib.rt')!r}).write_text('new')\n"
-        self.write(self.top / "kit" / "bin" / "rattle-link", LINK + change)
+        write(self.top / "kit" / "bin" / "rattle-link", LINK + change, 0o755)
         self.assertIn("arena: the sources have changed meanwhile: run it again\n", self.said(1))
         self.assertFalse(prover.is_current(self.record))
         self.said(0)
@@ -164,7 +157,7 @@ class Build(unittest.TestCase):
 
     def test_a_program_that_another_has_replaced_is_built_again(self) -> None:
         self.said(0)
-        program = self.write(self.record.with_name("bhs_main"), "echo")
+        program = write(self.record.with_name("bhs_main"), "echo")
         self.assertIn("4 of 5 crates are proved", self.said(0))
         self.assertEqual(program.read_text(), "the program")
 

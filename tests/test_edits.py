@@ -6,7 +6,7 @@ import tempfile
 import unittest
 import unittest.mock
 
-from tests.support.output import ran
+from tests.support.output import InTemporary, ran, write
 from tools.prove import edits
 from tools.prove import prover
 
@@ -51,8 +51,7 @@ class Functions(unittest.TestCase):
         """The function that a text of CODE stands in, if CODE is that file of a crate, beside files of other texts."""
         folder = pathlib.Path(self.enterContext(tempfile.TemporaryDirectory()))
         for file, code in (path, CODE), *((f"src/other_{place}.rt", other) for place, other in enumerate(others)):
-            (folder / file).parent.mkdir(parents=True, exist_ok=True)
-            (folder / file).write_text(code)
+            write(folder / file, code)
         return edits.function_at(folder, path, CODE.index(text)) or "none"
 
     def test_the_function_of_a_line_is_found(self) -> None:
@@ -83,11 +82,10 @@ class Functions(unittest.TestCase):
         self.assertEqual(self.at("MOST"), "none")
 
 
-class Reading(unittest.TestCase):
+class Reading(InTemporary):
     def setUp(self) -> None:
-        self.folder = pathlib.Path(self.enterContext(tempfile.TemporaryDirectory()))
-        (self.folder / "src").mkdir()
-        (self.folder / "src" / "lib.rt").write_text(CODE)
+        super().setUp()
+        write(self.folder / "src" / "lib.rt", CODE)
 
     def read(self, *lines: str) -> edits.Edit:
         path = self.folder / "one.edit"
@@ -130,10 +128,8 @@ class Answers(unittest.TestCase):
     def told(self, only: str, whole: str, old: str = "2 * number\n}") -> str:
         """What is printed of an edit of a crate whose checks end so."""
         folder = pathlib.Path(self.enterContext(tempfile.TemporaryDirectory()))
-        source = folder / "low" / "src"
-        source.mkdir(parents=True)
         for name, text in (("only", only), ("whole", whole), ("lib.rt", CODE)):
-            (source / name).write_text(text)
+            write(folder / "low" / "src" / name, text)
         function = edits.function_at(folder / "low", "src/lib.rt", CODE.index(old))
         edit = edits.Edit("one", [("src/lib.rt", old, "")], function)
         self.enterContext(unittest.mock.patch.object(edits, "CRATES", folder))
@@ -174,12 +170,8 @@ class Built(unittest.TestCase):
 
     def setUp(self) -> None:
         self.crates = pathlib.Path(self.enterContext(tempfile.TemporaryDirectory()))
-        (self.crates / "low" / "src").mkdir(parents=True)
-        (self.crates / "low" / "src" / "lib.rt").write_text(CODE)
-        library = self.crates / "low" / "out" / "rlib" / "low.rlib"
-        library.mkdir(parents=True)
-        (library / "format").write_text("")
-        os.utime(library / "format", (0, 0))
+        write(self.crates / "low" / "src" / "lib.rt", CODE)
+        os.utime(write(self.crates / "low" / "out" / "rlib" / "low.rlib" / "format", ""), (0, 0))
         self.enterContext(unittest.mock.patch.object(prover, "BUILT", self.crates))
 
     def may_be_used(self, crates: pathlib.Path, name: str = "low") -> bool:
@@ -204,8 +196,7 @@ class Together(unittest.TestCase):
     def setUp(self) -> None:
         crates = pathlib.Path(self.enterContext(tempfile.TemporaryDirectory()))
         self.folder = crates / "low"
-        (self.folder / "src").mkdir(parents=True)
-        (self.folder / "src" / "lib.rt").write_text(CODE)
+        write(self.folder / "src" / "lib.rt", CODE)
         self.enterContext(unittest.mock.patch.object(edits, "CRATES", crates))
 
     def refused(self, *said: str):

@@ -12,7 +12,7 @@ import unittest.mock
 from typing import List, Tuple
 
 from tests import TOP
-from tests.support.output import ran
+from tests.support.output import ran, write
 from tools import parts
 from tools.prove import prover
 
@@ -61,15 +61,11 @@ class Gate(unittest.TestCase):
         tree, room = (pathlib.Path(self.enterContext(tempfile.TemporaryDirectory())) for _ in range(2))
         for path in ("crates.txt", "HANDLES", "crates/low/src/lib.rt", "crates/low/must-fail/one.edit",
                      "crates/low/out/rlib/old", "crates/low/out/kept"):
-            (tree / path).parent.mkdir(parents=True, exist_ok=True)
-            (tree / path).write_text("")
-        with contextlib.ExitStack() as patches:
-            for what, by in (("TOP", tree), ("CRATES", tree / "crates")):
-                patches.enter_context(unittest.mock.patch.object(gate, what, by))
+            write(tree / path, "")
+        with unittest.mock.patch.multiple(gate, TOP=tree, CRATES=tree / "crates"):
             crates = gate.copy_to(room)
             self.assertEqual(files_of(room), ["HANDLES", "crates.txt", "crates/low/src/lib.rt"])
-            (crates / "low" / "out" / "rlib").mkdir(parents=True)
-            (crates / "low" / "out" / "rlib" / "new").write_text("")
+            write(crates / "low" / "out" / "rlib" / "new", "")
             gate.take_from(crates)
         self.assertEqual(files_of(tree / "crates" / "low" / "out"), ["kept", "rlib/new"])
 
@@ -77,16 +73,13 @@ class Gate(unittest.TestCase):
         tree, room = (pathlib.Path(self.enterContext(tempfile.TemporaryDirectory())) for _ in range(2))
         check = "tools/prove/is_current"
         for path in ("crates.txt", "HANDLES", "crates/low/src/lib.rt", "crates/bhs_main/src/main.rt", check):
-            (tree / path).parent.mkdir(parents=True, exist_ok=True)
-            (tree / path).write_text((TOP / path).read_text() if path == check else "")
+            write(tree / path, (TOP / path).read_text() if path == check else "")
         (tree / check).chmod(0o755)
-        with contextlib.ExitStack() as patches:
-            for owner, what, by in ((gate, "TOP", tree), (gate, "CRATES", tree / "crates"), (prover, "TOP", tree)):
-                patches.enter_context(unittest.mock.patch.object(owner, what, by))
+        with unittest.mock.patch.multiple(gate, TOP=tree, CRATES=tree / "crates"), \
+                unittest.mock.patch.object(prover, "TOP", tree):
             crates = gate.copy_to(room)
             for path in ("low/out/rlib/low.rlib/format", "bhs_main/out/bhs_main"):
-                (crates / path).parent.mkdir(parents=True)
-                (crates / path).write_text("")
+                write(crates / path, "")
             gate.record_all(room, {"low": [], "bhs_main": ["low"]}, ["bhs_main"])
             gate.take_from(crates)
             records = [prover.record_of(tree / "crates", name) for name in ("low", "bhs_main")]
@@ -98,18 +91,16 @@ class Gate(unittest.TestCase):
         """What is tried, and counted, of the edits of two crates after these lines of `rt ci`."""
         crates = pathlib.Path(self.enterContext(tempfile.TemporaryDirectory()))
         for name in ("low", "high"):
-            (crates / name / "must-fail").mkdir(parents=True)
-            (crates / name / "must-fail" / "one.edit").write_text("")
+            write(crates / name / "must-fail" / "one.edit", "")
         tried = []
 
         def tries(words, **_):
             tried.append(words[-1])
             return subprocess.CompletedProcess(words, 0, f"edit {words[-1]}/one: refused\n1 passed, 0 failed\n")
         libraries = {"low": [], "high": ["low"]}
-        with contextlib.ExitStack() as patches, contextlib.redirect_stdout(io.StringIO()) as printed:
-            for what, by in (("CRATES", crates), ("libraries_of", lambda: libraries)):
-                patches.enter_context(unittest.mock.patch.object(gate, what, by))
-            patches.enter_context(unittest.mock.patch.object(gate.subprocess, "run", tries))
+        with unittest.mock.patch.multiple(gate, CRATES=crates, libraries_of=lambda: libraries), \
+                unittest.mock.patch.object(gate.subprocess, "run", tries), \
+                contextlib.redirect_stdout(io.StringIO()) as printed:
             background = gate.Background()
             edits = gate.Edits(background, crates)
             for line in lines:

@@ -2,20 +2,15 @@
 import pathlib
 import subprocess
 import sys
-import tempfile
-import unittest
 
 from tests import TOP, needs
-from tests.support.output import ran
+from tests.support.output import InTemporary, ran
 from tools.play import library_tests
 
 LINES = "print('test a ... ok'); print('test result: ok. {passed} passed; {failed} failed; 0 ignored'); exit({status})"
 
 
-class LibraryTests(unittest.TestCase):
-    def setUp(self) -> None:
-        self.folder = pathlib.Path(self.enterContext(tempfile.TemporaryDirectory()))
-
+class LibraryTests(InTemporary):
     def test_a_crate_is_made_of_the_files(self) -> None:
         libraries = library_tests.make(self.folder)
         places = {path.relative_to(self.folder).as_posix() for path in self.folder.rglob("*.rt")}

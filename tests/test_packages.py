@@ -19,6 +19,7 @@ from arena_lab import INSTALLED
 from arena_lab.__main__ import COMMANDS, parser
 from arena_lab.commands.spellings import SPELLINGS
 from tests import TOP, needs
+from tests.support.output import write
 from tests.test_gate import module
 
 release = module(TOP / "tools" / "release")
@@ -86,10 +87,8 @@ class Manuals(unittest.TestCase):
 
     def test_the_commands_of_a_program_are_found(self) -> None:
         with tempfile.TemporaryDirectory() as name:
-            program = pathlib.Path(name) / "arena"
-            program.write_text(f"#!/bin/sh\n[ $1 = --help ] && cat <<'E' || cat <<'F'\n{FIRST}E\n{SERVE}F\n")
-            program.chmod(0o755)
-            found = manual.of_program(str(program))
+            text = f"#!/bin/sh\n[ $1 = --help ] && cat <<'E' || cat <<'F'\n{FIRST}E\n{SERVE}F\n"
+            found = manual.of_program(str(write(pathlib.Path(name) / "arena", text, 0o755)))
         self.assertEqual([(it.words, it.about) for it in found[1:]],
                          [("arena serve", "Serves a tournament"), ("arena check", "Reads a tournament")])
 

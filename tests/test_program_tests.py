@@ -4,7 +4,7 @@ import unittest
 import unittest.mock
 from typing import List
 
-from tests.support.output import InTemporary, ran
+from tests.support.output import InTemporary, ran, write
 from tools.play import program_cases
 from tools.play import program_tests
 from tools.play.program_rows import Step, fault_of, play, rows_of
@@ -58,9 +58,7 @@ $ tell 'a b' "" c=d
 class Played(InTemporary):
     def setUp(self) -> None:
         super().setUp()
-        self.program = self.folder / "program"
-        self.program.write_text(PROGRAM)
-        self.program.chmod(0o755)
+        self.program = write(self.folder / "program", PROGRAM, 0o755)
 
     def faults(self, text: str) -> List[str]:
         return [fault_of(str(self.program), lambda stage, row=row: play(row, stage)) for row in rows_of(text)]

@@ -1,12 +1,10 @@
 """Tests of tools/hostile/refusals.py and of its library, with programs in C that stand in."""
-import pathlib
 import subprocess
-import tempfile
 import unittest
 import unittest.mock
 
 from tests import needs
-from tests.support.output import ran
+from tests.support.output import InTemporary, ran
 from tools.hostile import commands
 from tools.hostile import refusals
 from tools.hostile.commands import COMMANDS, Lab, Run
@@ -142,15 +140,8 @@ def built(folder, name, source, *options):
     return program
 
 
-class InFolder(unittest.TestCase):
-    def setUp(self):
-        room = tempfile.TemporaryDirectory()
-        self.addCleanup(room.cleanup)
-        self.folder = pathlib.Path(room.name)
-
-
 @needs("gcc", "gcc")
-class ShimTest(InFolder):
+class ShimTest(InTemporary):
     def setUp(self):
         super().setUp()
         self.program = built(self.folder, "calls", CALLS)
@@ -189,7 +180,7 @@ class ShimTest(InFolder):
 
 
 @needs("gcc", "gcc")
-class CommandTest(InFolder):
+class CommandTest(InTemporary):
     def faults_of(self, *options):
         """What a command of the program that is built with these options does otherwise."""
         lab = Lab(built(self.folder, "prints", PRINTS, *options), self.folder)
@@ -225,7 +216,7 @@ class CommandTest(InFolder):
 
 
 @needs("gcc", "gcc")
-class TestsTest(InFolder):
+class TestsTest(InTemporary):
     LINKED = ("-Wl,--wrap=malloc,--wrap=realloc", str(refusals.SHIM))
     PLAY = "memory::playing::playing_takes_no_memory"
 
@@ -294,7 +285,7 @@ class OutcomeTest(unittest.TestCase):
         self.assertEqual(self.outcome("write", 3, b"two", "", whole=refused), "untold")
         self.assertEqual(self.outcome("write", 3, b"two", "cup.toml: ", whole=refused), "untold")
         for mode, *found in (("write", 3, b"tw", ""), ("write", 0, b"two", ""), ("read", 3, b"two", "")):
-            with self.assertRaises(refusals.Otherwise):
+            with self.assertRaises(refusals.Wrong):
                 self.outcome(mode, *found, whole=refused)
 
     def test_what_must_not_come(self):
@@ -305,13 +296,13 @@ class OutcomeTest(unittest.TestCase):
                              ("short-read", 6, b"", "script: read\n"), ("read", 6, b"", "script: write\n"),
                              ("write", 0, b"", ""), ("write", 0, b"two lines\n", ""),
                              ("write", 6, b"two", "kept0.jsonl: write\n")):
-            with self.subTest(mode=mode, found=found), self.assertRaises(refusals.Otherwise):
+            with self.subTest(mode=mode, found=found), self.assertRaises(refusals.Wrong):
                 self.outcome(mode, *found)
-        with self.assertRaises(refusals.Otherwise):
+        with self.assertRaises(refusals.Wrong):
             self.outcome("memory", 0, printed, "", refused=0)
-        with self.assertRaises(refusals.Otherwise):
+        with self.assertRaises(refusals.Wrong):
             self.outcome("memory", 5, printed, "kept0.jsonl: memory\n", replays={"kept0.jsonl": b"end\n"})
-        with self.assertRaises(refusals.Otherwise):
+        with self.assertRaises(refusals.Wrong):
             self.outcome("memory", 0, printed, "", replays={})
 
     def test_places_are_spread(self):
@@ -353,5 +344,5 @@ class ServedTest(unittest.TestCase):
                             ("memory", {"replay": b'{"replay":2}\n{"do":"close","reply":null}\n{"end":1}\n'}),
                             ("write", {"run": Run(6, b"listening N\n", "kept0.jsonl: write\n"), "replay": b""}),
                             ("memory", {"run": Run(-6, b"listening N\n", "")})):
-            with self.subTest(mode=mode, given=given), self.assertRaises(refusals.Otherwise):
+            with self.subTest(mode=mode, given=given), self.assertRaises(refusals.Wrong):
                 self.outcome(mode, **given)

@@ -10,9 +10,8 @@ from typing import Dict, Tuple
 
 from arena_lab.support import built
 from tests import TOP, needs
-from tests.test_built import write
 from tests.test_gate import module
-from tests.support.output import ran
+from tests.support.output import ran, write
 from tools import version
 from tools.prove import prover
 
@@ -50,14 +49,10 @@ class Repositories(unittest.TestCase):
         self.unproved = write(self.top / "out" / "unproved", "", 0o755)
         self.unproved.write_bytes(self.proved.read_bytes() + built.SAID.encode())
         crates, kit = self.top / "crates", self.top / "kit"
-        for owner, found in ((release, {"TOP": self.top, "CRATES": crates, "KIT": kit,
-                                        "proved_program": lambda _: self.proved}),
-                             (prover, {"TOP": self.top, "CRATES": crates, "KIT": kit}),
-                             (version, {"TOP": self.top, "KIT": kit}),
-                             (built, {"TOP": self.top}),
-                             (release.unproved, {"compiled": lambda _: self.unproved})):
-            for name, value in found.items():
-                self.enterContext(unittest.mock.patch.object(owner, name, value))
+        for owner, found in ((release, {"CRATES": crates, "KIT": kit, "proved_program": lambda _: self.proved}),
+                             (prover, {"CRATES": crates, "KIT": kit}), (version, {"KIT": kit}), (built, {})):
+            self.enterContext(unittest.mock.patch.multiple(owner, TOP=self.top, **found))
+        self.enterContext(unittest.mock.patch.object(release.unproved, "compiled", lambda _: self.unproved))
 
     def git(self, *words: str) -> None:
         who = ["-c", "user.name=N", "-c", "user.email=n@example.org"]

@@ -8,6 +8,7 @@ import unittest.mock
 from typing import Iterator, List, Tuple
 
 from tests import TOP, needs
+from tests.support.output import write
 from tools.prove import unnamed
 
 LEMMAS = """use Rattle.a.specs.B.{C}
@@ -52,8 +53,7 @@ class Unnamed(unittest.TestCase):
             crates = pathlib.Path(name)
             file, other = crates / "one" / "proofs" / "Lemmas.antt", crates / "two" / "proofs" / "Other.antt"
             for path, text in ((file, LEMMAS), (other, IMPORTS)):
-                path.parent.mkdir(parents=True)
-                path.write_text(text, encoding="utf-8")
+                write(path, text)
             with unittest.mock.patch.object(unnamed, "CRATES", crates):
                 self.assertEqual(list(unnamed.definitions(file)), ["uses", "never_used", "Named"])
                 self.assertEqual(set(unnamed.named_in(other)),
@@ -64,10 +64,8 @@ class Unnamed(unittest.TestCase):
         with tempfile.TemporaryDirectory() as folder:
             crates = pathlib.Path(folder) / "crates"
             for crate, name in (("one", "f"), ("two", "g"), ("three", "short")):
-                path = crates / crate / "proofs" / "Lemmas.antt"
-                path.parent.mkdir(parents=True)
                 text = f"-- {crate}\n{name} : ℕ → ℕ\n{name} n = {name} (n + 1" + " + 1" * (3 if name == "short" else 60)
-                path.write_text(f"{text})\n", encoding="utf-8")
+                write(crates / crate / "proofs" / "Lemmas.antt", f"{text})\n")
             with unittest.mock.patch.multiple(unnamed, CRATES=crates, TOP=pathlib.Path(folder)):
                 self.assertEqual(list(unnamed.twice()),
                                  ["crates/one/proofs/Lemmas.antt f = crates/two/proofs/Lemmas.antt g"])

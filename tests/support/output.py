@@ -25,6 +25,14 @@ def ran(call: Callable[..., Any], *given: Any, **more: Any) -> Ran:
     return Ran(status, said.getvalue(), errors.getvalue())
 
 
+def write(path: pathlib.Path, text: str, mode: int = 0o644) -> pathlib.Path:
+    """Writes a file, such as a script in the place of a program, with the folders above it."""
+    path.parent.mkdir(parents=True, exist_ok=True)
+    path.write_text(text)
+    path.chmod(mode)
+    return path
+
+
 class InTemporary(unittest.TestCase):
     """Tests that have a folder of their own each."""
 

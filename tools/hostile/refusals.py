@@ -45,6 +45,7 @@ import tempfile
 import time
 from typing import Callable, Dict, Iterable, Iterator, List, NamedTuple, Optional, Sequence, Set, Tuple
 
+from tests.support.counts import Wrong, require
 from tests.support.servers import Server
 from tools.hostile.commands import (COMMANDS, DONE, FAILED_STREAM, NO_MEMORY, NO_THREADS, SERVED, WHOLE_OF_PART,
                                     Command, Lab, Run, ended)
@@ -96,10 +97,6 @@ SAID = [b'{"do":"enter","key":"ka"}\n{"do":"look"}\n', b'{"do":"enter","key":"zz
 WHOLE = [[HERE + HERE, HERE + OVER, OVER], [b'{"no":"key"}\n']]
 # what a client may hear for whose session there is no memory
 NO_MEMORY_LINE = b'{"no":"memory"}\n'
-
-
-class Otherwise(Exception):
-    """A run ended as none may."""
 
 
 class Shim:
@@ -229,7 +226,7 @@ def fault_of(mode: str, run: Run) -> str:
     # a thread needs memory to start
     faults = {mode: STATUSES[mode], **({"threads": NO_THREADS} if mode == "memory" else {})}
     if run.told != f"{where}: {text}\n" or "\n" in where or run.status != faults.get(text):
-        raise Otherwise(f"status {run.status}, `{run.told.strip()[:200]}`")
+        raise Wrong(f"status {run.status}, `{run.told.strip()[:200]}`")
     return where
 
 
@@ -242,25 +239,21 @@ def is_untold(whole: Run, found: Run) -> bool:
 def outcome(mode: str, may_name: Set[str], whole: Attempt, found: Attempt, accepts: Callable[[bytes], bool]) -> str:
     """What came of a run with a call refused."""
     run = found.run
-    if found.numbers["refused"] != 1:
-        raise Otherwise("the call was not made")
+    require(found.numbers["refused"] == 1, "the call was not made")
     if found.did_as(whole):
         return "as ever"
     told = f"status {run.status}, `{run.told.strip()[:200]}`"
-    if mode.startswith("short"):
-        raise Otherwise(f"a short call made a difference: {told}, {len(run.printed)} bytes printed")
-    if not whole.run.printed.startswith(run.printed):
-        raise Otherwise(f"another text was printed: {told}, `{run.printed[-200:]!r}`")
+    require(not mode.startswith("short"), f"a short call made a difference: {told}, {len(run.printed)} bytes printed")
+    require(whole.run.printed.startswith(run.printed), f"another text was printed: {told}, `{run.printed[-200:]!r}`")
     for name, text in found.replays.items():
         if text != whole.replays.get(name) and accepts(text):
-            raise Otherwise(f"{name} is the replay of another match: {told}")
+            raise Wrong(f"{name} is the replay of another match: {told}")
     if mode == "write" and found.replays == whole.replays and is_untold(whole.run, run):
         return "untold"
     where = fault_of(mode, run)
-    if where not in may_name:
-        raise Otherwise(f"it names another place: {told}")
+    require(where in may_name, f"it names another place: {told}")
     if where.startswith("kept") and run.printed != whole.run.printed:
-        raise Otherwise(f"a replay keeps back what is printed: {told}")
+        raise Wrong(f"a replay keeps back what is printed: {told}")
     return mode
 
 
@@ -313,15 +306,15 @@ def recover_twice(trials: Trials, numbers: Dict[str, int], mode: str = "", place
         with trials.shim.counting(numbers, mode, place) as variables:
             first = plain_run(lab, RECOVERY, room, variables=variables)
         if not (replay.read_bytes() == whole if replay.exists() else part.exists()):
-            raise Otherwise(f"status {first.status}, and the match is lost: {os.listdir(room)}")
+            raise Wrong(f"status {first.status}, and the match is lost: {os.listdir(room)}")
         if not (turns.read_bytes() == timed if turns.exists() else part_of_turns.exists()):
-            raise Otherwise(f"status {first.status}, and the turns are lost: {os.listdir(room)}")
+            raise Wrong(f"status {first.status}, and the turns are lost: {os.listdir(room)}")
         is_finished = first.printed == CONTEST_TABLE and replay.exists() and turns.exists()
         if not (is_finished if first.status == DONE else first.told):
-            raise Otherwise(f"status {first.status}, printed `{first.printed[-200:]!r}`")
+            raise Wrong(f"status {first.status}, printed `{first.printed[-200:]!r}`")
         again = plain_run(lab, RECOVERY, room)
         if again != Run(DONE, CONTEST_TABLE, "") or replay.read_bytes() != whole or turns.read_bytes() != timed:
-            raise Otherwise(f"once more: status {again.status}, `{again.told.strip()[:200]}`")
+            raise Wrong(f"once more: status {again.status}, `{again.told.strip()[:200]}`")
     return "finished at once" if first.status == DONE else "finished once more"
 
 
@@ -393,7 +386,7 @@ def cut_sessions(heard: Sequence[bytes]) -> int:
     """How many clients heard less than all, and nothing else."""
     for number, (text, wholes) in enumerate(zip(heard, WHOLE)):
         if text != NO_MEMORY_LINE and not any(whole.startswith(text) for whole in wholes):
-            raise Otherwise(f"client {number} heard `{text!r}`")
+            raise Wrong(f"client {number} heard `{text!r}`")
     return sum(text not in wholes for text, wholes in zip(heard, WHOLE))
 
 
@@ -406,12 +399,10 @@ def check_replay(contest: Contest, lab: Lab, told: str) -> Optional[bytes]:
         return None
     kept, heard = answers_of(replay), contest.heard[0]
     if heard == NO_MEMORY_LINE:
-        if kept:
-            raise Otherwise(f"client 0 plays and is told that there is no memory: {told}")
+        require(not kept, f"client 0 plays and is told that there is no memory: {told}")
         return table
     answers = heard.replace(OVER, b"")
-    if not kept.startswith(answers[:answers.rfind(b"\n") + 1]):
-        raise Otherwise(f"client 0 heard what its replay has not: {told}")
+    require(kept.startswith(answers[:answers.rfind(b"\n") + 1]), f"client 0 heard what its replay has not: {told}")
     return table
 
 
@@ -419,19 +410,17 @@ def served_outcome(mode: str, contest: Contest, lab: Lab) -> str:
     """What came of a contest with a call refused."""
     run = contest.run
     told = f"status {run.status}, `{run.told.strip()[:200]}`, printed `{run.printed!r}`, heard `{contest.heard}`"
-    if contest.seconds > SOON:
-        raise Otherwise(f"it took {contest.seconds:.0f} seconds: {told}")
+    require(contest.seconds <= SOON, f"it took {contest.seconds:.0f} seconds: {told}")
     cut = cut_sessions(contest.heard)
     table = check_replay(contest, lab, told)
     if run.status == DONE and (not run.told or CUT_PART.fullmatch(run.told)):
         if table is None or run.printed != b"listening N\n" + table:
-            raise Otherwise(f"the table is not that of the replay: {told}")
+            raise Wrong(f"the table is not that of the replay: {told}")
         if cut > 1 or (cut and mode.startswith("short")):
-            raise Otherwise(f"{cut} clients heard too little: {told}")
+            raise Wrong(f"{cut} clients heard too little: {told}")
         missed = "" if contest.numbers["refused"] else " (call not made)"
         return ("a part cut" if run.told else "a session cut" if cut else "as ever") + missed
-    if mode.startswith("short"):
-        raise Otherwise(f"a short call made a difference: {told}")
+    require(not mode.startswith("short"), f"a short call made a difference: {told}")
     return served_fault(mode, contest, table, told)
 
 
@@ -441,15 +430,14 @@ def served_fault(mode: str, contest: Contest, table: Optional[bytes], told: str)
     may_name = {"read": {"cup.toml", "tri.toml"}, "write": {"output", "kept0.jsonl", "kept0.jsonl.part"},
                 "memory": {"arena", "serve", "output", "cup.toml", "tri.toml", "kept", "kept0.jsonl",
                            "kept0.jsonl.part"}}[mode]
-    if where not in may_name:
-        raise Otherwise(f"it names another place: {told}")
+    require(where in may_name, f"it names another place: {told}")
     lines = contest.run.printed.splitlines(keepends=True)
     if lines[:1] not in ([], [b"listening N\n"]) and not b"listening N\n".startswith(contest.run.printed):
-        raise Otherwise(f"another text was printed: {told}")
+        raise Wrong(f"another text was printed: {told}")
     if where == "kept0.jsonl" and (len(lines) != 3 or not lines[2].startswith(b"  1 red ")):
-        raise Otherwise(f"a replay keeps the table back: {told}")
+        raise Wrong(f"a replay keeps the table back: {told}")
     if table is not None and not (b"listening N\n" + table).startswith(contest.run.printed):
-        raise Otherwise(f"the table is not that of the replay: {told}")
+        raise Wrong(f"the table is not that of the replay: {told}")
     return f"{where.rpartition('/')[2]}: {mode}"
 
 
@@ -457,9 +445,8 @@ def refuse_server(trials: Trials) -> None:
     """Runs a server with calls of each kind refused."""
     contest = served(trials)
     try:
-        if served_outcome("short", contest, trials.lab) != "as ever (call not made)":
-            raise Otherwise(str(contest))
-    except Otherwise as why:
+        require(served_outcome("short", contest, trials.lab) == "as ever (call not made)", str(contest))
+    except Wrong as why:
         trials.lab.faults.append(f"serve with nothing refused: {why}")
     for mode in MODES:
         number = contest.numbers[kind_of(mode)]
@@ -476,7 +463,7 @@ def marked(numbers: Dict[str, int]) -> Set[int]:
     """The requests of the calls that a test tests: those between the first mark and the second, and so on."""
     marks = [numbers[f"mark {place}"] for place in range(MARKS) if f"mark {place}" in numbers]
     if len(marks) % 2:
-        raise Otherwise(f"{len(marks)} marks are set")
+        raise Wrong(f"{len(marks)} marks are set")
     return {place for begin, end in zip(marks[::2], marks[1::2]) for place in range(begin + 1, end + 1)}
 
 
@@ -487,24 +474,21 @@ def outcome_of_test(trials: Trials, program: str, name: str, tested: Set[int], p
         found = run_test(program, name, trials.lab.folder, variables)
     text = found.printed.decode(errors="replace").strip()
     told = f"status {found.status}, `{text[:200]}`"
-    if numbers["refused"] != 1:
-        raise Otherwise(f"the request was not made: {told}")
+    require(numbers["refused"] == 1, f"the request was not made: {told}")
     if found.status == DONE:
         return "passed"
-    if place in tested:
-        raise Otherwise(f"in the call that is tested: {told}")
+    require(place not in tested, f"in the call that is tested: {told}")
     if found.status == FAILED_TEST and name == PLAYING and OWN in text:
         return "own"
     if found.status == FAILED_TEST and WANTS.search(text):
         return "begins"
-    raise Otherwise(told)
+    raise Wrong(told)
 
 
 def play_in_turn(trials: Trials, program: str, number: int) -> str:
     """What came of the test of a play with each request for memory refused, one after the other."""
     outcomes = [outcome_of_test(trials, program, PLAYING, set(), place) for place in range(1, number + 1)]
-    if not WANTED_OF_PLAYING.fullmatch("".join(f"{it} " for it in outcomes)):
-        raise Otherwise(f"playing asks for memory: {outcomes}")
+    require(WANTED_OF_PLAYING.fullmatch("".join(f"{it} " for it in outcomes)), f"playing asks for memory: {outcomes}")
     return "none in the play"
 
 

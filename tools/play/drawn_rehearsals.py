@@ -1,8 +1,9 @@
 """Scripts of rehearsals that are drawn from a seed, with what arena_lab/rules/rehearsal.py prints of them."""
 import collections
 import random
-from typing import Counter, Dict, List, NamedTuple, Sequence, Tuple
+from typing import Counter, Dict, List, NamedTuple, Sequence
 
+from arena_lab.rules import networks
 from arena_lab.rules.fixtures import Fixture
 from arena_lab.rules.model import Match, Setup, spelled
 from arena_lab.rules.rehearsal import Ready, Sent, Sessions
@@ -17,21 +18,8 @@ class Drawn(NamedTuple):
     seen: Counter[str]
 
 
-def linked(nodes: int, chance: random.Random) -> List[Tuple[int, int, int, int]]:
-    """A ring with chords, and ports by chance."""
-    pairs = {(min(v, w), max(v, w)) for v, w in ((v, (v + 1) % nodes) for v in range(nodes))}
-    pairs |= {tuple(sorted(chance.sample(range(nodes), 2))) for _ in range(chance.randrange(nodes))}
-    ends: Dict[int, List[int]] = {v: [] for v in range(nodes)}
-    for pair in pairs:
-        for end in pair:
-            ends[end].append(1)
-    free = {v: chance.sample(range(len(ends[v])), len(ends[v])) for v in ends}
-    return [(v, free[v].pop(), w, free[w].pop()) for v, w in sorted(pairs)]
-
-
 def ready_by_chance(game: int, agents: int, chance: random.Random) -> Ready:
-    nodes = chance.randint(3, 12)
-    links = linked(nodes, chance)
+    nodes, links = networks.drawn(chance, 12)
     ends = [(v, p) for v, p, _, _ in links] + [(w, q) for _, _, w, q in links]
     home = chance.randrange(nodes)
     holes = chance.sample([v for v in range(nodes) if v != home], chance.randrange(3))
