@@ -1,19 +1,17 @@
 """How tools/prove/again.py compares two programs."""
 import pathlib
 import sys
-import tempfile
-import unittest
 
 from tests import needs
-from tests.support.output import ran
+from tests.support.output import InTemporary, ran
 from tools.prove import again
 
 
 @needs("readelf", "binutils")
-class Compared(unittest.TestCase):
+class Compared(InTemporary):
     def setUp(self) -> None:
-        folder = pathlib.Path(self.enterContext(tempfile.TemporaryDirectory()))
-        self.one, self.other = folder / "one", folder / "other"
+        super().setUp()
+        self.one, self.other = self.folder / "one", self.folder / "other"
         self.bytes = pathlib.Path(sys.executable).resolve().read_bytes()
         self.one.write_bytes(self.bytes)
 

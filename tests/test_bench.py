@@ -1,12 +1,11 @@
 """The inputs of the benchmarks, the words of deliveries, and the table that the contest reads."""
-import pathlib
 import subprocess
 import sys
-import tempfile
 import tomllib
 import unittest
 
 from tests import needs
+from tests.support.output import InTemporary
 from bench import compare
 from bench import figures
 from bench import inputs
@@ -18,7 +17,7 @@ from arena_lab.rules.model import Verdict
 from arena_lab.rules.networks import text_of, torus
 
 
-class Inputs(unittest.TestCase):
+class Inputs(InTemporary):
     def test_a_torus_has_each_link_once(self) -> None:
         network = tomllib.loads(text_of(torus(3, 4)))
         ends = [(v, p) for v, p, _, _ in network["links"]] + [(w, q) for _, _, w, q in network["links"]]
@@ -42,20 +41,18 @@ class Inputs(unittest.TestCase):
 
     @needs("cc", "gcc")
     def test_a_run_is_measured(self) -> None:
-        with tempfile.TemporaryDirectory() as name:
-            folder = pathlib.Path(name)
-            (folder / "in").write_text("text")
-            self.assertEqual(inputs.printed_by("cat", [], folder / "in", folder), b"text")
-            for keeps in (False, True):
-                ran = inputs.run("cat", [], folder / "in", folder, keeps)
-                self.assertGreater(ran.seconds, 0)
-                self.assertGreater(ran.processor, 0)
-                self.assertGreater(ran.peak, 100)
-            with self.assertRaises(subprocess.CalledProcessError):
-                inputs.run("false", [], folder / "in", folder)
-            words = ["-c", "held = b'x' * (32 * 1024 * 1024)"]
-            held = inputs.median_run(3, sys.executable, words, folder / "in", folder)
-            self.assertGreater(held.peak, 32 * 1024)
+        (self.folder / "in").write_text("text")
+        self.assertEqual(inputs.printed_by("cat", [], self.folder / "in", self.folder), b"text")
+        for keeps in (False, True):
+            ran = inputs.run("cat", [], self.folder / "in", self.folder, keeps)
+            self.assertGreater(ran.seconds, 0)
+            self.assertGreater(ran.processor, 0)
+            self.assertGreater(ran.peak, 100)
+        with self.assertRaises(subprocess.CalledProcessError):
+            inputs.run("false", [], self.folder / "in", self.folder)
+        words = ["-c", "held = b'x' * (32 * 1024 * 1024)"]
+        held = inputs.median_run(3, sys.executable, words, self.folder / "in", self.folder)
+        self.assertGreater(held.peak, 32 * 1024)
 
 
 class Figures(unittest.TestCase):

@@ -2,11 +2,11 @@
 import collections
 import pathlib
 import re
-import tempfile
 import tomllib
 import unittest
 from typing import Dict, Iterator, Set, Tuple
 
+from tests.support.output import InTemporary, write
 from tools.prove import contracts
 from tools.prove.clauses import CRATES, always_true, contract_of, crates_given, functions_in, without_clause
 
@@ -94,12 +94,9 @@ class ClausesTest(unittest.TestCase):
         self.assertLessEqual({"Connection::new", "Guest::let_in", "Incoming::read"}, names)
 
 
-class ContractsTest(unittest.TestCase):
+class ContractsTest(InTemporary):
     def test_functions_have_their_clauses_and_what_they_say(self) -> None:
-        with tempfile.TemporaryDirectory() as folder:
-            path = pathlib.Path(folder, "held.rt")
-            path.write_text(CODE, encoding="utf-8")
-            held, law, other = contracts.contracts_in(path)
+        held, law, other = contracts.contracts_in(write(self.folder / "held.rt", CODE))
         self.assertEqual((held.name, held.words), ("Held::count", "How many there are, with a second line."))
         self.assertEqual([list(one.clauses) for one in (held, law, other)], [["kept", "-"], ["-"], ["named"]])
         self.assertEqual(contracts.answer_of(held.signature), "Result<u8, NetFault>")

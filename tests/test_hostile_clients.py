@@ -9,7 +9,7 @@ import unittest
 from unittest import mock
 
 from arena_lab.rules.model import Match, Setup
-from tests.support.output import ran
+from tests.support.output import InTemporary, ran
 from tools.hostile import hostile_clients
 from tools.hostile.hostile_attacks import ATTACKS, Sizes, Wrong, has_heard, hear, hear_end, wait_for_lines
 from tools.hostile.hostile_clients import (LEAST_SESSIONS, Ending, check_end, check_memory, check_replays,
@@ -59,7 +59,7 @@ class Hearing(unittest.TestCase):
         self.assertRaises(Wrong, hear, self.client, b"one\n", -1.0)
 
 
-class Checks(unittest.TestCase):
+class Checks(InTemporary):
     ENDING = Ending(True, 0, 1.0, 1000, "")
 
     def test_the_end(self) -> None:
@@ -77,13 +77,11 @@ class Checks(unittest.TestCase):
         match = Match(Setup(3, [(0, 0, 1, 0), (1, 1, 2, 0), (2, 1, 0, 1)], 0, [2], 2, 10, 8))
         match.tell(0, {"do": "enter"})
         match.close()
-        with tempfile.TemporaryDirectory() as name:
-            folder = pathlib.Path(name)
-            for number, text in enumerate((match.replay(), match.replay().replace('"ports":2', '"ports":3'), "{}\n")):
-                (folder / f"match{number}.jsonl").write_text(text)
-            found = [match_of(folder, 0)]
-            for number in (1, 2, 3):
-                self.assertRaises(Wrong, match_of, folder, number)
+        for number, text in enumerate((match.replay(), match.replay().replace('"ports":2', '"ports":3'), "{}\n")):
+            (self.folder / f"match{number}.jsonl").write_text(text)
+        found = [match_of(self.folder, 0)]
+        for number in (1, 2, 3):
+            self.assertRaises(Wrong, match_of, self.folder, number)
         self.assertEqual(check_replays(found), "1 of 2 events")
         row = "  1 team-0           silent          0    0\n"
         check_table("  # team             outcome     moves lost\n" + row, found)

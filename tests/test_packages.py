@@ -10,7 +10,6 @@ import io
 import pathlib
 import re
 import subprocess
-import tempfile
 import unittest
 import zipfile
 from typing import Dict, List
@@ -19,7 +18,7 @@ from arena_lab import INSTALLED
 from arena_lab.__main__ import COMMANDS, parser
 from arena_lab.commands.spellings import SPELLINGS
 from tests import TOP, needs
-from tests.support.output import write
+from tests.support.output import InTemporary, write
 from tests.test_gate import module
 
 release = module(TOP / "tools" / "release")
@@ -81,14 +80,13 @@ def helps() -> List[object]:
     return [manual.Help("arena", "a server", FIRST), manual.Help("arena serve", "Serves a tournament.", SERVE)]
 
 
-class Manuals(unittest.TestCase):
+class Manuals(InTemporary):
     def test_options_are_those_of_the_help_text(self) -> None:
         self.assertEqual([it.options() for it in helps()], [["--help", "--version"], ["--port", "--help"]])
 
     def test_the_commands_of_a_program_are_found(self) -> None:
-        with tempfile.TemporaryDirectory() as name:
-            text = f"#!/bin/sh\n[ $1 = --help ] && cat <<'E' || cat <<'F'\n{FIRST}E\n{SERVE}F\n"
-            found = manual.of_program(str(write(pathlib.Path(name) / "arena", text, 0o755)))
+        text = f"#!/bin/sh\n[ $1 = --help ] && cat <<'E' || cat <<'F'\n{FIRST}E\n{SERVE}F\n"
+        found = manual.of_program(str(write(self.folder / "arena", text, 0o755)))
         self.assertEqual([(it.words, it.about) for it in found[1:]],
                          [("arena serve", "Serves a tournament"), ("arena check", "Reads a tournament")])
 
@@ -128,20 +126,19 @@ class Manuals(unittest.TestCase):
             self.assertNotIn("./arena\\-lab", pages[f"{INSTALLED}-{name}.1"])
 
     def test_bash_completes(self) -> None:
-        with tempfile.TemporaryDirectory() as name:
-            script = pathlib.Path(name) / "arena"
-            script.write_text(manual.completion([*helps(), *manual.of_lab()]))
+        script = self.folder / "arena"
+        script.write_text(manual.completion([*helps(), *manual.of_lab()]))
 
-            def completed(command: str, *words: str) -> List[str]:
-                ask = (f'. {script}; COMP_WORDS=({command} {" ".join(map(repr, words))}); '
-                       f'COMP_CWORD={len(words)}; _{command.replace("-", "_")}; echo "${{COMPREPLY[@]}}"')
-                ran = subprocess.run(["bash", "-c", ask], cwd=name, capture_output=True, text=True, check=True)
-                return ran.stdout.split()
-            self.assertEqual(completed("arena", "se"), ["serve"])
-            self.assertEqual(completed("arena", "serve", "--p"), ["--port"])
-            self.assertEqual(completed("arena", "serve", "are"), ["arena"])
-            self.assertEqual(completed("arena-lab", "hunt", "--any"), ["--any-home"])
-            self.assertEqual(completed("arena-lab", "repl"), ["replay"])
+        def completed(command: str, *words: str) -> List[str]:
+            ask = (f'. {script}; COMP_WORDS=({command} {" ".join(map(repr, words))}); '
+                   f'COMP_CWORD={len(words)}; _{command.replace("-", "_")}; echo "${{COMPREPLY[@]}}"')
+            ran = subprocess.run(["bash", "-c", ask], cwd=self.folder, capture_output=True, text=True, check=True)
+            return ran.stdout.split()
+        self.assertEqual(completed("arena", "se"), ["serve"])
+        self.assertEqual(completed("arena", "serve", "--p"), ["--port"])
+        self.assertEqual(completed("arena", "serve", "are"), ["arena"])
+        self.assertEqual(completed("arena-lab", "hunt", "--any"), ["--any-home"])
+        self.assertEqual(completed("arena-lab", "repl"), ["replay"])
 
 
 class Wheels(unittest.TestCase):
@@ -177,7 +174,7 @@ class Wheels(unittest.TestCase):
 
 
 @needs("dpkg-deb", "dpkg")
-class DebianPackages(unittest.TestCase):
+class DebianPackages(InTemporary):
     def packed(self, is_proved: bool = True) -> bytes:
         found = debian.files_of(files(), {"arena.1": "page\n"}, "completes\n")
         told = debian.control(found, "1.2.3", "2.34", is_proved)
@@ -185,10 +182,9 @@ class DebianPackages(unittest.TestCase):
         return made
 
     def unpacked(self, made: bytes) -> pathlib.Path:
-        folder = pathlib.Path(self.enterContext(tempfile.TemporaryDirectory()))
-        (folder / "a.deb").write_bytes(made)
-        subprocess.run(["dpkg-deb", "-R", "a.deb", "a"], cwd=folder, check=True)
-        return folder / "a"
+        (self.folder / "a.deb").write_bytes(made)
+        subprocess.run(["dpkg-deb", "-R", "a.deb", "a"], cwd=self.folder, check=True)
+        return self.folder / "a"
 
     def test_it_has_both_commands_and_the_record_of_the_proof(self) -> None:
         top = self.unpacked(self.packed())

@@ -221,9 +221,11 @@ class TestsTest(InTemporary):
     PLAY = "memory::playing::playing_takes_no_memory"
 
     def faults_of(self, *options):
-        lab = Lab(built(self.folder, "prints", PRINTS), self.folder)
-        self.kept = self.folder / "kept"
-        tests = built(self.folder, "tests", TESTS, f'-DKEPT="{self.kept}"', *self.LINKED, *options)
+        place = self.folder / "".join(options)
+        place.mkdir(exist_ok=True)
+        lab = Lab(built(place, "prints", PRINTS), place)
+        self.kept = place / "kept"
+        tests = built(place, "tests", TESTS, f'-DKEPT="{self.kept}"', *self.LINKED, *options)
         said = ran(refusals.refuse_tests, refusals.Trials(lab, refusals.Shim(), 0, 0, 2), tests).said
         self.said = said
         return lab.faults
@@ -238,21 +240,13 @@ class TestsTest(InTemporary):
         self.faults_of()
         self.assertEqual(self.kept.read_bytes(), (self.folder / "tests").read_bytes())
 
-    def test_a_test_that_gives_up(self):
-        self.assertEqual(self.faults_of("-DGIVES_UP"),
-                         ["memory::again::one, memory 2: in the call that is tested: status -6, ``"])
-
-    def test_a_test_that_ends_otherwise(self):
-        self.assertEqual(self.faults_of("-DENDS_OTHERWISE"),
-                         ["memory::again::one, memory 2: in the call that is tested: status 1, `alloc`"])
-
-    def test_a_call_that_wants_memory_again(self):
-        self.assertEqual(self.faults_of("-DANSWERS_MEMORY_AGAIN"),
-                         ["memory::again::one, memory 2: in the call that is tested: status 101, `Memory`"])
-
-    def test_a_test_must_say_what_it_tests(self):
-        self.assertEqual(self.faults_of("-DSETS_NO_MARK"),
-                         ["memory::again::one: no request is one of a call that is tested"])
+    def test_what_no_test_may_do(self):
+        told = ", memory 2: in the call that is tested: status"
+        for option, fault in (("GIVES_UP", f"{told} -6, ``"), ("ENDS_OTHERWISE", f"{told} 1, `alloc`"),
+                              ("ANSWERS_MEMORY_AGAIN", f"{told} 101, `Memory`"),
+                              ("SETS_NO_MARK", ": no request is one of a call that is tested")):
+            with self.subTest(option):
+                self.assertEqual(self.faults_of(f"-D{option}"), [f"memory::again::one{fault}"])
 
     def test_a_play_that_asks_for_memory(self):
         [fault] = self.faults_of("-DASKS_IN_THE_PLAY")

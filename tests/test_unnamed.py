@@ -1,14 +1,12 @@
 """Nothing stands in the repository that nothing names, but for what is known, and no name of a body stands twice."""
 import ast
-import pathlib
 import re
-import tempfile
 import unittest
 import unittest.mock
 from typing import Iterator, List, Tuple
 
 from tests import TOP, needs
-from tests.support.output import write
+from tests.support.output import InTemporary, write
 from tools.prove import unnamed
 
 LEMMAS = """use Rattle.a.specs.B.{C}
@@ -42,33 +40,29 @@ def programs() -> Iterator[Tuple[str, str]]:
 
 
 @needs("git", "git")
-class Unnamed(unittest.TestCase):
+class Unnamed(InTemporary):
     def test_what_is_unnamed_is_known(self) -> None:
         found, known = unnamed.unnamed(), unnamed.known()
         self.assertEqual([row for row in found if row not in known], [], "delete it, or name it")
         self.assertEqual([row for row in known if row not in found], [], "delete the row of tools/prove/known_unnamed")
 
     def test_a_lemma_that_only_its_own_lines_name_is_found(self) -> None:
-        with tempfile.TemporaryDirectory() as name:
-            crates = pathlib.Path(name)
-            file, other = crates / "one" / "proofs" / "Lemmas.antt", crates / "two" / "proofs" / "Other.antt"
-            for path, text in ((file, LEMMAS), (other, IMPORTS)):
-                write(path, text)
-            with unittest.mock.patch.object(unnamed, "CRATES", crates):
-                self.assertEqual(list(unnamed.definitions(file)), ["uses", "never_used", "Named"])
-                self.assertEqual(set(unnamed.named_in(other)),
-                                 {("one.proofs.Lemmas", "uses"), ("one.proofs.Lemmas", "Named")})
+        file, other = self.folder / "one" / "proofs" / "Lemmas.antt", self.folder / "two" / "proofs" / "Other.antt"
+        for path, text in ((file, LEMMAS), (other, IMPORTS)):
+            write(path, text)
+        with unittest.mock.patch.object(unnamed, "CRATES", self.folder):
+            self.assertEqual(list(unnamed.definitions(file)), ["uses", "never_used", "Named"])
+            self.assertEqual(set(unnamed.named_in(other)),
+                             {("one.proofs.Lemmas", "uses"), ("one.proofs.Lemmas", "Named")})
 
 
     def test_a_definition_that_another_crate_has_under_another_name_is_found(self) -> None:
-        with tempfile.TemporaryDirectory() as folder:
-            crates = pathlib.Path(folder) / "crates"
-            for crate, name in (("one", "f"), ("two", "g"), ("three", "short")):
-                text = f"-- {crate}\n{name} : ℕ → ℕ\n{name} n = {name} (n + 1" + " + 1" * (3 if name == "short" else 60)
-                write(crates / crate / "proofs" / "Lemmas.antt", f"{text})\n")
-            with unittest.mock.patch.multiple(unnamed, CRATES=crates, TOP=pathlib.Path(folder)):
-                self.assertEqual(list(unnamed.twice()),
-                                 ["crates/one/proofs/Lemmas.antt f = crates/two/proofs/Lemmas.antt g"])
+        for crate, name in (("one", "f"), ("two", "g"), ("three", "short")):
+            text = f"-- {crate}\n{name} : ℕ → ℕ\n{name} n = {name} (n + 1" + " + 1" * (3 if name == "short" else 60)
+            write(self.folder / "crates" / crate / "proofs" / "Lemmas.antt", f"{text})\n")
+        with unittest.mock.patch.multiple(unnamed, CRATES=self.folder / "crates", TOP=self.folder):
+            self.assertEqual(list(unnamed.twice()),
+                             ["crates/one/proofs/Lemmas.antt f = crates/two/proofs/Lemmas.antt g"])
 
 
 def names_in(body: List[ast.stmt]) -> List[str]:

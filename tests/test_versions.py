@@ -1,9 +1,10 @@
 """The version of the project stands in the file VERSION; what says it elsewhere says the same."""
-import pathlib
 import re
 import unittest
 
-TOP = pathlib.Path(__file__).resolve().parent.parent
+from tests import TOP
+from tools import version
+
 VERSION = (TOP / "VERSION").read_text().strip()
 
 
@@ -15,6 +16,8 @@ class Versions(unittest.TestCase):
     def test_the_newest_changes_have_it(self) -> None:
         headings = re.findall(r"^## (\S+)", (TOP / "CHANGELOG.md").read_text(), re.M)
         self.assertEqual(headings[0].rstrip(","), VERSION)
+        self.assertRegex(VERSION, r"^\d+\.\d+\.\d+$")
+        self.assertEqual(version.version(), VERSION)
 
     def test_who_cites_it_names_it(self) -> None:
         cited = re.findall(r"^version: (\S+)$", (TOP / "CITATION.cff").read_text(), re.M)

@@ -7,7 +7,6 @@ import json
 import pathlib
 import random
 import tarfile
-import tempfile
 import unittest
 import zipfile
 from typing import Any, Dict, List, Optional, Set, Tuple
@@ -29,6 +28,7 @@ from arena_lab.rules.networks import ring
 from arena_lab.support.fields import WrongFile
 from arena_lab.tests.hall.work_model import EVENTS, STATES, JobState, after, rows
 from arena_lab.tests.needing import needs
+from tests.support.output import InTemporary
 
 COURSE = 'title = "x"\n[[network]]\nname = "it"\nnetwork = "ring:5"\n'
 HAND_INS = '[hand_ins]\ncommand = "python3 agent.py {host} {port} {key}"\nnetworks = ["ring:5"]\n'
@@ -162,7 +162,7 @@ class Courses(unittest.TestCase):
                 self.read(COURSE + HAND_INS.replace("python3 agent.py {host} {port} {key}", other))
 
 
-class Draws(unittest.TestCase):
+class Draws(InTemporary):
     """Each attempt has draws of its own."""
 
     def test_what_is_drawn_for_one_attempt_tells_nothing_of_another(self) -> None:
@@ -187,17 +187,15 @@ class Draws(unittest.TestCase):
                          [(ring(6).links, None)] * 2)
 
     def test_files_of_a_match_are_the_halls_alone(self) -> None:
-        with tempfile.TemporaryDirectory() as name:
-            folder = pathlib.Path(name) / "match0"
-            net = Net("ring", "ring:6", ring(6), 2, 1, 100, 40, DRAWN, False)
-            seeds = set()
-            for number in range(3):
-                write(drawn(net, "amber"), folder / str(number))
-                text = (folder / str(number) / TOURNAMENT).read_text()
-                seeds.add(text.split('"')[1])
-                self.assertEqual((folder / str(number) / TOURNAMENT).stat().st_mode & 0o077, 0)
-                self.assertEqual((folder / str(number)).stat().st_mode & 0o077, 0)
-            self.assertEqual(len(seeds), 3)
+        net = Net("ring", "ring:6", ring(6), 2, 1, 100, 40, DRAWN, False)
+        seeds = set()
+        for number in range(3):
+            place = self.folder / "match0" / str(number)
+            write(drawn(net, "amber"), place)
+            seeds.add((place / TOURNAMENT).read_text().split('"')[1])
+            self.assertEqual((place / TOURNAMENT).stat().st_mode & 0o077, 0)
+            self.assertEqual(place.stat().st_mode & 0o077, 0)
+        self.assertEqual(len(seeds), 3)
 
 
 class Rules(unittest.TestCase):
@@ -263,13 +261,12 @@ class Unpacking(unittest.TestCase):
                 pass
 
 
-class Seen(unittest.TestCase):
+class Seen(InTemporary):
     """What a team sees of a match that goes on is what its agents were told."""
 
     def setUp(self) -> None:
-        folder = tempfile.TemporaryDirectory()
-        self.addCleanup(folder.cleanup)
-        self.path = pathlib.Path(folder.name) / "m0.jsonl.part"
+        super().setUp()
+        self.path = self.folder / "m0.jsonl.part"
 
     def match(self, hole: int) -> Match:
         return Match(Setup(6, ring(6).links, 0, [hole], 2, 100, 40))
@@ -341,46 +338,42 @@ class Seen(unittest.TestCase):
         self.assertIsNone(ended(self.path.with_name("none")))
 
 
-class Commands(unittest.TestCase):
+class Commands(InTemporary):
     """The file of a course that `hall new` writes, and backups."""
 
     @needs("networkx")
     def test_its_times_are_those_of_the_machine(self) -> None:
-        with tempfile.TemporaryDirectory() as name:
-            folder = pathlib.Path(name)
-            berlin, clock = folder / "zoneinfo/Europe/Berlin", folder / "localtime"
-            berlin.parent.mkdir(parents=True)
-            for place in (berlin, folder / "a-copy"):
-                place.touch()
-                clock.symlink_to(place)
-                course = folder / f"{place.name}.toml"
-                with mock.patch.object(hall, "LOCAL_TIME", str(clock)), contextlib.redirect_stdout(io.StringIO()):
-                    hall.write_new(course)
-                clock.unlink()
-                self.assertEqual(read(course).zone, "Europe/Berlin" if place == berlin else "UTC")
+        berlin, clock = self.folder / "zoneinfo/Europe/Berlin", self.folder / "localtime"
+        berlin.parent.mkdir(parents=True)
+        for place in (berlin, self.folder / "a-copy"):
+            place.touch()
+            clock.symlink_to(place)
+            course = self.folder / f"{place.name}.toml"
+            with mock.patch.object(hall, "LOCAL_TIME", str(clock)), contextlib.redirect_stdout(io.StringIO()):
+                hall.write_new(course)
+            clock.unlink()
+            self.assertEqual(read(course).zone, "Europe/Berlin" if place == berlin else "UTC")
 
     def test_a_backup_goes_on_behind_files_that_are_gone_meanwhile(self) -> None:
         """A part of a replay has become the replay, and the folder of a grading has its results' name."""
-        with tempfile.TemporaryDirectory() as name:
-            folder = pathlib.Path(name)
-            place = HallFolder(folder / "it.hall", folder / "it.toml", None)
-            place.write()
-            place.course.write_text(COURSE)
-            (folder / "hall.sqlite3").touch()
-            (place.folder / "attempts").mkdir()
-            for file in ("log.txt", "m0.jsonl.part"):
-                (place.folder / "attempts" / file).touch()
-            kept = backup.kept
+        place = HallFolder(self.folder / "it.hall", self.folder / "it.toml", None)
+        place.write()
+        place.course.write_text(COURSE)
+        (self.folder / "hall.sqlite3").touch()
+        (place.folder / "attempts").mkdir()
+        for file in ("log.txt", "m0.jsonl.part"):
+            (place.folder / "attempts" / file).touch()
+        kept = backup.kept
 
-            def gone(entry: Any) -> Any:
-                for path in (place.folder / "attempts").iterdir():
-                    if entry.name.startswith("it.hall/attempts/") and not entry.name.endswith(path.name):
-                        path.unlink()
-                return kept(entry)
-            with mock.patch.object(backup, "dumped", return_value=folder / "hall.sqlite3"), \
-                    mock.patch.object(backup, "kept", gone):
-                archive = backup.write(place, folder / "it.tar.gz")
-            with tarfile.open(archive) as tar:
-                found = tar.getnames()
-            self.assertEqual(sum(it.startswith("it.hall/attempts/") for it in found), 1)
-            self.assertLessEqual({"it.toml", "it.hall/hall.sqlite3", "it.hall/hall.json"}, set(found))
+        def gone(entry: Any) -> Any:
+            for path in (place.folder / "attempts").iterdir():
+                if entry.name.startswith("it.hall/attempts/") and not entry.name.endswith(path.name):
+                    path.unlink()
+            return kept(entry)
+        with mock.patch.object(backup, "dumped", return_value=self.folder / "hall.sqlite3"), \
+                mock.patch.object(backup, "kept", gone):
+            archive = backup.write(place, self.folder / "it.tar.gz")
+        with tarfile.open(archive) as tar:
+            found = tar.getnames()
+        self.assertEqual(sum(it.startswith("it.hall/attempts/") for it in found), 1)
+        self.assertLessEqual({"it.toml", "it.hall/hall.sqlite3", "it.hall/hall.json"}, set(found))
