@@ -13,7 +13,6 @@ import argparse
 import json
 import os
 import pathlib
-import re
 import resource
 import subprocess
 import tempfile
@@ -27,6 +26,7 @@ from arena_lab.rules.fixtures import Fixture, write_tournament
 from arena_lab.search.findings import Finding, Solves, finding_of
 from arena_lab.search.machines import Machines
 from arena_lab.search.program_search import ProgramRun, asked, program_words
+from bench.inputs import peak_so_far
 
 TOP = pathlib.Path(__file__).resolve().parents[1]
 PROGRAM = os.environ.get("ARENA", str(TOP / "arena"))
@@ -102,14 +102,8 @@ def watched(child: "subprocess.Popen[bytes]") -> Tuple[float, float]:
         if ended:
             child.returncode = os.waitstatus_to_exitcode(status)
             return used.ru_utime + used.ru_stime, peak
-        peak = max(peak, peak_of(child.pid))
+        peak = max(peak, peak_so_far(child) / 1024)
         time.sleep(PAUSE)
-
-
-def peak_of(process: int) -> float:
-    """The most megabytes that a process has taken so far."""
-    found = re.search(r"VmHWM:\s+(\d+) kB", pathlib.Path(f"/proc/{process}/status").read_text())
-    return int(found[1]) / 1024 if found else 0.0
 
 
 def processor_seconds() -> float:

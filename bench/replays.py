@@ -25,14 +25,13 @@ divided by that of OTHER. Both must print the same bytes; where they do not, tha
 """
 import argparse
 import pathlib
-import statistics
 import subprocess
 import sys
 import tempfile
 from typing import Any, Callable, Dict, Iterator, List, NamedTuple, Optional, Sequence, TextIO, Tuple
 
-from bench.compare import compared
-from bench.inputs import MAX_AGENTS, MAX_BOARD, MAX_QUOTA, Run, median_run, run
+from bench.compare import line_of
+from bench.inputs import MAX_AGENTS, MAX_BOARD, MAX_QUOTA, median_run, run
 from arena_lab.rules.model import spelled
 from arena_lab.rules.networks import torus
 
@@ -212,14 +211,6 @@ def print_the_same(programs: Sequence[str], words: Sequence[str], folder: pathli
     return same
 
 
-def line_of(word: str, runs: Sequence[Sequence[Run]]) -> str:
-    """What is printed of a command: its runs are pairs, one of each program."""
-    times = compared(statistics.median, [[it.seconds for it in both] for both in runs])
-    processors = compared(min, [[it.processor for it in both] for both in runs])
-    peaks = [statistics.median(it.peak for it in each) for each in zip(*runs)]
-    return f"  {word}: {times}; processor {processors}; peak {peaks[0]} KiB, {peaks[1]} KiB"
-
-
 def beside(programs: Sequence[str], kind: Kind, rounds: int, folder: pathlib.Path) -> bool:
     """Times two programs on one kind, in turn; answers whether they print the same, and `judge` what it should."""
     name = "replay.jsonl"
@@ -227,7 +218,7 @@ def beside(programs: Sequence[str], kind: Kind, rounds: int, folder: pathlib.Pat
     right = all([is_judged(program, kind, kind.commands, name, folder) for program in programs])
     for words in commands_on(name):
         runs = [[run(program, words, folder / "empty", folder) for program in programs] for _ in range(rounds)]
-        print(line_of(words[0], runs), flush=True)
+        print(line_of(f"  {words[0]}", runs), flush=True)
         right = print_the_same(programs, words, folder) and right
     (folder / name).unlink()
     return right

@@ -10,7 +10,7 @@ import sys
 import tempfile
 
 from tests.support.counts import concluded
-from tools.play.module_cases import RING, is_harmless
+from tools.play.module_cases import is_harmless
 from tools.play.program_rows import Stage
 
 
@@ -22,7 +22,7 @@ def main() -> int:
     with tempfile.TemporaryDirectory(prefix="modules-") as folder:
         stage = Stage(program, pathlib.Path(folder))
         for seed in range(count):
-            if not is_harmless(stage, RING, seed):
+            if not is_harmless(stage, seed):
                 print(f"FAILED seed {seed}", flush=True)
                 failed += 1
     return concluded(count - failed, failed)

@@ -100,10 +100,14 @@ def explored(stage: Stage, agents: Sequence[Agent], *words: object, quota: int =
 
 # Agents.
 
+def in_turn(history: List[str], *steps: Step) -> Step:
+    """Of these steps the one after all that has happened; an agent that has done all of them stops."""
+    return steps[len(history)] if len(history) < len(steps) else STOPS
+
+
 def solves(agent: int, history: List[str]) -> Step:
     """Enters, goes to node 1 and accuses the link to node 2: the match is solved in one move."""
-    steps = (enter(agent), say("depart", port=0), STOPS, say("accuse", port=1))
-    return steps[len(history)] if len(history) < len(steps) else STOPS
+    return in_turn(history, enter(agent), say("depart", port=0), STOPS, say("accuse", port=1))
 
 
 def races(agent: int, history: List[str]) -> Step:
@@ -117,13 +121,12 @@ def races(agent: int, history: List[str]) -> Step:
         return say("leave") if len(history) == 2 else STOPS
     if heard(history[1])["ok"] == "changed":
         return say("accuse", port=0) if len(history) == 2 else STOPS
-    steps = (say("depart", port=0), STOPS, say("accuse", port=1))
-    return steps[len(history) - 2] if len(history) < 5 else STOPS
+    return in_turn(history[2:], say("depart", port=0), STOPS, say("accuse", port=1))
 
 
 def is_lost(agent: int, history: List[str]) -> Step:
     """Enters the black hole."""
-    return (enter(agent), say("depart", port=1), STOPS)[min(len(history), 2)]
+    return in_turn(history, enter(agent), say("depart", port=1))
 
 
 def stops(_history: List[str]) -> Step:
@@ -195,8 +198,8 @@ def walks_or_is_lost(history: List[str]) -> Step:
 
 
 def writes_and_solves(history: List[str]) -> Step:
-    steps = (enter(0), say("write", expect="", put="x"), say("depart", port=0), STOPS, say("accuse", port=1))
-    return steps[len(history)] if len(history) < len(steps) else STOPS
+    return in_turn(history, enter(0), say("write", expect="", put="x"), say("depart", port=0), STOPS,
+                   say("accuse", port=1))
 
 
 @case("a hunt for lost agents tells a schedule under which one is lost, and a hunt for moves one with the most")
@@ -256,8 +259,7 @@ def starved(stage: Stage) -> None:
 
 def walks_once(agent: int, history: List[str]) -> Step:
     """Goes to node 1 and writes there."""
-    steps = (enter(agent), say("depart", port=0), STOPS, say("write", expect="", put=str(agent)))
-    return steps[len(history)] if len(history) < len(steps) else STOPS
+    return in_turn(history, enter(agent), say("depart", port=0), STOPS, say("write", expect="", put=str(agent)))
 
 
 @case("of two agents on links the one arrives first that departed last")
@@ -279,8 +281,7 @@ def looks_and_solves(history: List[str]) -> Step:
         return say("look")
     if heard(history[5])["board"]:
         return say("accuse", port=0) if len(history) == 6 else STOPS
-    steps = (say("depart", port=0), STOPS, say("accuse", port=1))
-    return steps[len(history) - 6] if len(history) < 9 else STOPS
+    return in_turn(history[6:], say("depart", port=0), STOPS, say("accuse", port=1))
 
 
 def sleeps_and_writes(history: List[str]) -> Step:
@@ -289,7 +290,7 @@ def sleeps_and_writes(history: List[str]) -> Step:
         return enter(1)
     if len(history) < 6:
         return SLEEPS
-    return (say("write", expect="", put="x"), say("leave"), STOPS)[min(len(history) - 6, 2)]
+    return in_turn(history[6:], say("write", expect="", put="x"), say("leave"))
 
 
 @case("sleepers wake seldom beside slow agents, in some schedules ten times as seldom as in others")
@@ -316,7 +317,7 @@ def second_fails(stage: Stage) -> None:
 
 def sends(line: bytes) -> Agent:
     """Enters, sends this line and stops."""
-    return lambda history: (enter(0), line, STOPS)[min(len(history), 2)]
+    return lambda history: in_turn(history, enter(0), line)
 
 
 @case("a line that is longer than a server takes is denied, and a long text is written")
@@ -378,9 +379,8 @@ def waits(patience: int, history: List[str]) -> Step:
 
 def walks_and_writes(history: List[str]) -> Step:
     """Agent 0 goes to node 1 and back, writes at home, and accuses the black hole."""
-    steps = (enter(0), say("depart", port=0), STOPS, say("depart", port=0), STOPS, say("write", expect="", put="x"),
-             say("accuse", port=1))
-    return steps[len(history)] if len(history) < len(steps) else STOPS
+    return in_turn(history, enter(0), say("depart", port=0), STOPS, say("depart", port=0), STOPS,
+                   say("write", expect="", put="x"), say("accuse", port=1))
 
 
 @case("solves is said of agents that nap so often, and its commands and turns are theirs")

@@ -1,15 +1,15 @@
 """Cases of `arena explore --module`: a search that solves, files that are refused, agents that fail, files with changed
 bytes, and each instruction on integers as node's own WebAssembly has it."""
 import hashlib
-import pathlib
 import random
 import shutil
 import subprocess
 import sys
 import unittest
-from typing import Dict, List
+from typing import Dict, List, Sequence
 
 from tests.support.counts import require
+from tests.support.servers import Run
 from tools.play.program_cases import CRAMPED, CUP, NO_MEMORY, TOP, TRIANGLE, case, writes
 from tools.play.program_rows import DONE, REFUSED_TEXT, Stage, Wrong, expect
 from tools.play.wasm_modules import Call, Function, checks, constant, in_memory, module, numeric, told_by_node
@@ -35,22 +35,24 @@ GROWTH = 100
 STATES = '{"states":%d,"memories":%d,"stances":%d,"boards":1}\n'
 
 
-def explores(stage: Stage, agent: bytes, printed: str, status: int, failure: str = "", arguments: str = "") -> None:
-    """Agents that run this module on a triangle come to this, and the module is named by its digest."""
+def tried(stage: Stage, agent: bytes, *words: str, arguments: str = "", front: Sequence[str] = ()) -> Run:
+    """What comes of agents that run this module on a triangle."""
     writes(stage, tri=TRIANGLE, cup=CUP)
     (stage.folder / "agent.wasm").write_bytes(agent)
+    word = f"agent.wasm:{arguments}" if arguments else "agent.wasm"
+    return stage.run(["explore", "cup.toml", "0", *words, "--module", word], b"", front)
+
+
+def explores(stage: Stage, agent: bytes, printed: str, status: int, failure: str = "", arguments: str = "") -> None:
+    """Agents that run this module on a triangle come to this, and the module is named by its digest."""
     digest = hashlib.sha256(agent).hexdigest()
     line = f'{{"module":"{digest}","arguments":[{arguments}]{failure}}}\n'
-    word = f"agent.wasm:{arguments}" if arguments else "agent.wasm"
-    expect(stage.run(["explore", "cup.toml", "0", "--module", word], b""), (printed + line).encode(), b"", status)
+    expect(tried(stage, agent, arguments=arguments), (printed + line).encode(), b"", status)
 
 
 def refuses(stage: Stage, agent: bytes, fault: str) -> None:
     """A file is refused in one line."""
-    writes(stage, tri=TRIANGLE, cup=CUP)
-    (stage.folder / "agent.wasm").write_bytes(agent)
-    expect(stage.run(["explore", "cup.toml", "0", "--module", "agent.wasm"], b""), b"",
-           f"agent.wasm: {fault}\n".encode(), REFUSED_TEXT)
+    expect(tried(stage, agent), b"", f"agent.wasm: {fault}\n".encode(), REFUSED_TEXT)
 
 
 def running(body: bytes, *imports: str) -> bytes:
@@ -139,10 +141,8 @@ def for_each(stage: Stage) -> None:
 
 @case("agents write and read any text in UTF-8, and fail with bytes that are not UTF-8")
 def texts(stage: Stage) -> None:
-    writes(stage, tri=TRIANGLE, cup=CUP)
     for text, found in (*((it, b"silent") for it in TEXTS), *((it, b"command") for it in NOT_TEXTS)):
-        (stage.folder / "agent.wasm").write_bytes(writing(text))
-        ran = stage.run(["explore", "cup.toml", "0", "--module", "agent.wasm"], b"")
+        ran = tried(stage, writing(text))
         if ran.status != FAILING or found not in ran.printed:
             raise Wrong(f"{text!r}: {ran.status}: {ran.printed!r} {ran.told!r}")
 
@@ -158,15 +158,13 @@ def writing(text: bytes) -> bytes:
 
 @case("agents whose memory grows are explored until memory runs out, and no longer")
 def grown(stage: Stage) -> None:
-    writes(stage, tri=TRIANGLE, cup=CUP)
     enters, looks = (CALL + bytes([place]) + DROP for place in range(2))
     # what a memory has of zeros takes no room where it is saved
     first = SIZE + constant(I32, GROWTH) + SUBTRACT + constant(I32, 65_536) + MULTIPLY
     grows = constant(I32, GROWTH) + GROW + DROP + first + constant(I32, 1) + constant(I32, GROWTH * 65_536) + FILL
-    (stage.folder / "agent.wasm").write_bytes(running(enters + LOOP + grows + looks + AGAIN + END, "enter", "look"))
+    agent = running(enters + LOOP + grows + looks + AGAIN + END, "enter", "look")
     front = [sys.executable, "-c", CRAMPED, str(200 << 20)]
-    expect(stage.run(["explore", "cup.toml", "0", "--module", "agent.wasm"], front=front), b"",
-           b"agent.wasm: memory\n", NO_MEMORY)
+    expect(tried(stage, agent, front=front), b"", b"agent.wasm: memory\n", NO_MEMORY)
 
 
 @case("a file that is no module of agents is refused by what is wrong and where")
@@ -217,18 +215,16 @@ def with_section(kind: int, body: bytes) -> bytes:
 @case("files with changed bytes are explored or refused")
 def changed(stage: Stage) -> None:
     for seed in range(CHANGED):
-        require(is_harmless(stage, RING, seed), f"seed {seed}")
+        require(is_harmless(stage, seed), f"seed {seed}")
 
 
-def is_harmless(stage: Stage, file: pathlib.Path, seed: int) -> bool:
-    """Whether a file whose bytes are changed by a seed is explored, or refused in a line."""
-    writes(stage, tri=TRIANGLE, cup=CUP)
-    draw, whole = random.Random(seed), file.read_bytes()
-    agent = bytearray(whole)
+def is_harmless(stage: Stage, seed: int) -> bool:
+    """Whether the sample module with bytes that are changed by a seed is explored, or refused in a line."""
+    draw, agent = random.Random(seed), bytearray(RING.read_bytes())
     for _ in range(draw.randrange(1, 4)):
         agent[draw.randrange(len(agent))] = draw.randrange(256)
-    (stage.folder / "agent.wasm").write_bytes(agent[:draw.randrange(len(agent))] if seed % 5 == 0 else agent)
-    ran = stage.run(["explore", "cup.toml", "0", "--max-states", "2000", "--module", "agent.wasm:3"], b"")
+    whole_or_cut = agent[:draw.randrange(len(agent))] if seed % 5 == 0 else agent
+    ran = tried(stage, bytes(whole_or_cut), "--max-states", "2000", arguments="3")
     return ran.status in (DONE, FAILING, REFUSED_TEXT) and bool(ran.printed or ran.told)
 
 
