@@ -14,7 +14,6 @@ answered; and the hall's processor seconds. A course has 600 attempts an hour; f
 import argparse
 import contextlib
 import http.client
-import io
 import os
 import pathlib
 import random
@@ -22,12 +21,11 @@ import statistics
 import tempfile
 import threading
 import time
-import zipfile
 from collections import Counter
 from typing import Any, Callable, Dict, Iterator, List
 
-from arena_lab.rules.engines import TOP, program_at
-from arena_lab.tests.hall.halls import Served, play
+from arena_lab.rules.engines import program_at
+from arena_lab.tests.hall.halls import Served, play, sample_program
 
 # seconds between two looks at a match, and at a program that is to be graded: a team has 120 requests a minute
 SEED, FLOODS, EVERY, SELDOM = 5, 8, 1.0, 5.0
@@ -43,7 +41,6 @@ network = "ring:8"
 command = "python3 agent.py {{host}} {{port}} {{key}} {{nodes}}"
 networks = ["ring:8"]
 """
-SAMPLES = TOP / "examples" / "agents"
 
 
 class Load:
@@ -76,7 +73,7 @@ class Load:
     def hand_in(self, name: str) -> None:
         """Hands in the sample agent, and waits until it is graded."""
         began = time.monotonic()
-        told = self._hall.hand_in(self._tokens[name], program_of_sample())
+        told = self._hall.hand_in(self._tokens[name], sample_program())
         if told.status != 201:
             self.outcomes[f"hand-in refused {told.status}"] += 1
             return
@@ -138,15 +135,6 @@ def served(teams: int) -> Iterator[Served]:
             yield hall
         finally:
             hall.stop()
-
-
-def program_of_sample() -> bytes:
-    """The sample agent as a zip."""
-    made = io.BytesIO()
-    with zipfile.ZipFile(made, "w") as archive:
-        archive.write(SAMPLES / "ring.py", "agent.py")
-        archive.write(SAMPLES / "client.py", "client.py")
-    return made.getvalue()
 
 
 def told(values: List[float]) -> str:

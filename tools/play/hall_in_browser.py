@@ -16,9 +16,7 @@ from typing import Any, List
 from selenium import webdriver
 from selenium.webdriver.support.ui import WebDriverWait
 
-from arena_lab.rules.engines import TOP
 from arena_lab.tests.hall import halls
-from arena_lab.tests.hall.test_hall import zipped
 from tools.play.watch_in_browser import SECONDS, browser
 
 WIDE, PHONE = (1200, 900), (400, 850)
@@ -98,10 +96,8 @@ class Walk:
 
     def hand_in(self, folder: pathlib.Path) -> None:
         """A program that is handed in and graded."""
-        agents = TOP / "examples" / "agents"
         path = folder / "program.zip"
-        path.write_bytes(zipped({"agent.py": (agents / "ring.py").read_bytes(),
-                                 "client.py": (agents / "client.py").read_bytes()}))
+        path.write_bytes(halls.sample_program())
         self.open("/hand-ins")
         self.find("input[type=file]").send_keys(str(path))
         self.find("form.take button").click()

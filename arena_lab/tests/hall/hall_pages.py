@@ -3,6 +3,7 @@ stand. Django begins when this is loaded."""
 import json
 import shutil
 from typing import Any
+from unittest import mock
 
 from arena_lab.hall import machine
 from arena_lab.rules.model import Match as Played
@@ -12,6 +13,8 @@ from arena_lab.tests.hall import halls
 
 PLACE = halls.begun()
 
+from django.conf import settings  # noqa: E402
+from django.core.files.uploadedfile import SimpleUploadedFile  # noqa: E402
 from django.test import Client, TestCase  # noqa: E402
 from django.utils import timezone, translation  # noqa: E402
 
@@ -60,6 +63,11 @@ class Hall(TestCase):
         header = {"HTTP_AUTHORIZATION": f"Bearer {self.tokens[name]}"} if name else {}
         return ask(path, **more, **header, **given)
 
+    def hand_in(self, sent: bytes, name: str = "amber", **fields: Any) -> Any:
+        """What a team is answered that hands this in as a file, for the course or for the contest of a number."""
+        return Client().post("/api/hand-ins", {"file": SimpleUploadedFile("agent.py", sent), **fields},
+                             HTTP_AUTHORIZATION=f"Bearer {self.tokens[name]}")
+
     def running(self, match: Any, name: str = "amber") -> Attempt:
         """An attempt whose match goes on like this one."""
         made = Attempt.objects.create(team=self.team(name), network="ring of 5", runs=1,
@@ -82,6 +90,16 @@ class Hall(TestCase):
         Match.objects.filter(pk=found.pk).update(outcome="solved", moves=7, lost=1)
         Attempt.objects.filter(pk=made.pk).update(state=machine.OVER, ended=timezone.now(), holder="")
         return Attempt.objects.get(pk=made.pk)
+
+
+def halled(**given: Any) -> Any:
+    """A hall whose file says this, while the block goes on."""
+    return mock.patch.object(settings, "HALL", settings.HALL._replace(**given))
+
+
+def stopped_clock() -> Any:
+    """No time passes, in which one has more requests."""
+    return mock.patch.object(guards, "time", mock.Mock(monotonic=lambda: 1_000.0))
 
 
 def graded(name: str, solved: int = 1, moves: int = 7, is_secret: bool = False, contest: Any = None) -> Any:

@@ -3,6 +3,7 @@ import atexit
 import contextlib
 import csv
 import http.client
+import io
 import json
 import os
 import pathlib
@@ -14,6 +15,7 @@ import sys
 import tempfile
 import time
 import unittest
+import zipfile
 from typing import Any, Callable, Dict, Iterator, List, Optional
 
 from arena_lab.hall.place import HallFolder
@@ -105,6 +107,15 @@ class Told:
         return json.loads(self.body)
 
 
+def told_by(port: int, how: str, path: str, headers: Dict[str, str], body: Optional[bytes] = None) -> Told:
+    """What the web server on a port of this machine answers."""
+    connection = http.client.HTTPConnection("127.0.0.1", port, timeout=SECONDS)
+    with contextlib.closing(connection):
+        connection.request(how, path, body, headers)
+        answer = connection.getresponse()
+        return Told(answer.status, answer.headers, answer.read())
+
+
 class Served:
     """A hall that is served, with its processes."""
 
@@ -171,14 +182,8 @@ class Served:
 
     def send(self, how: str, path: str, token: str = "", body: Optional[bytes] = None, kind: str = "") -> Told:
         """Asks with a body of this media type, if there is one."""
-        connection = http.client.HTTPConnection("127.0.0.1", self.port, timeout=SECONDS)
-        with contextlib.closing(connection):
-            headers = {"Authorization": f"Bearer {token}"} if token else {}
-            if body is not None:
-                headers["Content-Type"] = kind
-            connection.request(how, path, body, headers)
-            answer = connection.getresponse()
-            return Told(answer.status, answer.headers, answer.read())
+        headers = {"Authorization": f"Bearer {token}"} if token else {}
+        return told_by(self.port, how, path, {**headers, **({"Content-Type": kind} if kind else {})}, body)
 
     def hand_in(self, token: str, sent: bytes) -> Told:
         """Hands in a program, as a zip."""
@@ -258,11 +263,30 @@ def served(more: str = "", **given: Any) -> Iterator[Served]:
             hall.stop()
 
 
+class Playing(unittest.TestCase):
+    """Tests that start agents of a hall's matches."""
+
+    def ended(self, agents: List[Any]) -> None:
+        """Ends these agents with the test."""
+        for agent in agents:
+            self.addCleanup(agent.wait)
+            self.addCleanup(agent.kill)
+
+
 def play(told: Dict[str, Any]) -> List["subprocess.Popen[bytes]"]:
     """Starts the sample agents of an attempt on a ring."""
     return [subprocess.Popen([sys.executable, str(TOP / "examples/agents/ring.py"), match["host"], str(match["port"]),
                               key, str(told["facts"]["nodes"])], stdout=subprocess.DEVNULL, stderr=subprocess.DEVNULL)
             for match in told["matches"] for key in match["keys"]]
+
+
+def sample_program() -> bytes:
+    """The sample agent of rings as a zip, as a team hands it in."""
+    made = io.BytesIO()
+    with zipfile.ZipFile(made, "w") as archive:
+        for name, entry in (("ring.py", "agent.py"), ("client.py", "client.py")):
+            archive.write(TOP / "examples" / "agents" / name, entry)
+    return made.getvalue()
 
 
 def came(told: Dict[str, Any]) -> Any:

@@ -1,7 +1,6 @@
 """A hall that is served: matches from the request to the page, hand-ins, and processes that are killed."""
 import concurrent.futures
 import contextlib
-import http.client
 import os
 import pathlib
 import shutil
@@ -49,7 +48,7 @@ def setUpModule() -> None:
     HALL.append(unittest.enterModuleContext(halls.served()))
 
 
-class Halls(unittest.TestCase):
+class Halls(halls.Playing):
     """Tests of one hall, which is served meanwhile."""
 
     hall: Served
@@ -57,11 +56,6 @@ class Halls(unittest.TestCase):
 
     def setUp(self) -> None:
         self.hall, self.tokens = HALL[0], HALL[0].tokens()
-
-    def ended(self, agents: List[Any]) -> None:
-        for agent in agents:
-            self.addCleanup(agent.wait)
-            self.addCleanup(agent.kill)
 
 
 class Matches(Halls):
@@ -133,11 +127,7 @@ class Matches(Halls):
         """What a form is answered, whose secret is in a cookie."""
         headers = {"Cookie": cookie, "X-CSRFToken": cookie.partition("=")[2].partition(";")[0],
                    "Content-Type": "application/x-www-form-urlencoded"}
-        connection = http.client.HTTPConnection("127.0.0.1", self.hall.port, timeout=halls.SECONDS)
-        with contextlib.closing(connection):
-            connection.request("POST", path, form, headers)
-            answer = connection.getresponse()
-            return halls.Told(answer.status, answer.headers, answer.read())
+        return halls.told_by(self.hall.port, "POST", path, headers, form.encode())
 
 
 class HandIns(Halls):

@@ -30,7 +30,7 @@ from unittest import mock
 
 from arena_lab.hall import machine
 from arena_lab.hall.attempts import seen
-from arena_lab.tests.hall.hall_pages import PLACE, Hall, graded, played
+from arena_lab.tests.hall.hall_pages import PLACE, Hall, graded, halled, played, stopped_clock
 from arena_lab.tests.hall.test_hall import zipped
 
 from django.conf import settings
@@ -43,7 +43,6 @@ from django.utils import timezone
 from arena_lab.hall.attempts.models import Attempt
 from arena_lab.hall.handins import taking
 from arena_lab.hall.handins.models import Contest, Grading, HandIn
-from arena_lab.hall.teams import guards
 from arena_lab.hall.teams.guards import TRIES
 from arena_lab.hall.teams.models import Message, Team
 from arena_lab.hall.teams.views import MOST_WAITING
@@ -56,10 +55,8 @@ class Requests(Hall):
 
     def setUp(self) -> None:
         super().setUp()
-        limits = settings.HALL.limits._replace(requests=FEW)
-        self.enterContext(mock.patch.object(settings, "HALL", settings.HALL._replace(limits=limits)))
-        # no time passes, in which one has more requests
-        self.enterContext(mock.patch.object(guards, "time", mock.Mock(monotonic=lambda: 1_000.0)))
+        self.enterContext(halled(limits=settings.HALL.limits._replace(requests=FEW)))
+        self.enterContext(stopped_clock())
 
     def test_a_header_that_pages_do_not_read_gives_no_more_requests(self) -> None:
         client = self.client_of("amber")
@@ -91,11 +88,7 @@ class HandIns(Hall):
 
     def setUp(self) -> None:
         super().setUp()
-        self.enterContext(mock.patch.object(guards, "time", mock.Mock(monotonic=lambda: 1_000.0)))
-
-    def hand_in(self, sent: bytes, name: str = "amber") -> Any:
-        file = SimpleUploadedFile("agent.zip", sent)
-        return Client().post("/api/hand-ins", {"file": file}, HTTP_AUTHORIZATION=f"Bearer {self.tokens[name]}")
+        self.enterContext(stopped_clock())
 
     def test_names_that_no_disk_takes_are_refused(self) -> None:
         for name in ("\U0001f600" * 100, "/".join(["ü" * 100] * 31)):
@@ -199,8 +192,7 @@ class Looks(Hall):
                  f"/teacher/contests/{contest.pk}.csv", f"/hand-ins/{late[0].hand_in_id}/result/", "/api/contests",
                  "/teacher/", "/teacher/handins/grading/", "/api/standings", *(f"/{it}" for it in here),
                  *(f"/api/{it}" for it in here)]
-        hall = settings.HALL._replace(freeze=freeze, public=True)
-        with mock.patch.object(settings, "HALL", hall):
+        with halled(freeze=freeze, public=True):
             found = []
             for changes in ({"solved": 2, "moves": 1}, {"solved": 0, "moves": 99, "lost": 3}, {"state": machine.LOST},
                             {"state": machine.RUNNING}):

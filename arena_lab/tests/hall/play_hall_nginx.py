@@ -12,12 +12,12 @@ import subprocess
 import tempfile
 import time
 import unittest
-from typing import Any, Dict, List
+from typing import Any, List
 
 from arena_lab.hall.teams.guards import TRIES
 from arena_lab.support.built import LAB
 from arena_lab.support.ports import free_port
-from arena_lab.tests.hall.halls import SECONDS, Served, Told
+from arena_lab.tests.hall.halls import SECONDS, Served, Told, told_by
 
 NGINX = shutil.which("nginx") or shutil.which("nginx", path="/usr/sbin")
 NAME = "arena.example.org"
@@ -160,11 +160,8 @@ class Nginx(unittest.TestCase):
         self.assertEqual(found, [200] * 72)
 
     def test_who_asks_without_encryption_is_sent_to_the_other_port(self) -> None:
-        connection = http.client.HTTPConnection("127.0.0.1", self.proxy.plain, timeout=SECONDS)
-        with contextlib.closing(connection):
-            connection.request("GET", "/login", headers={"Host": NAME})
-            answer = connection.getresponse()
-            self.assertEqual((answer.status, answer.headers["Location"]), (301, f"https://{NAME}/login"))
+        told = told_by(self.proxy.plain, "GET", "/login", {"Host": NAME})
+        self.assertEqual((told.status, told.headers["Location"]), (301, f"https://{NAME}/login"))
 
 
 class Headers(unittest.TestCase):
@@ -174,10 +171,7 @@ class Headers(unittest.TestCase):
         """Caddy passes on X_Forwarded_For, which Python's interface of web servers cannot tell from the true one."""
         hall, found = HALL[0], []
         for number in range(TRIES + 5):
-            headers: Dict[str, str] = {"Authorization": f"Bearer cedar.{number}", "X-Forwarded-For": "192.0.2.7",
-                                       "X_Forwarded_For": f"10.0.0.{number}", "X-Forwarded-Proto": "https"}
-            connection = http.client.HTTPConnection("127.0.0.1", hall.port, timeout=SECONDS)
-            with contextlib.closing(connection):
-                connection.request("GET", "/api/networks", headers=headers)
-                found.append(connection.getresponse().status)
+            found.append(told_by(hall.port, "GET", "/api/networks", {
+                "Authorization": f"Bearer cedar.{number}", "X-Forwarded-For": "192.0.2.7",
+                "X_Forwarded_For": f"10.0.0.{number}", "X-Forwarded-Proto": "https"}).status)
         self.assertIn(429, found)

@@ -3,7 +3,7 @@ import re
 from typing import List, Optional
 from unittest import mock
 
-from arena_lab.tests.hall.hall_pages import PASSWORD, PLACE, Hall, played
+from arena_lab.tests.hall.hall_pages import PASSWORD, PLACE, Hall, halled, played, stopped_clock
 
 from django.conf import settings
 from django.test import Client, RequestFactory
@@ -192,10 +192,7 @@ class Attempts(Hall):
         self.assertEqual(told.status_code, 400)
 
     def test_floods_are_refused_and_slow_no_other_team(self) -> None:
-        hall = settings.HALL._replace(limits=settings.HALL.limits._replace(requests=30))
-        # no time passes, in which one has more requests
-        clock = mock.patch.object(guards, "time", mock.Mock(monotonic=lambda: 1_000.0))
-        with clock, mock.patch.object(settings, "HALL", hall):
+        with stopped_clock(), halled(limits=settings.HALL.limits._replace(requests=30)):
             answers = [self.rest("get", "/api/matches").status_code for _ in range(60)]
             self.assertEqual((answers[0], answers[-1]), (200, 429))
             told = self.rest("get", "/api/matches")

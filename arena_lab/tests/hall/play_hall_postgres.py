@@ -21,7 +21,7 @@ def has_all() -> bool:
 
 
 @unittest.skipUnless(has_all(), "Debian's postgresql and python3-psycopg2 are not installed, or this is not root")
-class Postgres(unittest.TestCase):
+class Postgres(halls.Playing):
     def setUp(self) -> None:
         self.folder = pathlib.Path(self.enterContext(tempfile.TemporaryDirectory(prefix="postgres-")))
         self.folder.chmod(0o755)
@@ -92,8 +92,3 @@ class Postgres(unittest.TestCase):
             hall.wait(path.exists, f"attempt {number} begins again")
             hall.wait(lambda: hall.servers(f"{number}/run2"), f"attempt {number} has a server")
             yield hall.begins(hall.tokens()[name], number)
-
-    def ended(self, agents: List[Any]) -> None:
-        for agent in agents:
-            self.addCleanup(agent.wait)
-            self.addCleanup(agent.kill)

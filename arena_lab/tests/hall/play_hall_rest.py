@@ -6,7 +6,7 @@ from typing import Any, Dict
 from unittest import mock
 
 from arena_lab.hall import machine
-from arena_lab.tests.hall.hall_pages import PLACE, Hall, graded, played
+from arena_lab.tests.hall.hall_pages import PLACE, Hall, graded, halled, played
 from arena_lab.tests.hall.test_hall import zipped
 
 from django.conf import settings
@@ -31,9 +31,6 @@ class Standings(Hall):
     def rows(self, path: str = "/api/standings", name: str = "birch") -> Any:
         return [(row["place"], row["team"], row["solved"]) for row in self.rest("get", path, name).json()["teams"]]
 
-    def halled(self, **given: Any) -> Any:
-        return mock.patch.object(settings, "HALL", settings.HALL._replace(**given))
-
     def test_the_last_hand_in_counts_and_who_has_none_stands_last(self) -> None:
         graded("amber", 2)
         graded("amber", 1)
@@ -52,7 +49,7 @@ class Standings(Hall):
         graded("amber", 1)
         freeze = timezone.now()
         graded("amber", 2)
-        with self.halled(freeze=freeze):
+        with halled(freeze=freeze):
             self.assertEqual(self.rows()[0], (1, "amber", 1))
             self.assertTrue(self.rest("get", "/api/standings").json()["frozen"])
             for path in ("/", "/screen"):
@@ -71,7 +68,7 @@ class Standings(Hall):
         Reveal.objects.create(at=freeze - timezone.timedelta(seconds=1))
         Reveal.objects.create(contest=contest)
         Reveal.objects.create(contest=contest, what=Reveal.SECRET)
-        with self.halled(freeze=freeze):
+        with halled(freeze=freeze):
             self.assertEqual(self.rows()[0], (1, "amber", 1))
             Reveal.objects.create()
             told = self.rest("get", "/api/standings").json()
@@ -83,7 +80,7 @@ class Standings(Hall):
     def test_who_may_see_them(self) -> None:
         self.assertEqual([Client().get(path).status_code for path in ("/", "/screen")], [302, 302])
         self.assertEqual(Client().get("/api/standings").status_code, 401)
-        with mock.patch.object(settings, "HALL", settings.HALL._replace(public=True)):
+        with halled(public=True):
             self.assertEqual([Client().get(path).status_code for path in ("/", "/screen", "/api/standings")], [200] * 3)
 
     def test_tables_are_made_once_however_often_they_are_asked_for(self) -> None:
@@ -135,34 +132,33 @@ def contest_of(**given: Any) -> Contest:
 class Contests(Hall):
     """A contest is a window with networks and a table of its own."""
 
-    def hand_in(self, contest: Any, name: str = "amber") -> int:
-        told = Client().post("/api/hand-ins", {"file": SimpleUploadedFile("a.py", b"x"), "contest": contest},
-                             HTTP_AUTHORIZATION=f"Bearer {self.tokens[name]}")
-        return int(told.status_code)
+    def status_of(self, contest: Any, name: str = "amber") -> int:
+        """What a team is answered that hands in a program for a contest."""
+        return int(self.hand_in(b"x", name, contest=contest).status_code)
 
     def test_any_number_of_hand_ins_while_it_goes_on(self) -> None:
         contest = contest_of()
         for _ in range(settings.HALL.hand_ins.a_day + 2):
-            self.assertEqual(self.hand_in(contest.pk), 201)
+            self.assertEqual(self.status_of(contest.pk), 201)
             Grading.objects.update(state=machine.OVER)
             taking.sent.clear()
         hour = timezone.timedelta(hours=1)
         Contest.objects.update(start=timezone.now() + hour, end=timezone.now() + 2 * hour)
-        self.assertEqual(self.hand_in(contest.pk), 403)
+        self.assertEqual(self.status_of(contest.pk), 403)
         self.assertEqual(self.rest("get", "/api/contests").json()[0]["networks"], [])
         self.assertEqual(self.client_of("amber").get(f"/contests/{contest.pk}").status_code, 404)
         Contest.objects.update(start=timezone.now() - 2 * hour, end=timezone.now() - hour)
-        self.assertEqual((self.hand_in(contest.pk), self.hand_in(contest.pk + 1)), (403, 404))
+        self.assertEqual((self.status_of(contest.pk), self.status_of(contest.pk + 1)), (403, 404))
         # its hand-ins take none of those of the course
         self.assertEqual(taking.left_today(self.team("amber")), settings.HALL.hand_ins.a_day)
 
     def test_a_team_may_have_a_deadline_of_its_own(self) -> None:
         contest = contest_of()
-        self.assertEqual((self.hand_in(contest.pk), self.hand_in(contest.pk, "birch")), (201, 201))
+        self.assertEqual((self.status_of(contest.pk), self.status_of(contest.pk, "birch")), (201, 201))
         now, minute = timezone.now(), timezone.timedelta(minutes=1)
         Contest.objects.update(end=now - minute)
         Extension.objects.create(team=self.team("amber"), contest=contest, until=now + minute)
-        self.assertEqual((self.hand_in(contest.pk), self.hand_in(contest.pk, "birch")), (201, 403))
+        self.assertEqual((self.status_of(contest.pk), self.status_of(contest.pk, "birch")), (201, 403))
         self.assertContains(self.client_of("amber").get("/hand-ins"), "finale</bdi></small></h2>")
         # the secret draw comes for each team once it can hand in no more
         self.assertEqual([taking.grade_secretly(now), taking.grade_secretly(now)], [1, 0])
@@ -217,10 +213,6 @@ class Contests(Hall):
 
 
 class HandIns(Hall):
-    def hand_in(self, sent: bytes, name: str = "amber") -> Any:
-        file = SimpleUploadedFile("my agent.py", sent)
-        return Client().post("/api/hand-ins", {"file": file}, HTTP_AUTHORIZATION=f"Bearer {self.tokens[name]}")
-
     def test_a_hand_in_waits_to_be_graded(self) -> None:
         told = self.hand_in(b"print()")
         self.assertEqual((told.status_code, told.json()["state"], told.json()["result"]), (201, "waiting", None))
@@ -268,8 +260,7 @@ class HandIns(Hall):
     def test_after_the_deadline_nothing_is_taken_and_the_last_is_graded_secretly(self) -> None:
         for _ in range(2):
             self.assertEqual(self.hand_in(b"x").status_code, 201)
-        given = settings.HALL.hand_ins._replace(deadline=timezone.now())
-        with mock.patch.object(settings, "HALL", settings.HALL._replace(hand_ins=given)):
+        with halled(hand_ins=settings.HALL.hand_ins._replace(deadline=timezone.now())):
             self.assertEqual(self.hand_in(b"x").status_code, 403)
             later = timezone.now() + timezone.timedelta(seconds=1)
             self.assertEqual([taking.grade_secretly(later), taking.grade_secretly(later)], [1, 0])
