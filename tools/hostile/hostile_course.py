@@ -26,9 +26,10 @@ import subprocess
 import sys
 import tempfile
 import time
-from typing import Any, Dict, List, Sequence
+from typing import Dict, List
 
 from arena_lab.sweep import tables
+from arena_lab.tests.course.courses import rows_of_teams, team
 from tests.support.counts import concluded
 
 TOP = pathlib.Path(__file__).resolve().parents[2]
@@ -138,10 +139,6 @@ sys.exit(3)
 NAMES = [name for name in tables.COLUMNS if name not in ("run", "check", "fault")]
 
 
-def team(name: str, files: Sequence[Any], command: str) -> str:
-    return f'[[team]]\nname = "{name}"\nfiles = {list(map(str, files))}\ncommand = "{command}"\n'
-
-
 def honest(folder: pathlib.Path) -> List[str]:
     """The honest teams of a course's file. One hands in a program in C, which is compiled."""
     made = folder / "cedar"
@@ -187,10 +184,8 @@ class Grading:
 
     def rows(self, out: str) -> Dict[str, List[List[str]]]:
         """The rows of each team, without the numbers of matches."""
-        found: Dict[str, List[List[str]]] = {}
-        for row in tables.rows_in(self.folder / out / tables.RUNS):
-            found.setdefault(row["team"], []).append([*(row[name] for name in NAMES), *row["faults"]])
-        return found
+        return {name: [[*(row[column] for column in NAMES), *row["faults"]] for row in rows]
+                for name, rows in rows_of_teams(self.folder / out).items()}
 
     def check(self, said: str, is_right: bool, more: str = "") -> None:
         print(f"{'ok' if is_right else 'FAILED'}: {said}{'' if is_right else more}", flush=True)

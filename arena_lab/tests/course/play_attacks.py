@@ -56,7 +56,7 @@ from arena_lab.sandbox import calls, cells, kernel_traces, system_copy, watch
 from arena_lab.sandbox.cells import Isolation, Sandbox
 from arena_lab.sandbox.isolation import NoCell
 from arena_lab.support.missing import DEBIANS_PYTHON
-from arena_lab.sweep import tables
+from arena_lab.tests.course.courses import HEAD, HONEST, rows_of_teams, team
 from arena_lab.tests.play.play_programs import running
 from arena_lab.tests.playing import AGENTS
 from tests.support.output import ran
@@ -66,7 +66,6 @@ IS_ROOT = os.geteuid() == 0
 # all that can keep programs apart for the user who runs the tests
 ALL_WALLS = [Isolation.ALL] * HAS_WALLS + [Isolation.USER] * IS_ROOT + [Isolation.NONE] * (not IS_ROOT)
 SECRET = "a secret of the tests"
-HEAD = 'title = "A trial"\nnetworks = ["ring:4"]\nholes = [2]\nlimit = 60\n'
 WALLED = unittest.skipUnless(HAS_WALLS, f"no walls here: {cells.weakness()}")
 
 # begins an agent's program: `ask` plays, by the port and the key that stand first in the command
@@ -85,12 +84,6 @@ ask(do="enter", key=sys.argv[2])
 """
 
 
-def team(name: str, files: List[str], command: str, agents: int = 1) -> str:
-    return f'[[team]]\nname = "{name}"\nagents = {agents}\nfiles = {files}\ncommand = "{command}"\n'
-
-
-HONEST = team("right", [str(AGENTS / "client.py"), str(AGENTS / "ring.py")],
-              "python3 ring.py {host} {port} {key} {nodes}", 2)
 EVIL = "python3 evil.py {port} {key}"
 
 
@@ -122,16 +115,13 @@ class Course(unittest.TestCase):
         faults = self.played(walls, code, agents, **more).faults
         return [fault.partition("before it connected: ")[2] for fault in faults]
 
-    def graded(self, text: str, out: str = "out", status: int = 0) -> Dict[str, List[Dict[str, Any]]]:
+    def graded(self, text: str, out: str = "out", status: int = 0) -> Dict[str, Any]:
         """Grades a course by the command, and gives the rows of each team."""
         file = self.folder / "course.toml"
         file.write_text(text)
         self.assertEqual(ran(main, ["grade", str(file), "--out", str(self.folder / out), "--engine", "model",
                                     "--workers", "2"]).status, status)
-        found: Dict[str, List[Dict[str, Any]]] = {}
-        for row in tables.rows_in(self.folder / out / tables.RUNS):
-            found.setdefault(row["team"], []).append(row)
-        return found
+        return rows_of_teams(self.folder / out)
 
 
 def number_of_a_pipe() -> int:
@@ -191,7 +181,7 @@ class Stopping(Course):
         (self.folder / "linked" / "log").symlink_to("/proc/kmsg")
         (self.folder / "closed" / "file").write_text("x")
         (self.folder / "closed" / "file").chmod(0)
-        rows = self.graded(HEAD + "".join(team(name, [name], EVIL) for name in names) + HONEST)
+        rows = self.graded(HEAD + "".join(team(name, [name], EVIL, 1) for name in names) + HONEST)
         self.assertEqual(rows["right"][0]["outcome"], "solved")
         self.assertIn("its folders are more than 32 deep", rows["deep"][0]["fault"])
         self.assertIn("its files have more than 32 MB", rows["large"][0]["fault"])
@@ -208,7 +198,7 @@ class Stopping(Course):
                 raise RecursionError("so deep")
             return play(graded, case, *given)
         with mock.patch.object(GradingRun, "match", match):
-            rows = self.graded(HEAD + team("evil", ["evil"], EVIL) + HONEST, status=1)
+            rows = self.graded(HEAD + team("evil", ["evil"], EVIL, 1) + HONEST, status=1)
         self.assertEqual(rows["evil"][0]["fault"], "not played, as the lab failed: RecursionError: so deep")
         self.assertEqual(rows["right"][0]["outcome"], "solved")
 
@@ -374,7 +364,7 @@ class Talking(Course):
                          r"Function not implemented \(evil.py, line 2\) .calls of the system are refused to "
                          "it that python does not need: examples/README.md says .*`calls` in course.toml allows more")
         (self.team / "evil.py").write_text(code + "\nraise SystemExit('was allowed')")
-        rows = self.graded(HEAD + 'calls = ["setpriority"]\n' + team("evil", ["evil"], EVIL))
+        rows = self.graded(HEAD + 'calls = ["setpriority"]\n' + team("evil", ["evil"], EVIL, 1))
         self.assertIn("was allowed", rows["evil"][0]["fault"])
 
     @unittest.skipUnless(shutil.which("strace"), "Debian's strace is not installed")
@@ -523,7 +513,7 @@ class Stalling(Course):
 
     def test_a_team_has_a_time(self) -> None:
         (self.team / "evil.py").write_text(BEGINS + "time.sleep(0.7)\nsys.exit('slow')")
-        rows = self.graded(HEAD + "seeds = 8\nteam_limit = 1\n" + team("evil", ["evil"], EVIL) + HONEST.replace(
+        rows = self.graded(HEAD + "seeds = 8\nteam_limit = 1\n" + team("evil", ["evil"], EVIL, 1) + HONEST.replace(
             "right", "right"))
         self.assertIn("slow", rows["evil"][0]["fault"])
         self.assertEqual(rows["evil"][-1]["fault"],
@@ -648,7 +638,7 @@ class Saying(Course):
                 (self.team / "go.sh").write_text(text, newline="")
                 (self.team / "go.sh").chmod(mode)
                 cells.remove(self.folder / "out")
-                found = self.graded(HEAD + team("evil", ["evil"], "./go.sh {port} {key}"), f"out-{mode}-{len(text)}")
+                found = self.graded(HEAD + team("evil", ["evil"], "./go.sh {port} {key}", 1), f"out-{mode}-{len(text)}")
                 self.assertIn(said, found["evil"][0]["fault"])
 
     def test_who_meets_a_bound_is_told_which(self) -> None:
@@ -667,7 +657,7 @@ class Saying(Course):
         code = ('import os, sys\nsys.stderr.buffer.write("first\\n\\x1b]0;it\\x07\\x9b31m\\u202e\\x00; agent 1: forged'
                 '\\r\\u2028".encode() + b"\\xff\\n")\nsys.exit(3)')
         (self.team / "evil.py").write_text(code)
-        rows = self.graded(HEAD + team("evil", ["evil"], EVIL))
+        rows = self.graded(HEAD + team("evil", ["evil"], EVIL, 1))
         said = "\\x1b]0;it\\x07\\x9b31m\\u202e\\x00; agent 1: forged\\r\\u2028\ufffd"
         self.assertEqual(rows["evil"][0]["faults"], [f"agent 0: has ended with status 3 before it connected: {said}"])
         page = (self.folder / "out" / "team-evil.html").read_text(encoding="utf-8")

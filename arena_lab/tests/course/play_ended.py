@@ -1,18 +1,17 @@
 """A grading ends if it is sent SIGTERM, also more than once, and leaves no process behind: what keeps programs in ends
 them where it can, and else each process that plays ends those of its match."""
 import os
-import pathlib
 import signal
 import subprocess
 import sys
 import tempfile
 import time
-import unittest
 from typing import List
 
 from arena_lab.rules.engines import TOP
 from arena_lab.sandbox.processes import below, is_alive, words_of
 from arena_lab.tests.playing import program
+from tests.support.output import InTemporary, write
 
 COURSE = '''title = "it hangs"
 networks = ["ring:5"]
@@ -36,11 +35,10 @@ raise SystemExit(main())
 BEGUN, ENDED = 30, 20
 
 
-class Ended(unittest.TestCase):
+class Ended(InTemporary):
     def setUp(self) -> None:
-        self.folder = pathlib.Path(self.enterContext(tempfile.TemporaryDirectory()))
-        (self.folder / "files").mkdir()
-        (self.folder / "files" / "agent.py").write_text("import time\ntime.sleep(1_000_000)\n")
+        super().setUp()
+        write(self.folder / "files" / "agent.py", "import time\ntime.sleep(1_000_000)\n")
         (self.folder / "course.toml").write_text(COURSE)
 
     def test_a_grading_that_is_sent_signals_leaves_nothing(self) -> None:

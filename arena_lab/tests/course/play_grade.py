@@ -1,7 +1,6 @@
 """A course is graded alike on every run; no program meets another team's files, and a wrong one fails alone."""
 import contextlib
 import csv
-import io
 import os
 import pathlib
 import shutil
@@ -21,6 +20,7 @@ from arena_lab.sandbox import cells
 from arena_lab.sandbox.cells import Cell, ProgramFiles, Isolation, Sandbox
 from arena_lab.support import fields
 from arena_lab.sweep import tables
+from arena_lab.tests.course.courses import HEAD, HONEST, rows_of_teams, team
 from arena_lab.tests.play.play_programs import running
 from arena_lab.tests.playing import AGENTS, InFolder, program
 from tests.support.output import ran
@@ -30,7 +30,6 @@ EXAMPLE = TOP / "examples" / "course" / "course.toml"
 SECRET = ["--secret", str(EXAMPLE.parent / "secret.txt")]
 MUTANT = TOP / "arena_lab" / "mutants" / "reads_once.py"
 TESTS = TOP / "arena_lab" / "tests"
-HEAD = 'title = "A trial"\nnetworks = ["ring:4"]\nholes = [2]\nlimit = 60\n'
 RUDE = "python3 rude.py {how} {{host}} {{port}} {{key}}"
 # of each team how it breaks the rules, and what is said of its agent 1
 FAULTS = {
@@ -41,14 +40,6 @@ FAULTS = {
 }
 SILENT = "agent 0: has sent no line for 1 s; does it flush after each line?"
 ABSENT = "no-such-program: No such file or directory"
-
-
-def team(name: str, files: List[str], command: str, agents: int = 2) -> str:
-    return f'[[team]]\nname = "{name}"\nagents = {agents}\nfiles = {files}\ncommand = "{command}"\n'
-
-
-RING = team("right", [str(AGENTS / "client.py"), str(AGENTS / "ring.py")],
-            "python3 ring.py {host} {port} {key} {nodes}")
 
 
 def tree(folder: pathlib.Path) -> Dict[str, bytes]:
@@ -85,13 +76,6 @@ class Grading(InFolder):
     def check_same(self, one: Dict[str, bytes], other: Dict[str, bytes]) -> None:
         """That two folders have the same files; names those that differ, since how pages differ takes long to say."""
         self.assertEqual([name for name in sorted({*one, *other}) if one.get(name) != other.get(name)], [])
-
-    def rows(self, out: str) -> Dict[str, List[Dict[str, str]]]:
-        """The rows of each team."""
-        found: Dict[str, List[Dict[str, str]]] = {}
-        for row in tables.rows_in(self.folder / out / tables.RUNS):
-            found.setdefault(row["team"], []).append(row)
-        return found
 
     def test_the_example_gives_the_same_bytes_three_times_and_names_the_wrong_team(self) -> None:
         said = self.graded(EXAMPLE, "first", *SECRET, "--program", program())
@@ -139,12 +123,12 @@ class Grading(InFolder):
         self.assertIn("the replay is the same, byte for byte", said)
 
     def test_who_breaks_the_rules_fails_alone(self) -> None:
-        teams = [team(how, [str(TESTS / "play" / "rude.py")], RUDE.format(how=how)) for how in FAULTS]
-        absent = team("absent", [str(TESTS / "play" / "rude.py")], "no-such-program {port} {key}")
+        teams = [team(how, [TESTS / "play" / "rude.py"], RUDE.format(how=how)) for how in FAULTS]
+        absent = team("absent", [TESTS / "play" / "rude.py"], "no-such-program {port} {key}")
         file = self.folder / "course.toml"
-        file.write_text(HEAD + "".join([*teams, RING, absent]))
+        file.write_text(HEAD + "".join([*teams, HONEST, absent]))
         self.graded(file, "out", "--engine", "model")
-        rows = self.rows("out")
+        rows = rows_of_teams(self.folder / "out")
         self.assertEqual([row["fault"] for row in rows["right"]], [""])
         self.assertEqual([row["outcome"] for row in rows["right"]], ["solved"])
         self.assertIn(ABSENT, rows["absent"][0]["fault"])
@@ -158,19 +142,19 @@ class Grading(InFolder):
     def test_who_hangs_is_ended_with_all_that_it_has_started(self) -> None:
         file = self.folder / "course.toml"
         file.write_text(HEAD.replace("limit = 60", "limit = 1") + team(
-            "silent", [str(TESTS / "play" / "rude.py")], RUDE.format(how="silent"), 1))
+            "silent", [TESTS / "play" / "rude.py"], RUDE.format(how="silent"), 1))
         self.graded(file, "out", "--engine", "model")
-        self.assertEqual(self.rows("out")["silent"][0]["fault"], SILENT)
+        self.assertEqual(rows_of_teams(self.folder / "out")["silent"][0]["fault"], SILENT)
         self.assertEqual(running("time.sleep(10000)"), [])
         self.assertIn("depends on the machine", (self.folder / "out" / "team-silent.html").read_text())
 
     def test_a_network_that_can_be_cut_is_refused(self) -> None:
         file = self.folder / "course.toml"
         (self.folder / "net.toml").write_text("nodes = 3\nlinks = [[0, 0, 1, 0], [1, 1, 2, 0]]\n")
-        file.write_text(HEAD.replace("ring:4", "net.toml") + RING)
-        with contextlib.redirect_stderr(io.StringIO()) as errors:
-            self.assertEqual(main(["grade", str(file), "--out", str(self.folder / "out"), "--engine", "model"]), 2)
-        self.assertIn("net.toml, which is not biconnected: without node 1 some other nodes", errors.getvalue())
+        file.write_text(HEAD.replace("ring:4", "net.toml") + HONEST)
+        status, _, errors = ran(main, ["grade", str(file), "--out", str(self.folder / "out"), "--engine", "model"])
+        self.assertEqual(status, 2)
+        self.assertIn("net.toml, which is not biconnected: without node 1 some other nodes", errors)
 
     def test_a_program_that_is_no_function_of_what_it_is_told(self) -> None:
         (self.folder / "dice.py").write_text(DICE)

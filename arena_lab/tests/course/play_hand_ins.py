@@ -1,11 +1,9 @@
 """Nothing that a team hands in stops a course, or is said of it by the lab that a program has said."""
-import contextlib
-import io
 import os
 import pathlib
 import shutil
 import tempfile
-from typing import Any, Dict, List, Tuple
+from typing import Any, Dict, Tuple
 from unittest import mock
 
 from arena_lab.__main__ import main
@@ -13,8 +11,8 @@ from arena_lab.course import intake, league
 from arena_lab.course.grading import GradingRun
 from arena_lab.course.hand_in import HandIn
 from arena_lab.play import schedules
-from arena_lab.sweep import tables
-from arena_lab.tests.course.play_attacks import EVIL, HEAD, HONEST, Course, team
+from arena_lab.tests.course.courses import HEAD, HONEST, rows_of_teams, team
+from arena_lab.tests.course.play_attacks import EVIL, Course
 from arena_lab.tests.playing import AGENTS
 from tests.support.output import ran
 
@@ -136,19 +134,23 @@ for command in ({"do": "enter", "key": sys.argv[2]}, {"do": "accuse", "port": po
 class Again(Course):
     """A course is graded again, or files change while it is graded."""
 
-    def grade_with(self, code: str, out: str, *more: str) -> Tuple[Dict[str, List[Dict[str, Any]]], str]:
+    def grade_with(self, code: str, out: str, *more: str) -> Tuple[Dict[str, Any], str]:
         """The rows of each team, and what is said on standard error."""
         (self.team / "evil.py").write_text(code)
         file = self.folder / "course.toml"
         file.write_text('title = "A trial"\nnetworks = ["complete:4"]\nholes = 1\nseeds = 4\ntries = 0\n'
-                        + team("evil", ["evil"], EVIL))
+                        + team("evil", ["evil"], EVIL, 1))
         status, _, errors = ran(main, ["grade", str(file), "--out", str(self.folder / out), "--engine", "model",
                                        "--workers", "1", *more])
         self.assertEqual(status, 0, errors)
-        found: Dict[str, List[Dict[str, Any]]] = {}
-        for row in tables.rows_in(self.folder / out / tables.RUNS):
-            found.setdefault(row["team"], []).append(row)
-        return found, errors
+        return rows_of_teams(self.folder / out), errors
+
+    def refused(self) -> str:
+        """What is said on standard error of a course that is not graded."""
+        status, _, errors = ran(main, ["grade", str(self.folder / "course.toml"), "--out", str(self.folder / "out"),
+                                       "--engine", "model"])
+        self.assertEqual(status, 2)
+        return errors
 
     def table(self, out: str) -> Dict[str, Tuple[int, int, int]]:
         """What the failed matches show: by its key the home base and the black hole, and a port that leads there."""
@@ -189,12 +191,8 @@ class Again(Course):
 
     def test_an_interrupted_course_does_not_go_on_with_other_files(self) -> None:
         self.grade_with("import sys\nsys.exit('I was read')\n", "out")
-        with contextlib.redirect_stderr(io.StringIO()) as said:
-            (self.team / "evil.py").write_text("import sys\nsys.exit('I was swapped in')\n")
-            status = main(["grade", str(self.folder / "course.toml"), "--out", str(self.folder / "out"), "--engine",
-                           "model"])
-        self.assertEqual(status, 2)
-        self.assertIn("team evil differ; name another folder", said.getvalue())
+        (self.team / "evil.py").write_text("import sys\nsys.exit('I was swapped in')\n")
+        self.assertIn("team evil differ; name another folder", self.refused())
 
     def test_an_archive_that_is_changed_while_it_is_graded_is_refused(self) -> None:
         take = intake.take
@@ -203,9 +201,6 @@ class Again(Course):
             found = take(out, name, *given)
             (out / intake.HAND_INS / f"{name}.tar").write_bytes(HandIn({}).archive())
             return found
-        with mock.patch.object(intake, "take", other), contextlib.redirect_stderr(io.StringIO()) as said:
-            (self.folder / "course.toml").write_text(HEAD + HONEST)
-            status = main(["grade", str(self.folder / "course.toml"), "--out", str(self.folder / "out"), "--engine",
-                           "model"])
-        self.assertEqual(status, 2)
-        self.assertIn("right.tar: it is not what the team has handed in, as its digest is another", said.getvalue())
+        (self.folder / "course.toml").write_text(HEAD + HONEST)
+        with mock.patch.object(intake, "take", other):
+            self.assertIn("right.tar: it is not what the team has handed in, as its digest is another", self.refused())
