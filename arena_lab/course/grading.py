@@ -4,6 +4,7 @@ import concurrent.futures
 import contextlib
 import csv
 import hashlib
+import operator
 import pathlib
 import random
 import sys
@@ -53,6 +54,7 @@ TIME_IS_UP = "the time for this was up, so there may be a smaller one"
 REPEATS, REPEATS_HEAD = "repeats.csv", ("run", "team", "fault")
 # of a failed match what came of it, a fact a line
 TOLD = "told.txt"
+TEAM_OF = operator.attrgetter("team.name")
 
 
 class NotSmaller(Exception):
@@ -348,17 +350,13 @@ def played_in_time(graded: GradingRun, left: Sequence[Case], workers: int, budge
 
     def instead(case: Case) -> List[str]:
         return unplayed(graded.course, case, f"{league.UNPLAYED}: {budget.says(case.team.name)}")
-    return in_time(graded, left, workers, Limited(budget, team_of, instead, job_of, hangs.note))
-
-
-def team_of(case: Case) -> str:
-    return case.team.name
+    return in_time(graded, left, workers, Limited(budget, TEAM_OF, instead, job_of, hangs.note))
 
 
 def write_results(graded: GradingRun, cases: List[Case], workers: int, budget: Budget) -> int:
     """Makes the schedules of failed matches small, and writes the table and the pages."""
     rows = tables.rows_in(graded.out / tables.RUNS)
-    repeat_all(graded, cases, rows, workers)
+    repeat_all(graded, rows, workers)
     failures = cut_down(graded, [cases[int(row["run"])] for row in rows if not report.is_solved(row)], rows,
                         workers, budget)
     engine = name_of(graded.program)
@@ -389,7 +387,7 @@ def export(graded: GradingRun, rows: List[Row], standings: Sequence[LeagueRow], 
         print(f"for a gradebook: {graded.out / name}")
 
 
-def repeat_all(graded: GradingRun, cases: List[Case], rows: List[Row], workers: int) -> None:
+def repeat_all(graded: GradingRun, rows: List[Row], workers: int) -> None:
     """Repeats the solved matches, writes what came of that, and notes a fault in the row of each that does not repeat.
     The file of rows keeps how they were played."""
     path = graded.out / REPEATS
@@ -434,4 +432,4 @@ def cut_in_time(cutting: Cutting, failed: List[Case], workers: int, budget: Budg
     """What came of each failed match."""
     def instead(case: Case) -> Failure:
         return cutting.failure(case, f"not made smaller: {budget.says(case.team.name)}")
-    return in_time(cutting, failed, workers, Limited(budget, team_of, instead))
+    return in_time(cutting, failed, workers, Limited(budget, TEAM_OF, instead))

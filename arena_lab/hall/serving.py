@@ -39,7 +39,7 @@ def alone(place: HallFolder) -> Iterator[None]:
         yield
 
 
-def commands(place: HallFolder, options: Options) -> Dict[str, List[object]]:
+def commands(options: Options) -> Dict[str, List[object]]:
     """The commands of the hall's processes, by their names."""
     found: Dict[str, List[object]] = {f"worker {number}": ["worker", number] for number in range(options.workers)}
     return found if options.pages is None else {**found, "web": ["web", *options.pages]}
@@ -71,7 +71,7 @@ def serve(place: HallFolder, options: Options, seconds: Optional[float] = None) 
     begun: Dict[str, float] = {}
     try:
         while time.monotonic() < limit:
-            for name, words in commands(place, options).items():
+            for name, words in commands(options).items():
                 child = children.get(name)
                 if child is not None and child.poll() is None or time.monotonic() - begun.get(name, -AGAIN) < AGAIN:
                     continue

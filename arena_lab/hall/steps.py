@@ -50,8 +50,8 @@ class Work(models.Model):
         abstract = True
 
     @property
-    def has_ended(self) -> bool:
-        return self.state in machine.ENDED
+    def is_over(self) -> bool:
+        return bool(self.state == machine.OVER)
 
 
 def step(work: Work, event: str, holder: str = "", only: Optional[models.Q] = None, **changes: Any) -> bool:

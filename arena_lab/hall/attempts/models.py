@@ -9,7 +9,6 @@ from django.db.models.signals import post_delete
 from django.utils import timezone
 from django.utils.translation import gettext_lazy as _
 
-from arena_lab.hall import machine
 from arena_lab.hall.steps import Work, remove_folder
 from arena_lab.hall.teams.models import Team
 
@@ -36,10 +35,6 @@ class Attempt(Work):
     def folder(self) -> pathlib.Path:
         """Where its files are."""
         return pathlib.Path(settings.PLACE.folder) / "attempts" / str(self.pk)
-
-    @property
-    def is_over(self) -> bool:
-        return bool(self.state == machine.OVER)
 
 
 post_delete.connect(remove_folder, Attempt)

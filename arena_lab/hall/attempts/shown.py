@@ -46,6 +46,6 @@ def time_of(moment: Any) -> Optional[str]:
     return None if moment is None else timezone.localtime(moment).isoformat(timespec="seconds")
 
 
-def attempts(team: Any, most: int = 50) -> List[Dict[str, Any]]:
-    """The newest attempts of a team."""
-    return [brief(it) for it in Attempt.objects.filter(team=team).prefetch_related("matches")[:most]]
+def attempts(team: Any) -> List[Dict[str, Any]]:
+    """The newest attempts of a team, at most fifty."""
+    return [brief(it) for it in Attempt.objects.filter(team=team).prefetch_related("matches")[:50]]

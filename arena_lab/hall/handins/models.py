@@ -10,7 +10,6 @@ from django.db.models.signals import post_delete
 from django.utils import timezone
 from django.utils.translation import gettext_lazy as _
 
-from arena_lab.hall import machine
 from arena_lab.hall.steps import Work, remove_folder
 from arena_lab.hall.teams.models import Team
 
@@ -117,7 +116,3 @@ class Grading(Work):
     def folder(self) -> pathlib.Path:
         """Where its results are."""
         return self.hand_in.folder / ("secret" if self.is_secret else "public")
-
-    @property
-    def is_over(self) -> bool:
-        return bool(self.state == machine.OVER)

@@ -56,9 +56,6 @@ def ends(window: Window, teams: List[Team]) -> Dict[int, Moment]:
     return {**{team.pk: window.end for team in teams}, **dict(own.values_list("team", "until"))}
 
 
-def last_of_teams(window: Window, before: Moment = None) -> Dict[int, int]:
-    """Of each team its last hand-in in a window, or its last before a moment."""
-    found = HandIn.objects.filter(contest=window.contest).order_by("pk")
-    if before is not None:
-        found = found.filter(at__lt=before)
-    return dict(found.values_list("team", "pk"))
+def last_of_teams(window: Window) -> Dict[int, int]:
+    """Of each team its last hand-in in a window."""
+    return dict(HandIn.objects.filter(contest=window.contest).order_by("pk").values_list("team", "pk"))
