@@ -150,7 +150,7 @@ class Bench(NamedTuple):
                 holder.stdout.close()
 
 
-def load_of(kind: str, mode: str, active: int, part: int = 1) -> Load:
+def load_of(kind: str, mode: str, active: int, part: int) -> Load:
     """The load of this kind: as many sessions and commands as make up what is to be measured."""
     if kind == "moves":
         agents = -(-active // MATCHES)

@@ -247,10 +247,8 @@ def check_faults(faults: Sequence[str]) -> None:
             raise NotSmaller(why)
 
 
-def graded_in(graded: GradingRun, workers: int, handed_in: Optional[Dict[str, str]] = None) -> int:
-    """Plays the matches that are not done yet, and writes everything. The digests of what was handed in may be given,
-    so that it is not read again."""
-    digests = handed_in or hand_ins(graded.out, graded.course)
+def graded_in(graded: GradingRun, workers: int, digests: Dict[str, str]) -> int:
+    """Plays the matches that are not done yet, and writes everything. The digests are those of what was handed in."""
     made = {**tables.made_by(graded.program), "course": hashlib.sha256(graded.text.encode()).hexdigest(),
             "files": {**graded.course.digests(), **digests}}
     done = tables.prepared(graded.out, made)

@@ -173,7 +173,7 @@ def looks_keep_one_text(program: str, folder: pathlib.Path) -> None:
 @case("each client has a number of its own in the log")
 def own_numbers(program: str, folder: pathlib.Path) -> None:
     with heard(program, folder, "--log", sessions=1) as server:
-        with entered(server, "red-0") as client:
+        with entered(server, "red-0"):
             for _ in range(3):
                 with server.connect(b"x\n") as other:
                     wants("a client more", answer(other, len(NO_FULL)), NO_FULL)

@@ -200,7 +200,7 @@ def flooding(server: Server, stop: threading.Event, clients: int) -> None:
 
 @case("clients that send line feeds do not hold up the end")
 def flooded_end(program: str, folder: pathlib.Path) -> None:
-    with serving(program, folder, turns=300) as server, entered(server, "red-0") as client:
+    with serving(program, folder, turns=300) as server, entered(server, "red-0"):
         stop = threading.Event()
         flood = threading.Thread(target=flooding, args=(server, stop, 60))
         flood.start()
@@ -284,8 +284,7 @@ def closed_in(folder: pathlib.Path) -> List[str]:
 
 @case("the operator closes all matches: the replays are written, the table is printed, and the server ends")
 def operator_closes(program: str, folder: pathlib.Path) -> None:
-    with serving(program, folder, turns=LONG, stdin=subprocess.PIPE) as server, \
-            entered(server, "red-0") as client:
+    with serving(program, folder, turns=LONG, stdin=subprocess.PIPE) as server, entered(server, "red-0"):
         server.says(b"clo")
         time.sleep(0.3)
         server.says(b"se\n")
@@ -337,7 +336,7 @@ def asks(program: str, folder: pathlib.Path, options: Sequence[str]) -> None:
     with serving(program, folder, *options, turns=LONG, stdin=subprocess.PIPE) as server, \
             server.connect(enter("blue-1") + b'{"do":"accuse","port":1}\n') as client:
         answer(client, 1000)
-        with entered(server, "red-0") as stays:
+        with entered(server, "red-0"):
             server.says(b"status\n")
             told = server.tells("  2 ")
             server.says(b"close 1\nstatus\n")

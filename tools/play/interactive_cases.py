@@ -18,10 +18,10 @@ def without_ends(printed: bytes) -> bytes:
     return b"".join(line for line in printed.splitlines(True) if line != b"\n")
 
 
-def lockstep(stage: Stage, lines: Sequence[str], words: Sequence[str] = ()) -> List[bytes]:
+def lockstep(stage: Stage, lines: Sequence[str]) -> List[bytes]:
     """Sends each line once the answer to the one before it has ended: gives the answers. A program that keeps an answer
     back until more is sent is stopped, and the read ends."""
-    player = subprocess.Popen([stage.program, *INTERACTIVE, *words], cwd=stage.folder, stdin=subprocess.PIPE,
+    player = subprocess.Popen([stage.program, *INTERACTIVE], cwd=stage.folder, stdin=subprocess.PIPE,
                               stdout=subprocess.PIPE)
     patience = threading.Timer(PATIENCE, player.kill)
     patience.start()

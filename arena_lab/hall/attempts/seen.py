@@ -106,8 +106,8 @@ def kept_ended(replay: pathlib.Path, written: int) -> Ended:
     return read_ended(replay)
 
 
-def read_ended(replay: pathlib.Path, most: int = 50) -> Ended:
-    """What a replay tells, of refused lines the first."""
+def read_ended(replay: pathlib.Path) -> Ended:
+    """What a replay tells, of refused lines the first fifty."""
     refused: List[Dict[str, Any]] = []
     lost: List[Dict[str, int]] = []
     departed: Dict[int, int] = {}
@@ -120,6 +120,6 @@ def read_ended(replay: pathlib.Path, most: int = 50) -> Ended:
                 departed[event["agent"]] = event["port"]
             if event.get("do") == "deliver" and reply is None:
                 lost.append({"agent": event["agent"], "port": departed.get(event["agent"], 0), "event": place + 1})
-            if isinstance(reply, dict) and "no" in reply and len(refused) < most:
+            if isinstance(reply, dict) and "no" in reply and len(refused) < 50:
                 refused.append(shortened({"event": place + 1, **event, "meaning": MEANINGS.get(reply["no"], "")}))
     return Ended(refused, lost, holes)

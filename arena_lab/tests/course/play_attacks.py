@@ -513,8 +513,7 @@ class Stalling(Course):
 
     def test_a_team_has_a_time(self) -> None:
         (self.team / "evil.py").write_text(BEGINS + "time.sleep(0.7)\nsys.exit('slow')")
-        rows = self.graded(HEAD + "seeds = 8\nteam_limit = 1\n" + team("evil", ["evil"], EVIL, 1) + HONEST.replace(
-            "right", "right"))
+        rows = self.graded(HEAD + "seeds = 8\nteam_limit = 1\n" + team("evil", ["evil"], EVIL, 1) + HONEST)
         self.assertIn("slow", rows["evil"][0]["fault"])
         self.assertEqual(rows["evil"][-1]["fault"],
                          "not played: the matches of the team have taken the 1 s that it has")
