@@ -157,7 +157,7 @@ def main() -> None:
     print("|---|---|---|---|---|---|---|---|")
     for match in words.matches:
         network, _, agent = match.partition("=")
-        found = measured(network, agent, words.states)
+        found = measured(network, agent, words.max_states)
         states, program = sum(it.states for it in found), sum(it.program for it in found)
         moves, whole = max(it.moves for it in found), sum(it.whole for it in found)
         print(f"| {network} | {agent} | {moves} | {states:,} | {whole:.1f} | {program:.1f} | {states / program:,.0f} | "
