@@ -6,7 +6,10 @@ import subprocess
 import tempfile
 from typing import Dict, Iterator, List, Sequence
 
-MOUNTS = ("proc", "dev", "sys")
+from arena_lab.sandbox.users import LOCKS
+
+# what a root shares with the machine; users for programs are claimed for both, since each sees the other's processes
+MOUNTS = ("proc", "dev", "sys", str(LOCKS.relative_to("/")))
 # makes a folder the root of its own mount namespace, as that of a machine is
 PIVOT = 'mount --rbind "$0" "$0" && cd "$0" && pivot_root . mnt && umount -l /mnt && exec "$@"'
 
@@ -36,9 +39,10 @@ def make(root: pathlib.Path, packages: Sequence[str] = ()) -> None:
 
 @contextlib.contextmanager
 def mounted(root: pathlib.Path, bound: Dict[pathlib.Path, str] = {}) -> Iterator[None]:
-    """The kernel's file systems in a root, and other folders, by where they are seen; nothing there may change
+    """What a root shares with the machine, and other folders, by where they are seen; nothing there may change
     these."""
     places: List[pathlib.Path] = []
+    LOCKS.mkdir(mode=0o700, exist_ok=True)
     try:
         for source, name in {**{pathlib.Path("/") / name: name for name in MOUNTS}, **bound}.items():
             place = root / name
