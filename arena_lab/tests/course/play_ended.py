@@ -1,5 +1,5 @@
-"""A grading ends if it is sent SIGTERM, also more than once, and leaves no process behind: what keeps programs in ends
-them where it can, and else each process that plays ends those of its match."""
+"""A grading that a signal ends, SIGTERM once or more often or SIGKILL, leaves no process behind, whether or not walls
+keep programs in."""
 import os
 import signal
 import subprocess
@@ -32,7 +32,7 @@ from arena_lab.__main__ import main
 raise SystemExit(main())
 """
 # seconds within which agents have begun, and the grading ends
-BEGUN, ENDED = 30, 20
+BEGUN, ENDED = 120, 60
 
 
 class Ended(InTemporary):
@@ -42,13 +42,13 @@ class Ended(InTemporary):
         (self.folder / "course.toml").write_text(COURSE)
 
     def test_a_grading_that_is_sent_signals_leaves_nothing(self) -> None:
-        for signals in (1, 5):
+        for signals in ([signal.SIGTERM], [signal.SIGTERM] * 5, [signal.SIGKILL]):
             for title, lab in (("as it is", ["-m", "arena_lab"]), ("without walls", ["-c", WITHOUT_WALLS])):
                 with self.subTest(title, signals=signals):
                     self.ended(lab, signals)
 
-    def ended(self, lab: List[str], signals: int) -> None:
-        """Grades, and sends so many signals once the agents of a match have begun."""
+    def ended(self, lab: List[str], signals: List[signal.Signals]) -> None:
+        """Grades, and sends these signals once the agents of a match have begun."""
         out = self.enterContext(tempfile.TemporaryDirectory(dir=self.folder))
         words = [*lab, "grade", str(self.folder / "course.toml"), "--out", f"{out}/out", "--program", program()]
         child = subprocess.Popen([sys.executable, *words], cwd=TOP, stdout=subprocess.DEVNULL,
@@ -59,10 +59,10 @@ class Ended(InTemporary):
             time.sleep(0.1)
         begun = below(child.pid)
         self.assertEqual(len(agents_of(child.pid)), 2, "not all agents have begun")
-        for _ in range(signals):
-            child.send_signal(signal.SIGTERM)
+        for number in signals:
+            child.send_signal(number)
             time.sleep(0.002)
-        self.assertEqual(child.wait(ENDED), 128 + signal.SIGTERM)
+        self.assertEqual(child.wait(ENDED), -number if number == signal.SIGKILL else 128 + number)
         late = time.monotonic() + ENDED
         while any(map(is_alive, begun)) and time.monotonic() < late:
             time.sleep(0.1)
