@@ -14,14 +14,12 @@ import subprocess
 import sys
 import time
 from concurrent.futures.process import BrokenProcessPool
-from types import FrameType
 from typing import Any, Dict, Generator, List, NamedTuple, Optional, Protocol, Sequence
 
 from arena_lab.play.imports import digest_named, digest_of
 from arena_lab.support.built import TOP
 from arena_lab.support.faults import Fault
 from arena_lab.support.missing import needed
-from arena_lab.support.signals import Terminated, end
 
 # how many matches a process takes at a time and a Dask worker, if they are short or long
 AT_A_TIME, BATCH = {False: 4, True: 1}, {False: 20, True: 4}
@@ -82,24 +80,16 @@ class Parallelism(NamedTuple):
 
 
 def result_of(job: Job, case: NumberedTask) -> Result:
-    """What a worker has made of a match. If the worker is to end, it does once the match has ended what it started."""
-    global is_playing
     if is_over is not None and is_over.is_set():
         return Result(None, f"run {case.number}: it is not played any more")
     try:
-        is_playing = True
         return Result(job.play(case), "")
     except (Fault, OSError) as fault:
         return Result(None, f"run {case.number}: {fault}")
-    except Terminated:
-        os._exit(128 + signal.SIGTERM)
-    finally:
-        is_playing = False
 
 
-# of a worker: whether the command takes no more results, and whether a match is played
+# of a worker: whether the command takes no more results
 is_over: Any = None
-is_playing = False
 
 
 def begin(over: Any, parent: int) -> None:
@@ -107,16 +97,8 @@ def begin(over: Any, parent: int) -> None:
     global is_over
     is_over = over
     signal.signal(signal.SIGINT, signal.SIG_IGN)
-    signal.signal(signal.SIGTERM, functools.partial(end_worker, os.getpid()))
+    signal.signal(signal.SIGTERM, signal.SIG_DFL)
     end_with(parent)
-
-
-def end_worker(worker: int, number: int, frame: Optional[FrameType]) -> None:
-    """Ends a worker, the process of this number, and first the programs of its match, which go on without it where
-    nothing keeps them in. A process that the worker has forked ends at once."""
-    if is_playing:
-        end(worker, number, frame)
-    os._exit(128 + number)
 
 
 def end_with(parent: int) -> None:

@@ -128,12 +128,13 @@ class Cell:
         return child, functools.partial(self._listener_of, child, ours, errors)
 
     def _before(self) -> List[str]:
-        """The words that make a program the first that is ended if memory is short, and another user."""
+        """The words that make a program the first that is ended if memory is short, and another user. Where no walls
+        end it with the process that plays it, the system does."""
         first = [*(self._group.words() if self._group else []), "choom", "-n", "1000", "--"]
-        if self.user is None:
-            return first
-        return [*first, "setpriv", f"--reuid={self.user}", f"--regid={self.user}", "--clear-groups", "--no-new-privs",
-                "--"]
+        ends = [] if self.place is None else ["--pdeathsig", "KILL"]
+        user = [] if self.user is None else [f"--reuid={self.user}", f"--regid={self.user}", "--clear-groups",
+                                             "--no-new-privs"]
+        return [*first, *(["setpriv", *ends, *user, "--"] if ends or user else [])]
 
     def _listener_of(self, child: "subprocess.Popen[bytes]", channel: socket.socket, errors: Any) -> socket.socket:
         """Takes the listener, and so waits until the program begins."""

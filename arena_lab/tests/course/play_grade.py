@@ -142,10 +142,10 @@ class Grading(InFolder):
     def test_who_hangs_is_ended_with_all_that_it_has_started(self) -> None:
         file = self.folder / "course.toml"
         file.write_text(HEAD.replace("limit = 60", "limit = 1") + team(
-            "silent", [TESTS / "play" / "rude.py"], RUDE.format(how="silent"), 1))
+            "silent", [TESTS / "play" / "rude.py"], RUDE.format(how=f"silent:{self.folder.name}"), 1))
         self.graded(file, "out", "--engine", "model")
         self.assertEqual(rows_of_teams(self.folder / "out")["silent"][0]["fault"], SILENT)
-        self.assertEqual(running("time.sleep(10000)"), [])
+        self.assertEqual(running(self.folder.name), [])
         self.assertIn("depends on the machine", (self.folder / "out" / "team-silent.html").read_text())
 
     def test_a_network_that_can_be_cut_is_refused(self) -> None:

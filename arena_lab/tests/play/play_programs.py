@@ -84,9 +84,9 @@ class Programs(InTemporary):
                 self.assertEqual(running(str(RUDE)), [])
 
     def test_what_the_silent_started_is_ended(self) -> None:
-        rude = AgentWords(OUTSIDE, f"{sys.executable} {RUDE} silent {{host}} {{port}} {{key}}")
+        rude = AgentWords(OUTSIDE, f"{sys.executable} {RUDE} silent:{self.folder.name} {{host}} {{port}} {{key}}")
         self.of([rude, rude], 1, SHORT)
-        self.assertEqual(running("time.sleep(10000)"), [])
+        self.assertEqual(running(self.folder.name), [])
 
     def test_a_command_that_cannot_be_started_is_told(self) -> None:
         for words in ("no-such-program {port}", "cat {nothing}"):

@@ -1,4 +1,5 @@
-"""Agents' programs that keep to no rule: `python3 rude.py HOW HOST PORT KEY`."""
+"""Agents' programs that keep to no rule: `python3 rude.py HOW HOST PORT KEY`. What `silent:MARK` starts has the word
+MARK, by which a test finds it."""
 import json
 import os
 import socket
@@ -11,13 +12,14 @@ HOURS = 10_000
 
 def main() -> None:
     how, host, port, key = sys.argv[1:]
+    how, _, mark = how.partition(":")
     enter = json.dumps({"do": "enter", "key": key}).encode() + b"\n"
     if how == "dies":
         sys.exit("no such map")
     server = socket.create_connection((host, int(port)))
     if how == "silent":
         # what it starts is to be ended too
-        subprocess.Popen([sys.executable, "-c", f"import time; time.sleep({HOURS})"])
+        subprocess.Popen([sys.executable, "-c", f"import time; time.sleep({HOURS})", mark])
         time.sleep(HOURS)
     if how == "garbage":
         server.sendall(b"\xff\xfe jump\n")
