@@ -248,7 +248,7 @@ def check_faults(faults: Sequence[str]) -> None:
 
 
 def graded_in(graded: GradingRun, workers: int, digests: Dict[str, str]) -> int:
-    """Plays the matches that are not done yet, and writes everything. The digests are those of what was handed in."""
+    """Plays the matches that are not done yet, and writes everything. `digests` are the SHA-256 of the teams' files."""
     made = {**tables.made_by(graded.program), "course": hashlib.sha256(graded.text.encode()).hexdigest(),
             "files": {**graded.course.digests(), **digests}}
     done = tables.prepared(graded.out, made)

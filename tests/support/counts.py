@@ -11,14 +11,14 @@ class Wrong(Exception):
     """Something is not as it should be."""
 
 
-def require(holds: object, *told: object) -> None:
-    """Fails with what is told, unless something holds."""
-    if not holds:
-        raise Wrong(" ".join(map(str, told)))
+def require(condition: object, *words: object) -> None:
+    """Raises Wrong with these words if the condition is false."""
+    if not condition:
+        raise Wrong(" ".join(map(str, words)))
 
 
 def wants(what: str, found: object, wanted: object) -> None:
-    """Fails if something else was found."""
+    """Raises Wrong if the value found is not the one wanted."""
     require(found == wanted, f"{what}: {found!r} and not {wanted!r}")
 
 

@@ -1,18 +1,18 @@
-"""Compares what two builds of the program say of replays and scripts that are bent by chance.
+"""Compares what two builds of the program print of bent replays and scripts.
 
     python3 -m tools.hostile.bent_inputs PROGRAM OTHER [--replays N] [--scripts N] [--seed SEED] [--workers W]
         [--keep FOLDER]
 
 Makes 10,000 replays and 2,000 scripts, or as many as are asked for. They begin as replays and scripts of examples/, or
-as those of matches that the lab's model plays at random. Each is then bent in one to three places:
+as those of matches that the lab's model plays at random. Each is then bent at random in one to three places.
 
-- bytes are changed, deleted or doubled;
-- numbers get a zero in front or are too large;
-- spaces and escapes stand where none should;
-- a line has the event or the reply of another;
-- lines are swapped, dropped, doubled or cut, or end with a carriage return;
-- texts are no UTF-8, or long;
-- a script has lines of another match or connection, bytes in hexadecimal, and lines that are too long.
+- Bytes are changed, deleted or doubled.
+- Numbers get a zero in front or are too large.
+- Spaces and escapes stand where none should.
+- A line gets the event or the reply of another line.
+- Lines are swapped, dropped, doubled or cut, or end with a carriage return.
+- Texts are no UTF-8, or long.
+- A script gets lines of another match or connection, bytes in hexadecimal, and lines that are too long.
 
 Both programs judge, explain and twin each replay, and rehearse each script, whole and line by line. Their exit statuses
 and their bytes on standard output and standard error must be the same.

@@ -2,9 +2,9 @@
 
     sudo python3 -m tools.play.bare [--root FOLDER] [--program PATH]
 
-Makes a root by `debootstrap`, or copies that in FOLDER, with python3 and no other package; clones the commit of this
-repository into it, with the programs that are built here, and binds the toolchain in. A program at PATH takes the place
-of the proved one. In the root it runs
+Makes a root by `debootstrap`, or copies the root in FOLDER. Clones the commit of this repository into it, adds the
+programs that are built here, and binds the toolchain in. A program at PATH takes the place of the proved one. In the
+root it runs
 
 - `python3 -m unittest`, without a package;
 - `tools/gate --played` where apt-get reaches no archive: all tests that need a package must be skipped;

@@ -32,6 +32,7 @@ These stopped the command, took more than their bound, or had the lab say what i
     500 MB of shared memory given back after writing, bound 200     ended
     600 MB of tables of pages, bound 200                            ended at 250 MB
 """
+import concurrent.futures
 import contextlib
 import io
 import mmap
@@ -41,7 +42,6 @@ import re
 import shutil
 import subprocess
 import tempfile
-import threading
 import time
 import unittest
 from typing import Any, Dict, Iterator, List
@@ -87,6 +87,11 @@ ask(do="enter", key=sys.argv[2])
 EVIL = "python3 evil.py {port} {key}"
 
 
+def first_match(graded: GradingRun) -> PlayedMatch:
+    """Plays the first match of a grading."""
+    return graded.match(graded.course.cases()[0], schedulers.fair(0), None)[1]
+
+
 class Course(unittest.TestCase):
     """A course of one team, whose program a test writes."""
 
@@ -100,15 +105,16 @@ class Course(unittest.TestCase):
         self.team = self.folder / "evil"
         self.team.mkdir()
 
-    def played(self, walls: Isolation, code: str, agents: int = 1, head: str = HEAD, tools: Any = (),
-               has_proc: bool = False, root: str = "") -> PlayedMatch:
-        """A match of the team."""
+    def grading(self, walls: Isolation, code: str, agents: int = 1, head: str = HEAD, **yard: Any) -> GradingRun:
+        """A grading of the team, which has written nothing yet."""
         (self.team / "evil.py").write_text(code)
         cells.remove(self.folder / "out")
         text = head + team("evil", ["evil"], EVIL, agents)
-        yard = Sandbox(walls, tuple(tools), has_proc, root)
-        graded = GradingRun(text, self.folder, SECRET, None, yard, self.folder / "out")
-        return graded.match(graded.course.cases()[0], schedulers.fair(0), None)[1]
+        return GradingRun(text, self.folder, SECRET, None, Sandbox(walls, **yard), self.folder / "out")
+
+    def played(self, walls: Isolation, code: str, *agents: int, **more: Any) -> PlayedMatch:
+        """A match of the team."""
+        return first_match(self.grading(walls, code, *agents, **more))
 
     def said(self, walls: Isolation, code: str, agents: int = 1, **more: Any) -> List[str]:
         """The last words of the team's programs, each of which ends before it connects."""
@@ -209,18 +215,15 @@ class TwoCommands(Course):
         """The same match twice at a time: whoever kills by user must not share it."""
         for walls in {Isolation.USER, cells.strongest()}:
             with self.subTest(walls):
-                found: List[PlayedMatch] = []
-                code = ENTERS + "time.sleep(0.5)\nask(do='look')\nask(do='leave')\n"
-
-                def play() -> None:
-                    found.append(self.played(walls, code))
-                threads = [threading.Thread(target=play) for _ in range(3)]
-                for thread in threads:
-                    thread.start()
-                    time.sleep(0.2)
-                for thread in threads:
-                    thread.join()
-                self.assertEqual([played.faults for played in found], [[]] * 3)
+                graded = self.grading(walls, ENTERS + "time.sleep(0.5)\nask(do='look')\nask(do='leave')\n")
+                # the first match takes what the team hands in, and the others begin while one is played
+                self.assertEqual(first_match(graded).faults, [])
+                with concurrent.futures.ThreadPoolExecutor(3) as pool:
+                    found: "List[concurrent.futures.Future[PlayedMatch]]" = []
+                    for _ in range(3):
+                        found.append(pool.submit(first_match, graded))
+                        time.sleep(0.2)
+                self.assertEqual([it.result().faults for it in found], [[]] * 3)
 
 
 class Guessing(Course):
@@ -477,7 +480,7 @@ try:
 except OSError as fault:
     sys.exit(f"pipe {{stat.S_ISFIFO(mode)}} {{fault.strerror}}")
 """
-        self.assertEqual(self.said(Isolation.ALL, code, tools=[str(tools)]), ["pipe False Read-only file system"])
+        self.assertEqual(self.said(Isolation.ALL, code, tools=(str(tools),)), ["pipe False Read-only file system"])
 
     def test_the_machine_has_no_name(self) -> None:
         self.assertEqual(self.said(Isolation.ALL, "import socket, sys; sys.exit(socket.gethostname())"), ["cell"])
