@@ -13,11 +13,11 @@ use Rattle.bhs_wasm.specs.declared.instructions.AccessSize.TheVariants as sizes
 use Rattle.bhs_wasm.specs.declared.instructions.Instruction.{Instruction}
 use Rattle.bhs_wasm.specs.declared.instructions.Instruction.TheVariants as instruction
 use Rattle.bhs_wasm.specs.declared.modules.Function.{Function}
-use Rattle.bhs_wasm.specs.declared.modules.Module.{Module}
 use Rattle.bhs_wasm.specs.declared.interpreters.Frame.{Frame}
 use Rattle.bhs_wasm.specs.declared.interpreters.Progress.{Progress}
 use Rattle.bhs_wasm.specs.declared.interpreters.Progress.TheVariants as progresses
 use Rattle.bhs_wasm.specs.declared.interpreters.Interpreter.{Interpreter}
+use Rattle.bhs_wasm.specs.Contents.{Contents}
 use Rattle.bhs_wasm.specs.Integers.{unary, binary}
 
 -- the whole state of an instance
@@ -317,23 +317,23 @@ abbrev pub called : Option Function → State → StepResult
 called None state = Traps
 called (Some function) state = entered function state
 
-abbrev pub do_call : Module → (function : ℕ) → State → StepResult
-do_call program function state = called (slice_get program.functions.items function) state
+abbrev pub do_call : Contents → (function : ℕ) → State → StepResult
+do_call program function state = called (slice_get program.functions function) state
 
 -- a function is entered that must be of this type
 abbrev pub typed : Option Function → (function_type : ℕ) → State → StepResult
 typed None function_type state = Traps
 typed (Some function) function_type state = checked (function.function_type == function_type) (entered function state)
 
-abbrev pub from_table : Module → Option (Option ℕ) → (function_type : ℕ) → State → StepResult
+abbrev pub from_table : Contents → Option (Option ℕ) → (function_type : ℕ) → State → StepResult
 from_table program None function_type state = Traps
 from_table program (Some None) function_type state = Traps
 from_table program (Some (Some function)) function_type state =
-    typed (slice_get program.functions.items function) function_type state
+    typed (slice_get program.functions function) function_type state
 
-abbrev pub do_call_indirect : Module → (function_type : ℕ) → State → StepResult
+abbrev pub do_call_indirect : Contents → (function_type : ℕ) → State → StepResult
 do_call_indirect program function_type state = given (top state) (λ value.
-    from_table program (slice_get program.table.items (low value)) function_type (below state))
+    from_table program (slice_get program.table (low value)) function_type (below state))
 
 -- ---- calls of the host
 
@@ -366,7 +366,7 @@ do_call_host function state = Waits function state
 
 -- ---- execution
 
-abbrev pub do_instruction : Module → Instruction → State → StepResult
+abbrev pub do_instruction : Contents → Instruction → State → StepResult
 do_instruction program instruction.Unreachable state = Traps
 do_instruction program (instruction.Const value) state = pushed value state
 do_instruction program (instruction.Unary32 op) state = do_unary32 op state
@@ -396,22 +396,22 @@ do_instruction program (instruction.Call function) state = do_call program funct
 do_instruction program (instruction.CallIndirect function_type) state = do_call_indirect program function_type state
 do_instruction program (instruction.CallHost function) state = do_call_host function state
 
-abbrev pub do_next : Module → Option Instruction → State → StepResult
+abbrev pub do_next : Contents → Option Instruction → State → StepResult
 do_next program None state = Traps
 do_next program (Some found) state = do_instruction program found state
 
-unfoldable pub step : Module → State → StepResult
-step program state = do_next program (slice_get program.code.items state.program_counter) state
+unfoldable pub step : Contents → State → StepResult
+step program state = do_next program (slice_get program.code state.program_counter) state
 
 -- one more instruction, if the last one continues
-abbrev pub then_step : Module → StepResult → StepResult
+abbrev pub then_step : Contents → StepResult → StepResult
 then_step program (Continues state) = step program state
 then_step program (Waits function state) = Waits function state
 then_step program Ends = Ends
 then_step program Traps = Traps
 
 -- this many instructions, or fewer if one does not continue
-unfoldable pub stepped : Module → (fuel : ℕ) → State → StepResult
+unfoldable pub stepped : Contents → (fuel : ℕ) → State → StepResult
 stepped program zero state = Continues state
 stepped program (suc fuel) state = then_step program (stepped program fuel state)
 
@@ -422,7 +422,7 @@ spent (Waits function state) = Waits function state
 spent Ends = Ends
 spent Traps = Traps
 
-abbrev pub run : Module → (fuel : ℕ) → State → StepResult
+abbrev pub run : Contents → (fuel : ℕ) → State → StepResult
 run program fuel state = spent (stepped program fuel state)
 
 -- ---- from command to command
@@ -432,13 +432,13 @@ abbrev pub forgotten : State → State
 forgotten state = record state { ports = 0; came = 0; board = [] }
 
 -- an instance whose memory is still empty
-abbrev pub instance : Module → (arguments : List ℕ) → State
+abbrev pub instance : Contents → (arguments : List ℕ) → State
 instance program arguments = record {
   program_counter = 0;
   base = 0;
   frames = [];
   stack = [];
-  globals = program.globals.items;
+  globals = program.globals;
   memory = [];
   pages = program.pages;
   ports = 0;
@@ -452,9 +452,9 @@ invoked None state = Traps
 invoked (Some function) state = Continues (jumped function.start (with_stack (zeros function.locals) state))
 
 -- an instance in the function that is exported as `run`, with the first bytes of its memory
-abbrev pub instantiated : Module → (arguments : List ℕ) → StepResult
-instantiated program arguments = after_put (put 0 program.memory.items (instance program arguments))
-    (invoked (slice_get program.functions.items program.entry))
+abbrev pub instantiated : Contents → (arguments : List ℕ) → StepResult
+instantiated program arguments = after_put (put 0 program.memory (instance program arguments))
+    (invoked (slice_get program.functions program.entry))
 
 -- the parameters of the command are popped, and its result is pushed
 abbrev pub answered : (parameters value : ℕ) → State → StepResult

@@ -10,6 +10,7 @@ use crate::stacks::{low, push_zeros};
 use std::alloc::AllocError;
 
 impl Interpreter {
+    ghost use Rattle.bhs_wasm.specs.Contents.{contents_of};
     ghost use Rattle.bhs_wasm.specs.States.{state_of};
 
     pub(crate) fn jump(&mut self, to: u32) -> Progress
@@ -93,7 +94,8 @@ impl Interpreter {
         program: &Module,
         function: u32,
     ) -> Result<Progress, AllocError>
-        ensures { specs.Gives (specs.do_call program.now function (state_of self.old)) result (state_of self.new) }
+        ensures { specs.Gives (specs.do_call (contents_of program.now) function (state_of self.old)) result
+            (state_of self.new) }
     {
         match program.functions.get(function as usize).copied() {
             Some(function) => self.enter(function),
@@ -124,8 +126,8 @@ impl Interpreter {
         program: &Module,
         function_type: u32,
     ) -> Result<Progress, AllocError>
-        ensures { specs.Gives (specs.do_call_indirect program.now function_type (state_of self.old)) result
-            (state_of self.new) }
+        ensures { specs.Gives (specs.do_call_indirect (contents_of program.now) function_type (state_of self.old))
+            result (state_of self.new) }
     {
         let Some(value) = self.pop() else {
             return Ok(Progress::Traps);

@@ -10,12 +10,14 @@ use crate::stacks::{low, push_zeros};
 use std::alloc::AllocError;
 
 impl Interpreter {
+    ghost use Rattle.bhs_wasm.specs.Contents.{contents_of};
     ghost use Rattle.bhs_wasm.specs.States.{state_of};
 
     /// Runs until the module waits in a command, returns or traps. It traps also after `fuel` instructions.
     #[tactic(auto, unfolding(crate::specs::States::stepped))]
     pub fn run(&mut self, program: &Module, fuel: u32) -> Result<Progress, AllocError>
-        ensures { specs.Gives (specs.run program.now fuel (state_of self.old)) result (state_of self.new) }
+        ensures { specs.Gives (specs.run (contents_of program.now) fuel (state_of self.old)) result
+            (state_of self.new) }
     {
         self.is_out_of_fuel = false;
         for _ in 0..fuel {
@@ -37,7 +39,7 @@ impl Interpreter {
         program: &Module,
         arguments: &[u32],
     ) -> Result<Progress, AllocError>
-        ensures { specs.Gives (specs.instantiated program.now arguments.now) result (state_of self.new) }
+        ensures { specs.Gives (specs.instantiated (contents_of program.now) arguments.now) result (state_of self.new) }
     {
         self.forget();
         self.frames.clear();
@@ -111,7 +113,7 @@ impl Interpreter {
     /// Executes the next instruction.
     #[tactic(auto, unfolding(crate::specs::States::step))]
     pub(crate) fn step(&mut self, program: &Module) -> Result<Progress, AllocError>
-        ensures { specs.Gives (specs.step program.now (state_of self.old)) result (state_of self.new) }
+        ensures { specs.Gives (specs.step (contents_of program.now) (state_of self.old)) result (state_of self.new) }
     {
         match program.code.get(self.program_counter as usize).copied() {
             Some(instruction) => self.execute(program, instruction),
@@ -125,7 +127,7 @@ impl Interpreter {
         program: &Module,
         instruction: Instruction,
     ) -> Result<Progress, AllocError>
-        ensures { specs.Gives (specs.do_instruction program.now instruction (state_of self.old)) result
+        ensures { specs.Gives (specs.do_instruction (contents_of program.now) instruction (state_of self.old)) result
             (state_of self.new) }
     {
         match instruction {

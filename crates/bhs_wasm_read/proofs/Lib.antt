@@ -1,2 +1,7 @@
 pub mod Bits
+pub mod Files
+pub mod Flows
+pub mod Lists
+mod ModuleRows
 mod Rows
+pub mod Orders

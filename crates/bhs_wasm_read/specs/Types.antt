@@ -7,7 +7,8 @@ use Rattle.bhs_wasm_read.specs.declared.faults.FaultKind.{FaultKind}
 use Rattle.bhs_wasm_read.specs.declared.faults.FaultKind.TheVariants as faults
 use Rattle.bhs_wasm_read.specs.declared.opcodes.ValueType.{ValueType}
 use Rattle.bhs_wasm_read.specs.declared.opcodes.ValueType.TheVariants as types
-use Rattle.bhs_wasm_read.specs.Values.{Read, then_read, byte, u32, s32, s64}
+use Rattle.bhs_wasm_read.specs.declared.module_types.FunctionType.{FunctionType}
+use Rattle.bhs_wasm_read.specs.Values.{Read, then_read, byte, u32, s32, s64, times}
 
 -- i32, i64; agents do without f32 and f64
 abbrev pub value_type : (byte : ℕ) → Result ValueType FaultKind
@@ -63,3 +64,31 @@ host_function name =
     else if bytes_eq name (codes "board") then Some imports.Board
     else if bytes_eq name (codes "argument") then Some imports.Argument
     else None
+
+-- ---- types of functions
+
+-- the types of its parameters and of its results
+pub record Signature : Type 0 where
+  pub parameters : List ValueType
+  pub results : List ValueType
+
+abbrev pub signature_of : FunctionType → Signature
+signature_of own = record { parameters = own.parameters.items; results = own.results.items }
+
+-- a type, and the bytes behind it
+abbrev pub with_rest : {A : Type 0} → Result A FaultKind → List ℕ → Read A
+with_rest (Ok value) rest = Ok (value, rest)
+with_rest (Err fault) rest = Err fault
+
+abbrev pub one_type : List ℕ → Read ValueType
+one_type left = then_read (byte left) (λ own rest. with_rest (value_type own) rest)
+
+abbrev pub value_types : List ℕ → Read (List ValueType)
+value_types left = then_read (u32 left) (λ count rest. times one_type count rest)
+
+-- 0x60, the types of the parameters, and those of the results
+abbrev pub signature : List ℕ → Read Signature
+signature left = then_read (byte left) (λ form rest. if form == 0x60
+    then then_read (value_types rest) (λ parameters rest. then_read (value_types rest) (λ results rest.
+    Ok (record { parameters = parameters; results = results }, rest)))
+    else Err faults.Type)

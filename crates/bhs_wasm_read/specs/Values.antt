@@ -1,6 +1,6 @@
 -- The grammar of values in the binary format: bytes, numbers and names, read from the front of the bytes that are left.
-use Rattle.std.specs.Prelude.{ℕ, ◌+◌, ◌-◌, ◌*◌, ◌%◌, ◌^◌, ◌≡◌, nat_lt, nat_le, List, [], ◌∷◌, length, take, drop}
-use Rattle.std.specs.Prelude.{Result, Ok, Err, if◌then◌else◌}
+use Rattle.std.specs.Prelude.{ℕ, zero, suc, ◌+◌, ◌-◌, ◌*◌, ◌%◌, ◌^◌, ◌≡◌, nat_lt, nat_le, List, [], ◌∷◌, ◌++◌}
+use Rattle.std.specs.Prelude.{length, take, drop, Option, Some, None, Result, Ok, Err, if◌then◌else◌}
 use Rattle.std.specs.Str.{is_utf8}
 use Rattle.bhs_wasm_read.specs.declared.bytes.Bytes.{Bytes}
 use Rattle.bhs_wasm_read.specs.declared.faults.FaultKind.{FaultKind}
@@ -88,3 +88,31 @@ index_of_type left = then_read (signed left 33) (λ n rest. if nat_lt n (2 ^ 32)
 abbrev pub name : List ℕ → Read (List ℕ)
 name left = then_read (u32 left) (λ count behind. then_read (bytes behind count) (λ text rest.
     if is_utf8 text then Ok (text, rest) else Err faults.Name))
+
+-- ---- what a function that returned Ok has read: a fault of a module's types and limits is not said
+
+abbrev pub ReadsAs : {A B : Type 0} → (A → B) → Read B → Result A FaultKind → (left : List ℕ) → Type 0
+ReadsAs view read (Ok value) left = read ≡ Ok (view value, left)
+ReadsAs view read (Err fault) left = Unit {0}
+
+-- the same of what a function has put elsewhere
+abbrev pub ReadsTo : {A B : Type 0} → Read B → Result A FaultKind → (value : B) → (left : List ℕ) → Type 0
+ReadsTo read (Ok x) value left = read ≡ Ok (value, left)
+ReadsTo read (Err fault) value left = Unit {0}
+
+-- a step, again and again: each begins with what the one before gave, at the byte behind it
+unfoldable pub over : {A : Type 0} → (A → List ℕ → Read A) → (count : ℕ) → A → List ℕ → Read A
+over step zero x left = Ok (x, left)
+over step (suc count) x left = then_read (over step count x left) step
+
+-- `count` things, one behind another
+abbrev pub added : {A : Type 0} → (List ℕ → Read A) → List A → List ℕ → Read (List A)
+added one xs left = then_read (one left) (λ x rest. Ok (xs ++ x ∷ [], rest))
+
+abbrev pub times : {A : Type 0} → (List ℕ → Read A) → (count : ℕ) → List ℕ → Read (List A)
+times one count left = over (added one) count [] left
+
+-- what there is, if there is something
+abbrev pub given : {A B : Type 0} → Option A → (A → Read B) → Read B
+given None then_do = Err faults.Index
+given (Some x) then_do = then_do x

@@ -1,4 +1,9 @@
-//! The body of a function while it is read: its blocks, and the types of its operands.
+//! The body of a function while it is read: its blocks, its labels, and the types of its operands.
+
+ghost use Rattle.std.specs.Prelude.{◌≡◌, ◌+◌, length, IfOk, OnOk};
+ghost use Rattle.bhs_wasm_read.specs.Bodies as specs;
+ghost use Rattle.bhs_wasm_read.specs.Bodies.{flow_of};
+ghost use Rattle.bhs_wasm_read.specs.Values.{ReadsAs};
 
 use crate::bytes::Bytes;
 use crate::faults::FaultKind;
@@ -6,7 +11,6 @@ use crate::module_types::{FunctionType, MAX_LOCALS, value_type};
 use crate::opcodes::ValueType;
 use bhs_wasm::{HostFunction, Instruction};
 use std::alloc::Global;
-use std::mem;
 
 /// What a module has beside the bodies of its functions.
 #[derive(Clone, Copy)]
@@ -24,18 +28,15 @@ pub(crate) struct Context<'m> {
     pub(crate) has_table: bool,
 }
 
-/// Stands for an instruction where there is none: no module has as many.
-pub(crate) const NO_INSTRUCTION: u32 = u32::MAX;
-
 /// A block, and how branches to it are made.
 #[derive(Clone, Copy, Debug, PartialEq, Eq)]
 pub(crate) enum BlockKind {
     Function,
     Block,
     /// Branches lead to its first instruction.
-    Loop { start: u32 },
-    /// The first part of an `if`. The instruction at `skip` is told where the second part begins.
-    If { skip: u32 },
+    Loop,
+    /// The first part of an `if`. This label leads to the second part.
+    If(u32),
 }
 
 /// The type of a block.
@@ -52,14 +53,13 @@ pub(crate) struct Block {
     pub(crate) kind: BlockKind,
     pub(crate) block_type: BlockType,
     /// How many operands there are below it.
-    pub(crate) height: u32,
+    pub(crate) height: usize,
     /// Whether code reached its beginning. If none did, it has no instructions.
     pub(crate) is_entered: bool,
     /// Whether no code reaches what is read now.
     pub(crate) is_unreachable: bool,
-    /// The last branch to its end that was read. Until the end is known, the target of each such branch is the one
-    /// before it, and the target of the first is `NO_INSTRUCTION`.
-    pub(crate) last_branch: u32,
+    /// The label that branches to it lead to.
+    pub(crate) label: u32,
 }
 
 /// A body that is read.
@@ -68,41 +68,82 @@ pub(crate) struct Body<'m> {
     pub(crate) context: Context<'m>,
     pub(crate) locals: Vec<ValueType>,
     pub(crate) operands: Vec<ValueType>,
-    pub(crate) blocks: Vec<Block>,
+    /// The innermost block, and those around it, the outermost first.
+    pub(crate) block: Block,
+    pub(crate) outer: Vec<Block>,
+    /// Whether the body's own block has ended.
+    pub(crate) is_done: bool,
+    /// The number of its first instruction in the module.
+    pub(crate) start: u32,
+    /// Its instructions. The target of a branch is the number of a label.
+    pub(crate) code: Vec<Instruction>,
+    /// The number of the instruction that each label leads to. Until the end of a block is read its label leads to its
+    /// beginning.
+    pub(crate) labels: Vec<u32>,
 }
 
 /// A length, as the number of the next item.
-pub(crate) fn number_of(length: usize) -> u32 {
-    (length % 0x1_0000_0000) as u32
+pub(crate) fn number_of(length: usize) -> Result<u32, FaultKind>
+    ensures { IfOk result (λ number. number ≡ length) }
+{
+    match u32::try_from(length) {
+        Ok(number) => Ok(number),
+        Err(_) => Err(FaultKind::Large),
+    }
 }
 
 impl<'m> Body<'m> {
-    /// The innermost block.
-    pub(crate) fn block(&self) -> Result<Block, FaultKind> {
-        self.blocks.last().copied().ok_or(FaultKind::Block)
+    /// The number of the next instruction.
+    pub(crate) fn place(&self) -> Result<u32, FaultKind>
+        ensures { IfOk result (λ place. place ≡ specs.place (flow_of self.now)) }
+    {
+        number_of((self.start as usize).saturating_add(self.code.len()))
     }
 
     /// Whether code reaches what is read now.
-    pub(crate) fn is_reached(&self) -> bool {
-        match self.blocks.last() {
-            Some(block) => block.is_entered && !block.is_unreachable,
-            None => false,
-        }
+    pub(crate) fn is_reached(&self) -> bool
+        ensures { result ≡ specs.is_reached (flow_of self.now) }
+    {
+        self.block.is_entered && !self.block.is_unreachable
     }
 
     /// Adds an instruction, if code reaches it.
-    pub(crate) fn emit(
-        &self,
-        code: &mut Vec<Instruction>,
-        instruction: Instruction,
-    ) -> Result<(), FaultKind> {
+    pub(crate) fn emit(&mut self, instruction: Instruction) -> Result<(), FaultKind>
+        ensures { OnOk result (flow_of self.new ≡ specs.emitted instruction (flow_of self.old)) }
+    {
         if self.is_reached() {
-            code.push(instruction)?;
+            self.code.push(instruction)?;
         }
         Ok(())
     }
 
-    pub(crate) fn push(&mut self, value: ValueType) -> Result<(), FaultKind> {
+    /// Adds a label, and answers its number.
+    pub(crate) fn add_label(&mut self, to: u32) -> Result<u32, FaultKind>
+        ensures number { IfOk result (λ label. label ≡ length self.old.labels.items) }
+        ensures flow { OnOk result (flow_of self.new ≡ specs.with_label to (flow_of self.old)) }
+    {
+        let label = number_of(self.labels.len())?;
+        self.labels.push(to)?;
+        Ok(label)
+    }
+
+    /// Lets a label lead to the next instruction.
+    pub(crate) fn label_here(&mut self, label: u32) -> Result<(), FaultKind>
+        ensures { OnOk result (flow_of self.new ≡ specs.label_here label (flow_of self.old)) }
+    {
+        let place = self.place()?;
+        match self.labels.get_mut(label as usize) {
+            Some(to) => {
+                *to = place;
+                Ok(())
+            }
+            None => Err(FaultKind::Block),
+        }
+    }
+
+    pub(crate) fn push(&mut self, value: ValueType) -> Result<(), FaultKind>
+        ensures { OnOk result (flow_of self.new ≡ specs.raised 1 (flow_of self.old)) }
+    {
         if self.operands.len() >= MAX_LOCALS as usize {
             return Err(FaultKind::Large);
         }
@@ -111,54 +152,104 @@ impl<'m> Body<'m> {
     }
 
     /// Pops an operand of any type.
-    pub(crate) fn pop_any(&mut self) -> Result<ValueType, FaultKind> {
-        let block = self.block()?;
-        if self.operands.len() > block.height as usize {
+    #[tactic(auto, unfolding(crate::specs::Bodies::less))]
+    pub(crate) fn pop_any(&mut self) -> Result<ValueType, FaultKind>
+        ensures { OnOk result (flow_of self.new ≡ specs.lowered 1 (flow_of self.old)) }
+    {
+        if self.operands.len() > self.block.height {
             return self.operands.pop().ok_or(FaultKind::Type);
         }
-        if block.is_unreachable {
+        if self.block.is_unreachable {
             Ok(ValueType::Unknown)
         } else {
             Err(FaultKind::Type)
         }
     }
 
-    /// Pops an operand of this type.
-    pub(crate) fn pop(&mut self, wanted: ValueType) -> Result<(), FaultKind> {
+    /// Pops an operand of this type. It may be one of which no type is known.
+    pub(crate) fn pop(&mut self, wanted: ValueType) -> Result<ValueType, FaultKind>
+        ensures { OnOk result (flow_of self.new ≡ specs.lowered 1 (flow_of self.old)) }
+    {
         let value = self.pop_any()?;
         if value == wanted || value == ValueType::Unknown || wanted == ValueType::Unknown {
-            Ok(())
+            Ok(value)
         } else {
             Err(FaultKind::Type)
         }
     }
 
-    pub(crate) fn push_all(&mut self, values: &[ValueType]) -> Result<(), FaultKind> {
+    pub(crate) fn push_all(&mut self, values: &[ValueType]) -> Result<(), FaultKind>
+        ensures { OnOk result (flow_of self.new ≡ specs.raised (length values.now) (flow_of self.old)) }
+    {
         for value in values {
             self.push(*value)?;
         }
         Ok(())
     }
 
-    pub(crate) fn pop_all(&mut self, values: &[ValueType]) -> Result<(), FaultKind> {
-        for value in values.iter().rev() {
-            self.pop(*value)?;
+    #[tactic(auto, unfolding(crate::specs::Bodies::less))]
+    pub(crate) fn pop_all(&mut self, values: &[ValueType]) -> Result<(), FaultKind>
+        ensures { OnOk result (flow_of self.new ≡ specs.lowered (length values.now) (flow_of self.old)) }
+    {
+        for k in 0..values.len() {
+            self.pop(values[values.len() - 1 - k])?;
+        }
+        Ok(())
+    }
+
+    /// Pops operands of these types, and pushes what was popped: an operand of which no type is known stays one.
+    pub(crate) fn pop_and_push(&mut self, values: &[ValueType]) -> Result<(), FaultKind>
+        ensures { OnOk result (flow_of self.new
+            ≡ specs.raised (length values.now) (specs.lowered (length values.now) (flow_of self.old))) }
+    {
+        let mut popped = Vec::new(self.context.alloc);
+        self.pop_into(values, &mut popped)?;
+        self.push_back(&popped)
+    }
+
+    // Pops operands of these types. What was popped last stands last.
+    #[tactic(auto, unfolding(crate::specs::Bodies::less))]
+    fn pop_into(
+        &mut self,
+        values: &[ValueType],
+        popped: &mut Vec<ValueType>,
+    ) -> Result<(), FaultKind>
+        ensures flow { OnOk result (flow_of self.new ≡ specs.lowered (length values.now) (flow_of self.old)) }
+        ensures popped { OnOk result (length popped.new.items ≡ length popped.old.items + length values.now) }
+    {
+        for k in 0..values.len() {
+            let value = self.pop(values[values.len() - 1 - k])?;
+            popped.push(value)?;
+        }
+        Ok(())
+    }
+
+    // Pushes what was popped, the last first.
+    fn push_back(&mut self, popped: &[ValueType]) -> Result<(), FaultKind>
+        ensures { OnOk result (flow_of self.new ≡ specs.raised (length popped.now) (flow_of self.old)) }
+    {
+        for k in 0..popped.len() {
+            self.push(popped[popped.len() - 1 - k])?;
         }
         Ok(())
     }
 
     /// No code reaches what follows in this block.
-    pub(crate) fn become_unreachable(&mut self) -> Result<(), FaultKind> {
-        let height = self.block()?.height;
-        self.operands.truncate(height as usize);
-        if let Some(block) = self.blocks.last_mut() {
-            block.is_unreachable = true;
+    pub(crate) fn become_unreachable(&mut self) -> Result<(), FaultKind>
+        ensures { OnOk result (flow_of self.new ≡ specs.unreached (flow_of self.old)) }
+    {
+        if self.operands.len() < self.block.height {
+            return Err(FaultKind::Type);
         }
+        self.operands.truncate(self.block.height);
+        self.block.is_unreachable = true;
         Ok(())
     }
 
     /// The type of a block.
-    pub(crate) fn block_type(&self, bytes: &mut Bytes<'_>) -> Result<BlockType, FaultKind> {
+    pub(crate) fn block_type(&self, bytes: &mut Bytes<'_>) -> Result<BlockType, FaultKind>
+        ensures { ReadsAs (λ own. own) (specs.block_type bytes.old.left.now) result bytes.new.left.now }
+    {
         match bytes.next()? {
             0x40 => {
                 bytes.byte()?;
@@ -176,7 +267,9 @@ impl<'m> Body<'m> {
     }
 
     /// The types of the values that a block takes.
-    pub(crate) fn parameters(&self, block_type: BlockType) -> Result<Vec<ValueType>, FaultKind> {
+    pub(crate) fn parameters(&self, block_type: BlockType) -> Result<Vec<ValueType>, FaultKind>
+        ensures { IfOk result (λ values. length values.items ≡ specs.takes (flow_of self.now).around block_type) }
+    {
         match block_type {
             BlockType::Empty | BlockType::Result(_) => Ok(Vec::new(self.context.alloc)),
             BlockType::Function(number) => match self.context.types.get(number as usize) {
@@ -187,7 +280,9 @@ impl<'m> Body<'m> {
     }
 
     /// The types of the values that a block gives.
-    pub(crate) fn results(&self, block_type: BlockType) -> Result<Vec<ValueType>, FaultKind> {
+    pub(crate) fn results(&self, block_type: BlockType) -> Result<Vec<ValueType>, FaultKind>
+        ensures { IfOk result (λ values. length values.items ≡ specs.gives (flow_of self.now).around block_type) }
+    {
         match block_type {
             BlockType::Empty => Ok(Vec::new(self.context.alloc)),
             BlockType::Result(value) => Ok(Vec::from_slice(self.context.alloc, &[value])?),
@@ -198,34 +293,26 @@ impl<'m> Body<'m> {
         }
     }
 
-    // The place of the block that a branch out of this many blocks leads to.
-    fn place_of(&self, depth: u32) -> Result<usize, FaultKind> {
-        self.blocks
-            .len()
-            .checked_sub(1 + depth as usize)
-            .ok_or(FaultKind::Index)
-    }
-
     /// The block that a branch out of this many blocks leads to.
-    pub(crate) fn target(&self, depth: u32) -> Result<Block, FaultKind> {
-        let place = self.place_of(depth)?;
-        self.blocks.get(place).copied().ok_or(FaultKind::Index)
-    }
-
-    /// Notes that this branch leads to the end of the block out of this many blocks. Answers the last branch that was
-    /// noted before it.
-    pub(crate) fn wait_for_end(&mut self, depth: u32, branch: u32) -> Result<u32, FaultKind> {
-        let place = self.place_of(depth)?;
-        match self.blocks.get_mut(place) {
-            Some(block) => Ok(mem::replace(&mut block.last_branch, branch)),
-            None => Err(FaultKind::Index),
+    pub(crate) fn target(&self, depth: u32) -> Result<Block, FaultKind>
+        ensures { IfOk result (λ block. specs.target depth (flow_of self.now) ≡ Some block) }
+    {
+        if depth == 0 {
+            return Ok(self.block);
         }
+        let Some(place) = self.outer.len().checked_sub(depth as usize) else {
+            return Err(FaultKind::Index);
+        };
+        self.outer.get(place).copied().ok_or(FaultKind::Index)
     }
 
     /// The types of the values that a branch to a block takes along.
-    pub(crate) fn label(&self, block: Block) -> Result<Vec<ValueType>, FaultKind> {
+    pub(crate) fn label(&self, block: Block) -> Result<Vec<ValueType>, FaultKind>
+        ensures { IfOk result (λ values. length values.items
+            ≡ specs.arity (flow_of self.now).around block.kind block.block_type) }
+    {
         match block.kind {
-            BlockKind::Loop { .. } => self.parameters(block.block_type),
+            BlockKind::Loop => self.parameters(block.block_type),
             _ => self.results(block.block_type),
         }
     }

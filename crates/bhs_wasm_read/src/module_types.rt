@@ -1,6 +1,9 @@
 //! The types of a module, of its functions and of the functions of the host.
 
 ghost use Rattle.std.specs.Prelude.{◌≡◌};
+ghost use Rattle.bhs_wasm_read.specs.Modules.{is_same};
+ghost use Rattle.bhs_wasm_read.specs.Types.{signature_of};
+ghost use Rattle.bhs_wasm_read.specs.Values.{ReadsAs};
 ghost use Rattle.bhs_wasm_read.specs.Types as specs;
 
 use crate::bytes::Bytes;
@@ -25,7 +28,9 @@ pub(crate) struct FunctionType {
 
 impl FunctionType {
     /// Reads a type of functions.
-    pub(crate) fn read(alloc: Global, bytes: &mut Bytes<'_>) -> Result<FunctionType, FaultKind> {
+    pub(crate) fn read(alloc: Global, bytes: &mut Bytes<'_>) -> Result<FunctionType, FaultKind>
+        ensures { ReadsAs (λ own. signature_of own) (specs.signature bytes.old.left.now) result bytes.new.left.now }
+    {
         if bytes.byte()? != 0x60 {
             return Err(FaultKind::Type);
         }
@@ -38,7 +43,9 @@ impl FunctionType {
     }
 
     /// Whether two types are equal.
-    pub(crate) fn is_equal(&self, other: &FunctionType) -> bool {
+    pub(crate) fn is_equal(&self, other: &FunctionType) -> bool
+        ensures { result ≡ is_same (signature_of self.now) (signature_of other.now) }
+    {
         self.parameters.as_slice() == other.parameters.as_slice()
             && self.results.as_slice() == other.results.as_slice()
     }
@@ -51,7 +58,10 @@ impl FunctionType {
     }
 }
 
-fn value_types(alloc: Global, bytes: &mut Bytes<'_>) -> Result<Vec<ValueType>, FaultKind> {
+#[tactic(auto, unfolding(crate::specs::Values::over))]
+fn value_types(alloc: Global, bytes: &mut Bytes<'_>) -> Result<Vec<ValueType>, FaultKind>
+    ensures { ReadsAs (λ own. own.items) (specs.value_types bytes.old.left.now) result bytes.new.left.now }
+{
     let count = bytes.u32()?;
     if count > MAX_PARAMETERS {
         return Err(FaultKind::Large);

@@ -1,7 +1,11 @@
 //! Modules, section by section.
 
-ghost use Rattle.std.specs.Prelude.{◌≡◌, ◌<◌, ◌≤◌, true, false, drop, length};
+ghost use Rattle.std.specs.Prelude.{◌≡◌, ℕ, ◌<◌, ◌≤◌, true, false, [], drop, length};
 ghost use Rattle.std.specs.Prelude.{IsOk, IfOk, IfErr, OnOk, OnErr};
+ghost use Rattle.bhs_wasm_read.specs.Modules as modules;
+ghost use Rattle.bhs_wasm.specs.Contents.{contents_of};
+ghost use Rattle.bhs_wasm_read.specs.Modules.{module_in, parts_of};
+ghost use Rattle.bhs_wasm_read.specs.Values.{ReadsTo};
 ghost use Rattle.bhs_wasm_read.specs.Files as specs;
 ghost use Rattle.bhs_wasm_read.specs.Files.{AreInOrder, has_head, place_of};
 
@@ -16,6 +20,8 @@ pub fn module_of(alloc: Global, file: &[u8]) -> Result<Module, ModuleFault>
     // A module has the head, and behind it sections in their order.
     ensures head { IsOk result → has_head file.now ≡ true }
     ensures sections { IsOk result → AreInOrder (drop 8 file.now) }
+    // It is what the file says.
+    ensures contents { IfOk result (λ it. module_in file.now ≡ Some (contents_of it)) }
     // A file is refused for its head exactly if it lacks it. Any other fault is in the file.
     ensures lacks_head { has_head file.now ≡ false → result ≡ Err ModuleFault.Head }
     ensures refused_head { result ≡ Err ModuleFault.Head → has_head file.now ≡ false }
@@ -47,7 +53,9 @@ pub fn module_of(alloc: Global, file: &[u8]) -> Result<Module, ModuleFault>
 }
 
 fn read(bytes: &mut Bytes<'_>, sections: &mut Sections) -> Result<(), FaultKind>
-    ensures { OnOk result (AreInOrder bytes.old.left.now) }
+    ensures order { OnOk result (AreInOrder bytes.old.left.now) }
+    ensures parts { OnOk result ((most : ℕ) → length bytes.old.left.now ≤ most
+        → modules.sections most 0 (parts_of sections.old) bytes.old.left.now ≡ Ok (parts_of sections.new, [])) }
 {
     let mut last = 0;
     while bytes.left() > 0 {
@@ -60,6 +68,8 @@ fn read(bytes: &mut Bytes<'_>, sections: &mut Sections) -> Result<(), FaultKind>
 // Reads a section behind those up to a rank, and answers the rank up to which there are sections then.
 fn read_section(last: u8, bytes: &mut Bytes<'_>, sections: &mut Sections) -> Result<u8, FaultKind>
     ensures read { IfOk result (λ own. specs.section last bytes.old.left.now ≡ Ok (own, bytes.new.left.now)) }
+    ensures parts { IfOk result (λ own. modules.section last (parts_of sections.old) bytes.old.left.now
+        ≡ Ok ((own, parts_of sections.new), bytes.new.left.now)) }
     ensures shorter { OnOk result (length bytes.new.left.now < length bytes.old.left.now) }
 {
     let number = bytes.byte()?;
