@@ -1,9 +1,11 @@
 -- Teams that run modules, one role after the other, and the lines of their modules.
 use Rattle.std.proofs.Common.{◌≡◌, ◌∙◌, refl, sym, ap, ap₂, ℕ, ◌+◌, ◌<◌, List, [], ◌∷◌, ◌++◌, append_assoc, append-nil}
-use Rattle.std.proofs.Common.{get_or, length, map, subst, take, Option, Result, Ok, Err, OnOk, false}
+use Rattle.std.proofs.Common.{get_or, length, map, subst, take, Option, Some, Result, Ok, Err, OnOk, false}
 use Rattle.std.specs.Result.{is_err}
 use Rattle.std.proofs.lemmas.List.{length-map, map-append, take_more}
 use Rattle.bhs_command_line.specs.declared.orders.AgentModule.{AgentModule}
+use Rattle.bhs_wasm.specs.Contents.{contents_of}
+use Rattle.bhs_wasm_read.specs.Modules.{module_in}
 use Rattle.bhs_wasm_team.specs.declared.agents.Role.{Role}
 use Rattle.bhs_wasm_team.specs.declared.failures.ModuleFailure.{ModuleFailure}
 use Rattle.bhs_wasm_team.specs.Roles.{all_roles}
@@ -30,9 +32,10 @@ pub has_more : (old new : FileRoles) (first : AgentModule) (others : List AgentM
     (role : Role) (file : ModuleFile) → place < length others → new.roles.first ≡ old.roles.first
     → new.roles.others.items ≡ old.roles.others.items ++ role ∷ [] → new.files.items ≡ old.files.items ++ file ∷ []
     → role.arguments.items ≡ (get_or others place d).arguments
-    → file.arguments.items ≡ (get_or others place d).arguments → IsTeamOf (first ∷ take place others) old
+    → file.arguments.items ≡ (get_or others place d).arguments
+    → module_in file.bytes.items ≡ Some (contents_of role.program) → IsTeamOf (first ∷ take place others) old
     → IsTeamOf (first ∷ take (place + 1) others) new
-has_more old new first others place d role file within one roles files of_role of_file team =
+has_more old new first others place d role file within one roles files of_role of_file is team =
     let given : first ∷ take (place + 1) others ≡ (first ∷ take place others) ++ get_or others place d ∷ [] =
     ap (λ (more : List AgentModule). first ∷ more) (take_more others place d within) in
     let all : all_roles new.roles ≡ all_roles old.roles ++ role ∷ [] =
@@ -45,6 +48,10 @@ has_more old new first others place d role file within one roles files of_role o
       files = ap (map (λ (it : ModuleFile). it.arguments.items)) files
           ∙ (one_more (λ (it : ModuleFile). it.arguments.items) (λ (it : AgentModule). it.arguments) old.files.items
           (first ∷ take place others) file (get_or others place d) team.files of_file ∙ wanted);
+      are = ap (map (λ (it : ModuleFile). module_in it.bytes.items)) files
+          ∙ (one_more (λ (it : ModuleFile). module_in it.bytes.items) (λ (it : Role). Some (contents_of it.program))
+          old.files.items (all_roles old.roles) file role team.are is
+          ∙ ap (map (λ (it : Role). Some (contents_of it.program))) (sym all));
     }
 
 -- ---- how many modules there are
@@ -69,6 +76,7 @@ lines_then (line ∷ lines) more =
 abbrev pub HasLines : List ModuleFile → (before text : List ℕ) → Type 0
 HasLines files before text = (lines : List ModuleLine)
     × (map (λ line. line.arguments) lines ≡ map (λ file. file.arguments.items) files)
+    × (map (λ line. module_in line.file) lines ≡ map (λ file. module_in file.bytes.items) files)
     × (text ≡ before ++ module_lines lines)
 
 -- what the line of a file tells
@@ -80,7 +88,7 @@ pub more_lines : (files : List ModuleFile) (place : ℕ) (d : ModuleFile) (failu
     (before text more : List ℕ) → place < length files
     → more ≡ text ++ module_line (line_with (get_or files place d) failure) → HasLines (take place files) before text
     → HasLines (take (place + 1) files) before more
-more_lines files place d failure before text more within grown (lines, have, said) =
+more_lines files place d failure before text more within grown (lines, have, are, said) =
     let file : ModuleFile = get_or files place d in
     let line : ModuleLine = line_with file failure in
     let last : module_lines (line ∷ []) ≡ module_line line = append-nil (module_line line) in (
@@ -88,6 +96,9 @@ more_lines files place d failure before text more within grown (lines, have, sai
       one_more (λ (it : ModuleLine). it.arguments) (λ (it : ModuleFile). it.arguments.items) lines (take place files)
           line file have refl
           ∙ ap (map (λ (it : ModuleFile). it.arguments.items)) (sym (take_more files place d within)),
+      one_more (λ (it : ModuleLine). module_in it.file) (λ (it : ModuleFile). module_in it.bytes.items) lines
+          (take place files) line file are refl
+          ∙ ap (map (λ (it : ModuleFile). module_in it.bytes.items)) (sym (take_more files place d within)),
       grown ∙ (ap (λ (front : List ℕ). front ++ module_line line) said
           ∙ (append_assoc before (module_lines lines) (module_line line)
           ∙ ap (λ (rest : List ℕ). before ++ rest) (ap (λ (end : List ℕ). module_lines lines ++ end) (sym last)

@@ -8,6 +8,8 @@ use Rattle.bhs_lineup.specs.declared.lineups.Lineup.{Lineup}
 use Rattle.bhs_lineup.specs.declared.lineups.Ready.{Ready}
 use Rattle.bhs_command_line.specs.declared.orders.AgentModule.{AgentModule}
 use Rattle.bhs_command_line.specs.declared.orders.Exploration.{Exploration}
+use Rattle.bhs_wasm.specs.Contents.{Contents, contents_of}
+use Rattle.bhs_wasm_read.specs.Modules.{module_in}
 use Rattle.bhs_wasm_team.specs.declared.agents.Roles.{Roles}
 use Rattle.bhs_wasm_team.specs.declared.agents.TheConstants.{FUEL}
 use Rattle.bhs_wasm_team.specs.declared.failures.FailureCause.{FailureCause}
@@ -73,14 +75,19 @@ pub record IsFoundOfModules (ready : Ready) (exploration : Exploration) (roles :
   pub kind : is_drawn found ≡ is_some exploration.drawing
   pub counted : IsCounted found
 
+-- the modules of all roles, in their order
+abbrev pub programs_of : Roles → List (Option Contents)
+programs_of roles = map (λ role. Some (contents_of role.program)) (all_roles roles)
+
 -- The text tells what was found of agents in these roles, with these arguments of each role, and so does the exit
--- status. How an agent failed is not proved.
+-- status. The files that its lines name by their SHA-256 are these roles' modules. How an agent failed is not proved.
 pub record IsModuleReport (ready : Ready) (exploration : Exploration) (roles : Roles) (arguments : List (List ℕ))
     (text : List ℕ) (code : ℕ) : Type 0 where
   pub found : Discovery
   pub is_found : IsFoundOfModules ready exploration roles FUEL found
   pub lines : List ModuleLine
   pub have : map (λ line. line.arguments) lines ≡ arguments
+  pub are : map (λ line. module_in line.file) lines ≡ programs_of roles
   pub said : text ≡ module_discovery found lines
   pub told : code ≡ found_status (found_in found)
 
@@ -94,10 +101,11 @@ AreFor agents modules = (modules ≡ 1) ⊎ (modules ≡ agents)
 abbrev pub arguments_of : Roles → List (List ℕ)
 arguments_of roles = map (λ role. role.arguments.items) (all_roles roles)
 
--- the roles have the arguments of these modules, and so have the files
+-- the roles have the arguments of these modules, and so have the files, whose modules the roles run
 pub record IsTeamOf (modules : List AgentModule) (team : FileRoles) : Type 0 where
   pub roles : arguments_of team.roles ≡ map (λ it. it.arguments) modules
   pub files : map (λ file. file.arguments.items) team.files.items ≡ map (λ it. it.arguments) modules
+  pub are : map (λ file. module_in file.bytes.items) team.files.items ≡ programs_of team.roles
 
 -- ---- the order
 

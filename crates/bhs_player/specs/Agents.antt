@@ -1,6 +1,8 @@
 -- Agents that the program plays.
-use Rattle.std.specs.Prelude.{◌≡◌, ◌≤◌, ⊤}
+use Rattle.std.specs.Prelude.{◌≡◌, ℕ, List, Some}
 use Rattle.bhs_explore.specs.Strategies.{Strategy}
+use Rattle.bhs_wasm.specs.Contents.{contents_of}
+use Rattle.bhs_wasm_read.specs.Modules.{module_in}
 use Rattle.bhs_wasm_team.specs.declared.agents.TheConstants.{FUEL}
 use Rattle.bhs_searcher.specs.Modules.{strategy_of_module}
 use Rattle.bhs_searcher.specs.Protocols.{strategy_of_agent}
@@ -9,17 +11,13 @@ use Rattle.bhs_player.specs.declared.agents.PlayedAgent.TheVariants as played
 use Rattle.bhs_player.specs.declared.words.AgentChoice.{AgentChoice}
 use Rattle.bhs_player.specs.declared.words.AgentChoice.TheVariants as runs
 
--- a ring has 3 to 4,096 nodes, and a side is 0 or 1
-abbrev pub IsFit : AgentChoice → Type 0
-IsFit (runs.Protocol protocol nodes side) = (3 ≤ nodes) × (nodes ≤ 4096) × (side ≤ 1)
-IsFit (runs.Module it) = ⊤
-
--- the agent runs this: the protocol on this ring from this side, or a module with these arguments
+-- the agent runs this: the protocol on this ring from this side, or the module that a file is, with these arguments
 abbrev pub IsChosen : AgentChoice → PlayedAgent → Type 0
 IsChosen (runs.Protocol protocol nodes side) (played.Protocol agent) =
     (agent.protocol ≡ protocol) × (agent.nodes ≡ nodes) × (agent.number ≡ side)
 IsChosen (runs.Module it) (played.Module agent) =
     (agent.agents.roles.first.arguments.items ≡ it.arguments) × (agent.agents.fuel ≡ FUEL)
+    × ((file : List ℕ) × (module_in file ≡ Some (contents_of agent.agents.roles.first.program)))
 IsChosen choice agent = ⊥
 
 -- the strategy of an agent

@@ -1,6 +1,8 @@
 //! Agents that the program plays.
 
-ghost use Rattle.std.specs.Prelude.{◌≡◌, IfOk};
+ghost use Rattle.std.specs.Prelude.{◌≡◌, ℕ, List, IfOk, Some};
+ghost use Rattle.bhs_wasm.specs.Contents.{contents_of};
+ghost use Rattle.bhs_wasm_read.specs.Modules.{module_in};
 ghost use Rattle.bhs_player.specs.Agents.{IsChosen};
 
 use crate::words::AgentChoice;
@@ -86,7 +88,8 @@ fn module_agent<F: Files>(
     module: &AgentModule,
 ) -> Result<ModuleAgent, AgentFault>
     ensures { IfOk result (λ agent. (agent.agents.roles.first.arguments.items ≡ module.now.arguments)
-        × (agent.agents.fuel ≡ FUEL)) }
+        × (agent.agents.fuel ≡ FUEL)
+        × ((file : List ℕ) × (module_in file ≡ Some (contents_of agent.agents.roles.first.program)))) }
 {
     let mut file = fs::open(files, module.file.as_str())?;
     let bytes = read_text(alloc, &mut file, MAX_TEXT, MAX_TURNS)?;

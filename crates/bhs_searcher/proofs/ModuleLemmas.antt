@@ -4,6 +4,7 @@ use Rattle.std.proofs.Common.{IfOk, OnOk, refl, sym, ap, subst}
 use Rattle.std.specs.Prelude.{if◌then◌else◌, nat_le}
 use Rattle.bhs_explore.specs.declared.answers.Step.{Step}
 use Rattle.bhs_explore.specs.Strategies.{History, Observation, Strategy}
+use Rattle.bhs_wasm.specs.Contents.{contents_of}
 use Rattle.bhs_wasm_team.specs.declared.agents.Agents.{Agents}
 use Rattle.bhs_wasm_team.specs.declared.agents.Roles.{Roles}
 use Rattle.bhs_wasm_team.specs.Agents.{memory_after, strategy_of}
@@ -24,11 +25,11 @@ by_value P Q (Err error) more holds one other = tt
 abbrev pub memory_in : Roles → (fuel : ℕ) → History → RoleMemory
 memory_in roles fuel history = record {
   role = 0;
-  memory = memory_after roles.first.program roles.first.arguments.items fuel history;
+  memory = memory_after (contents_of roles.first.program) roles.first.arguments.items fuel history;
 }
 
 abbrev strategy_in : Roles → (fuel : ℕ) → Strategy
-strategy_in roles fuel = strategy_of roles.first.program roles.first.arguments.items fuel
+strategy_in roles fuel = strategy_of (contents_of roles.first.program) roles.first.arguments.items fuel
 
 same_memory : (r s : Roles) (f g : ℕ) (history : History) → r ≡ s → f ≡ g
     → memory_in r f history ≡ memory_in s g history

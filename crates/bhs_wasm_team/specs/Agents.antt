@@ -11,7 +11,7 @@ use Rattle.bhs_explore.specs.Strategies.{Observation, Heard, Woke, History, Stra
 use Rattle.bhs_explore.specs.Questions.{number_of}
 use Rattle.bhs_wasm.specs.declared.instructions.HostFunction.{HostFunction}
 use Rattle.bhs_wasm.specs.declared.instructions.HostFunction.TheVariants as imports
-use Rattle.bhs_wasm.specs.declared.modules.Module.{Module}
+use Rattle.bhs_wasm.specs.Contents.{Contents}
 use Rattle.bhs_wasm.specs.States.{State, StepResult, Continues, Waits, Ends, Traps, run, instantiated, answered}
 use Rattle.bhs_wasm.specs.States.{operand, bytes_in, forgotten, parameters_of}
 use Rattle.bhs_wasm_team.specs.Packing.{unpacked}
@@ -106,12 +106,12 @@ settled Traps = halted statuses.Failed
 settled (Continues state) = halted statuses.Failed
 
 -- when its instance runs to the next command
-abbrev pub resumed : Module → (fuel : ℕ) → StepResult → AgentMemory
+abbrev pub resumed : Contents → (fuel : ℕ) → StepResult → AgentMemory
 resumed program fuel (Continues state) = settled (run program fuel state)
 resumed program fuel outcome = halted statuses.Failed
 
 -- at the start
-abbrev pub start : Module → (arguments : List ℕ) → (fuel : ℕ) → AgentMemory
+abbrev pub start : Contents → (arguments : List ℕ) → (fuel : ℕ) → AgentMemory
 start program arguments fuel = resumed program fuel (instantiated program arguments)
 
 abbrev pub came_number : Option ℕ → ℕ
@@ -136,7 +136,7 @@ number_by (Heard replies.Bye) = 6
 number_by (Heard replies.Over) = 7
 number_by (Heard (replies.No why)) = 2 ^ 32 - number_of why
 
-abbrev pub goes_on : Module → (fuel parameters : ℕ) → Observation → State → AgentMemory
+abbrev pub goes_on : Contents → (fuel parameters : ℕ) → Observation → State → AgentMemory
 goes_on program fuel parameters observation state = resumed program fuel (answered parameters (number_by observation)
     (seen observation state))
 
@@ -149,7 +149,7 @@ is_depart imports.Depart = true
 is_depart function = false
 
 -- after something has happened: an agent that has departed is on its link until it hears more
-abbrev pub after_at : Module → (fuel : ℕ) → Status → State → Observation → AgentMemory
+abbrev pub after_at : Contents → (fuel : ℕ) → Status → State → Observation → AgentMemory
 after_at program fuel (statuses.Waits function) state observation =
     if is_depart function && is_gone observation then record { status = statuses.Travels; state = forgotten state }
     else goes_on program fuel (parameters_of function) observation state
@@ -157,7 +157,7 @@ after_at program fuel statuses.Travels state observation = goes_on program fuel 
 after_at program fuel statuses.Ended state observation = halted statuses.Ended
 after_at program fuel statuses.Failed state observation = halted statuses.Failed
 
-abbrev pub after : Module → (fuel : ℕ) → AgentMemory → Observation → AgentMemory
+abbrev pub after : Contents → (fuel : ℕ) → AgentMemory → Observation → AgentMemory
 after program fuel agent_memory observation = after_at program fuel agent_memory.status agent_memory.state observation
 
 -- what an agent does next
@@ -173,11 +173,11 @@ does agent_memory = does_at agent_memory.status agent_memory.state
 -- ---- strategies
 
 -- the memory of an agent that runs a module, after this history
-abbrev pub memory_after : Module → (arguments : List ℕ) → (fuel : ℕ) → History → AgentMemory
+abbrev pub memory_after : Contents → (arguments : List ℕ) → (fuel : ℕ) → History → AgentMemory
 memory_after program arguments fuel [] = start program arguments fuel
 memory_after program arguments fuel (observation ∷ history) =
     after program fuel (memory_after program arguments fuel history) observation
 
 -- the strategy of an agent that runs a module
-abbrev pub strategy_of : Module → (arguments : List ℕ) → (fuel : ℕ) → Strategy
+abbrev pub strategy_of : Contents → (arguments : List ℕ) → (fuel : ℕ) → Strategy
 strategy_of program arguments fuel history = does (memory_after program arguments fuel history)

@@ -1,6 +1,7 @@
 -- Teams whose agents run modules: the role of each agent, its memories and its strategy.
 use Rattle.std.specs.Prelude.{ℕ, nat_le, List, ◌∷◌, length, slice_index_or, if◌then◌else◌}
 use Rattle.bhs_explore.specs.Strategies.{Observation, Strategies}
+use Rattle.bhs_wasm.specs.Contents.{Contents, contents_of}
 use Rattle.bhs_wasm_team.specs.declared.agents.Role.{Role}
 use Rattle.bhs_wasm_team.specs.declared.agents.Roles.{Roles}
 use Rattle.bhs_wasm_team.specs.declared.saving.Saved.{Saved}
@@ -17,6 +18,10 @@ all_roles roles = roles.first ∷ roles.others.items
 -- the role of this number
 abbrev pub role_at : Roles → (number : ℕ) → Role
 role_at roles number = slice_index_or (all_roles roles) number roles.first
+
+-- the module of the role of this number, without where it lies in memory
+abbrev pub program_at : Roles → (number : ℕ) → Contents
+program_at roles number = contents_of (role_at roles number).program
 
 -- the role of an agent
 abbrev pub role_of : Roles → (agent : ℕ) → Role
@@ -37,18 +42,19 @@ role_memory_of saved = record { role = saved.role; memory = memory_of_saved save
 abbrev pub start_in : Roles → (fuel role : ℕ) → RoleMemory
 start_in roles fuel role = record {
   role = role;
-  memory = start (role_at roles role).program (role_at roles role).arguments.items fuel;
+  memory = start (program_at roles role) (role_at roles role).arguments.items fuel;
 }
 
 -- after something has happened: an agent stays in its role
 abbrev pub after_in : Roles → (fuel : ℕ) → RoleMemory → Observation → RoleMemory
 after_in roles fuel role_memory observation = record {
   role = role_memory.role;
-  memory = after (role_at roles role_memory.role).program fuel role_memory.memory observation;
+  memory = after (program_at roles role_memory.role) fuel role_memory.memory observation;
 }
 
 -- ---- strategies
 
 -- each agent has the strategy of its role's module, with the arguments of its role
 abbrev pub strategies_in : Roles → (fuel : ℕ) → Strategies
-strategies_in roles fuel agent = strategy_of (role_of roles agent).program (role_of roles agent).arguments.items fuel
+strategies_in roles fuel agent =
+    strategy_of (contents_of (role_of roles agent).program) (role_of roles agent).arguments.items fuel

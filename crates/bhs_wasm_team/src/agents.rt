@@ -84,7 +84,7 @@ impl Agents {
     ghost use Rattle.bhs_wasm.specs.States.{state_of};
     ghost use Rattle.bhs_wasm_team.specs.Agents as specs;
     ghost use Rattle.bhs_wasm_team.specs.Answering.{Tells};
-    ghost use Rattle.bhs_wasm_team.specs.Roles.{after_in, role_at, start_in};
+    ghost use Rattle.bhs_wasm_team.specs.Roles.{after_in, program_at, start_in};
     ghost use Rattle.bhs_wasm_team.specs.Tables.{saved_at};
 
     /// A team that has answered nothing.
@@ -160,7 +160,7 @@ impl Agents {
         ensures { IfOk result (λ answer. Tells self.old self.new
             (record {
               role = role;
-              memory = specs.settled (states.run (role_at self.old.roles role).program
+              memory = specs.settled (states.run (program_at self.old.roles role)
                   self.old.fuel (state_of self.old.interpreter));
             }) answer.memory answer.step) }
     {
@@ -202,7 +202,7 @@ impl Agents {
         ensures { IfOk result (λ answer. Tells self.old self.new
             (record {
               role = role;
-              memory = specs.goes_on (role_at self.old.roles role).program self.old.fuel parameters
+              memory = specs.goes_on (program_at self.old.roles role) self.old.fuel parameters
                   (item_with latest shown.now) (state_of self.old.interpreter);
             }) answer.memory answer.step) }
     {
@@ -224,7 +224,7 @@ impl Agents {
         ensures { IfOk result (λ answer. Tells self.old self.new
             (record {
               role = role;
-              memory = specs.after_at (role_at self.old.roles role).program self.old.fuel status
+              memory = specs.after_at (program_at self.old.roles role) self.old.fuel status
                   (state_of self.old.interpreter) (item_with latest shown.now);
             }) answer.memory answer.step) }
     {

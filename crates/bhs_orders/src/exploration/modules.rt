@@ -1,12 +1,15 @@
 //! The schedules of a match whose agents run WebAssembly modules: all of them, or some that are drawn.
 
-ghost use Rattle.std.specs.Prelude.{◌≡◌, ◌∷◌, ◌++◌, [], ℕ, List, IfErr, IfOk, IfSome, OnOk, length, map, string_bytes};
+ghost use Rattle.std.specs.Prelude.{◌≡◌, ◌∷◌, ◌++◌, [], ℕ, List, Some, IfErr, IfOk, IfSome, OnOk, length, map};
+ghost use Rattle.std.specs.Prelude.{string_bytes};
 ghost use Rattle.hex.specs.Hex.{encode_lower};
 ghost use Rattle.sha2.specs.Sha256.{sha256};
 ghost use Rattle.bhs_orders.specs.Fault.{IsOfFault};
 ghost use Rattle.bhs_orders.specs.ModuleExploration.{AreFor, ExploresModules, IsFoundOfModules, IsModuleReport};
 ghost use Rattle.bhs_orders.specs.ModuleExploration.{IsTeamOf, ModuleLine, PrintsReport, cause_text, failure_items};
-ghost use Rattle.bhs_orders.specs.ModuleExploration.{module_items, module_line, module_lines};
+ghost use Rattle.bhs_orders.specs.ModuleExploration.{module_items, module_line, module_lines, programs_of};
+ghost use Rattle.bhs_wasm.specs.Contents.{contents_of};
+ghost use Rattle.bhs_wasm_read.specs.Modules.{module_in};
 
 use crate::exploration::discoveries::{Discovery, found_of, numbers, status_of, text_of};
 use crate::exploration::exploring::draws_of;
@@ -194,6 +197,7 @@ fn role_of<F: Files, E: Write>(
 ) -> Result<(Role, ModuleFile), u8>
     ensures role { IfOk result (λ made. made.0.arguments.items ≡ agent_module.now.arguments) }
     ensures file { IfOk result (λ made. made.1.arguments.items ≡ agent_module.now.arguments) }
+    ensures is { IfOk result (λ made. module_in made.1.bytes.items ≡ Some (contents_of made.0.program)) }
     ensures fault { IfErr result IsOfFault }
 {
     let name = agent_module.file.as_str();
@@ -220,6 +224,8 @@ fn role_in(
 ) -> Result<(Role, ModuleFile), Memory>
     ensures role { IfOk result (λ made. made.0.arguments.items ≡ arguments.now) }
     ensures file { IfOk result (λ made. made.1.arguments.items ≡ arguments.now) }
+    ensures program { IfOk result (λ made. made.0.program ≡ program) }
+    ensures bytes { IfOk result (λ made. made.1.bytes ≡ bytes) }
 {
     let role = Role {
         program,
@@ -241,6 +247,7 @@ fn push_lines(
 ) -> Result<(), Memory>
     ensures { OnOk result ((lines : List ModuleLine)
         × (map (λ line. line.arguments) lines ≡ map (λ file. file.arguments.items) files.now)
+        × (map (λ line. module_in line.file) lines ≡ map (λ file. module_in file.bytes.items) files.now)
         × (string_bytes text.new ≡ string_bytes text.old ++ module_lines lines)) }
 {
     let mut role = 0u32;
@@ -340,6 +347,7 @@ fn explored<E: Write>(
     team: FileRoles,
     errors: &mut E,
 ) -> Result<(String, u8), Fault>
+    requires { map (λ file. module_in file.bytes.items) team.files.items ≡ programs_of team.roles }
     ensures { IfOk result (λ told. IsModuleReport ready.now exploration team.roles
         (map (λ file. file.arguments.items) team.files.items) (string_bytes told.0) told.1) }
 {

@@ -10,4 +10,5 @@ loop-agent_module-preserved g c =
     has_more c.loop-agent_module.team c.add.new.self c.args.first.now c.args.others.now
     c.loop-agent_module.agent_module-index c.agent_module-item.result _ _ c.loop-agent_module-test.true
     c.add.ensures.first (if_done _ done c.add.ensures.others) (if_done _ done c.add.ensures.files)
-    (c.in-Ok-role_of.ensures.role ∙ given) (c.in-Ok-role_of.ensures.file ∙ given) c.loop-agent_module.invariant
+    (c.in-Ok-role_of.ensures.role ∙ given) (c.in-Ok-role_of.ensures.file ∙ given)
+    c.in-Ok-role_of.ensures.is c.loop-agent_module.invariant
