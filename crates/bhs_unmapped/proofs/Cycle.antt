@@ -6,6 +6,7 @@ use Rattle.std.proofs.Common.{◌∙◌, subst, if◌then◌else◌, nat_lt, inl
 use Rattle.std.specs.Prelude.{◌≢◌}
 use Rattle.std.proofs.lemmas.Bool.{cond-true, cond-false, lt-ltb, cases_lt}
 use Rattle.std.proofs.lemmas.Bool.Decides.{eqb_tells}
+use Rattle.bhs_unmapped.proofs.Rims as rims
 
 -- ---- an exchange of two numbers
 
@@ -69,97 +70,33 @@ swap_below a b x m below_a below_b below = elim (swap_is a b x) [
 
 -- ---- the cycle
 
--- the neighbour of a node on a cycle of 2 * d nodes: the next one for role 0, and the one before for role 1
-pub beside : (d node role : ℕ) → ℕ
-beside d node role =
-    if role == 0
-    then (if node + 1 == 2 * d then 0 else node + 1)
-    else (if node == 0 then 2 * d - 1 else node - 1)
+-- the neighbour of a node on a cycle of 2 * d nodes
+abbrev pub beside : (d node role : ℕ) → ℕ
+beside d = rims.beside (2 * d)
 
--- how it follows from the node
 pub next_is : (d node : ℕ) → ((node + 1 ≡ 2 * d) × (beside d node 0 ≡ 0)) ⊎ ((node + 1 ≢ 2 * d)
     × (beside d node 0 ≡ node + 1))
-unfolding beside
-next_is d node = elim (eqb_tells (node + 1) (2 * d)) [
-  | inl h ↦ inl (h.1, cond-true (node + 1 == 2 * d) 0 (node + 1) h.0)
-  | inr h ↦ inr (h.1, cond-false (node + 1 == 2 * d) 0 (node + 1) h.0)
-]
+next_is d = rims.next_is (2 * d)
 
 pub before_is : (d node : ℕ) → ((node ≡ 0) × (beside d node 1 ≡ 2 * d - 1)) ⊎ ((node ≢ 0)
     × (beside d node 1 ≡ node - 1))
-unfolding beside
-before_is d node = elim (eqb_tells node 0) [
-  | inl h ↦ inl (h.1, cond-true (node == 0) (2 * d - 1) (node - 1) h.0)
-  | inr h ↦ inr (h.1, cond-false (node == 0) (2 * d - 1) (node - 1) h.0)
-]
+before_is d = rims.before_is (2 * d)
 
--- a role below 2 is one of the two
 pub by_role : (P : ℕ → Type 0) (role : ℕ) → role < 2 → P 0 → P 1 → P role
-by_role P role below zeroth first = elim (eqb_tells role 0) [
-  | inl h ↦ subst P (sym h.1) zeroth
-  | inr h ↦ subst P (let is : 1 ≡ role = omega (arith, below, h.1) in is) first
-]
+by_role = rims.by_role
 
 pub beside_below : (d node role : ℕ) → 2 ≤ d → node < 2 * d → role < 2 → beside d node role < 2 * d
-beside_below d node role two below small = by_role (λ (r : ℕ). beside d node r < 2 * d) role small
-    (elim (next_is d node) [
-      | inl h ↦ let is : beside d node 0 ≡ 0 = h.1 in omega (arith, is, two)
-      | inr h ↦ let is : beside d node 0 ≡ node + 1 = h.1 in
-          let apart : node + 1 ≢ 2 * d = h.0 in omega (arith, is, apart, below)
-    ])
-    (elim (before_is d node) [
-      | inl h ↦ let is : beside d node 1 ≡ 2 * d - 1 = h.1 in omega (arith, is, two)
-      | inr h ↦ let is : beside d node 1 ≡ node - 1 = h.1 in omega (arith, is, below)
-    ])
+beside_below d node role two = rims.beside_below (2 * d) node role (omega (arith, two))
 
 pub beside_back : (d node role : ℕ) → 2 ≤ d → node < 2 * d → role < 2
     → beside d (beside d node role) (1 - role) ≡ node
-beside_back d node role two below small = by_role (λ (r : ℕ). beside d (beside d node r) (1 - r) ≡ node) role small
-    (elim (next_is d node) [
-      | inl h ↦ elim (before_is d (beside d node 0)) [
-        | inl k ↦ let is : beside d (beside d node 0) 1 ≡ 2 * d - 1 = k.1 in omega (arith, is, h.0, two)
-        | inr k ↦ absurd (k.0 h.1)
-      ]
-      | inr h ↦ elim (before_is d (beside d node 0)) [
-        | inl k ↦ omega (arith, h.1, k.0)
-        | inr k ↦ let is : beside d (beside d node 0) 1 ≡ beside d node 0 - 1 = k.1 in omega (arith, is, h.1)
-      ]
-    ])
-    (elim (before_is d node) [
-      | inl h ↦ elim (next_is d (beside d node 1)) [
-        | inl k ↦ let is : beside d (beside d node 1) 0 ≡ 0 = k.1 in omega (arith, is, h.0)
-        | inr k ↦ absurd (let apart : beside d node 1 + 1 ≢ 2 * d = k.0 in omega (arith, apart, h.1, two))
-      ]
-      | inr h ↦ elim (next_is d (beside d node 1)) [
-        | inl k ↦ absurd (let is : beside d node 1 + 1 ≡ 2 * d = k.0 in
-            let nonzero : node ≢ 0 = h.0 in omega (arith, is, h.1, nonzero, below))
-        | inr k ↦ let is : beside d (beside d node 1) 0 ≡ beside d node 1 + 1 = k.1 in
-            let nonzero : node ≢ 0 = h.0 in omega (arith, is, h.1, nonzero)
-      ]
-    ])
+beside_back d node role two = rims.beside_back (2 * d) node role (omega (arith, two))
 
 pub beside_moves : (d node role : ℕ) → 2 ≤ d → node < 2 * d → role < 2 → beside d node role ≢ node
-beside_moves d node role two below small = by_role (λ (r : ℕ). beside d node r ≢ node) role small
-    (λ same. elim (next_is d node) [
-      | inl h ↦ omega (arith, same, h.0, h.1, two)
-      | inr h ↦ omega (arith, same, h.1)
-    ])
-    (λ same. elim (before_is d node) [
-      | inl h ↦ omega (arith, same, h.0, h.1, two)
-      | inr h ↦ let nonzero : node ≢ 0 = h.0 in omega (arith, same, nonzero, h.1)
-    ])
+beside_moves d node role two = rims.beside_moves (2 * d) node role (omega (arith, two))
 
 pub beside_apart : (d node : ℕ) → 2 ≤ d → node < 2 * d → beside d node 0 ≢ beside d node 1
-beside_apart d node two below same = elim (next_is d node) [
-  | inl h ↦ elim (before_is d node) [
-    | inl k ↦ omega (arith, h.0, k.0, two)
-    | inr k ↦ omega (arith, h.0, h.1, k.1, same, two)
-  ]
-  | inr h ↦ elim (before_is d node) [
-    | inl k ↦ let apart : node + 1 ≢ 2 * d = h.0 in omega (arith, h.1, k.0, k.1, same, two)
-    | inr k ↦ omega (arith, h.1, k.1, same)
-  ]
-]
+beside_apart d node two = rims.beside_apart (2 * d) node (omega (arith, two))
 
 pub not_below : (a b : ℕ) → b ≤ a → nat_lt a b ≡ false
 not_below a b h = grind (arith, h)

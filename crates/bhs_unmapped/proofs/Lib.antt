@@ -6,3 +6,8 @@ pub mod Rows
 pub mod Joined
 pub mod UnmappedLemmas
 pub mod RingsAlone
+pub mod Struck
+pub mod Nobody
+pub mod Shapes
+pub mod Three
+pub mod Rims

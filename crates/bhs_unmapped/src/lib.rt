@@ -4,6 +4,8 @@
 
 ghost use Rattle.bhs_unmapped.specs.Unmapped.{HalvesSolveNetworks, ManyAgentsAreNeeded, ManyAgentsAreNeededToFind};
 
+pub mod laws;
+
 /// No team of as many agents as a node has links finds the black hole on all networks of this degree without a map, so
 /// none solves them all.
 pub fn many_agents_are_needed()
