@@ -1,5 +1,5 @@
-mod CommandLemmas
+pub mod CommandLemmas
 mod ModuleLemmas
 mod ProtocolLemmas
-mod ReplyLemmas
+pub mod ReplyLemmas
 mod TalkLemmas

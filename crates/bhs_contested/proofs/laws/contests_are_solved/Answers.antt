@@ -1,0 +1,8 @@
+use Rattle.bhs_contested.proofs.Contest.{contests_are_solved, contests_are_never_wrong}
+use Rattle.bhs_contested.proofs.laws.contests_are_solved.Goals as goal
+
+pub returns-clause-solved : goal.returns-clause-solved
+returns-clause-solved c = contests_are_solved
+
+pub returns-clause-never_wrong : goal.returns-clause-never_wrong
+returns-clause-never_wrong c = contests_are_never_wrong

@@ -1,0 +1,155 @@
+-- Contests whose agents were played by clients that follow their strategies.
+use Rattle.std.specs.Prelude.{ℕ, ◌+◌, ◌<◌, ◌≤◌, ◌≡◌, ◌≢◌, ◌⊎◌, false, List, [], ◌∷◌, ◌++◌, map, length}
+use Rattle.std.specs.List.{list_any, AllByRecursion}
+use Rattle.bhs_net.specs.Network.{IsPortLabelled}
+use Rattle.bhs_model.specs.declared.commands.Command.{Command}
+use Rattle.bhs_model.specs.declared.commands.Command.TheVariants.{Enter, Write, Depart}
+use Rattle.bhs_model.specs.declared.events.Event.{Event}
+use Rattle.bhs_model.specs.declared.events.Event.TheVariants.{Tell, Deliver}
+use Rattle.bhs_model.specs.declared.replies.Reply.TheVariants.{Gone}
+use Rattle.bhs_model.specs.Views.{Ended as Stopped, standing}
+use Rattle.bhs_model.specs.Worlds.{World}
+use Rattle.bhs_model.specs.Runs.{State, Before, Bound, initial, next}
+use Rattle.bhs_model.specs.Draws.{Held, is_held}
+use Rattle.bhs_model.specs.Kept.{kept}
+use Rattle.bhs_model.specs.Marks.{events_of}
+use Rattle.bhs_match.specs.Decided.{AreAllDone}
+use Rattle.bhs_match.specs.Matches.{Play, world_in, state_of}
+use Rattle.bhs_wire.specs.declared.kinds.LineKind.TheVariants.{Whole}
+use Rattle.bhs_wire.specs.LineKind.{line_kind}
+use Rattle.bhs_wire.specs.Lines.{is_line_feed, lines}
+use Rattle.bhs_session.specs.declared.endings.Ended.TheVariants as endings
+use Rattle.bhs_session.specs.Texts.{command_of}
+use Rattle.bhs_referee.specs.declared.verdicts.Outcome.TheVariants.{Wrong}
+use Rattle.bhs_referee.specs.Verdicts.{verdict_of}
+use Rattle.bhs_explore.specs.declared.answers.Step.TheVariants.{Says, Stops}
+use Rattle.bhs_explore.specs.Strategies.{History, Heard, Woke, Strategy, Strategies}
+use Rattle.bhs_explore.specs.Schedules.{Trial, under, position_of}
+use Rattle.bhs_explore.specs.Everywhere.{IsSolvedWithin, EveryScheduleSolves, step_after}
+use Rattle.bhs_explore.specs.Endings.{EveryScheduleCanRest}
+use Rattle.bhs_searcher.specs.Talks.{Talks}
+use Rattle.bhs_theorems.specs.ContestMet.{Attended, fed, TookPart}
+
+-- ---- what a client writes and reads
+
+-- the bytes that a client has written, and those that it has read
+pub record Transcript : Type 0 where
+  pub said : List ℕ
+  pub heard : List ℕ
+
+abbrev pub unused : Transcript
+unused = record { said = []; heard = [] }
+
+-- a line and its line feed were written; the line is neither blank nor longer than a server takes
+abbrev pub Writes : (old : Transcript) → (line : List ℕ) → (new : Transcript) → Type 0
+Writes old line new = (line_kind line ≡ Whole) × (new ≡ record old { said = old.said ++ (line ++ 10 ∷ []) })
+
+-- a line and its line feed were read
+abbrev pub Reads : (old : Transcript) → (line : List ℕ) → (new : Transcript) → Type 0
+Reads old line new =
+    (list_any is_line_feed line ≡ false) × (new ≡ record old { heard = old.heard ++ (line ++ 10 ∷ []) })
+
+-- how often an agent woke
+abbrev pub naps : History → ℕ
+naps [] = 0
+naps (Heard reply ∷ history) = naps history
+naps (Woke ∷ history) = naps history + 1
+
+-- ---- a session that a client played by a strategy
+
+-- it ended by a Bye or an accusation; or it was told that the match is over, and its agent has not ended
+abbrev pub IsPlayedOut : Attended → Type 0
+IsPlayedOut one = ((one.ended ≡ endings.Bye) ⊎ (one.ended ≡ endings.Noted))
+    ⊎ ((one.ended ≡ endings.Over) × (standing ((state_of one.play).past one.pass.agent) ≢ Stopped))
+
+-- The client of a session has said what this strategy says, line by line, and nothing else. The session read what the
+-- client wrote, but perhaps the last lines, and the client read what the session wrote. It woke no more often than the
+-- trial lets an agent wake in a row.
+pub record IsPlayedBy (wakeups : ℕ) (strategy : Strategy) (one : Attended) : Type 0 where
+  pub key : List ℕ
+  pub history : History
+  pub transcript : Transcript
+  pub talks : Talks Writes Reads strategy key unused history transcript
+  pub unread : List Command
+  pub read : fed one ++ unread ≡ map command_of (lines transcript.said)
+  pub heard : transcript.heard ≡ one.written
+  pub few_naps : naps history ≤ wakeups + 1
+  pub out : IsPlayedOut one
+
+-- ---- the match
+
+-- the text of a Write is not longer than a whiteboard holds
+abbrev pub IsShort : (board : ℕ) → Event → Type 0
+IsShort board (Tell agent (Write expect put)) = length put ≤ board
+IsShort board event = Unit {0}
+
+-- the event is no delivery over a held link
+abbrev pub IsOverFree : Held → State → Event → Type 0
+IsOverFree held state (Deliver agent) = is_held held (state.position agent) ≡ false
+IsOverFree held state event = Unit {0}
+
+-- none of these events is a delivery over a held link
+abbrev pub AreOverFree : Held → World → State → List Event → Type 0
+AreOverFree held world state [] = Unit {0}
+AreOverFree held world state (event ∷ events) =
+    IsOverFree held state event × AreOverFree held world (next world state event) events
+
+-- What is asked of the match and its log. Its network is a graph with port labels, as each `Net` is, and its log is
+-- what a match keeps, as each `Sealed` shows. Of a Write that was refused as too long a pass does not keep the text, so
+-- there is none; and no arrival over a link that the trial holds.
+pub record IsPlainMatch (held : Held) (play : Play) : Type 0 where
+  pub labelled : IsPortLabelled play.net
+  pub kept : kept (world_in play) (events_of play.log) ≡ events_of play.log
+  pub short : AllByRecursion (IsShort play.setup.board) (events_of play.log)
+  pub free : AreOverFree held (world_in play) initial (events_of play.log)
+
+-- ---- the team
+
+-- An agent waits on its links in silence, and one that has not entered does not stop.
+pub record IsOrderly (trial : Trial) : Type 0 where
+  pub silent : (schedule : List ℕ) (agent node port : ℕ) → agent < trial.world.agents
+      → position_of trial (under trial schedule) agent ≡ Bound node port → step_after trial schedule agent ≡ Stops
+  pub begins : (schedule : List ℕ) (agent : ℕ) → agent < trial.world.agents
+      → position_of trial (under trial schedule) agent ≡ Before → step_after trial schedule agent ≢ Stops
+
+-- Whoever says Depart and hears Gone waits.
+abbrev pub WaitsOnLinks : Strategy → Type 0
+WaitsOnLinks strategy = (history : History) (port : ℕ) → strategy history ≡ Says (Depart port)
+    → strategy (Heard Gone ∷ history) ≡ Stops
+
+-- Teams whose agents first say Enter, and wait on their links, are orderly in each match.
+abbrev pub WaitersAreOrderly : Type 0
+WaitersAreOrderly = (trial : Trial) → ((agent : ℕ) → trial.strategies agent [] ≡ Says Enter)
+    → ((agent : ℕ) → WaitsOnLinks (trial.strategies agent)) → IsOrderly trial
+
+-- the match as a trial of these strategies
+abbrev pub trial_in : Play → Held → (wakeups : ℕ) → Strategies → Trial
+trial_in play held wakeups strategies =
+    record { world = world_in play; held = held; wakeups = wakeups; strategies = strategies }
+
+-- this agent's session took part in the match, and its client played by the agent's strategy
+pub record IsPlayedIn (play : Play) (wakeups : ℕ) (strategies : Strategies) (agent : ℕ) (one : Attended) : Type 0 where
+  pub took : TookPart one
+  pub same : one.play ≡ play
+  pub own : one.pass.agent ≡ agent
+  pub played : IsPlayedBy wakeups (strategies agent) one
+
+-- If every schedule solves the match within these moves and lost agents, and can be continued until the match is at
+-- rest, then so does a contest that gave it back settled, if all agents have ended or are lost and each was played by
+-- its strategy.
+abbrev pub ContestsAreSolved : Type 0
+ContestsAreSolved = (play : Play) (held : Held) (wakeups : ℕ) (strategies : Strategies) (moves lost : ℕ)
+    (clients : (agent : ℕ) → Attended)
+    → ((agent : ℕ) → agent < play.setup.agents → IsPlayedIn play wakeups strategies agent (clients agent))
+    → IsPlainMatch held play → AreAllDone play → IsOrderly (trial_in play held wakeups strategies)
+    → EveryScheduleSolves (trial_in play held wakeups strategies) moves lost
+    → EveryScheduleCanRest (trial_in play held wakeups strategies) → IsSolvedWithin moves lost (verdict_of play)
+
+-- And whenever such a contest ended, also before all its agents were done, no accusation is wrong.
+abbrev pub ContestsAreNeverWrong : Type 0
+ContestsAreNeverWrong = (play : Play) (held : Held) (wakeups : ℕ) (strategies : Strategies) (moves lost : ℕ)
+    (clients : (agent : ℕ) → Attended)
+    → ((agent : ℕ) → agent < play.setup.agents → IsPlayedIn play wakeups strategies agent (clients agent))
+    → IsPlainMatch held play → IsOrderly (trial_in play held wakeups strategies)
+    → EveryScheduleSolves (trial_in play held wakeups strategies) moves lost
+    → EveryScheduleCanRest (trial_in play held wakeups strategies) → (verdict_of play).outcome ≢ Wrong

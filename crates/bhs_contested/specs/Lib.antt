@@ -1,0 +1,4 @@
+pub mod Contests
+pub mod Instances
+pub mod Example
+pub mod ModuleContests

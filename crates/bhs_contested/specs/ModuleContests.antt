@@ -1,0 +1,50 @@
+-- Contests of agents that run the files which `arena explore --module` told of: from a file's bytes to a verdict.
+use Rattle.std.specs.Prelude.{ℕ, ◌<◌, ◌≡◌, List, [], Some, slice_get}
+use Rattle.bhs_wasm.specs.Contents.{Contents}
+use Rattle.bhs_match.specs.Decided.{AreAllDone}
+use Rattle.bhs_match.specs.Matches.{Play}
+use Rattle.bhs_model.specs.declared.commands.Command.TheVariants.{Enter}
+use Rattle.bhs_referee.specs.Verdicts.{verdict_of}
+use Rattle.bhs_explore.specs.declared.answers.Step.TheVariants.{Says}
+use Rattle.bhs_explore.specs.declared.results.Bounds.{Bounds}
+use Rattle.bhs_explore.specs.declared.results.Finding.TheVariants as found
+use Rattle.bhs_explore.specs.Answers.{is_held}
+use Rattle.bhs_explore.specs.Everywhere.{IsSolvedWithin}
+use Rattle.bhs_explore.specs.Strategies.{Strategies, Strategy}
+use Rattle.bhs_wasm_read.specs.Modules.{module_in}
+use Rattle.bhs_wasm_team.specs.declared.agents.Roles.{Roles}
+use Rattle.bhs_wasm_team.specs.declared.agents.TheConstants.{FUEL}
+use Rattle.bhs_wasm_team.specs.Agents.{strategy_of}
+use Rattle.bhs_wasm_team.specs.Roles.{role_number}
+use Rattle.bhs_command_line.specs.declared.orders.Exploration.{Exploration}
+use Rattle.bhs_lineup.specs.declared.lineups.Ready.{Ready}
+use Rattle.bhs_orders.specs.Discoveries.{found_in}
+use Rattle.bhs_orders.specs.ModuleExploration.{IsModuleReport, ModuleLine, arguments_of}
+use Rattle.bhs_theorems.specs.ContestMet.{Attended}
+use Rattle.bhs_contested.specs.Contests.{IsPlayedIn, IsPlainMatch}
+
+-- The strategy of an agent is what the bytes of a file say, run with these arguments: the file and the arguments of the
+-- line of the agent's role.
+pub record RunsItsFile (lines : List ModuleLine) (roles : Roles) (agent : ℕ) (strategy : Strategy) : Type 0 where
+  pub line : ModuleLine
+  pub own : slice_get lines (role_number roles agent) ≡ Some line
+  pub program : Contents
+  pub says : module_in line.file ≡ Some program
+  pub runs : strategy ≡ strategy_of program line.arguments FUEL
+
+-- Let `arena explore --module` have told that every schedule of a match solves it. Then a contest of the same network
+-- and setup that settled, each of whose agents was played by the file of its line and first says Enter, and in which
+-- all agents have ended or are lost, is solved within the moves and lost agents that were told.
+abbrev pub ModulesSolveContests : Type 0
+ModulesSolveContests = (play : Play) (ready : Ready) (exploration : Exploration) (roles : Roles)
+    (arguments : List (List ℕ)) (text : List ℕ) (code : ℕ) (bounds : Bounds) (strategies : Strategies)
+    (clients : (agent : ℕ) → Attended)
+    → (report : IsModuleReport ready exploration roles arguments text code) → arguments_of roles ≡ arguments
+    → found_in report.found ≡ found.Solves bounds
+    → ready.game.net ≡ play.net → ready.game.setup ≡ play.setup
+    → ((agent : ℕ) → RunsItsFile report.lines roles agent (strategies agent))
+    → ((agent : ℕ) → strategies agent [] ≡ Says Enter)
+    → ((agent : ℕ) → agent < play.setup.agents
+    → IsPlayedIn play exploration.wakeups strategies agent (clients agent))
+    → IsPlainMatch (is_held report.is_found.links) play → AreAllDone play
+    → IsSolvedWithin bounds.moves bounds.lost (verdict_of play)

@@ -1,0 +1,43 @@
+//! What a team solves under every schedule it solves in a contest. The functions do nothing.
+
+ghost use Rattle.bhs_contested.specs.Contests.{ContestsAreNeverWrong, ContestsAreSolved, WaitersAreOrderly};
+ghost use Rattle.bhs_contested.specs.Example.{ItIsSolved, TheLawSpeaksOfIt};
+ghost use Rattle.bhs_contested.specs.Instances.{HalvesSolveContests, ProgramsWait};
+ghost use Rattle.bhs_contested.specs.ModuleContests.{ModulesSolveContests};
+
+/// If every schedule solves a match for the strategies of its agents, a contest that gave the match back settled, each
+/// of whose agents was played by a client that follows its strategy line by line, and in which all agents have ended or
+/// are lost, solved it within the same moves and lost agents.
+/// Whenever such a contest ended, no accusation was wrong.
+pub fn contests_are_solved()
+    ensures solved { ContestsAreSolved }
+    ensures never_wrong { ContestsAreNeverWrong }
+{}
+
+/// Teams whose agents first say Enter, and wait once they have departed, are orderly in each match.
+pub fn waiters_are_orderly()
+    ensures { WaitersAreOrderly }
+{}
+
+/// Agents that search by halves, run the shuttle or run a module wait once they have departed.
+pub fn programs_wait()
+    ensures { ProgramsWait }
+{}
+
+/// Two clients that search a ring of a file by halves solve it in a contest, within M moves, one agent lost.
+pub fn the_halves_solve_contests()
+    ensures { HalvesSolveContests }
+{}
+
+/// What `arena explore --module` told that every schedule solves, a settled contest solves within the moves and lost
+/// agents that were told, if each agent was played by the file of its line and first says Enter, and all agents have
+/// ended or are lost.
+pub fn modules_solve_contests()
+    ensures { ModulesSolveContests }
+{}
+
+/// A contest of two agents on the triangle, worked out by hand: the law speaks of it, and its verdict.
+pub fn worked_contest()
+    ensures law { TheLawSpeaksOfIt }
+    ensures verdict { ItIsSolved }
+{}
