@@ -4,3 +4,4 @@ pub mod Matches
 pub mod NamesLemmas
 pub mod TableKeys
 pub mod Values
+pub mod IgnoredLemmas

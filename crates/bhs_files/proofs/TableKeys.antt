@@ -8,8 +8,7 @@ use Rattle.std.specs.Map.Iter.{TakesFirst, deref}
 use Rattle.std.proofs.lemmas.Iterator.{YieldsList}
 use Rattle.toml.specs.View.{members_view}
 use Rattle.toml.specs.declared.value.Value.{Value}
-use Rattle.bhs_files.specs.Names.{is_among}
-use Rattle.bhs_files.specs.Tournaments.{known_keys, table_keys, unknown_key}
+use Rattle.bhs_files.specs.Tournaments.{is_known, table_keys, unknown_key}
 
 -- a test of what is seen of the items
 pub any_seen : {A B : Type 0} (see : A → B) (test : B → Bool) (items : List A)
@@ -33,18 +32,25 @@ pub keys_as_bytes : (entries : List (String Global × Value))
 keys_as_bytes [] = refl
 keys_as_bytes (entry ∷ rest) = ap (λ keys. string_bytes entry.0 ∷ keys) (keys_as_bytes rest)
 
+-- the bytes of texts behind references
+pub texts_seen : (keys : List (Bor (String Global)))
+    → map (λ key. string_bytes key.now) keys ≡ map string_bytes (map deref keys)
+texts_seen [] = refl
+texts_seen (key ∷ keys) = ap (λ rest. string_bytes key.now ∷ rest) (texts_seen keys)
+
 -- the test by which the first unknown key is found
-abbrev pub is_unknown : (game : Option ℕ) → String Global → Bool
-is_unknown game key = not (is_among (known_keys game) (string_bytes key))
+abbrev pub is_unknown : (version : ℕ) → (game : Option ℕ) → String Global → Bool
+is_unknown version game key = not (is_known version game (string_bytes key))
 
 -- what is found of the keys of a table is its first unknown key
-pub unknown_of : (game : Option ℕ) (entries : List (String Global × Value)) (found : Option (Bor (String Global)))
-    (answer : Option (List ℕ)) → option_map (λ key. key.now) found ≡ find (is_unknown game) (keys_of entries)
-    → option_map (λ key. string_bytes key.now) found ≡ answer → answer ≡ unknown_key game (members_view entries)
-unknown_of game entries found answer is same =
+pub unknown_of : (version : ℕ) (game : Option ℕ) (entries : List (String Global × Value))
+    (found : Option (Bor (String Global)))
+    (answer : Option (List ℕ)) → option_map (λ key. key.now) found ≡ find (is_unknown version game) (keys_of entries)
+    → option_map (λ key. string_bytes key.now) found ≡ answer → answer ≡ unknown_key version game (members_view entries)
+unknown_of version game entries found answer is same =
     sym same ∙ seen found ∙ ap (option_map string_bytes) is
-    ∙ found_seen string_bytes (λ key. not (is_among (known_keys game) key)) (keys_of entries)
-    ∙ ap (find (λ key. not (is_among (known_keys game) key))) (keys_as_bytes entries) where
+    ∙ found_seen string_bytes (λ key. not (is_known version game key)) (keys_of entries)
+    ∙ ap (find (λ key. not (is_known version game key))) (keys_as_bytes entries) where
       seen : (it : Option (Bor (String Global)))
           → option_map (λ key. string_bytes key.now) it ≡ option_map string_bytes (option_map (λ key. key.now) it)
       seen None = refl

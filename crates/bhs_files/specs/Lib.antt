@@ -5,3 +5,4 @@ pub mod Documents
 pub mod Tournaments
 pub mod Names
 pub mod NetworkFiles
+pub mod IgnoredKeys

@@ -6,9 +6,10 @@ use Rattle.toml.specs.Data.{Members, no_members, member}
 use Rattle.toml.specs.Parse.{parse_document}
 use Rattle.bhs_files.specs.declared.faults.FileFault.{FileFault}
 use Rattle.bhs_files.specs.declared.faults.FileFault.TheVariants.{Unknown}
+use Rattle.bhs_files.specs.declared.file_keys.FileKey.{FileKey}
 use Rattle.bhs_files.specs.declared.file_keys.FileKey.TheVariants.{Seed, Match, Team, Network, Home, Hole, Holes, Dark}
 use Rattle.bhs_files.specs.declared.file_keys.FileKey.TheVariants.{Quota, Board, Keys, Held}
-use Rattle.bhs_files.specs.declared.file_keys.FileKey.TheVariants.{Schedule, DelayScales, DelayOdds}
+use Rattle.bhs_files.specs.declared.file_keys.FileKey.TheVariants.{Version, Schedule, DelayScales, DelayOdds}
 use Rattle.bhs_files.specs.declared.fixtures.Fixture.{Fixture}
 use Rattle.bhs_files.specs.declared.tournaments.Tournament.{Tournament}
 use Rattle.bhs_files.specs.Reading.{◌>>=◌, required, optional}
@@ -58,24 +59,31 @@ planned f = record {
 abbrev pub plan : Tournament → Plan
 plan t = record { seed = t.seed; schedule = t.schedule; matches = map planned t.matches.items }
 
--- the keys of a tournament, or of a match, as a file of version 3 spells them
-abbrev pub known_keys : (game : Option ℕ) → List (List ℕ)
-known_keys None = codes "version" ∷ map word (Seed ∷ Schedule ∷ DelayScales ∷ DelayOdds ∷ Match ∷ [])
-known_keys (Some game) = map word (Team ∷ Network ∷ Home ∷ Holes ∷ Dark ∷ Quota ∷ Board ∷ Keys ∷ Held ∷ [])
+-- the keys of a tournament, or of a match, in a file of this version
+abbrev pub known_keys : (version : ℕ) → (game : Option ℕ) → List FileKey
+known_keys version None = if nat_lt version 3 then Version ∷ Seed ∷ Match ∷ []
+    else Version ∷ Seed ∷ Schedule ∷ DelayScales ∷ DelayOdds ∷ Match ∷ []
+known_keys version (Some game) =
+    if version == 1 then Team ∷ Network ∷ Home ∷ Hole ∷ Quota ∷ Board ∷ Keys ∷ Held ∷ []
+    else Team ∷ Network ∷ Home ∷ Holes ∷ Dark ∷ Quota ∷ Board ∷ Keys ∷ Held ∷ []
+
+-- the word is one of them
+abbrev pub is_known : (version : ℕ) → (game : Option ℕ) → List ℕ → Bool
+is_known version game = is_among (map word (known_keys version game))
 
 -- the keys that a table has
 abbrev pub table_keys : Members → List (List ℕ)
 table_keys no_members = []
 table_keys (member key value rest) = key ∷ table_keys rest
 
--- the first of them that is none of a tournament, or of a match
-abbrev pub unknown_key : (game : Option ℕ) → Members → Option (List ℕ)
-unknown_key game members = find (λ key. not (is_among (known_keys game) key)) (table_keys members)
+-- the first of them that is no key of a tournament, or of a match
+abbrev pub unknown_key : (version : ℕ) → (game : Option ℕ) → Members → Option (List ℕ)
+unknown_key version game members = find (λ key. not (is_known version game key)) (table_keys members)
 
 -- From version 3 on a table has no unknown key.
 abbrev pub checked_keys : (version : ℕ) → (game : Option ℕ) → Members → Result Unit FileFault
 checked_keys version game members =
-    if nat_le 3 version && is_some (unknown_key game members) then Err (Unknown game) else Ok tt
+    if nat_le 3 version && is_some (unknown_key version game members) then Err (Unknown game) else Ok tt
 
 -- the black holes and the dark links of a match
 abbrev pub Dangers : Type 0

@@ -2,10 +2,11 @@ use Rattle.std.specs.Prelude.{ℕ, List, codes}
 use Rattle.bhs_files.specs.declared.file_keys.FileKey.{FileKey}
 use Rattle.bhs_files.specs.declared.file_keys.FileKey.TheVariants.{Nodes, Links, Seed, Match, Team, Network, Home, Hole}
 use Rattle.bhs_files.specs.declared.file_keys.FileKey.TheVariants.{Holes, Dark, Quota, Board, Keys, Held}
-use Rattle.bhs_files.specs.declared.file_keys.FileKey.TheVariants.{Schedule, DelayScales, DelayOdds}
+use Rattle.bhs_files.specs.declared.file_keys.FileKey.TheVariants.{Version, Schedule, DelayScales, DelayOdds}
 
 -- a key as the files spell it
 abbrev pub word : FileKey → List ℕ
+word Version = codes "version"
 word Nodes = codes "nodes"
 word Links = codes "links"
 word Seed = codes "seed"

@@ -5,9 +5,10 @@ ghost use Rattle.bhs_files.specs.Words.{word};
 
 use std::fmt;
 
-/// A key of a network file or a tournament file, beside `version`.
+/// A key of a network file or a tournament file.
 #[derive(Clone, Copy, Debug, PartialEq, Eq)]
 pub enum FileKey {
+    Version,
     Nodes,
     Links,
     Seed,
@@ -33,6 +34,7 @@ impl FileKey {
         ensures { result.now ≡ word self }
     {
         match self {
+            FileKey::Version => "version",
             FileKey::Nodes => "nodes",
             FileKey::Links => "links",
             FileKey::Seed => "seed",

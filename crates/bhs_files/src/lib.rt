@@ -5,6 +5,7 @@ mod documents;
 mod faults;
 mod file_keys;
 mod fixtures;
+mod ignored;
 pub mod laws;
 mod limits;
 mod network_files;
@@ -16,6 +17,7 @@ mod tournaments;
 pub use faults::FileFault;
 pub use file_keys::FileKey;
 pub use fixtures::Fixture;
+pub use ignored::{Advice, IgnoredKey, ignored_keys};
 pub use limits::{
     MAX_KEY, MAX_KEYS, MAX_MATCHES, MAX_NETWORK_NAME, NETWORK_VERSION, TOURNAMENT_VERSION,
 };

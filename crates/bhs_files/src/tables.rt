@@ -7,9 +7,8 @@ ghost use Rattle.toml.specs.View.{view, table_view};
 ghost use Rattle.bhs_files.specs.Words.{word};
 ghost use Rattle.bhs_files.specs.Reading.{Gives, GivesUnlessMemory, present, shaped, required, optional};
 ghost use Rattle.bhs_files.specs.Shapes as shapes;
-ghost use Rattle.bhs_files.specs.Names.{is_among};
 ghost use Rattle.bhs_files.specs.Tournaments.{dangers_in, delays_in, schedule_in, schedule_if};
-ghost use Rattle.bhs_files.specs.Tournaments.{checked_keys, known_keys, unknown_key};
+ghost use Rattle.bhs_files.specs.Tournaments.{checked_keys, is_known, known_keys, unknown_key};
 ghost use Rattle.bhs_files.specs.declared.file_keys.FileKey.TheVariants as keys;
 
 use crate::faults::FileFault;
@@ -29,36 +28,78 @@ pub fn lookup<'a>(table: &'a Table, key: &str) -> Option<&'a Value>
     table.get(key)
 }
 
-/// The keys of a tournament, or of a match, as a file of version 3 spells them.
-pub fn known_keys(game: Option<u32>) -> &'static [&'static str]
-    ensures { map (λ key. key.now) result.now ≡ known_keys game }
+/// The keys of a tournament, or of a match, in a file of this version.
+pub fn known_keys(version: u16, game: Option<u32>) -> &'static [FileKey]
+    ensures { result.now ≡ known_keys version game }
 {
     match game {
-        None => &[
-            "version",
-            "seed",
-            "schedule",
-            "delay_scales",
-            "delay_odds",
-            "match",
-        ],
-        Some(_) => &[
-            "team", "network", "home", "holes", "dark", "quota", "board", "keys", "held",
-        ],
+        None => keys_of_tournament(version),
+        Some(_) => keys_of_match(version),
     }
 }
 
-fn is_key(game: Option<u32>, key: &str) -> bool
-    ensures { result ≡ is_among (known_keys game) key.now }
+fn keys_of_tournament(version: u16) -> &'static [FileKey]
+    ensures { result.now ≡ known_keys version None }
 {
-    known_keys(game).iter().any(|known| key == *known)
+    if version < 3 {
+        &[FileKey::Version, FileKey::Seed, FileKey::Match]
+    } else {
+        &[
+            FileKey::Version,
+            FileKey::Seed,
+            FileKey::Schedule,
+            FileKey::DelayScales,
+            FileKey::DelayOdds,
+            FileKey::Match,
+        ]
+    }
 }
 
-/// The first key of a table that is none of a tournament, or of a match.
-pub fn unknown_key(game: Option<u32>, table: &Table) -> Option<&str>
-    ensures { option_copied result ≡ unknown_key game (table_view table.now) }
+fn keys_of_match(version: u16) -> &'static [FileKey]
+    ensures { result.now ≡ known_keys version (Some 0) }
 {
-    let key = table.keys().find(|key| !is_key(game, key.as_str()))?;
+    if version == 1 {
+        &[
+            FileKey::Team,
+            FileKey::Network,
+            FileKey::Home,
+            FileKey::Hole,
+            FileKey::Quota,
+            FileKey::Board,
+            FileKey::Keys,
+            FileKey::Held,
+        ]
+    } else {
+        &[
+            FileKey::Team,
+            FileKey::Network,
+            FileKey::Home,
+            FileKey::Holes,
+            FileKey::Dark,
+            FileKey::Quota,
+            FileKey::Board,
+            FileKey::Keys,
+            FileKey::Held,
+        ]
+    }
+}
+
+/// Whether a tournament, or a match, has a key with this word in a file of this version.
+pub fn is_known(version: u16, game: Option<u32>, word: &str) -> bool
+    ensures { result ≡ is_known version game word.now }
+{
+    known_keys(version, game)
+        .iter()
+        .any(|known| word == known.word())
+}
+
+/// The first key of a table that is no key of a tournament, or of a match, in a file of this version.
+pub fn unknown_key(version: u16, game: Option<u32>, table: &Table) -> Option<&str>
+    ensures { option_copied result ≡ unknown_key version game (table_view table.now) }
+{
+    let key = table
+        .keys()
+        .find(|key| !is_known(version, game, key.as_str()))?;
     Some(key.as_str())
 }
 
@@ -66,7 +107,7 @@ pub fn unknown_key(game: Option<u32>, table: &Table) -> Option<&str>
 pub fn check_keys(version: u16, game: Option<u32>, table: &Table) -> Result<(), FileFault>
     ensures { result ≡ checked_keys version game (table_view table.now) }
 {
-    if 3 <= version && unknown_key(game, table).is_some() {
+    if 3 <= version && unknown_key(version, game, table).is_some() {
         return Err(FileFault::Unknown { game });
     }
     Ok(())
@@ -116,8 +157,8 @@ fn delays(table: &Table) -> Result<Delays, FileFault>
     Ok(Delays::new(scales, odds))
 }
 
-// Whether the table names the oblivious schedule. It may name none.
-fn is_oblivious(table: &Table) -> Result<bool, FileFault>
+/// Whether the table names the oblivious schedule. It may name none.
+pub fn is_oblivious(table: &Table) -> Result<bool, FileFault>
     ensures { result ≡ optional None keys.Schedule shapes.is_oblivious false (table_view table.now) }
 {
     match lookup(table, FileKey::Schedule.word()) {
