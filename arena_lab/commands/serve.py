@@ -10,9 +10,7 @@ delivers the agent that the arena would deliver. Nothing of it is proved, it jud
 """
 import argparse
 import pathlib
-import sys
 
-from arena_lab.play import tournament_notes
 from arena_lab.play.server import ServeOptions, served
 from arena_lab.rules.delays import PAUSE
 
@@ -38,8 +36,6 @@ def add_words(parser: argparse.ArgumentParser) -> None:
 
 
 def run(words: argparse.Namespace) -> int:
-    for line in tournament_notes.of_file(pathlib.Path(words.tournament)):
-        print(line, file=sys.stderr)
     is_plain = words.replay is None
     gather = GATHER if is_plain and words.gather is None else words.gather or 0
     prefix = str(pathlib.Path(words.tournament).with_suffix("").name) if is_plain else words.replay

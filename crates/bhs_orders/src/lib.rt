@@ -39,4 +39,4 @@ pub use results::tabling::print_table;
 pub use results::twinning::print_twin;
 pub use streams::showing::{show_made, show_text};
 pub use tournaments::built_in_tournament::built_in;
-pub use tournaments::checking::{check, lineup_of};
+pub use tournaments::checking::{check, lineup_of, told_lineup_of};

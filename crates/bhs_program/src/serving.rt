@@ -12,7 +12,7 @@ use crate::parts::{PartFiles, begin_parts};
 use bhs_command_line::Hosting;
 use bhs_lineup::{Lineup, Ready};
 use bhs_net::Memory;
-use bhs_orders::{DONE, Fault, lineup_of, report, show_made};
+use bhs_orders::{DONE, Fault, report, show_made, told_lineup_of};
 use bhs_server::can_start;
 use bhs_stream::Output;
 use std::alloc::Global;
@@ -35,7 +35,7 @@ pub(crate) fn serve_named<
     ensures { Serves (known_takes R.File.contents) W.takes W.flushes hosting.now.port writer.old writer.new result }
 {
     let hears = rt.has_input();
-    let lineup = match lineup_of(alloc, rt, name, errors) {
+    let lineup = match told_lineup_of(alloc, rt, name, errors) {
         Ok(lineup) => lineup,
         Err(status) => return status,
     };

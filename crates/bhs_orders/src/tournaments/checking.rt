@@ -13,6 +13,7 @@ use crate::reporting::faults::{Fault, report, report_with_cause};
 use crate::streams::showing::show_made;
 use crate::tournaments::helping::{report_fault, report_file, report_unread};
 use crate::tournaments::network_places::place_of;
+use crate::tournaments::notes::{notes_on, tell_ignored};
 use crate::tournaments::summaries::summary;
 use bhs_assembly::assemble;
 use bhs_files::{Tournament, read_network, read_tournament};
@@ -25,8 +26,8 @@ use std::fs;
 use std::io::Write;
 use std::rt::Files;
 
-/// Reads a tournament and its networks as `lineup_of` does. Then a line for each match goes to `writer`. The answer is
-/// the exit status.
+/// Reads a tournament and its networks as `told_lineup_of` does. Then a line for each match goes to `writer`. The
+/// answer is the exit status.
 pub fn check<F: Files, W: Output, E: Write>(
     alloc: Global,
     files: &F,
@@ -36,7 +37,7 @@ pub fn check<F: Files, W: Output, E: Write>(
 ) -> u8
     ensures { Reports (Prints W.takes W.flushes) IsSummary writer.old writer.new result }
 {
-    match lineup_of(alloc, files, name, errors) {
+    match told_lineup_of(alloc, files, name, errors) {
         Ok(lineup) => show_made(summary(alloc, &lineup.ready), writer, errors),
         Err(status) => status,
     }
@@ -55,7 +56,47 @@ pub fn lineup_of<F: Files, E: Write>(
     ensures fresh { IfOk result (λ lineup. AreFresh lineup.ready.items) }
     ensures fault { IfErr result IsOfFault }
 {
-    let tournament = tournament_of(alloc, files, name, errors)?;
+    let text = text_of_tournament(alloc, files, name, errors)?;
+    let tournament = tournament_of(alloc, name, text.as_str(), errors)?;
+    assembled(alloc, files, name, tournament, errors)
+}
+
+/// Does as `lineup_of` does, and tells on `errors` what a reader of the file may not expect: each key that is ignored,
+/// and then, unless there is a fault, the schedule and the links that are held or dark.
+pub fn told_lineup_of<F: Files, E: Write>(
+    alloc: Global,
+    files: &F,
+    name: &str,
+    errors: &mut E,
+) -> Result<Lineup, u8>
+    ensures made { IfOk result IsAssembled }
+    ensures fresh { IfOk result (λ lineup. AreFresh lineup.ready.items) }
+    ensures fault { IfErr result IsOfFault }
+{
+    let text = text_of_tournament(alloc, files, name, errors)?;
+    tell_ignored(alloc, name, text.as_str(), errors);
+    let tournament = tournament_of(alloc, name, text.as_str(), errors)?;
+    let Ok(notes) = notes_on(alloc, name, &tournament) else {
+        return Err(report(name, Fault::Memory, errors));
+    };
+    let lineup = assembled(alloc, files, name, tournament, errors)?;
+    let _ = errors.write_all(notes.as_bytes());
+    Ok(lineup)
+}
+
+// Reads the networks of a tournament and puts all together.
+fn assembled<F: Files, E: Write>(
+    alloc: Global,
+    files: &F,
+    name: &str,
+    tournament: Tournament,
+    errors: &mut E,
+) -> Result<Lineup, u8>
+    requires { (text : List ℕ) × (tournament_in text ≡ Ok (plan tournament)) }
+    ensures made { IfOk result IsAssembled }
+    ensures fresh { IfOk result (λ lineup. AreFresh lineup.ready.items) }
+    ensures fault { IfErr result IsOfFault }
+{
     let networks = networks_of(alloc, files, name, &tournament, errors)?;
     match assemble(alloc, tournament, &networks) {
         Ok(lineup) => Ok(lineup),
@@ -70,23 +111,32 @@ fn text_of<F: Files>(alloc: Global, files: &F, name: &str) -> Result<String, Fau
     String::from_utf8(bytes).map_err(|_| Fault::Text)
 }
 
-fn tournament_of<F: Files, E: Write>(
+fn text_of_tournament<F: Files, E: Write>(
     alloc: Global,
     files: &F,
     name: &str,
     errors: &mut E,
+) -> Result<String, u8>
+    ensures { IfErr result IsOfFault }
+{
+    match text_of(alloc, files, name) {
+        Ok(text) => Ok(text),
+        Err(fault) => Err(report_with_cause(files, name, fault, errors)),
+    }
+}
+
+fn tournament_of<E: Write>(
+    alloc: Global,
+    name: &str,
+    text: &str,
+    errors: &mut E,
 ) -> Result<Tournament, u8>
-    ensures said { IfOk result
-        (λ tournament. (text : List ℕ) × (tournament_in text ≡ Ok (plan tournament))) }
+    ensures said { IfOk result (λ tournament. tournament_in text.now ≡ Ok (plan tournament)) }
     ensures fault { IfErr result IsOfFault }
 {
-    let text = match text_of(alloc, files, name) {
-        Ok(text) => text,
-        Err(fault) => return Err(report_with_cause(files, name, fault, errors)),
-    };
-    match read_tournament(alloc, text.as_str()) {
+    match read_tournament(alloc, text) {
         Ok(tournament) => Ok(tournament),
-        Err(fault) => Err(report_file(alloc, name, text.as_str(), fault, errors)),
+        Err(fault) => Err(report_file(alloc, name, text, fault, errors)),
     }
 }
 

@@ -6,7 +6,7 @@ use crate::reporting::causes::{ABSENT, cause_of_no_read};
 use crate::reporting::faults::{Fault, report};
 use crate::reporting::names::Shown;
 use crate::tournaments::network_places::other_folder;
-use bhs_files::{FileFault, FileKey, known_keys, unknown_key};
+use bhs_files::{FileFault, FileKey, TOURNAMENT_VERSION, known_keys, unknown_key};
 use bhs_net::NetFault;
 use bhs_world::SetupFault;
 use std::alloc::Global;
@@ -39,9 +39,7 @@ pub(crate) fn report_fault<E: Write>(name: &str, fault: FileFault, errors: &mut 
 {
     let status = report(name, Fault::from(fault), errors);
     match fault {
-        FileFault::Version => {
-            let _ = errors.write_all(b"  version: 1, 2 or 3; of a network 1 or 2\n");
-        }
+        FileFault::Version => tell_shape(FileKey::Version, errors),
         FileFault::Missing { key, .. } => tell_shape(key, errors),
         FileFault::Shape { key, .. } => tell_shape(key, errors),
         FileFault::Net(fault) => tell_network(fault, errors),
@@ -101,6 +99,16 @@ fn tell_line<E: Write>(alloc: Global, text: &str, errors: &mut E) {
     let line = line_at(text.as_bytes(), span.start);
     let why = error.message();
     let _ = writeln!(errors, "  line {line}: {why}");
+    if let Some(lone) = text
+        .lines()
+        .position(|line| line.trim().starts_with("[match]"))
+    {
+        let line = lone.saturating_add(1);
+        let _ = writeln!(
+            errors,
+            "  line {line} has [match]: write [[match]], as of a match among others"
+        );
+    }
 }
 
 // Tells the key that a tournament, or a match of it, may not have, and the keys that it may have.
@@ -108,12 +116,16 @@ fn tell_unknown<E: Write>(alloc: Global, text: &str, game: Option<u32>, errors: 
     let Ok(file) = toml::table_from_str(alloc, text) else {
         return;
     };
-    let Some(key) = part_of(&file, game).and_then(|part| unknown_key(game, part)) else {
+    let Some(key) = part_of(&file, game).and_then(|part| unknown_key(
+        TOURNAMENT_VERSION,
+        game,
+        part,
+    )) else {
         return;
     };
     let key = Shown { name: key };
     let _ = write!(errors, "  {key}: the keys here are");
-    for (place, known) in known_keys(game).iter().enumerate() {
+    for (place, known) in known_keys(TOURNAMENT_VERSION, game).iter().enumerate() {
         let comma = if place == 0 { "" } else { "," };
         let _ = write!(errors, "{comma} {known}");
     }
@@ -187,6 +199,7 @@ fn tell_setup<E: Write>(fault: SetupFault, errors: &mut E) {
 // What a file may have at a key.
 fn shape_of(key: FileKey) -> &'static str {
     match key {
+        FileKey::Version => "1, 2 or 3; of a network 1 or 2",
         FileKey::Nodes | FileKey::Home => "a whole number, 0 to 65535",
         FileKey::Quota => "a whole number, 1 to 1000, and 65535 in version 3",
         FileKey::Board => "a whole number, 0 to 4096, and 65535 in version 3",

@@ -4,4 +4,5 @@ pub(crate) mod built_in_tournament;
 pub(crate) mod checking;
 pub(crate) mod helping;
 pub(crate) mod network_places;
+pub(crate) mod notes;
 pub(crate) mod summaries;
