@@ -27,7 +27,7 @@ pub use orders::{
 use std::alloc::{AllocError, Global};
 use std::convert::AsStr;
 use unfit::unfit_text;
-pub use words::module_in;
+pub use words::{module_in, number_within};
 
 /// What a command line comes to.
 #[derive(Drop)]

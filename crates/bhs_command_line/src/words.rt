@@ -1,6 +1,6 @@
 //! What a word of a command says beyond its text.
 
-ghost use Rattle.std.specs.Prelude.{◌≡◌, IfOk, map, option_map};
+ghost use Rattle.std.specs.Prelude.{◌≡◌, ◌≤◌, IfOk, IfSome, map, option_map};
 ghost use Rattle.std.specs.Char.{is_ascii_digit};
 ghost use Rattle.std.specs.List.{list_all};
 ghost use Rattle.bhs_command_line.specs.Arguments.{number_within};
@@ -14,8 +14,9 @@ use bhs_text::{Text, is_team};
 use std::alloc::{AllocError, Global};
 
 /// The number from `least` to `most` that a word spells in decimal digits. Zeros may stand in front.
-pub(crate) fn number_within(least: u32, most: u32, word: &str) -> Option<u32>
-    ensures { result ≡ number_within least most word.now }
+pub fn number_within(least: u32, most: u32, word: &str) -> Option<u32>
+    ensures number { result ≡ number_within least most word.now }
+    ensures range { IfSome result (λ number. (least ≤ number) × (number ≤ most)) }
 {
     if !is_digits(word) {
         return None;

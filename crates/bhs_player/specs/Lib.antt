@@ -1,2 +1,3 @@
 pub mod Agents
+pub mod Entrants
 pub mod Wires

@@ -3,9 +3,6 @@ use Rattle.std.specs.Prelude.{◌≡◌, ℕ, Bool, true, false, ◌⊎◌, Opti
 use Rattle.std.specs.Io.KnownBytes.{Consumes}
 use Rattle.bhs_stream.specs.Sending.{PutsAll, PutsPart}
 use Rattle.bhs_stream.specs.Streams.{WriteAnswer}
-use Rattle.bhs_explore.specs.Strategies.{Strategy}
-use Rattle.bhs_searcher.specs.Talks.{Ends}
-use Rattle.bhs_searcher.specs.declared.playing.PlayEnd.{PlayEnd}
 use Rattle.bhs_player.specs.declared.wire.Wire.{Wire}
 
 -- a line and its line feed
@@ -34,10 +31,3 @@ module _ {R W : Type 0} (remaining : R → Option (List ℕ)) where
   -- Nothing was written, where no line came. What was read is not said: a line may have been cut off.
   abbrev pub IsUnheard : (old new : Wire R W) → Type 0
   IsUnheard old new = new.writer ≡ old.writer
-
--- An agent with this strategy and this key has played to this end over a wire that began with this input and output:
--- all that it has written is what its strategy says of what it has read, and of where it slept.
-abbrev pub Plays : {R W : Type 0} → (W → List ℕ → WriteAnswer → W → Type 0) → (W → Bool → W → Type 0)
-    → (R → Option (List ℕ)) → Strategy → (key : List ℕ) → (reader : R) (writer : W) → PlayEnd → Type 0
-Plays {R} {W} takes flushes remaining strategy key reader writer end = (old new : Wire R W) × (old.reader ≡ reader)
-    × (old.writer ≡ writer) × Ends (IsSaid takes flushes) (IsHeard remaining) strategy key old end new

@@ -2,17 +2,14 @@
 //! that runs a WebAssembly module.
 #![tactic(auto)]
 
-mod agents;
-mod wire;
-mod words;
-
-ghost use Rattle.std.specs.Prelude.{IfOk};
-ghost use Rattle.bhs_player.specs.Agents.{strategy_played};
-ghost use Rattle.bhs_player.specs.Wires.{Plays};
+pub mod agents;
+pub mod playing;
+pub mod wire;
+pub mod words;
 
 use agents::{PlayedAgent, agent_of, failure_of};
-use bhs_searcher::{PlayEnd, PlayFault, play};
-use bhs_stream::Output;
+use bhs_searcher::{PlayEnd, PlayFault};
+use playing::played;
 use std::fmt::Display;
 use std::io::BufReader;
 use std::net::TcpStream;
@@ -20,9 +17,6 @@ use std::process::ExitCode;
 use std::{env, io};
 use wire::Wire;
 use words::{AgentChoice, Entrant, USAGE, entrant_of};
-
-// The most that happens to an agent: many more replies than any is told that keeps to its protocol.
-const MOST_REPLIES: u64 = 1_099_511_627_776;
 
 fn main(rt: HostRuntime) -> ExitCode {
     ExitCode::from(match started(&rt) {
@@ -83,7 +77,12 @@ fn entered(
     agent: &mut PlayedAgent,
 ) -> Result<PlayEnd, PlayFault> {
     if entrant.host == "-" {
-        return played(rt, rt.reader(), io::writer(rt), entrant.key, agent);
+        let mut wire = Wire {
+            rt,
+            reader: rt.reader(),
+            writer: io::writer(rt),
+        };
+        return played(&mut wire, entrant.key, agent);
     }
     let Ok(stream) = connected(rt, entrant) else {
         return Err(PlayFault::Lost);
@@ -91,7 +90,12 @@ fn entered(
     let Ok(reader) = BufReader::new(rt.alloc(), &stream) else {
         return Err(PlayFault::Memory);
     };
-    played(rt, reader, &stream, entrant.key, agent)
+    let mut wire = Wire {
+        rt,
+        reader,
+        writer: &stream,
+    };
+    played(&mut wire, entrant.key, agent)
 }
 
 fn connected(rt: &HostRuntime, entrant: &Entrant<'_>) -> io::Result<TcpStream> {
@@ -99,22 +103,4 @@ fn connected(rt: &HostRuntime, entrant: &Entrant<'_>) -> io::Result<TcpStream> {
     let stream = TcpStream::connect(rt, address.as_str())?;
     let _ = stream.set_nodelay(true);
     Ok(stream)
-}
-
-// Plays an agent: what it writes is what its strategy says of what it reads.
-fn played<R: io::BufRead + Drop, W: Output + Drop>(
-    rt: &HostRuntime,
-    reader: R,
-    writer: W,
-    key: &str,
-    agent: &mut PlayedAgent,
-) -> Result<PlayEnd, PlayFault>
-    ensures { IfOk result (λ end. Plays W.takes W.flushes R.remaining (strategy_played agent.old) key.now
-        reader writer end) }
-{
-    let mut wire = Wire { rt, reader, writer };
-    match agent {
-        PlayedAgent::Protocol(agent) => play(rt.alloc(), &mut wire, agent, key, MOST_REPLIES),
-        PlayedAgent::Module(agent) => play(rt.alloc(), &mut wire, agent, key, MOST_REPLIES),
-    }
 }

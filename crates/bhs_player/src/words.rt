@@ -1,9 +1,11 @@
 //! The words that the program is run with.
 
-ghost use Rattle.std.specs.Prelude.{◌≤◌, IfOk, IfSome};
-ghost use Rattle.bhs_player.specs.Agents.{IsFit};
+ghost use Rattle.std.specs.Prelude.{◌≡◌, IfOk, map, option_map, string_bytes};
+ghost use Rattle.bhs_command_line.specs.Arguments.{number_within};
+ghost use Rattle.bhs_player.specs.Entrants as entrants;
 
-use bhs_command_line::{AgentModule, module_in};
+use bhs_command_line::{AgentModule, module_in, number_within};
+use bhs_net::{MAX_NODES, MIN_NODES};
 use bhs_searcher::Protocol;
 use std::alloc::{AllocError, Global};
 
@@ -48,15 +50,16 @@ that runs a WebAssembly module, as `arena explore --module` tries it. Run a prot
 
 /// What the words say, if they are fit.
 pub fn entrant_of<'w>(alloc: Global, words: &'w [String]) -> Result<Option<Entrant<'w>>, AllocError>
-    ensures { IfOk result (λ entrant. IfSome entrant (λ entrant. IsFit entrant.runs)) }
+    ensures { IfOk result (λ entrant. option_map entrants.seen entrant
+        ≡ entrants.entrant_in (map string_bytes words.now)) }
 {
     let [host, port, key, what @ ..] = words else {
         return Ok(None);
     };
-    let Some(port) = number_of(port, 0, u16::MAX) else {
+    let Some(port) = number_of(port.as_str(), 0, u16::MAX) else {
         return Ok(None);
     };
-    Ok(runs_of(alloc, what)?.map(|runs| Entrant {
+    Ok(choice_of(alloc, what)?.map(|runs| Entrant {
         host: host.as_str(),
         port,
         key: key.as_str(),
@@ -64,8 +67,8 @@ pub fn entrant_of<'w>(alloc: Global, words: &'w [String]) -> Result<Option<Entra
     }))
 }
 
-fn runs_of(alloc: Global, words: &[String]) -> Result<Option<AgentChoice>, AllocError>
-    ensures { IfOk result (λ runs. IfSome runs IsFit) }
+fn choice_of(alloc: Global, words: &[String]) -> Result<Option<AgentChoice>, AllocError>
+    ensures { IfOk result (λ runs. runs ≡ entrants.choice_in (map string_bytes words.now)) }
 {
     match words {
         [option, word] => {
@@ -74,22 +77,24 @@ fn runs_of(alloc: Global, words: &[String]) -> Result<Option<AgentChoice>, Alloc
             }
             Ok(module_in(alloc, word.as_str())?.map(AgentChoice::Module))
         }
-        [protocol, nodes, side] => Ok(protocol_in(protocol.as_str(), nodes, side)),
+        [protocol, nodes, side] => Ok(search_of(protocol.as_str(), nodes.as_str(), side.as_str())),
         _ => Ok(None),
     }
 }
 
-fn protocol_in(protocol: &str, nodes: &String, side: &String) -> Option<AgentChoice>
-    ensures { IfSome result IsFit }
+fn search_of(protocol: &str, nodes: &str, side: &str) -> Option<AgentChoice>
+    ensures { result ≡ entrants.search_in protocol.now nodes.now side.now }
 {
     Some(AgentChoice::Protocol {
         protocol: protocol_of(protocol)?,
-        nodes: number_of(nodes, 3, 4096)?,
+        nodes: number_of(nodes, MIN_NODES, MAX_NODES)?,
         side: number_of(side, 0, 1)?,
     })
 }
 
-fn protocol_of(word: &str) -> Option<Protocol> {
+fn protocol_of(word: &str) -> Option<Protocol>
+    ensures { result ≡ entrants.protocol_in word.now }
+{
     match word {
         "halves" => Some(Protocol::Halves),
         "shuttle" => Some(Protocol::Shuttle),
@@ -97,13 +102,9 @@ fn protocol_of(word: &str) -> Option<Protocol> {
     }
 }
 
-fn number_of(word: &String, least: u16, most: u16) -> Option<u16>
-    ensures { IfSome result (λ number. (least ≤ number) × (number ≤ most)) }
+fn number_of(word: &str, least: u16, most: u16) -> Option<u16>
+    ensures { result ≡ number_within least most word.now }
 {
-    let number = word.as_str().parse::<u16>().ok()?;
-    if least <= number && number <= most {
-        Some(number)
-    } else {
-        None
-    }
+    let number = number_within(u32::from(least), u32::from(most), word)?;
+    Some(number as u16)
 }

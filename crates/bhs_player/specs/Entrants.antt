@@ -1,0 +1,46 @@
+-- What the words of the command line say: where an agent plays, with which key, and what it runs.
+use Rattle.std.specs.Prelude.{ℕ, List, [], ◌∷◌, Option, Some, None, option_map, option_and_then, codes, if◌then◌else◌}
+use Rattle.std.specs.Str.{bytes_eq}
+use Rattle.bhs_net.specs.declared.faults.TheConstants.{MIN_NODES, MAX_NODES}
+use Rattle.bhs_command_line.specs.Arguments.{number_within}
+use Rattle.bhs_command_line.specs.Exploring.{module_in}
+use Rattle.bhs_searcher.specs.declared.protocol_agent.Protocol.{Protocol}
+use Rattle.bhs_searcher.specs.declared.protocol_agent.Protocol.TheVariants.{Halves, Shuttle}
+use Rattle.bhs_player.specs.declared.words.AgentChoice.{AgentChoice}
+use Rattle.bhs_player.specs.declared.words.AgentChoice.TheVariants as runs
+use Rattle.bhs_player.specs.declared.words.Entrant.{Entrant}
+
+-- an entrant, without where its words lie in memory
+pub record Entering : Type 0 where
+  pub host : List ℕ
+  pub port : ℕ
+  pub key : List ℕ
+  pub runs : AgentChoice
+
+abbrev pub seen : Entrant → Entering
+seen entrant = record { host = entrant.host.now; port = entrant.port; key = entrant.key.now; runs = entrant.runs }
+
+-- the protocol of this name
+abbrev pub protocol_in : List ℕ → Option Protocol
+protocol_in word = if bytes_eq word (codes "halves") then Some Halves
+    else (if bytes_eq word (codes "shuttle") then Some Shuttle else None)
+
+-- PROTOCOL NODES SIDE: the search of a ring with as many nodes as a file may have, from port 0 or 1 of its home base
+abbrev pub search_in : (protocol nodes side : List ℕ) → Option AgentChoice
+search_in protocol nodes side =
+    option_and_then (λ protocol. option_and_then (λ nodes. option_map (λ side. runs.Protocol protocol nodes side)
+    (number_within 0 1 side)) (number_within MIN_NODES MAX_NODES nodes)) (protocol_in protocol)
+
+-- what an agent runs: PROTOCOL NODES SIDE, or --module FILE[:N,..]
+abbrev pub choice_in : List (List ℕ) → Option AgentChoice
+choice_in (protocol ∷ nodes ∷ side ∷ []) = search_in protocol nodes side
+choice_in (option ∷ word ∷ []) =
+    if bytes_eq option (codes "--module") then option_map (λ it. runs.Module it) (module_in word) else None
+choice_in words = None
+
+-- HOST PORT KEY, and what the agent runs
+abbrev pub entrant_in : List (List ℕ) → Option Entering
+entrant_in (host ∷ port ∷ key ∷ what) =
+    option_and_then (λ port. option_map (λ runs. record { host = host; port = port; key = key; runs = runs })
+    (choice_in what)) (number_within 0 65535 port)
+entrant_in words = None
