@@ -1,6 +1,6 @@
 -- What comes of the matches of a server.
 use Rattle.std.specs.Prelude.{ℕ, suc, ◌≡◌, Vec, Option, Some, List, [], ◌∷◌, Result, Ok, Err, drop, length, slice_get}
-use Rattle.std.specs.Prelude.{◌==◌, if◌then◌else◌, map}
+use Rattle.std.specs.Prelude.{◌==◌, if◌then◌else◌, filter, map, nat_lt}
 use Rattle.std.specs.declared.alloc.Global.{Global}
 use Rattle.rand_chacha.specs.ChaCha.{ChaCha}
 use Rattle.bhs_time.specs.declared.kinds.ScheduleKind.{ScheduleKind}
@@ -90,9 +90,14 @@ AreSettledBy game (given ∷ others) sessions (one ∷ more) =
     IsSettledBy given (passes_in game sessions) one × AreSettledBy (suc game) others sessions more
 AreSettledBy game cells sessions settled = ⊥
 
--- How sessions ended by whose passes the matches were settled: there is one entry for each, in their order.
+-- the sessions on matches below this number
+unfoldable pub sessions_on : (matches : ℕ) → List Session → List Session
+sessions_on matches = filter (λ session. nat_lt session.played.game matches)
+
+-- How the sessions ended by whose passes the matches were settled: there is one entry for each of them, in their order,
+-- and for no other session.
 pub record HaveEnded (cells : List Given) (settled : List (Result Settlement Refused))
     (ended : List Ended) : Type 0 where
   pub sessions : List Session
-  pub each : ended ≡ map (λ session. session.ended) sessions
+  pub each : ended ≡ map (λ session. session.ended) (sessions_on (length cells) sessions)
   pub settled_by : AreSettledBy 0 cells sessions settled

@@ -104,7 +104,7 @@ pub fn run_server<
         },
         dealers,
     )?;
-    let ended = endings(alloc, &sessions)?;
+    let ended = endings(alloc, cells.len(), &sessions)?;
     Ok(Served {
         settled: settle_all(alloc, cells, &copies, sessions)?,
         ended,

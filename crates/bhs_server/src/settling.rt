@@ -2,7 +2,7 @@
 
 ghost use Rattle.std.specs.Prelude.{◌≡◌, IfOk, MatchOption, length, map, option_map, slice_get};
 ghost use Rattle.bhs_server.specs.Settling.{HasFared, HaveFared, IsAstray, IsTimely, at_start};
-ghost use Rattle.bhs_server.specs.Settling.{AreSettledBy, IsSettledBy, others_than, passes_in};
+ghost use Rattle.bhs_server.specs.Settling.{AreSettledBy, IsSettledBy, others_than, passes_in, sessions_on};
 
 use crate::sessions::Session;
 use bhs_deal::{Dealer, Schedule, Untimely, first_untimely};
@@ -28,15 +28,21 @@ pub enum Refused {
 /// What came of a match: the match, as its sessions were answered and with its turns, or why it has no result.
 pub type Settled = Result<Settlement, Refused>;
 
-/// How sessions ended, in order.
-pub(crate) fn endings(alloc: Global, sessions: &[Session]) -> Result<Vec<Ended>, Memory>
-    ensures { IfOk result (λ ended. ended.items ≡ map (λ session. session.ended) sessions.now) }
+/// How the sessions on matches below this number ended, in order.
+#[tactic(auto, unfolding(crate::specs::Settling::sessions_on))]
+pub(crate) fn endings(
+    alloc: Global,
+    matches: usize,
+    sessions: &[Session],
+) -> Result<Vec<Ended>, Memory>
+    ensures { IfOk result (λ ended. ended.items
+        ≡ map (λ session. session.ended) (sessions_on matches sessions.now)) }
 {
-    let mut ended = Vec::with_capacity(alloc, sessions.len())?;
-    for session in sessions {
-        ended.push(session.ended)?;
-    }
-    Ok(ended)
+    sessions
+        .iter()
+        .filter(|session| (session.played.game as usize) < matches)
+        .map(|session| session.ended)
+        .collect(alloc)
 }
 
 // The passes of the sessions on the match of this number, and the sessions on others.

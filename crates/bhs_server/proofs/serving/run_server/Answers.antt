@@ -15,6 +15,6 @@ returns-clause-settled g c =
 pub returns-clause-ended : goal.returns-clause-ended
 returns-clause-ended g c = record {
   sessions = c.in_ok-sessions.sessions.items;
-  each = c.in_ok-ended.ensures ∙ ap (map (λ (session : Session). session.ended)) c.deref-3.ensures.value;
+  each = cc (c.in_ok-ended.ensures);
   settled_by = c.in_ok-settle_all.ensures.passes;
 }
