@@ -7,8 +7,8 @@ use crate::pacing::{Pace, PaceStep};
 use bhs_deal::Dealer;
 use bhs_lock::Cell;
 use std::sync::Wait;
-use std::thread;
-use std::time::{Clock, Duration};
+use std::time::{Clock, Duration, Instant};
+use std::{io, thread};
 
 // How many milliseconds pass between two looks at whether all agents have entered.
 const EVERY: u32 = 5;
@@ -22,11 +22,23 @@ pub(crate) fn gather<R: Wait + Clock, P: Pace>(
     cell: &Cell,
     most: u32,
 ) {
+    let begin = Instant::now(rt);
     for _ in 0..most / EVERY {
-        if !pace.gathers(game) || cell.is_gathered(rt) {
+        if !pace.gathers(game) || cell.is_gathered(rt) || has_passed(rt, &begin, most) {
             return;
         }
         thread::sleep(rt, Duration::from_millis(u64::from(EVERY)));
+    }
+}
+
+// Whether this many milliseconds have passed. A sleep may take longer than it is asked to.
+fn has_passed<R: Clock>(rt: &R, begin: &io::Result<Instant>, most: u32) -> bool {
+    let Ok(begin) = begin else {
+        return false;
+    };
+    match begin.elapsed(rt) {
+        Ok(passed) => passed >= Duration::from_millis(u64::from(most)),
+        Err(_) => false,
     }
 }
 
