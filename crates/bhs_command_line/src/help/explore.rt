@@ -18,7 +18,28 @@ the second. A module imports nothing but functions of `arena`, and exports `run`
 in a clone examples/agents/wasm/arena.h declares them for C. Numbers behind a
 colon are its arguments: ring.wasm:8. Agents fail whose module traps, or that
 execute more than 10,000,000 instructions from one command to the next. Standard
-error tells now and then how far a long search is.
+error tells now and then how far a long search is. A file that is no such module
+is told as `FILE: FAULT at byte N`:
+
+  head       It does not begin as a module, version 1
+  end        It, or a part of it, ends too soon
+  number     A number is too long or too large
+  name       A name is not in UTF-8, or stands twice
+  float      It has floating-point numbers
+  opcode N   It has an instruction that agents do without
+  type       Types do not fit the instructions or functions
+  import     It imports something else than the functions of `arena`
+  start      It has a start function
+  segment    A segment is not active, or out of its memory or table
+  section    A section is unknown, out of order, or too long
+  size       It is larger than a limit
+  index      It names something that it does not have
+  block      Its blocks do not match
+  alignment  An instruction assumes too large an alignment
+  run        It exports no function `run` without parameters and results
+
+A tournament without this match is told as `no match M`, and one of A agents with
+N modules, neither one nor A, as `N modules, A agents`.
 
 Without it the agents are played by a host at the other end of standard input and
 output, as `arena-lab explore` is one. An agent must be deterministic: what

@@ -30,18 +30,25 @@ standard error, as `FILE: FAULT`:
 
 A contest under the oblivious schedule has the file PREFIXM.turns beside the
 replay of match M: for each event the number of turns after which it happened.
-With --turns, --tournament and --match the deliveries are checked too, by the
-words of the tournament's seed: each must have been made at the first turn since
-its agent's departure that released the agent. The replay must be one of match
-MATCH of the tournament. What does not fit is told as `FILE: FAULT`, and there is
-no verdict; places are counted from 0, as `arena explain` prints them:
+With --turns, --tournament and --match the turns are checked too. The words of
+the tournament's seed say for each turn which agent arrives in it, if any, and
+the replay must have exactly these arrivals, each before the events of later
+turns. What does not fit is told as `FILE: FAULT`, and there is no verdict;
+places are counted from 0, as `arena explain` prints them:
 
-  late at place K       The delivery at place K was not made at its turn
-  held link at place K  It went over a link that the tournament holds
-  turn of place K       The turn at place K is less than the one before it
-  N turns, E events     There must be as many turns as events
+  no match M            The tournament has no match M
+  adaptive              Its schedule is adaptive, which has no turns
   not match M           The replay is of another network or setup
-  adaptive              The tournament's schedule is adaptive, which has no turns";
+  line N                Line N of the turns is no number of turns
+  N turns, E events     There must be as many turns as events
+  turn of place K       The turn at place K has passed: it is less than the one
+                        before it, or an arrival has ended it
+  agent A arrives in turn T, before place K
+                        The replay lacks this arrival
+  late at place K       The delivery at place K is not the one of its turn
+  held link at place K  It went over a link that the tournament holds
+
+`arena check --help` has the faults of a tournament.";
 
 const EXAMPLE: &str = "\
 Example:

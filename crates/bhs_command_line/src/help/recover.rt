@@ -26,7 +26,10 @@ written, with its turns PREFIXM.turns if there is a part of them, and the parts
 are removed. Turns with which the match does not stand its appeal are told, and
 stay where they are. A replay that is there is never replaced. Then the table is
 printed as `arena table TOURNAMENT --replay PREFIX` prints it. If a server still
-writes the parts, that is told as `busy`, and nothing is written.";
+writes the parts, that is told as `busy`, and nothing is written.
+
+`arena judge --help` has the faults of replays and turns, and `arena check
+--help` those of a tournament.";
 
 const EXAMPLE: &str = "\
 Examples:

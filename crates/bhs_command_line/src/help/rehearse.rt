@@ -13,7 +13,8 @@ Plays the script on standard input on the matches of a tournament: the file that
 is named, or the built-in one. The built-in tournament has one match on the
 triangle, whose nodes 0, 1 and 2 have two ports each. Its two agents have the
 keys ka and kb, enter at node 0 and may say 10 commands more. Node 2 is the black
-hole. A whiteboard holds 8 bytes.
+hole. A whiteboard holds 8 bytes. `arena check --help` has the faults of a
+tournament.
 
 Each line of the script is one of these:
 

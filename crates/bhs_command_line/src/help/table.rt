@@ -17,7 +17,8 @@ says what the outcomes are. A team is 1 to 16 of a to z, 0 to 9 and -.
 With --replay the only word is the file of a tournament, and the table is that
 of its contest: the replay of match M is PREFIXM.jsonl, as `arena serve` writes
 it. A match whose replay cannot be read, or is that of another match, is told on
-standard error and left out; the others count.";
+standard error and left out; the others count. `arena judge --help` has the
+faults of a replay, and `arena check --help` those of a tournament.";
 
 const EXAMPLE: &str = "\
 Examples:
