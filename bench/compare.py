@@ -8,7 +8,7 @@ on the machine changes less, of each the time of PROGRAM divided by that of OTHE
 that they held. What they print goes to nobody while they are timed. With --keep it is kept in memory, which takes the
 system the same time for both. The tournaments are of version 1, so that older builds take them too. Both programs must
 print the same bytes, in one more run of each; an input on which they do not is told, and the exit status is then 1.
-Nothing is written outside a temporary folder. It needs cc, since a small program in C takes the times (bench/timer.c).
+Nothing is written outside a temporary folder. It needs cc, since a small program in C takes the times (bench/c/timer.c).
 """
 import pathlib
 import statistics

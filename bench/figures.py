@@ -27,7 +27,7 @@ import time
 from typing import Callable, Dict, Iterable, List, NamedTuple, Optional, Sequence, Tuple
 
 from bench import instructions
-from experiments import spin
+from bench import promela
 from arena_lab.support import built
 
 TOP = pathlib.Path(__file__).resolve().parent.parent
@@ -292,7 +292,7 @@ BENCHMARKS: Dict[str, Benchmark] = {
     "lab": Benchmark("The lab", lambda at: of_debians("bench.speed", "--program", str(at.program)), lab_text),
     "explore": Benchmark("Every schedule", lambda at: of_debians("bench.explore", *EXPLORED), noted_text(EXPLORE_NOTE)),
     "spin": Benchmark("Every schedule beside SPIN", lambda at: of_debians("bench.spin"), noted_text(SPIN_NOTE),
-                      lambda at: "" if spin.HAS_SPIN else "spin is not installed"),
+                      lambda at: "" if promela.HAS_SPIN else "spin is not installed"),
     "hunts": Benchmark("Hunts", lambda at: of_debians("bench.hunts"), noted_text(HUNTS_NOTE),
                        build="the Python model"),
     "waits": Benchmark("Waiting", lambda at: of_python("bench.waits"), noted_text(WAITS_NOTE)),
@@ -301,7 +301,7 @@ BENCHMARKS: Dict[str, Benchmark] = {
     "traps": Benchmark("Timeouts and traps", lambda at: of_python("bench.timeouts", *TRAPS), noted_text(TRAPS_NOTE)),
     "flood": Benchmark("A flood of strangers", lambda at: of_python("bench.flood"), noted_text(FLOOD_NOTE, flood_text)),
     "looks": Benchmark("Memory of looks", lambda at: of_python("bench.looks"), noted_text(LOOKS_NOTE, looks_text)),
-    "bare": Benchmark("A bare Debian", lambda at: of_debians("tools.play.bare", "--program", str(at.program)),
+    "bare": Benchmark("A bare Debian", lambda at: of_debians("tests.release.bare", "--program", str(at.program)),
                       noted_text(BARE_NOTE, results_text)),
     "hall": Benchmark("A hall", lambda at: of_debians("bench.hall", "--program", str(at.program)),
                       noted_text(HALL_NOTE, lines_text)),

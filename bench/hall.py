@@ -25,7 +25,7 @@ from collections import Counter
 from typing import Any, Callable, Dict, Iterator, List
 
 from arena_lab.rules.engines import program_at
-from arena_lab.tests.hall.halls import Served, play, sample_program
+from tests.support.halls import Served, play, sample_program
 
 # seconds between two looks at a match, and at a program that is to be graded: a team has 120 requests a minute
 SEED, FLOODS, EVERY, SELDOM = 5, 8, 1.0, 5.0

@@ -2,7 +2,7 @@
 
     /usr/bin/python3 -m bench.hunts [--seeds N] [--most N] [NAME ..]
 
-Plays each agent of arena_lab/mutants on the network on which `tools.play.mutants` hunts it. For each seed (--seeds) it
+Plays each agent of arena_lab/mutants on the network on which `tests.support.mutants` hunts it. For each seed (--seeds) it
 counts the schedules of a hunt up to the first after which the team fails, and those of `run`, which begins with the
 hunt's first draw and is given up after --most. A row has the median and the most of each. The exit status is 1 if a
 hunt took more schedules than `run`. The Python model plays, so nothing needs to be built.
@@ -16,7 +16,7 @@ from arena_lab.play.games import play_seed
 from arena_lab.play.teams import INSIDE, AgentWords, Game, filled
 from arena_lab.rules import networks
 from arena_lab.search.hunt import DRAWS, Hunt, Hunter, hunted
-from tools.play.mutants import PLANS, agent_of
+from tests.support.mutants import PLANS, agent_of
 
 SEEDS, MOST = 10, 400
 

@@ -37,7 +37,7 @@ from arena_lab.rules.networks import text_of, torus
 from bench import compare, rehearse
 from bench.inputs import MAX_QUOTA, MAX_SCRIPT, tournament
 from tests.support.counts import concluded
-from tools.play.python_tests import SKIPPED
+from tests.runners.python_tests import SKIPPED
 
 TOP = pathlib.Path(__file__).resolve().parent.parent
 PROGRAM = TOP / "crates" / "bhs_main" / "out" / "bhs_main"

@@ -3,7 +3,7 @@
     tools/build               # proves and builds the program, if that is not done yet
     python3 -m bench.serve [--rounds N] [--active A,B,..] [--part N] [--open N]
 
-Compiles bench/serve/load.c, which plays the clients, and bench/serve/echo.c, which answers their lines by lines like
+Compiles bench/c/load.c, which plays the clients, and bench/c/echo.c, which answers their lines by lines like
 those of the arena, with a thread for each connection. Each load is looks, moves or writes, by 1, 16 and 256 sessions
 at a time, `one` command after the other or as `many` in one go as a session sends. It runs on the arena and on the echo
 in turn, three times each (--rounds), on a new arena each time, and the median is printed: commands a second, the

@@ -16,7 +16,7 @@ import argparse
 from typing import List, NamedTuple
 
 from bench.explore import STATES, measured, measured_by_module
-from experiments import spin
+from bench import promela
 
 
 class Row(NamedTuple):
@@ -32,8 +32,8 @@ class Row(NamedTuple):
 def rows_of(nodes: int) -> List[Row]:
     """What each search takes on a ring."""
     found = []
-    for name, model in (("SPIN, natural", spin.NATURAL), ("SPIN, merged", spin.MERGED)):
-        one = spin.search(model, nodes)
+    for name, model in (("SPIN, natural", promela.NATURAL), ("SPIN, merged", promela.MERGED)):
+        one = promela.search(model, nodes)
         if one.errors:
             raise SystemExit(f"{name} finds a schedule of the ring of {nodes} that fails")
         found.append(Row(name, one.states, one.moves, one.seconds, f"{one.memory:.0f}"))
@@ -55,7 +55,7 @@ def main() -> None:
     given.add_argument("nodes", type=int, nargs="*", default=[16, 24, 32], metavar="N",
                        help="numbers of nodes of rings (16 24 32)")
     words = given.parse_args()
-    if not spin.HAS_SPIN:
+    if not promela.HAS_SPIN:
         raise SystemExit("spin is not installed, or there is no C compiler: apt install spin gcc")
     print("| ring | searched by | states | most moves | processor, s | memory, MB |")
     print("|---|---|---|---|---|---|")

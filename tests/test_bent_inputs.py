@@ -1,4 +1,4 @@
-"""The replays and scripts that tools/hostile/bent_inputs.py makes, and how it compares two programs."""
+"""The replays and scripts that tests/hostile/bent_inputs.py makes, and how it compares two programs."""
 import collections
 import random
 import unittest
@@ -6,7 +6,7 @@ from unittest import mock
 
 from arena_lab.rules.model import MAX_LINE, played
 from tests.support.output import InTemporary, write
-from tools.hostile import bent_inputs
+from tests.hostile import bent_inputs
 
 REPLAY = b'{"nodes":3}\n{"agent":0,"do":"look","reply":{"no":"away"}}\n{"do":"close","reply":null}\n{"end":2}\n'
 PROGRAM = """#!/bin/sh

@@ -12,7 +12,7 @@ import unittest.mock
 from tests import TOP
 from tests.test_gate import module
 from tests.support.output import ran, write
-from tools import version
+from tools.prove import version
 from tools.prove import bar
 from tools.prove import prover
 from tools.prove.forecast import LAST_PART, SECONDS, TRUST, Forecast, seconds_of, text_of

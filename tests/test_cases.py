@@ -10,9 +10,9 @@ from typing import Iterator
 from arena_lab.support.waiting import is_ready
 from tests import TOP
 from tests.support.output import ran
-from tools.hostile.cases import Cases, raise_descriptors
-from tools.hostile.commands import Lab
-from tools.play.program_rows import fault_of
+from tests.support.cases import Cases, raise_descriptors
+from tests.hostile.commands import Lab
+from tests.support.program_rows import fault_of
 
 # a descriptor that select.select() does not take
 HIGH = 2000

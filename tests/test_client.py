@@ -27,7 +27,7 @@ class Served(InTemporary):
         """Starts a server, and answers its port. The match is closed after these turns, or when the test says so."""
         cup = write_cup(self.folder, [match("red", networks.in_file(str(TOP / "examples" / network)), holes,
                                             quota=quota, keys=["ka", "kb"])], seed="07" * 32)
-        words = [sys.executable, "-m", "tests.patient_server", "serve", cup, "--sessions", sessions, "--turns", turns,
+        words = [sys.executable, "-m", "tests.support.patient_server", "serve", cup, "--sessions", sessions, "--turns", turns,
                  "--pause", 1, "--replay", self.folder / "match"]
         self.server = self.enterContext(Server(words, stdin=subprocess.PIPE))
         return self.server.port

@@ -5,7 +5,7 @@ import unittest
 from typing import Iterator, List, NamedTuple, Optional
 
 from tests import TOP
-from tools.hostile.commands import COMMANDS, SERVED
+from tests.hostile.commands import COMMANDS, SERVED
 
 DECLARED = TOP / "crates" / "bhs_command_line" / "src"
 COMMAND = re.compile(r"^    (\w+)::COMMAND,$", re.MULTILINE)

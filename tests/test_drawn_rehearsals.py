@@ -5,7 +5,7 @@ from typing import Counter
 
 from arena_lab.rules.model import Match, Setup
 from arena_lab.rules.rehearsal import Ready, Sessions
-from tools.play.drawn_rehearsals import drawn
+from tests.support.drawn_rehearsals import drawn
 
 TRIANGLE = [(0, 0, 1, 0), (1, 1, 2, 0), (2, 1, 0, 1)]
 

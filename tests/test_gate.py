@@ -54,7 +54,7 @@ class Gate(unittest.TestCase):
             self.assertEqual(self.told(said), ((0, (2, 0)), ""))
             with unittest.mock.patch.object(gate.shutil, "which", return_value=None):
                 self.assertTrue(gate.lacks_compiler(["examples/contest.py"]))
-                self.assertFalse(gate.lacks_compiler(["-m", "tools.hostile.spoilers"]))
+                self.assertFalse(gate.lacks_compiler(["-m", "tests.hostile.spoilers"]))
             self.assertEqual(parts.skipped, ["one: no spin", "examples/contest.py: Debian's gcc is not installed"])
 
     def test_a_copy_is_proved_and_what_was_built_comes_back(self) -> None:

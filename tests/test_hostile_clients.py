@@ -10,9 +10,9 @@ from unittest import mock
 
 from arena_lab.rules.model import Match, Setup
 from tests.support.output import InTemporary, ran
-from tools.hostile import hostile_clients
-from tools.hostile.hostile_attacks import ATTACKS, Sizes, Wrong, has_heard, hear, hear_end, wait_for_lines
-from tools.hostile.hostile_clients import (LEAST_SESSIONS, Ending, check_end, check_memory, check_replays,
+from tests.hostile import hostile_clients
+from tests.hostile.hostile_attacks import ATTACKS, Sizes, Wrong, has_heard, hear, hear_end, wait_for_lines
+from tests.hostile.hostile_clients import (LEAST_SESSIONS, Ending, check_end, check_memory, check_replays,
                                            check_table, match_of)
 
 STAND_IN = f"{sys.executable} -m arena_lab"

@@ -2,8 +2,8 @@
 import unittest
 
 from tests import TOP
-from tools.hostile import killed_servers
-from tools.hostile.killed_servers import LONG, LONG_TURNS, SHORT, SHORT_TURNS, kills, told_events
+from tests.program import killed_servers
+from tests.program.killed_servers import LONG, LONG_TURNS, SHORT, SHORT_TURNS, kills, told_events
 
 
 class Kills(unittest.TestCase):

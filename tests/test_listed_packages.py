@@ -12,7 +12,7 @@ from tools import packages
 from tools.pack.debian import CONTROL
 
 # what installs, or names the command for a machine of its own: a root of Debian
-INSTALL = ["tools/packages.py", "tools/play/bare.py", "tools/play/installed.py"]
+INSTALL = ["tools/packages.py", "tests/release/bare.py", "tests/release/installed.py"]
 # no test starts a notebook in Jupyter, and every Debian has the C library
 UNTESTED = {"jupyter-notebook", "libc6"}
 
@@ -32,7 +32,7 @@ class Listed(unittest.TestCase):
         self.assertEqual(len(listed), len({*listed}))
 
     def test_nothing_else_of_the_tests_installs(self) -> None:
-        found = [str(path.relative_to(TOP)) for top in ("tools", "tests", "bench", "arena_lab/tests", ".ci")
+        found = [str(path.relative_to(TOP)) for top in ("tools", "tests", "bench", ".ci")
                  for path in (TOP / top).rglob("*") if path.is_file() and path.suffix not in (".pyc", ".md")
                  and re.search(r"""["']apt-get["']|^ *apt-get """, path.read_text(errors="replace"), re.M)]
         self.assertEqual(sorted(found), INSTALL)

@@ -21,7 +21,7 @@ class Example(NamedTuple):
 
 # by the second column of the table
 EXAMPLES = {
-    "`recover`": Example(r"\b[Rr]ecover(ed)?\b|print_recovered", [*CRATES, *ROWS, "tools/hostile/commands.py"]),
+    "`recover`": Example(r"\b[Rr]ecover(ed)?\b|print_recovered", [*CRATES, *ROWS, "tests/hostile/commands.py"]),
     "`--gather`": Example(r"\bgather\b", [*CRATES, *ROWS, "arena_lab/commands/*.py"]),
     "`lost`": Example(r"\blost\b", ["crates/bhs_standings/s*/**/*.*t", "arena_lab/play/server.py",
                                     "arena_lab/pages/[st]*.py"]),
@@ -42,7 +42,7 @@ def files_with(pattern: str, globs: List[str]) -> Iterator[str]:
     for glob in globs:
         for path in sorted(TOP.glob(glob)):
             name = str(path.relative_to(TOP))
-            if not name.startswith("arena_lab/tests/") and re.search(pattern, path.read_text(encoding="utf-8")):
+            if re.search(pattern, path.read_text(encoding="utf-8")):
                 yield name
 
 

@@ -1,8 +1,8 @@
-"""The rules of networks as tools/play/network_faults.py has them, on lists worked out by hand."""
+"""The rules of networks as tests/program/network_faults.py has them, on lists worked out by hand."""
 import collections
 import unittest
 
-from tools.play.network_faults import drawn, fault_of
+from tests.program.network_faults import drawn, fault_of
 
 TRIANGLE = [[0, 0, 1, 0], [1, 1, 2, 0], [2, 1, 0, 1]]
 BOW_TIE = TRIANGLE + [[0, 2, 3, 0], [3, 1, 4, 0], [4, 1, 0, 3]]

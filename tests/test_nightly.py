@@ -11,7 +11,7 @@ from typing import Tuple
 from tests import TOP
 from tests.test_gate import module
 from tools import parts
-from tools.play import bare
+from tests.release import bare
 
 nightly = module(TOP / "tools" / "nightly")
 # compare two builds of the program; the tests of the lab that night runs play the third

@@ -1,6 +1,6 @@
 """The wheel and the Debian package of a release, man pages and completions: what they have, and that bytes are alike.
 
-What is installed is tried by tools/play/installed.py.
+What is installed is tried by tests/release/installed.py.
 """
 import base64
 import csv
@@ -31,7 +31,7 @@ RELEASED = {
     "arena_lab/support/built.py": "built = 1\n", "arena_lab/README.md": "# The lab\n",
     "examples/agents/ring.py": "agent\n",
     "examples/contest.py": "contest\n",
-    "BUILD": "arena 1.2.3, proved\n", "PROVED.txt": "proved\n", "VERSION": "1.2.3\n", "tools/version.py": "",
+    "BUILD": "arena 1.2.3, proved\n", "PROVED.txt": "proved\n", "VERSION": "1.2.3\n", "tools/prove/version.py": "",
     "SHA256SUMS": "sums\n",
 }
 # as `arena --help` and `arena serve --help` lay out theirs

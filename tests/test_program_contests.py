@@ -4,8 +4,8 @@ import unittest
 from typing import List, Sequence, Set
 
 from arena_lab.rules.model import PRESENT, Match, Place, Setup
-from tools.play import program_contests
-from tools.play.program_contests import ADAPTIVE, OBLIVIOUS, SIDES, Rule, Side, made_by, words_of
+from tests.program import program_contests
+from tests.program.program_contests import ADAPTIVE, OBLIVIOUS, SIDES, Rule, Side, made_by, words_of
 
 COMMANDS = {"0": {"do": "depart", "port": 0}, "1": {"do": "depart", "port": 1}, "a": {"do": "accuse", "port": 0},
             "l": {"do": "leave"}}

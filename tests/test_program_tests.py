@@ -5,9 +5,9 @@ import unittest.mock
 from typing import List
 
 from tests.support.output import InTemporary, ran, write
-from tools.play import program_cases
-from tools.play import program_tests
-from tools.play.program_rows import Step, fault_of, play, rows_of
+from tests.program import program_cases
+from tests.runners import program_tests
+from tests.support.program_rows import Step, fault_of, play, rows_of
 
 # prints its script, or tells its words and fails
 PROGRAM = f"""#!{sys.executable}

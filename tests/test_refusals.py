@@ -1,13 +1,13 @@
-"""Tests of tools/hostile/refusals.py and of its library, with programs in C that stand in."""
+"""Tests of tests/hostile/refusals.py and of its library, with programs in C that stand in."""
 import subprocess
 import unittest
 import unittest.mock
 
 from tests import needs
 from tests.support.output import InTemporary, ran
-from tools.hostile import commands
-from tools.hostile import refusals
-from tools.hostile.commands import COMMANDS, Lab, Run
+from tests.hostile import commands
+from tests.hostile import refusals
+from tests.hostile.commands import COMMANDS, Lab, Run
 
 # asks for memory five times, reads a line and writes it, and says which request was refused
 CALLS = """

@@ -13,7 +13,7 @@ from arena_lab.support import built
 from tests import TOP, needs
 from tests.test_gate import module
 from tests.support.output import ran, write
-from tools import version
+from tools.prove import version
 from tools.prove import prover
 
 release = module(TOP / "tools" / "release")
@@ -23,9 +23,9 @@ FILES = {
     "VERSION": "1.2.3\n", "README.md": "read\n", "CHANGELOG.md": "changes\n", "CONTRIBUTING.md": "how\n",
     "arena": "#!/bin/sh\n", "docs/THEOREMS.md": "claims\n", "examples/contest.py": "print('played')\n",
     "examples/agents/ring.c": "int main(void) { return 0; }\n", "arena_lab/support/built.py": "",
-    "arena_lab/tests/test.py": "",
+    "tests/lab/test.py": "",
     "pyproject.toml": (TOP / "pyproject.toml").read_text(),
-    "tools/version.py": "", "tools/build": "", "crates.txt": "bhs_main:\n", "crates/bhs_main/src/main.rt": "main\n",
+    "tools/prove/version.py": "", "tools/build": "", "crates.txt": "bhs_main:\n", "crates/bhs_main/src/main.rt": "main\n",
     ".gitignore": "out/\n",
 }
 
@@ -86,7 +86,7 @@ class Releases(Repositories):
         self.assertEqual(sorted(found), sorted([
             "BUILD", "CHANGELOG.md", "PROVED.txt", "README.md", "SHA256SUMS", "VERSION", "arena", "bin/arena",
             "bin/bhs_player", "bin/ring", "docs/THEOREMS.md", "examples/agents/ring.c", "examples/contest.py",
-            "arena_lab/support/built.py", "tools/version.py"]))
+            "arena_lab/support/built.py", "tools/prove/version.py"]))
         runnable = {path for path, (_, mode) in found.items() if mode == 0o755}
         self.assertEqual(runnable, {"arena", "bin/arena", "bin/bhs_player", "bin/ring"})
         build, facts = found["BUILD"][0], found["PROVED.txt"][0]

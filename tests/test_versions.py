@@ -3,7 +3,7 @@ import re
 import unittest
 
 from tests import TOP
-from tools import version
+from tools.prove import version
 
 VERSION = (TOP / "VERSION").read_text().strip()
 

@@ -7,10 +7,10 @@ import unittest
 import unittest.mock
 from typing import Any, Dict, List
 
-from tools.play import wasm_scripts
-from tools.play.program_rows import Stage
-from tools.play.wasm_modules import Function, module, with_run
-from tools.play.wasm_scripts import Module, Scripts, Told
+from tests.program import wasm_scripts
+from tests.support.program_rows import Stage
+from tests.support.wasm_encoding import Function, module, with_run
+from tests.program.wasm_scripts import Module, Scripts, Told
 
 TEXT = """(module
   (type (;0;) (func (param i32)))

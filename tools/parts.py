@@ -9,7 +9,7 @@ from typing import Callable, Iterable, List, Optional, Sequence, Tuple
 
 from arena_lab.support.missing import DEBIANS_PYTHON
 from tests.support.counts import Counts, concluded, counts_in
-from tools.play.python_tests import SKIPPED
+from tests.runners.python_tests import SKIPPED
 
 TOP = pathlib.Path(__file__).resolve().parents[1]
 # Debian's Python sees Debian's packages

@@ -7,7 +7,7 @@ SPELLINGS = {"--by": "--scheduler", "--for": "--objective", "--hunt": "--objecti
              "--naps": "--spurious-wakeups", "--states": "--max-states"}
 COMMANDS = {"pages": ["page"], "again": ["tournament", "--again"], "repeat": ["grade", "--repeat-only"]}
 # commands of old that are modules of a clone
-MODULES = {"compare": "tools.play.compare", "endure": "tools.play.endure", "mutants": "tools.play.mutants",
+MODULES = {"compare": "tests.integration.compare", "endure": "tests.integration.endure", "mutants": "tests.support.mutants",
            "speed": "bench.speed"}
 
 

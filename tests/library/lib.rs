@@ -1,5 +1,5 @@
 //! Tests of the libraries, of what no row of text says that the program plays. They are ordinary Rust, without
-//! contracts and proofs. `tools/play/library_tests.py` runs them.
+//! contracts and proofs. `tests/runners/library_tests.py` runs them.
 #![tactic(auto)]
 
 mod boards;

@@ -1,4 +1,4 @@
-//! Requests for memory that are refused. Here each is granted; `tools/hostile/refusals.py` runs these tests again, each
+//! Requests for memory that are refused. Here each is granted; `tests/hostile/refusals.py` runs these tests again, each
 //! time with another request refused. Two marks stand round each call that is tested: if a request between them is
 //! refused, the test passes. Before and behind them it may want memory.
 

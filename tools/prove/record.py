@@ -12,7 +12,7 @@ import pathlib
 from typing import Iterable, List, Sequence
 
 from arena_lab.support.built import ARENA, PLAYER
-from tools import version
+from tools.prove import version
 from tools.prove.prover import PARTS, Libraries, below, record_of
 
 # the crates of the programs: `arena`, and what plays modules

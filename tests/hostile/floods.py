@@ -1,0 +1,123 @@
+"""Plays a contest while strangers flood the server with connections that say nothing.
+
+    python3 -m tests.hostile.floods PROGRAM [RATE]
+
+RATE connections a second, 3,000 if it is not given, come from 200 addresses of 127.0.1.0/24, and each is held until
+the server cuts it off or 2,000 newer ones are held. Meanwhile 100 agents, two a team, whose first lines come 0.3
+seconds after they connect, search rings of eight nodes by examples/agents/ring.py. It prints how many connections
+came, how many teams solved, how often agents tried to enter, and the slowest answer; the status is 1 if a team did
+not solve, or if the flood ended before. It takes some seconds.
+"""
+import collections
+import contextlib
+import multiprocessing
+import os
+import pathlib
+import socket
+import struct
+import subprocess
+import sys
+import tempfile
+import threading
+import time
+from typing import Any, Deque, Dict, List
+
+from arena_lab.rules.networks import ring as ring_of
+from tests.support.servers import Server
+from tests.support.tournaments import match, write_cup
+from tests.support.cases import raise_descriptors
+
+# agents import their client as it stands beside them
+sys.path.insert(0, str(pathlib.Path(__file__).resolve().parents[2] / "examples" / "agents"))
+
+import ring  # noqa: E402
+from client import Agent, MatchOver  # noqa: E402
+
+TEAMS, NODES, HELD, ADDRESSES = 50, 8, 2000, 200
+# seconds between an agent's connection and its first line
+SLOW = 0.3
+# seconds within which all agents have played
+PATIENCE = 60
+# a socket that is closed so is forgotten by both ends at once
+AT_ONCE = struct.pack("ii", 1, 0)
+
+
+class Timed(Agent):
+    """An agent that notes how long each answer takes, and how often it asked to enter."""
+    slowest, tries = 0.0, 0
+
+    def _ask(self, command: Dict[str, Any]) -> Dict[str, Any]:
+        begun = time.monotonic()
+        Timed.tries += command["do"] == "enter"
+        try:
+            return super()._ask(command)
+        finally:
+            Timed.slowest = max(Timed.slowest, time.monotonic() - begun)
+
+
+def flood(port: int, rate: float, over: Any, count: Any) -> None:
+    """Connects and says nothing, until it is over."""
+    held: Deque[socket.socket] = collections.deque()
+    begun, came = time.monotonic(), 0
+    while not over.is_set():
+        if came > (time.monotonic() - begun) * rate:
+            time.sleep(0.001)
+            continue
+        client = socket.socket()
+        client.setsockopt(socket.SOL_SOCKET, socket.SO_LINGER, AT_ONCE)
+        client.bind((f"127.0.1.{came % ADDRESSES + 1}", 0))
+        client.setblocking(False)
+        client.connect_ex(("127.0.0.1", port))
+        held.append(client)
+        came += 1
+        if len(held) > HELD:
+            held.popleft().close()
+    count.value = came
+
+
+def play(port: int, key: str) -> None:
+    agent = Timed.connect("127.0.0.1", port)
+    time.sleep(SLOW)
+    try:
+        with contextlib.suppress(MatchOver):
+            ring.search(agent, key, NODES)
+    finally:
+        agent.close()
+
+
+def main(words: List[str]) -> int:
+    if len(words) not in (1, 2):
+        sys.exit((__doc__ or "").strip())
+    raise_descriptors()
+    program, rate = os.path.abspath(words[0]), float(words[1]) if len(words) > 1 else 3000.0
+    with tempfile.TemporaryDirectory() as name:
+        folder = pathlib.Path(name)
+        write_cup(folder, [match(f"t{team}", ring_of(NODES), [team % 7 + 1], quota=400) for team in range(TEAMS)],
+                  seed=os.urandom(32).hex())
+        words = [program, "serve", "cup.toml", "--sessions", 100, "--gather", 60_000, "--early"]
+        server = Server(words, folder, stderr=subprocess.DEVNULL)
+        over, count = multiprocessing.Event(), multiprocessing.Value("l", 0)
+        stranger = multiprocessing.Process(target=flood, args=(server.port, rate, over, count))
+        begun = time.monotonic()
+        stranger.start()
+        time.sleep(2)
+        agents = [threading.Thread(target=play, args=(server.port, f"t{team}-{agent}"), daemon=True)
+                  for team in range(TEAMS) for agent in (0, 1)]
+        for agent in agents:
+            agent.start()
+        until = time.monotonic() + PATIENCE
+        for agent in agents:
+            agent.join(max(0.0, until - time.monotonic()))
+        over.set()
+        stranger.join()
+        took = time.monotonic() - begun
+        server.child.terminate() if any(agent.is_alive() for agent in agents) else None
+        rows = server.ended().texts()[1].splitlines()[1:]
+    solved = sum(row.split()[2] in ("solved", "guess") for row in rows)
+    print(f"{count.value} connections in {took:.1f} s; {solved} of {TEAMS} teams solved; {Timed.tries} tries of "
+          f"{2 * TEAMS} agents to enter; the slowest answer took {Timed.slowest:.2f} s")
+    return 0 if solved == TEAMS and stranger.exitcode == 0 else 1
+
+
+if __name__ == "__main__":
+    sys.exit(main(sys.argv[1:]))

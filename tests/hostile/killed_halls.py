@@ -1,0 +1,132 @@
+"""Kills processes of a hall at drawn moments while teams play, and looks whether anything is lost, left or stuck.
+
+    /usr/bin/python3 -m tests.hostile.killed_halls PROGRAM [--seconds 120] [--seed S] [--workers 2]
+
+Three teams ask for attempts again and again and play them with the sample agents. Meanwhile the web server, workers and
+servers of matches are killed by a signal that nobody can catch, one every second or two.
+Then the killing stops. Each attempt must come to an end; what was over when it was first seen so must be the same then;
+each replay must be a match by the rules with the verdict that the hall tells; and no server may be left. The last line
+reads `N passed, M failed`, and the exit status is 1 if one failed.
+"""
+import argparse
+import contextlib
+import http.client
+import os
+import pathlib
+import random
+import signal
+import sys
+import threading
+import time
+from collections import Counter
+from typing import Any, Dict, List
+
+from arena_lab.rules.model import judge, played
+from tests.support import halls
+from tests.support.halls import Served, play
+from tests.support.counts import concluded
+
+ENDED = ("over", "lost", "cancelled")
+NAMES = ("web", "worker 0", "worker 1")
+
+
+class Team:
+    """A team that asks for attempts and plays them, whatever happens to the hall."""
+
+    def __init__(self, hall: Served, token: str) -> None:
+        self._hall, self._token = hall, token
+        self.numbers: List[int] = []
+        self.over: Dict[int, Any] = {}
+
+    def asked(self, how: str, path: str, body: Any = None) -> Any:
+        """What the hall answers, or nothing if it does not answer."""
+        with contextlib.suppress(OSError, http.client.HTTPException):
+            told = self._hall.ask(how, path, self._token, body)
+            return told.json() if told.status in (200, 201) else None
+        return None
+
+    def play(self, is_over: threading.Event) -> None:
+        while not is_over.is_set():
+            told = self.asked("POST", "/api/matches", {"network": "ring of 5"})
+            if told is None:
+                time.sleep(0.3)
+                continue
+            self.numbers.append(told["id"])
+            self.end(told["id"], is_over)
+
+    def end(self, number: int, is_over: threading.Event) -> None:
+        """Plays an attempt to its end, again if it begins anew."""
+        keys: Any = None
+        while not is_over.is_set():
+            told = self.asked("GET", f"/api/matches/{number}")
+            if told is not None and told["state"] in ENDED:
+                self.over[number] = halls.came(told)
+                return
+            now = [it["keys"] for it in told["matches"]] if told is not None else []
+            if now and now != keys:
+                keys = now
+                with contextlib.suppress(OSError):
+                    play(told)
+            time.sleep(0.2)
+
+    def faults(self) -> List[str]:
+        """What is wrong with the team's attempts at the end."""
+        found = []
+        for number in self.numbers:
+            told = self._hall.over(self._token, number)
+            if number in self.over and halls.came(told) != self.over[number]:
+                found.append(f"attempt {number} has changed: {self.over[number]} and {halls.came(told)}")
+            for it in told["matches"] if told["state"] == "over" else []:
+                replay = self._hall.ask("GET", f"/api/matches/{number}/replays/{it['number']}", self._token).body
+                match = played(replay.decode())
+                verdict = judge(match)._asdict()
+                told_of_it = {name: it["verdict"][name] for name in verdict}
+                is_absent = it["verdict"]["outcome"] == "absent"
+                if match.replay().encode() != replay or not is_absent and verdict != told_of_it:
+                    found.append(f"attempt {number} has the verdict {it['verdict']}, and its replay {verdict}")
+        return found
+
+
+def kill_one(hall: Served, chance: random.Random) -> str:
+    """Kills a process that is drawn; gives its name."""
+    servers = hall.servers()
+    name = chance.choice([*NAMES, *(["a server"] if servers else [])])
+    number = chance.choice(servers) if name == "a server" else hall.processes().get(name)
+    with contextlib.suppress(ProcessLookupError, TypeError):
+        os.kill(number, signal.SIGKILL)
+    return name
+
+
+def main() -> int:
+    parser = argparse.ArgumentParser("python3 -m tests.hostile.killed_halls", description=__doc__,
+                                     formatter_class=argparse.RawDescriptionHelpFormatter)
+    parser.add_argument("program", metavar="PROGRAM")
+    parser.add_argument("--seconds", metavar="N", type=float, default=120, help="how long to kill (120)")
+    parser.add_argument("--seed", metavar="S", type=int, default=1)
+    words = parser.parse_args()
+    os.environ["ARENA_PROGRAM"] = str(pathlib.Path(words.program).resolve())
+    chance, killed, is_over = random.Random(words.seed), Counter(), threading.Event()
+    with halls.served(workers=2) as hall:
+        teams = [Team(hall, token) for token in hall.tokens().values()]
+        threads = [threading.Thread(target=team.play, args=(is_over,)) for team in teams]
+        for thread in threads:
+            thread.start()
+        limit = time.monotonic() + words.seconds
+        while time.monotonic() < limit:
+            killed[kill_one(hall, chance)] += 1
+            time.sleep(chance.uniform(0.2, 3))
+        is_over.set()
+        for thread in threads:
+            thread.join()
+        hall.wait(hall.answers, "the hall answers again")
+        faults = [fault for team in teams for fault in team.faults()]
+        states = Counter(hall.over(team._token, number)["state"] for team in teams for number in team.numbers)
+        hall.wait(lambda: not hall.servers(), "all servers have ended", 30)
+    for fault in faults:
+        print(f"FAILED {fault}")
+    print(f"killed {dict(killed)}; attempts {dict(states)}")
+    return concluded(sum(states.values()) - len(faults), len(faults))
+
+
+if __name__ == "__main__":
+    sys.exit(main())

@@ -1,0 +1,119 @@
+"""What the tests of a hall's pages share: a hall without servers, its teams with their tokens, and matches as they
+stand. Django begins when this is loaded."""
+import json
+import shutil
+from typing import Any
+from unittest import mock
+
+from arena_lab.hall import machine
+from arena_lab.rules.model import Match as Played
+from arena_lab.rules.model import Setup, spelled
+from arena_lab.rules.networks import ring
+from tests.support import halls
+
+PLACE = halls.begun()
+
+from django.conf import settings  # noqa: E402
+from django.core.files.uploadedfile import SimpleUploadedFile  # noqa: E402
+from django.test import Client, TestCase  # noqa: E402
+from django.utils import timezone, translation  # noqa: E402
+
+from arena_lab.hall import keys  # noqa: E402
+from arena_lab.hall.attempts import seen  # noqa: E402
+from arena_lab.hall.attempts.models import Attempt, Match  # noqa: E402
+from arena_lab.hall.handins import taking  # noqa: E402
+from arena_lab.hall.handins.models import Grading, HandIn  # noqa: E402
+from arena_lab.hall.teams import guards  # noqa: E402
+from arena_lab.hall.teams.models import Team  # noqa: E402
+
+PASSWORD = "a long password"
+TEXT = "</script><script>alert(2)</script>"
+
+
+class Hall(TestCase):
+    """A hall with three teams and their tokens."""
+
+    def setUp(self) -> None:
+        for buckets in (guards.asked, guards.tried, taking.sent):
+            buckets.clear()
+        # numbers of attempts come again in each test
+        seen.part.cache_clear()
+        self.tokens = {team.name: team.new_token() for team in Team.objects.all()}
+        keys.set_password(PASSWORD)
+        self.addCleanup(shutil.rmtree, PLACE.folder / "attempts", True)
+        self.addCleanup(shutil.rmtree, PLACE.folder / "hand-ins", True)
+        self.addCleanup(translation.activate, "en")
+
+    def team(self, name: str) -> Team:
+        return Team.objects.get(name=name)
+
+    def client_of(self, name: str) -> Client:
+        client = Client()
+        self.assertEqual(client.post("/login", {"token": self.tokens[name]}).status_code, 302)
+        return client
+
+    def teacher(self) -> Client:
+        client = Client()
+        self.assertTrue(client.login(username="teacher", password=PASSWORD))
+        return client
+
+    def rest(self, how: str, path: str, name: str = "amber", body: Any = None, **given: Any) -> Any:
+        ask = getattr(Client(), how)
+        more = {} if how == "get" else {"data": json.dumps(body), "content_type": "application/json"}
+        header = {"HTTP_AUTHORIZATION": f"Bearer {self.tokens[name]}"} if name else {}
+        return ask(path, **more, **header, **given)
+
+    def hand_in(self, sent: bytes, name: str = "amber", **fields: Any) -> Any:
+        """What a team is answered that hands this in as a file, for the course or for the contest of a number."""
+        return Client().post("/api/hand-ins", {"file": SimpleUploadedFile("agent.py", sent), **fields},
+                             HTTP_AUTHORIZATION=f"Bearer {self.tokens[name]}")
+
+    def running(self, match: Any, name: str = "amber") -> Attempt:
+        """An attempt whose match goes on like this one."""
+        made = Attempt.objects.create(team=self.team(name), network="ring of 5", runs=1,
+                                      state=machine.RUNNING, holder="one", begun=timezone.now())
+        found = Match.objects.create(attempt=made, number=0, run=1, host="127.0.0.1", port=4100, keys=["ka", "kb"])
+        found.part.parent.mkdir(parents=True)
+        self.write(found, match)
+        return made
+
+    def write(self, found: Match, match: Any) -> None:
+        found.part.write_text("".join(spelled(line) + "\n" for line in [match.head(), *match.log]))
+
+    def over(self, match: Any, name: str = "amber") -> Attempt:
+        """An attempt that is over."""
+        made = self.running(match, name)
+        match.close()
+        found = made.matches.get()
+        found.replay.write_text(match.replay())
+        found.page.write_text("<script>watch()</script>")
+        Match.objects.filter(pk=found.pk).update(outcome="solved", moves=7, lost=1)
+        Attempt.objects.filter(pk=made.pk).update(state=machine.OVER, ended=timezone.now(), holder="")
+        return Attempt.objects.get(pk=made.pk)
+
+
+def halled(**given: Any) -> Any:
+    """A hall whose file says this, while the block goes on."""
+    return mock.patch.object(settings, "HALL", settings.HALL._replace(**given))
+
+
+def stopped_clock() -> Any:
+    """No time passes, in which one has more requests."""
+    return mock.patch.object(guards, "time", mock.Mock(monotonic=lambda: 1_000.0))
+
+
+def graded(name: str, solved: int = 1, moves: int = 7, is_secret: bool = False, contest: Any = None) -> Any:
+    """A grading of a hand-in that is over: how many of two matches on the ring it solved."""
+    word = "ring:6" if is_secret else "ring:5"
+    team = Team.objects.get(name=name)
+    made = HandIn.objects.create(team=team, contest=contest, name="a", size=1, files=1, digest="")
+    return Grading.objects.create(hand_in=made, is_secret=is_secret, state=machine.OVER, solved=solved, matches=2,
+                                  moves=moves, ended=timezone.now(), networks={word: [solved, 2]})
+
+
+def played(hole: int = 3) -> Any:
+    """A match in which an agent has written on a whiteboard."""
+    match = Played(Setup(5, ring(5).links, 0, [hole], 2, 1000, 4096))
+    match.tell(0, {"do": "enter"})
+    match.tell(0, {"do": "write", "expect": "", "put": TEXT})
+    return match

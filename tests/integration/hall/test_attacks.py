@@ -1,0 +1,256 @@
+"""Attacks on a hall, none of which wins anything now. Before it was mended,
+
+- a name of 400 bytes in a zip made every later hand-in of all teams end with status 500
+- guesses of tokens cost no try if a page was asked first, and REST then
+- a flood with a replaced token or session used up the team's requests
+- a zip of 180,000 entries, or a refused file without end, took seconds of the web server
+- the page of a long replay was made anew for each request
+- a fault of the disk named paths of the hall's folder
+- signs that turn the direction of writing in a source showed the teacher another program than was graded
+- a file's name with a byte 0, or a question without fields, ended in status 500
+- questions at the same time were more than are allowed
+- `/health` told after the freeze how long each program was graded, and programs that fail take long
+
+Other files try other attacks:
+
+- test_steps.py: a worker whose lease has run out
+- test_pages.py and test_rest.py: tokens from all addresses of an IPv6 network, another team's match or
+  replay, and the black hole before the close, by page, REST, size, header and error
+- test_nginx.py: X_Forwarded_For through Caddy, and many requests at once through nginx
+- test_hall.py and test_hall.py: paths, SQL, HTML, formulas, requests of other sites, and links and bombs in zips
+
+Three attacks still win something. Wrong tokens from a team's own address make its members who have not logged in wait
+minutes there. The numbers of matches and hand-ins tell how many all teams have made. How long a hand-in waits tells how
+long others are graded, but not whose.
+"""
+import re
+import zipfile
+from typing import Any, Dict, List, Tuple
+from unittest import mock
+
+from arena_lab.hall import machine
+from arena_lab.hall.attempts import seen
+from tests.integration.hall.hall_pages import PLACE, Hall, graded, halled, played, stopped_clock
+from tests.lab.hall.test_hall import zipped
+
+from django.conf import settings
+from django.contrib.auth import get_user_model
+from django.core.files.uploadedfile import SimpleUploadedFile
+from django.db import OperationalError
+from django.test import Client
+from django.utils import timezone
+
+from arena_lab.hall.attempts.models import Attempt
+from arena_lab.hall.handins import taking
+from arena_lab.hall.handins.models import Contest, Grading, HandIn
+from arena_lab.hall.teams.guards import TRIES
+from arena_lab.hall.teams.models import Message, Team
+from arena_lab.hall.teams.views import MOST_WAITING
+
+FEW, HOUR = 30, timezone.timedelta(hours=1)
+
+
+class Requests(Hall):
+    """Who wants more requests or more tries than others, or wants a team to have none."""
+
+    def setUp(self) -> None:
+        super().setUp()
+        self.enterContext(halled(limits=settings.HALL.limits._replace(requests=FEW)))
+        self.enterContext(stopped_clock())
+
+    def test_a_header_that_pages_do_not_read_gives_no_more_requests(self) -> None:
+        client = self.client_of("amber")
+        found = [client.get("/matches", HTTP_AUTHORIZATION=f"Bearer {number}").status_code for number in range(3 * FEW)]
+        self.assertEqual((found[0], found[-1]), (200, 429))
+
+    def test_a_guess_is_a_try_wherever_it_was_sent_before(self) -> None:
+        """A page that a team may see does not make a header right that came with it."""
+        client, found = self.client_of("amber"), []
+        for number in range(TRIES + 2):
+            guess = {"HTTP_AUTHORIZATION": f"Bearer birch.{number}"}
+            client.get("/matches", **guess)
+            found.append(Client().get("/api/matches", **guess).status_code)
+        self.assertEqual(found, [401] * TRIES + [429] * 2)
+
+    def test_a_token_that_was_replaced_spends_no_requests_of_its_team(self) -> None:
+        self.assertEqual(self.rest("get", "/api/matches").status_code, 200)
+        page, old = self.client_of("amber"), self.tokens["amber"]
+        self.assertEqual(page.get("/matches").status_code, 200)
+        self.tokens["amber"] = Team.objects.get(name="amber").new_token()
+        for _ in range(2 * FEW):
+            Client().get("/api/matches", HTTP_AUTHORIZATION=f"Bearer {old}", REMOTE_ADDR="192.0.2.9")
+            page.get("/matches", REMOTE_ADDR="192.0.2.9")
+        self.assertEqual(self.rest("get", "/api/matches").status_code, 200)
+
+
+class HandIns(Hall):
+    """Programs that are to break the hall, or to keep it busy."""
+
+    def setUp(self) -> None:
+        super().setUp()
+        self.enterContext(stopped_clock())
+
+    def test_names_that_no_disk_takes_are_refused(self) -> None:
+        for name in ("\U0001f600" * 100, "/".join(["ü" * 100] * 31)):
+            told = self.hand_in(zipped({name: b"x"}))
+            self.assertEqual((told.status_code, HandIn.objects.count()), (400, 0))
+        self.assertFalse((PLACE.folder / "hand-ins").exists())
+        self.assertEqual(self.hand_in(b"print()", "birch").status_code, 201)
+
+    def test_a_fault_of_the_disk_keeps_no_other_hand_in_out(self) -> None:
+        """What was written is removed again: the next hand-in has the same number."""
+        def full(files: Any, folder: Any) -> None:
+            folder.mkdir(parents=True)
+            raise OSError(28, "No space left on device", str(folder))
+        with mock.patch.object(taking.unpacking, "write", full):
+            told = self.hand_in(b"print()")
+        self.assertEqual((told.status_code, HandIn.objects.count()), (503, 0))
+        self.assertNotIn(str(PLACE.folder), told.content.decode())
+        self.assertEqual(self.hand_in(b"print()", "birch").status_code, 201)
+
+    def test_a_zip_with_many_entries_is_refused_before_they_are_read(self) -> None:
+        """A list of 8 MB has 180,000 entries, which take seconds."""
+        many = zipped({f"{number}/": b"" for number in range(5_000)})
+        with mock.patch.object(zipfile, "ZipFile", side_effect=AssertionError("it was read")):
+            self.assertEqual(self.hand_in(many).status_code, 400)
+
+    def test_nothing_hides_in_a_source_or_a_name(self) -> None:
+        source = "if True: # \u202e } \u2066 if is_right\u2069 \u2066 begin\n\tprint('\u200b\x1b[2Jé')\n"
+        told = self.hand_in(zipped({"\u202eyp.exe": source.encode(), "two.py": b"x"}))
+        page = self.client_of("amber").get(f"/hand-ins/{told.json()['id']}").content.decode()
+        self.assertIn(r"if True: # \u202e } \u2066 if is_right\u2069 \u2066 begin", page)
+        self.assertIn("\n\tprint(&#x27;\\u200b\\x1b[2Jé&#x27;)", page)
+        self.assertIn(r"\u202eyp.exe", page)
+        self.assertEqual(re.findall("[\x00-\x08\x0b-\x1f\u200b-\u200f\u202a-\u202e\u2060-\u2069]", page), [])
+        client = self.client_of("birch")
+        client.post("/hand-ins/take", {"file": SimpleUploadedFile("a\0\u202egpj.py", b"print()")})
+        self.assertEqual(HandIn.objects.first().name, r"a\x00\u202egpj.py")
+
+    def test_a_link_below_the_results_leads_nowhere(self) -> None:
+        self.hand_in(b"print()")
+        found = Grading.objects.get()
+        (found.folder / "out" / "failed").mkdir(parents=True)
+        (found.folder / "out" / "failed" / "amber-0").symlink_to(PLACE.folder)
+        Grading.objects.update(state=machine.OVER)
+        self.assertTrue((found.folder / "out/failed/amber-0/key.txt").exists())
+        path = f"/hand-ins/{found.hand_in_id}/result/failed/amber-0/key.txt"
+        self.assertEqual(self.client_of("amber").get(path).status_code, 404)
+
+    def test_hand_ins_that_are_refused_are_limited_too(self) -> None:
+        found = [self.hand_in(zipped({"../x": b""})).status_code for _ in range(taking.A_MINUTE + 1)]
+        self.assertEqual(found, [400] * taking.A_MINUTE + [429])
+        self.assertEqual(self.hand_in(b"print()", "birch").status_code, 201)
+
+
+class Looks(Hall):
+    """What one learns by looking, and what it costs the hall."""
+
+    def test_a_replay_is_read_once_however_often_it_is_asked_for(self) -> None:
+        attempt = self.over(played())
+        with mock.patch.object(seen, "read_ended", wraps=seen.read_ended) as read:
+            found = [self.rest("get", f"/api/matches/{attempt.pk}").json() for _ in range(5)]
+        self.assertEqual(read.call_count, 1)
+        self.assertEqual(found[0]["matches"][0]["after"]["holes"], [3])
+
+    def test_a_hidden_team_is_not_seen_by_the_places_of_others(self) -> None:
+        graded("amber", moves=9)
+        graded("birch", moves=1)
+        before = self.rest("get", "/api/standings").json()["teams"]
+        self.assertEqual([(row["team"], row["place"]) for row in before][:2], [("birch", 1), ("amber", 2)])
+        Team.objects.filter(name="birch").update(hidden=True)
+        after = self.rest("get", "/api/standings").json()["teams"]
+        self.assertEqual([(row["team"], row["place"]) for row in after][0], ("amber", 1))
+
+    def told(self, clients: Dict[str, Client], paths: List[str]) -> Dict[Tuple[str, str], Any]:
+        """What each of these is answered, but for the secret of forms."""
+        found = {}
+        for name, client in clients.items():
+            for path in paths:
+                answer = client.get(path)
+                body = re.sub(rb'"csrfmiddlewaretoken" value="\w+"', b"", answer.content)
+                found[name, path] = answer.status_code, {**answer.headers, "Expires": ""}, body
+        return found
+
+    def test_nothing_tells_what_came_of_a_hand_in_after_the_freeze(self) -> None:
+        """Whatever came of it, all that other teams, strangers and tutors without that right may ask for is the same,
+        byte for byte, also where it has gone on from the one before the freeze."""
+        contest = Contest.objects.create(name="finale", networks=["ring of 5"], start=timezone.now() - HOUR,
+                                         end=timezone.now() + HOUR)
+        for name in ("amber", "birch"):
+            graded(name, 1, 9)
+            graded(name, 1, 9, contest=contest)
+        freeze = timezone.now()
+        Contest.objects.update(freeze=freeze)
+        late = [graded("birch"), graded("birch", contest=contest), graded("cedar"), graded("birch", is_secret=True)]
+        tutor = Client()
+        get_user_model().objects.create_user("tutor", password="another long password", is_staff=True)
+        self.assertTrue(tutor.login(username="tutor", password="another long password"))
+        clients = {"amber": self.client_of("amber"), "stranger": Client(), "tutor": tutor,
+                   "by token": Client(HTTP_AUTHORIZATION=f"Bearer {self.tokens['amber']}")}
+        here = [f"contests/{contest.pk}", *(f"hand-ins/{it.hand_in_id}" for it in late), "hand-ins", "matches"]
+        paths = ["/", "/screen", f"/contests/{contest.pk}/screen", "/messages", "/health", "/teacher/standings.csv",
+                 f"/teacher/contests/{contest.pk}.csv", f"/hand-ins/{late[0].hand_in_id}/result/", "/api/contests",
+                 "/teacher/", "/teacher/handins/grading/", "/api/standings", *(f"/{it}" for it in here),
+                 *(f"/api/{it}" for it in here)]
+        with halled(freeze=freeze, public=True):
+            found = []
+            for changes in ({"solved": 2, "moves": 1}, {"solved": 0, "moves": 99, "lost": 3}, {"state": machine.LOST},
+                            {"state": machine.RUNNING}):
+                Grading.objects.filter(pk__in=[it.pk for it in late]).update(**changes)
+                found.append(self.told(clients, paths))
+            teacher = self.teacher().get("/").content
+        for one, others in found[0].items():
+            self.assertEqual([it[one] for it in found], [others] * 4, one)
+        self.assertEqual(found[0]["amber", "/"][0], 200)
+        self.assertIn(b"Frozen since", found[0]["stranger", "/"][2])
+        self.assertNotIn(b"Frozen since", teacher)
+
+    def test_a_full_disk_is_told(self) -> None:
+        """Whatever is asked is answered by a sentence, which names no path of the hall."""
+        full = OperationalError("database or disk is full"), OSError(28, "No space left on device", str(PLACE.folder))
+        for fault in full:
+            client = Client(raise_request_exception=False)
+            with mock.patch("arena_lab.hall.teams.logins.tried", side_effect=fault):
+                told = client.post("/login", {"token": self.tokens["amber"]})
+            self.assertEqual(told.status_code, 503)
+            self.assertIn("cannot write this now", told.json()["error"])
+            token = {"HTTP_AUTHORIZATION": f"Bearer {self.tokens['amber']}"}
+            with mock.patch("arena_lab.hall.attempts.asking.ask", side_effect=fault):
+                told = client.post("/api/matches", {"network": "ring of 5"}, "application/json", **token)
+            self.assertEqual((told.status_code, list(told.json())), (503, ["error"]))
+
+    def test_a_fault_of_the_machine_tells_no_path(self) -> None:
+        """A team is told that an attempt was lost; where its files are, the log says."""
+        from arena_lab.hall.attempts import playing
+        from arena_lab.hall.steps import claimed
+        made = Attempt.objects.create(team=self.team("amber"), network="ring of 5")
+        with mock.patch.object(playing.Playing, "play", side_effect=OSError(28, "No space left", str(PLACE.folder))):
+            playing.play(made.pk, str(claimed(made)))
+        told = self.rest("get", f"/api/matches/{made.pk}").json()
+        self.assertEqual(told["state"], machine.LOST)
+        self.assertNotIn(str(PLACE.folder), told["fault"])
+        self.assertEqual(Grading.objects.count(), 0)
+
+
+class Questions(Hall):
+    """Who asks much, or nothing."""
+
+    def test_a_question_without_fields_is_refused_however_many_wait(self) -> None:
+        client = self.client_of("amber")
+        for wanted in (400, 429):
+            self.assertEqual(client.post("/messages", {}).status_code, wanted)
+            Message.objects.bulk_create([Message(team=self.team("amber"), text="why?") for _ in range(MOST_WAITING)])
+
+    def test_texts_of_teams_are_texts_on_each_page(self) -> None:
+        text = '"><script>alert(4)</script>'
+        self.client_of("birch").post("/messages", {"text": text})
+        made = Message.objects.get()
+        Message.objects.update(answer=text, is_public=True)
+        Message.objects.create(text=text)
+        page = f"/teacher/teams/message/{made.pk}"
+        for client, path in ((self.client_of("amber"), "/messages"), (self.teacher(), "/teacher/teams/message/"),
+                             (self.teacher(), f"{page}/change/"), (self.teacher(), f"{page}/delete/"),
+                             (self.teacher(), f"{page}/history/")):
+            content = client.get(path).content
+            self.assertNotIn(b"<script>alert", content, path)
+            self.assertIn(b"&lt;script&gt;alert", content, path)

@@ -1,0 +1,67 @@
+"""A find is never lost: its limit is part of the schedule, and a mended program follows it as far as it goes along."""
+import shutil
+from typing import Tuple
+
+from arena_lab.__main__ import main
+from arena_lab.play.schedules import read
+from tests.support.matches import AGENTS, InFolder
+from arena_lab.support.built import TOP
+from tests.support.output import ran
+
+# computes for a second of the processor's time, and then searches
+SLOW = """
+import time
+import ring
+
+
+def search(agent, key, nodes):
+    begun = time.process_time()
+    while time.process_time() - begun < 1:
+        pass
+    ring.search(agent, key, nodes)
+"""
+TOO_SLOW = "has computed for 0.3 s, and neither sends nor waits"
+
+
+class Follows(InFolder):
+    def setUp(self) -> None:
+        super().setUp()
+        self.agent = self.folder / "agent.py"
+        for name in ("client.py", "ring.py"):
+            shutil.copy(AGENTS / name, self.folder)
+
+    def said(self, *words: str) -> Tuple[int, str]:
+        status, said, _ = ran(main, [*words, "--engine", "model"])
+        return status, said
+
+    def test_what_is_found_with_a_limit_is_kept_with_it(self) -> None:
+        self.agent.write_text(SLOW)
+        team = ("--network", "ring:3", "--hole", "1", "--agent", f"{self.agent} {{nodes}}", "--timeout", "0.3")
+        for words in (("run",), ("hunt", "--runs", "2", "--database", str(self.folder / "database")),
+                      ("explore", "--search", "model")):
+            with self.subTest(words[0]):
+                out = self.folder / words[0]
+                status, said = self.said(*words, *team, "--keep", str(out))
+                self.assertEqual((status, said.count(TOO_SLOW) > 0), (1, True), said)
+                self.assertEqual(read(out / "schedule.txt").limit, 0.3)
+                _, again = self.said("replay", str(out))
+                self.assertIn(TOO_SLOW, again)
+                self.assertIn("the replay is the same, byte for byte", again)
+                # whoever has a slower machine gives more
+                _, longer = self.said("replay", str(out), "--timeout", "60", "--follow")
+                self.assertNotIn(TOO_SLOW, longer)
+
+    def test_a_mended_program_is_tried_against_what_it_failed_under(self) -> None:
+        shutil.copy(TOP / "arena_lab" / "mutants" / "reads_once.py", self.agent)
+        out = self.folder / "out"
+        status, _ = self.said("run", "--network", "ring:8", "--agent", f"{self.agent} {{nodes}}", "--runs", "30",
+                              "--keep", str(out))
+        self.assertEqual(status, 1)
+        whole = len(read(out / "schedule.txt").choices)
+        status, said = self.said("replay", str(out), "--follow")
+        self.assertEqual((status, said.splitlines()[0]), (1, f"followed all {whole} choices of the schedule"))
+        shutil.copy(AGENTS / "ring.py", self.agent)
+        status, said = self.said("replay", str(out), "--follow", "--keep", str(self.folder / "mended"))
+        self.assertEqual(status, 0, said)
+        self.assertRegex(said, r"^followed \d+ of \d+ choices: the next is `.*fair choices came then\nsolved moves")
+        self.assertIn("the replay is the same", self.said("replay", str(self.folder / "mended"))[1])

@@ -1,0 +1,67 @@
+"""Two agents that have a map solve every biconnected network, whatever the schedule."""
+import random
+import unittest
+from typing import Iterator, Tuple
+
+from arena_lab.play import schedulers
+from arena_lab.rules.engines import Program
+from arena_lab.rules.fixtures import Fixture
+from arena_lab.rules.networks import Network, drawn, named, numbered, shuffled
+from arena_lab.search.explore import explored
+from arena_lab.support.missing import needed
+from arena_lab.support.progress import NO_PROGRESS
+from tests.support.matches import KNOWN_MAP, fixture, played, program
+
+NETWORKS = ("ring:32", "hypercube:5", "torus:6x6", "complete:20", "ccc:3")
+
+
+def small_networks(largest: int) -> Iterator[Network]:
+    """Every biconnected network of 3 nodes and more, but for the labels of its ports, which are drawn."""
+    networkx = needed("networkx")
+    for graph in networkx.graph_atlas_g():
+        if 3 <= len(graph) <= largest and networkx.is_biconnected(graph):
+            pairs = [tuple(pair) for pair in graph.edges]
+            yield Network(len(graph), numbered(len(graph), pairs, random.Random(len(pairs))))
+
+
+def matches_on(network: Network) -> Iterator[Tuple[int, int]]:
+    """Each home base with each black hole."""
+    return ((home, hole) for home in range(network.nodes) for hole in range(network.nodes) if home != hole)
+
+
+class KnownMap(unittest.TestCase):
+    def test_no_schedule_fails_on_any_network_of_three_to_five_nodes(self) -> None:
+        count = 0
+        for network in small_networks(5):
+            for home, hole in matches_on(network):
+                found = explored(fixture(network, hole, home=home), [KNOWN_MAP] * 2, NO_PROGRESS)
+                count += 1
+                with self.subTest(links=network.links, home=home, hole=hole):
+                    self.assertTrue(found.is_whole)
+                    self.assertFalse(found.explorer.worst.has_failed)
+                    self.assertLessEqual(found.explorer.worst.verdict.lost, 1)
+        self.assertEqual(count, 242)
+
+    def test_drawn_schedules_on_larger_networks(self) -> None:
+        for seed, name in enumerate(NETWORKS * 8):
+            self.try_match(shuffled(named(name), seed), seed)
+
+    def test_drawn_networks(self) -> None:
+        for seed in range(100):
+            self.try_match(drawn(random.Random(seed)), seed)
+
+    def test_the_program_says_the_same(self) -> None:
+        given = fixture(named("torus:4x4"), 7)
+        found = played(given, KNOWN_MAP, 1, engine=lambda it: Program(it, program()))
+        self.assertEqual(found.replay, played(given, KNOWN_MAP, 1).replay)
+        self.assertFalse(found.has_failed())
+
+    def try_match(self, network: Network, seed: int) -> None:
+        chance = random.Random(seed)
+        home, hole = chance.sample(range(network.nodes), 2)
+        name = sorted(schedulers.NAMED)[seed % len(schedulers.NAMED)]
+        given: Fixture = fixture(network, hole, home=home)
+        with self.subTest(seed=seed, scheduler=name, home=home, hole=hole):
+            found = played(given, KNOWN_MAP, seed, schedulers.NAMED[name])
+            self.assertFalse(found.has_failed())
+            self.assertLessEqual(found.verdict().lost, 1)

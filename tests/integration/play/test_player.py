@@ -1,0 +1,154 @@
+"""Agents whose steps are proved, as clients: in matches of the lab they say what the same searches in Python say, or
+come to what `arena explore` finds of their module, and they solve the matches of a contest over TCP within the moves of
+the theorems."""
+import json
+import pathlib
+import random
+import subprocess
+import unittest
+from typing import Any, Dict, List, NamedTuple, Sequence
+
+from arena_lab.play import schedulers
+from arena_lab.play.schedulers import Choice, MatchView, Scheduler
+from arena_lab.play.teams import OUTSIDE, AgentWords
+from arena_lab.rules.fixtures import Fixture, fixture_of
+from arena_lab.rules.model import Setup
+from arena_lab.rules.networks import Network, flipped_ring, ring
+from tests.integration.play.test_halves import SEARCHES, fixture
+from tests.support.matches import TOP, InFolder, program, two, under
+from tests.support.servers import HOST, Server
+from tests.support.tournaments import write_cup
+
+PLAYER = TOP / "crates" / "bhs_player" / "out" / "bhs_player"
+MODULE = TOP / "examples" / "agents" / "wasm" / "ring.wasm"
+SIZES = (3, 4, 5, 8, 13, 16)
+# rings of which every schedule is tried
+SMALL = (3, 4, 5, 8)
+# how many matches of the lab are drawn for each search and each scheduler, and how many a contest has for each search
+DRAWN, SERVED = 12, 28
+# how many matches of each are played by modules
+MODULES = 4
+# the schedulers of `explore`
+EXPLORED = ("fair", "slow-agents", "last-departed", "starved")
+# seconds within which a contest must end
+PATIENCE = 120
+
+
+class Game(NamedTuple):
+    """A match, its network, what its agents run, and how many moves they may need."""
+
+    network: Network
+    fixture: Fixture
+    runs: List[str]
+    moves: int
+
+
+def agents(runs: Sequence[str]) -> List[AgentWords]:
+    return [AgentWords(OUTSIDE, f"{PLAYER} {{host}} {{port}} {{key}} {words}") for words in runs]
+
+
+def ring_of(sizes: Sequence[int], chance: random.Random) -> Network:
+    nodes = chance.choice(sizes)
+    return flipped_ring(nodes, chance) if chance.random() < 0.5 else ring(nodes)
+
+
+def searched(name: str, chance: random.Random) -> Game:
+    """A match on a ring with the least quota and the least whiteboards of the theorem on a search in Python."""
+    network = ring_of(SIZES, chance)
+    home, hole = chance.sample(range(network.nodes), 2)
+    bounds = SEARCHES[name](network.nodes)
+    runs = [f"{pathlib.PurePath(name).stem} {network.nodes} {side}" for side in (0, 1)]
+    return Game(network, fixture(network, hole, home, bounds.commands), runs, bounds.moves)
+
+
+def following(schedule: Sequence[int]) -> Scheduler:
+    """Agents have their turns in this order."""
+    turns = iter(schedule)
+
+    def choose(choices: Sequence[Choice], _: MatchView) -> Choice:
+        agent = next(turns, None)
+        return next((choice for choice in choices if choice.agent == agent), choices[0])
+    return choose
+
+
+@unittest.skipUnless(PLAYER.exists(), "the agents' program is not built: `rt ci` builds it")
+class Players(InFolder):
+    def write(self, games: Sequence[Game]) -> None:
+        write_cup(self.folder, [game.fixture for game in games], seed="7" * 64)
+
+    def found(self, game: Game, *words: str) -> Dict[str, Any]:
+        """What `explore` finds of a match whose agents run the module."""
+        self.write([game])
+        word = f"{MODULE}:{game.network.nodes}"
+        ran = subprocess.run([program(), "explore", "cup.toml", "0", "--module", word, *words], cwd=self.folder,
+                             capture_output=True, text=True)
+        found: Dict[str, Any] = json.loads(ran.stdout.splitlines()[0])
+        return found
+
+    def explored(self, chance: random.Random) -> Game:
+        """A match that the module solves under every schedule, within these moves."""
+        network = ring_of(SMALL, chance)
+        home, hole = chance.sample(range(network.nodes), 2)
+        given = fixture_of(Setup(network.nodes, network.links, home, [hole], 2, 200, 48))
+        game = Game(network, given, [f"--module {MODULE}:{network.nodes}"] * 2, 0)
+        found = self.found(game)
+        self.assertEqual(found["found"], "solves")
+        return game._replace(moves=found["moves"])
+
+    def test_they_say_what_the_searches_in_python_say(self) -> None:
+        for name in SEARCHES:
+            for scheduler, maker in sorted(schedulers.NAMED.items()):
+                for seed in range(DRAWN):
+                    game = searched(name, random.Random(f"{name} {scheduler} {seed}"))
+                    with self.subTest(name, scheduler=scheduler, seed=seed):
+                        found = under(maker(seed), game.fixture, agents(game.runs), seconds=20)
+                        self.assertFalse(found.has_failed())
+                        self.assertLessEqual(found.verdict().moves, game.moves)
+                        self.assertEqual(found.replay, under(maker(seed), game.fixture, two(name, "{nodes}")).replay)
+
+    def test_modules_solve_what_they_are_proved_to_solve(self) -> None:
+        for scheduler, maker in sorted(schedulers.NAMED.items()):
+            for seed in range(MODULES):
+                with self.subTest(scheduler=scheduler, seed=seed):
+                    game = self.explored(random.Random(f"{scheduler} {seed}"))
+                    found = under(maker(seed), game.fixture, agents(game.runs), seconds=20)
+                    self.assertFalse(found.has_failed(), found.faults)
+                    self.assertLessEqual(found.verdict().moves, game.moves)
+
+    def test_modules_come_to_what_explore_says_of_a_schedule(self) -> None:
+        for scheduler in EXPLORED:
+            for seed in range(MODULES):
+                with self.subTest(scheduler=scheduler, seed=seed):
+                    game = self.explored(random.Random(f"{scheduler} {seed} drawn"))
+                    drawn = self.found(game, "--draws", "3", "--scheduler", scheduler, "--seed", str(seed))
+                    found = under(following(drawn["schedule"]), game.fixture, agents(game.runs), seconds=20)
+                    self.assertEqual((found.verdict().moves, found.verdict().lost), (drawn["moves"], drawn["lost"]))
+
+    def test_they_solve_the_matches_of_a_contest(self) -> None:
+        chance = random.Random("a contest of players")
+        drawn = [searched(name, chance) for name in SEARCHES for _ in range(SERVED)]
+        drawn += [self.explored(chance) for _ in range(MODULES)]
+        games = [game._replace(fixture=game.fixture._replace(keys=[f"{number}-{key}" for key in game.fixture.keys]))
+                 for number, game in enumerate(drawn)]
+        self.write(games)
+        self.serve(games)
+        for number, game in enumerate(games):
+            with self.subTest(game.runs[0], number=number):
+                words = [program(), "judge", f"cup{number}.jsonl"]
+                verdict = subprocess.run(words, cwd=self.folder, capture_output=True, text=True, check=True).stdout
+                outcome, _, moves, _, lost = verdict.split()
+                self.assertEqual(outcome, "solved")
+                self.assertLessEqual(int(moves), game.moves)
+                self.assertLessEqual(int(lost), 1)
+
+    def serve(self, games: Sequence[Game]) -> None:
+        """Serves the matches of a tournament to the agents' program. An agent that is not lost ends with 0."""
+        with Server([program(), "serve", "cup.toml", "--pause", 1], self.folder) as server:
+            started = [subprocess.Popen([PLAYER, HOST, str(server.port), key, *runs.split()])
+                       for game in games for runs, key in zip(game.runs, game.fixture.keys)]
+            try:
+                self.assertEqual(server.child.wait(PATIENCE), 0)
+                self.assertEqual({child.wait(PATIENCE) for child in started}, {0})
+            finally:
+                for child in started:
+                    child.kill()

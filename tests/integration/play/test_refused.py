@@ -1,0 +1,90 @@
+"""Lines of agents that were refused are told by `run`, `replay`, `grade` and pages, and change nothing of a match."""
+import json
+import sys
+
+from arena_lab.__main__ import main
+from tests.support.matches import InFolder
+from tests.support.output import ran
+
+LINES = ["debug: here", '{"do":"depart","port":"0"}', '{"do":"move","port":0}', '{"do":"depart","port":7}',
+         "at \x1b[31m<b>port</b>"]
+RAW = """
+import json, socket, sys
+host, port, key, lines, tail = sys.argv[1:]
+server = socket.create_connection((host, int(port)))
+stream = server.makefile("rw", newline="\\n")
+for line in ['{"do":"enter","key":"%s"}' % key, *json.loads(lines)]:
+    stream.write(line + "\\n"); stream.flush(); stream.readline()
+server.sendall(tail.encode())
+"""
+FIRST = "agent 0: 4 lines were no commands; the first: `debug: here`: it is no JSON: print what is for you to standard"
+PORTS = 'agent 0: 1 line named a port that its node does not have: `{"do":"depart","port":7}`: the node has the ports 0'
+
+
+class Refused(InFolder):
+    def setUp(self) -> None:
+        super().setUp()
+        self.agent = self.folder / "raw.py"
+        self.agent.write_text(RAW)
+
+    def command(self, *lines: str, tail: str = "") -> str:
+        sent = json.dumps(list(lines)).replace("{", "{{").replace("}", "}}")
+        return f"{sys.executable} {self.agent} {{host}} {{port}} {{key}} '{sent}' '{tail}'"
+
+    def said(self, *words: str) -> str:
+        said = ran(main, [*words, "--engine", "model"]).said
+        return said
+
+    def played(self, *lines: str, tail: str = "", more: "tuple[str, ...]" = ()) -> str:
+        return self.said("run", "--network", "ring:4", "--hole", "2", "--agents", "1", "--command",
+                         self.command(*lines, tail=tail), *more)
+
+    def test_run_replay_and_the_page_tell_them(self) -> None:
+        out = self.folder / "out"
+        said = self.played(*LINES, more=("--keep", str(out)))
+        self.assertIn(FIRST, said)
+        self.assertIn(PORTS, said)
+        self.assertIn(FIRST, (out / "refused.txt").read_text())
+        page = (out / "match0.html").read_text()
+        self.assertIn("Refused lines", page)
+        self.assertIn("debug: here", page)
+        again = self.said("replay", str(out))
+        self.assertIn(FIRST, again)
+        self.assertIn("the replay is the same, byte for byte", again)
+        # a find of an earlier version has no such file
+        (out / "refused.txt").unlink()
+        self.assertNotIn("is not what belongs", self.said("replay", str(out)))
+
+    def test_what_is_shown_is_escaped(self) -> None:
+        said = self.played("at \x1b[31m<b>port</b>")
+        self.assertIn("`at \\x1b[31m<b>port</b>`", said)
+        self.assertNotIn("\x1b", said)
+
+    def test_a_row_of_json_has_them(self) -> None:
+        row = json.loads(self.played("look", more=("--json",)).splitlines()[0])
+        self.assertEqual(len(row["refused"]), 1)
+        self.assertNotIn("look", " ".join(row["faults"]))
+
+    def test_a_right_line_is_not_told(self) -> None:
+        self.assertNotIn("agent 0:", self.played('{"do":"look"}', '{"do":"leave"}'))
+
+    def test_a_first_line_and_an_end_without_a_line_feed(self) -> None:
+        self.agent.write_text(RAW.replace("'{\"do\":\"enter\"", "'\\ufeff{\"do\":\"enter\""))
+        said = self.played()
+        self.assertIn('agent 0: its first line was no enter: `\\ufeff{"do":"enter","key":"KEY"}`', said)
+        self.assertIn("a byte order mark stands before the line", said)
+        self.agent.write_text(RAW)
+        said = self.played(tail="look")
+        self.assertIn("what it sent last was not taken, as no line feed stands behind it: `look`", said)
+
+    def test_the_page_of_a_team_tells_them_once(self) -> None:
+        course = self.folder / "course.toml"
+        sent = json.dumps([*LINES[:4]]).replace("{", "{{").replace("}", "}}")
+        command = f"python3 raw.py {{host}} {{port}} {{key}} '{sent}' ''"
+        course.write_text('title = "T"\nnetworks = ["ring:4"]\nholes = [2]\nseeds = 3\n[[team]]\nname = "a"\n'
+                          f"agents = 1\nfiles = ['raw.py']\ncommand = {json.dumps(command)}\n")
+        out = self.folder / "graded"
+        self.said("grade", str(course), "--out", str(out))
+        page = (out / "team-a.html").read_text()
+        self.assertEqual(page.count("lines were no commands; the first: `debug: here`"), 1)
+        self.assertIn("(matches 0, 1, 2)", page)

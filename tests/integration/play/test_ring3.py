@@ -1,0 +1,67 @@
+"""Two agents that divide a ring into three parts solve it, with as few moves as were counted."""
+import random
+import unittest
+
+from experiments import adversary, turns
+from experiments.division import Table, of_ring3, ring3
+from arena_lab.play import schedulers
+from arena_lab.rules.fixtures import Fixture, fixture_of
+from arena_lab.rules.model import Setup
+from arena_lab.rules.networks import Network, flipped_ring, ring
+from arena_lab.search.explore import explored
+from arena_lab.support.progress import NO_PROGRESS
+from tests.support.matches import RING3, played
+from tests.lab.play.test_ring3 import most_moves
+
+
+def fixture(network: Network, hole: int, home: int = 0) -> Fixture:
+    """A match with whiteboards of 48 bytes, and commands enough for a large ring."""
+    return fixture_of(Setup(network.nodes, network.links, home, [hole], 2, 10_000, 48))
+
+
+class Ring3(unittest.TestCase):
+    def test_every_schedule_of_small_rings(self) -> None:
+        for nodes in range(3, 8):
+            found = [explored(fixture(ring(nodes), hole), [RING3] * 2, NO_PROGRESS) for hole in range(1, nodes)]
+            with self.subTest(nodes=nodes):
+                self.assertTrue(all(it.is_whole and not it.explorer.worst.has_failed for it in found))
+                self.assertEqual(max(it.explorer.worst.verdict.moves for it in found), most_moves(nodes))
+                self.assertEqual(max(it.explorer.worst.verdict.lost for it in found), 1)
+
+    def test_drawn_schedules_of_larger_rings(self) -> None:
+        for seed in range(120):
+            chance = random.Random(seed)
+            nodes = chance.choice((8, 11, 16, 20, 27, 33, 50))
+            home, hole = chance.sample(range(nodes), 2)
+            network = flipped_ring(nodes, chance) if seed % 2 else ring(nodes)
+            name = sorted(schedulers.NAMED)[seed // 2 % len(schedulers.NAMED)]
+            with self.subTest(seed=seed, nodes=nodes, scheduler=name, home=home, hole=hole):
+                found = played(fixture(network, hole, home), RING3, seed, schedulers.NAMED[name])
+                self.assertFalse(found.has_failed())
+                self.assertLessEqual(found.verdict().moves, most_moves(nodes))
+                self.assertLessEqual(found.verdict().lost, 1)
+
+    def test_the_worst_case_is_found(self) -> None:
+        most = max(played(fixture(ring(16), 1 + seed % 15), RING3, seed).verdict().moves for seed in range(100))
+        self.assertEqual(most, most_moves(16))
+
+    def test_the_adversary_attains_the_worst_case(self) -> None:
+        for nodes in (9, 16, 27, 32):
+            with self.subTest(nodes=nodes):
+                hole = Table(nodes, of_ring3).runs()[1] + 1
+                found = played(fixture(ring(nodes), hole), RING3, 0, adversary.worst_case)
+                self.assertFalse(found.has_failed())
+                self.assertEqual(found.verdict().moves, most_moves(nodes))
+
+
+class Counting(unittest.TestCase):
+    def test_the_dynamic_program_counts_the_same(self) -> None:
+        for nodes in range(3, 130):
+            self.assertEqual(Table(nodes, of_ring3).moves(), most_moves(nodes))
+
+    def test_the_worst_case_is_attained_by_the_code_of_the_agents(self) -> None:
+        for nodes in (*range(3, 40), 64, 81, 128):
+            with self.subTest(nodes=nodes):
+                runs, right = Table(nodes, of_ring3).runs()
+                found = turns.played(ring3.search, nodes, runs)
+                self.assertEqual((found.moves, found.hole), (most_moves(nodes), right + 1))

@@ -1,0 +1,408 @@
+"""What `explore` finds by the program: what is known of the sample agents, their wrong versions, and agents that sleep,
+poll, raise or are spent; and it agrees with the Python model's search of machines that are drawn."""
+import contextlib
+import random
+import re
+import subprocess
+from typing import Dict, List, Tuple
+from unittest import mock
+
+from arena_lab.__main__ import main
+from arena_lab.play.matches import STUCK
+from arena_lab.play.teams import Game
+from arena_lab.rules.fixtures import Fixture
+from arena_lab.search.explore import End, explored
+from arena_lab.search.findings import Breaks, Fails, Finding, Solves, name_of
+from arena_lab.search.program_search import asked
+from arena_lab.search.sampled_runs import follow
+from arena_lab.search.machines import Machines
+from arena_lab.search.history_tree import NoFunction
+from tests.integration.search.exploring import InExplore
+from tests.support.matches import AGENTS, FAULTY, KNOWN_MAP, MAP, RING, program
+from tests.support.mutants import FOLDER
+
+SOLVED = "every schedule that the lab tried solves, by histories of Python programs"
+# a program that asks nothing, and tells now and then how far it is
+LONG = '''#!/usr/bin/env python3
+import time
+for states in (262144, 524288):
+    print(f'{{"visited":{states},"depth":37}}', flush=True)
+    time.sleep(0.3)
+print('{"found":"solves","moves":1,"lost":0,"turns":4}')
+print('{"states":600000}')
+'''
+# how many drawn ends, and drawn machines, are compared
+ENDS, MACHINES = 60, 20
+ODD = FAULTY + '''
+import hashlib
+
+
+def polls(memory, reply):
+    return memory, {"do": "leave" if "no" in reply else "look"}
+
+
+def is_refused(memory, reply):
+    return memory, {"do": "depart", "port": 9}
+
+
+def enters_again(memory, reply):
+    return memory, {"do": "enter", "key": "k0"}
+
+
+def counts(agent, key):
+    # six commands after it has entered, of which the last one is right
+    agent.enter(key)
+    for _ in range(4):
+        agent.look()
+    agent.depart(0)
+    agent.accuse(0)
+
+
+def knows(agent, key):
+    agent.enter(key)
+    agent.depart(0)
+    agent.accuse(0)
+
+
+def writes_first(agent, key):
+    agent.write(agent.enter(key).board, "here")
+    agent.depart(0)
+    agent.accuse(0)
+
+
+def gives_up(agent, key, sleep):
+    # after four wakings without news it accuses its own port to the safe node
+    here, wakings = agent.enter(key), 0
+    while not here.board and wakings < 4:
+        sleep(1)
+        here, wakings = agent.look(), wakings + 1
+    agent.leave() if here.board else agent.accuse(0)
+
+
+def knows_and_raises(agent, key):
+    knows(agent, key)
+    raise KeyError("east")
+
+
+def knows_and_sleeps(agent, key, sleep):
+    knows(agent, key)
+    sleep(1)
+    sleep(1)
+    sleep(1)
+    sleep(1)
+
+
+def knows_and_naps(agent, key, sleep):
+    knows(agent, key)
+    sleep(1)
+    sleep(1)
+
+
+def crashes_on_its_link(agent, key, sleep):
+    agent.enter(key)
+    agent._lines.send('{"do":"depart","port":1}')
+    agent._lines.receive()
+    raise AttributeError("nobody is told")
+
+
+def stays_outside(agent, key, sleep):
+    while True:
+        sleep(1)
+
+
+def ends(agent, key, seed, sleep):
+    # it comes to its end in a way that is drawn, and sleeps or raises then
+    for _ in range(drawn(seed, "outside") % 5):
+        sleep(1)
+    if drawn(seed, "enters") % 8:
+        agent.enter(key)
+        for _ in range(drawn(seed, "inside") % 4):
+            sleep(1)
+        try:
+            if drawn(seed, "goes") % 3 == 0:
+                agent.depart(1)
+            elif drawn(seed, "goes") % 3 == 1:
+                agent.leave()
+            else:
+                agent.accuse(1)
+        except MatchOver:
+            pass
+    for _ in range(drawn(seed, "after") % 5):
+        sleep(1)
+    if drawn(seed, "raises") % 4 == 0:
+        raise KeyError("west")
+
+
+def enters_as_another(agent, key):
+    agent.enter("k1" if key == "k0" else "k0")
+
+
+def looks_first(agent, key):
+    agent.look()
+
+
+def hides(agent, key):
+    # what it will do lies on the interpreter's stack alone: how often it still writes
+    here = agent.enter(key)
+    for _ in [0] * (1 if here.board else 2):
+        here = None
+        agent.write("", "a")
+    agent.leave()
+
+
+def drawn(*words):
+    return int.from_bytes(hashlib.blake2b(repr(words).encode(), digest_size=4).digest(), "big")
+
+
+def machine(memory, reply, seed, size):
+    # what it does next is a function of a small number and of what it saw last
+    if "no" in reply:
+        return memory, {"do": "leave"}
+    state, saw, put = memory or (0, (), "")
+    if reply["ok"] != "woke":
+        saw = reply["ok"], reply.get("from"), reply.get("board", put)
+    what = drawn(seed, state, saw) % 16
+    state = drawn(seed, state, saw, "next") % size
+    command = command_of(what, saw[-1])
+    return (state, saw, command.get("put", "")), command
+
+
+def command_of(what, board):
+    if what < 5:
+        return {"do": "depart", "port": what % 2}
+    if what < 8:
+        return {"do": "write", "expect": board if what < 7 else "", "put": str(what)}
+    if what < 12:
+        return {"do": "look" if what < 10 else "sleep"}
+    return {"do": "accuse", "port": what % 2} if what < 15 else {"do": "leave"}
+'''
+# an agent of its own: it enters, departs by port 0 and accuses port 0, and declares where it is
+OWN = '''
+import json, socket, sys
+line = socket.create_connection(("127.0.0.1", int(sys.argv[1]))).makefile("rw", newline="\\n")
+for place, command in enumerate([{"do": "enter", "key": sys.argv[2]}, {"do": "look"}, {"do": "depart", "port": 0},
+                                 {"do": "accuse", "port": 0}]):
+    line.write(json.dumps({**command, **({"memory": place} if sys.argv[3] == "declares" else {})}) + "\\n")
+    line.flush()
+    if line.readline() == '{"ok":"gone"}\\n':
+        line.readline()
+'''
+
+
+class Exploring(InExplore):
+    def setUp(self) -> None:
+        super().setUp()
+        (self.folder / "odd.py").write_text(ODD, encoding="utf-8")
+        (self.folder / "own.py").write_text(OWN, encoding="utf-8")
+
+    def odd(self, name: str) -> List[str]:
+        return ["--agent", f"{self.folder}/odd.py:{name}"]
+
+    def test_the_most_moves_on_rings(self) -> None:
+        for nodes, moves in {3: 4, 5: 14}.items():
+            with self.subTest(nodes=nodes):
+                status = self.command("--network", f"ring:{nodes}", "--agent", RING.words, "--check", 2)
+                self.assertEqual(status, 0, self.said)
+                self.assertIn(SOLVED, self.said)
+                self.assertIn(f"most moves {moves}, most agents lost 1, most turns ", self.said)
+                self.assertNotIn("warning", self.said)
+
+    def test_several_networks_end_in_a_table(self) -> None:
+        status = self.command("--network", "ring:3..4", "--network", "torus:3x3", "--agent", RING.words, "--check", 2)
+        self.assertEqual(status, 1, self.said)
+        table = self.said.partition("network matches states moves lost seconds\n")[2].split("\n")
+        self.assertEqual([row.split()[:5] for row in table[:2]],
+                         [["ring:3", "2", "106", "4", "1"], ["ring:4", "3", "1283", "9", "1"]])
+        self.assertNotIn("torus", "".join(table))
+
+    def test_other_sample_agents(self) -> None:
+        for words in (["--network", "hypercube:2", "--hole", "3", "--agent", KNOWN_MAP.words],
+                      ["--network", "ring:3", "--hole", "2", "--agents", "2", "--spurious-wakeups", "0", "--agent",
+                       MAP.words]):
+            with self.subTest(words=words):
+                self.assertEqual(self.command(*words), 0, self.said)
+                self.assertIn(SOLVED, self.said)
+
+    def test_wrong_versions_are_found_out(self) -> None:
+        for name, network in (("forgets_to_mark", "ring:4"), ("reads_once", "ring:4")):
+            with self.subTest(name):
+                agent = f"{FOLDER / name}.py {{nodes}}"
+                self.assertEqual(self.command("--network", network, "--agent", agent), 1)
+                self.assertIn("a schedule fails\nit comes to: ", self.said)
+                verdict = self.said.partition("it comes to: ")[2].partition("\n")[0].rpartition(", ")[2]
+                self.assertIn(f"the program's verdict: {verdict}", self.said)
+                self.assertEqual(main(["replay", str(self.folder / "find"), "--program", program()]), 0)
+
+    def test_what_goes_on_for_ever(self) -> None:
+        match = ["--network", "ring:3", "--hole", 1]
+        for names, fair in ((["enters_again"], "and it is not fair"), (["enters_again", "knows"], "and it is fair"),
+                            (["knows", "enters_again"], "and it is fair")):
+            with self.subTest(names):
+                agents = [word for name in names for word in self.odd(name)]
+                self.assertEqual(self.command(*match, *agents), 1, self.said)
+                self.assertIn(f"a schedule goes on for ever, {fair}", self.said)
+
+    def test_an_agent_that_polls_spends_its_quota(self) -> None:
+        for name in ("polls", "is_refused"):
+            with self.subTest(name):
+                status = self.command("--network", "ring:3", "--hole", 1, "--quota", 4, *self.odd(name))
+                self.assertEqual(status, 1, self.said)
+                self.assertRegex(self.said, "agent [01] may use 5 commands: the Python model's search takes over")
+
+    def test_agents_that_give_up_after_more_naps_are_told_of(self) -> None:
+        match = ["--network", "ring:3", "--hole", 2, *self.odd("writes_first"), *self.odd("gives_up")]
+        for naps in (0, 2):
+            with self.subTest(naps=naps):
+                self.assertEqual(self.command(*match, "--spurious-wakeups", naps), 0, self.said)
+                self.assertIn(f", if agents nap at most {naps} times\n", self.said)
+                self.assertIn("what they do when they wake once more is not known: "
+                              f"try --spurious-wakeups {naps + 1}\n", self.said)
+        self.assertEqual(self.command(*match, "--spurious-wakeups", 3), 1, self.said)
+
+    def test_a_sleeper_that_waits_for_nothing(self) -> None:
+        self.assertEqual(self.command("--network", "ring:3", "--hole", 1, *self.odd("sleeps")), 1)
+        self.assertIn("sleeps, and nothing changes any more", self.said)
+
+    def test_an_agent_fails_whatever_the_verdict(self) -> None:
+        at_the_end = "under a schedule agent 1 fails when it is told that the match is over"
+        for names, found, fault in (
+                (["knows"], "", ""), (["knows_and_naps"], "", ""),
+                (["knows_and_raises"], "under a schedule agent 0 fails", "agent 0: raises KeyError: 'east'"),
+                (["knows_and_sleeps"], "under a schedule agent 0 fails", f"agent 0: {STUCK}"),
+                (["knows", "crashes_when_it_is_over 1"], at_the_end,
+                 "agent 1: raises AttributeError: nothing was seen"),
+                (["knows", "crashes_on_its_link"], "under a schedule agent 1 fails",
+                 "agent 1: raises AttributeError: nobody is told"),
+                (["knows", "stays_outside"], f"under a schedule agent 1 {STUCK}", f"agent 1: {STUCK}")):
+            with self.subTest(names=names):
+                agents = [word for name in names for word in self.odd(name)]
+                status = self.command("--network", "ring:3", "--hole", 2, *agents)
+                self.assertEqual(status, 1 if found else 0, self.said)
+                self.assertIn(f"{found}, " if found else SOLVED, self.said)
+                self.assertIn(f"\n{fault}", self.said)
+
+    def test_agents_that_do_not_enter(self) -> None:
+        for name, fault in (("enters_as_another", "enters with the key of another agent"),
+                            ("looks_first", "raises NotEntered: enter")):
+            with self.subTest(name):
+                self.assertEqual(self.command("--network", "ring:3", "--hole", 1, *self.odd(name)), 1)
+                self.assertIn(f"agent 0: {fault}", self.said)
+
+    def test_a_quota_that_does_not_suffice(self) -> None:
+        status = self.command("--network", "ring:3", "--hole", 2, "--quota", 5, *self.odd("counts"))
+        self.assertEqual(status, 1, self.said)
+        self.assertIn("agent 0 may use 6 commands: the Python model's search takes over", self.said)
+
+    def test_too_many_states(self) -> None:
+        self.assertEqual(self.command("--network", "ring:5", "--max-states", 20, "--agent", RING.words), 130)
+        self.assertIn("more states than were to be visited", self.said)
+        self.assertIn("stopped before all were visited", self.said)
+
+    def test_ctrl_c_ends_it_with_what_was_found(self) -> None:
+        with mock.patch("arena_lab.search.program_search.ProgramRun.answer", side_effect=KeyboardInterrupt):
+            self.assertEqual(self.command("--network", "ring:3", "--agent", RING.words), 130)
+        self.assertIn("stopped before all were visited; no schedule failed until then", self.said)
+
+    def test_it_is_told_how_long_the_program_works(self) -> None:
+        game, fixture = self.game("--network", "ring:6", "--hole", "1", "--agent", RING.words)
+        shown = mock.Mock()
+        with mock.patch("arena_lab.search.program_search.PAUSE", 0.01):
+            self.answered(fixture, game.agents, shown=shown)
+        self.assertRegex(shown.set_postfix_str.call_args.args[0], r"^the program works for \d+ s and takes \d+ MB$")
+
+    def test_it_is_told_how_far_a_long_search_is(self) -> None:
+        _, fixture = self.game("--network", "ring:3", "--hole", "1", "--agent", RING.words)
+        long = self.folder / "long"
+        long.write_text(LONG, encoding="utf-8")
+        long.chmod(0o755)
+        shown, machines = mock.Mock(), mock.Mock(modules=[])
+        with mock.patch("arena_lab.search.program_search.PAUSE", 0.01):
+            answered = asked(str(long), fixture, machines, 1_000_000, shown)
+        self.assertEqual(answered.states, 600_000)
+        all_told = [call.args[0] for call in shown.set_postfix_str.call_args_list]
+        for states in ("262,144", "524,288"):
+            far = re.compile(rf" MB: {states} states, [\d,]+ a second, 37 turns on the path$")
+            self.assertTrue(any(map(far.search, all_told)), states)
+
+    def test_programs_of_their_own(self) -> None:
+        for how in ("declares", "says nothing"):
+            with self.subTest(how):
+                team = f"python3 {self.folder}/own.py {{port}} {{key}} '{how}'"
+                match = ["--network", "ring:3", "--hole", 2, "--agents", 1]
+                status = self.command(*match, "--command", team, "--check", 1)
+                self.assertEqual(status, 0, self.said)
+                self.assertIn("every schedule that the lab tried solves, by histories or declared memories of programs",
+                              self.said)
+        built = self.folder / "ring"
+        subprocess.run(["cc", "-O2", "-o", built, AGENTS / "ring.c"], check=True)
+        status = self.command("--network", "ring:3", "--command", f"{built} {{port}} {{key}} {{nodes}}")
+        self.assertEqual(status, 0, self.said)
+        self.assertIn("most moves 4, most agents lost 1", self.said)
+
+    def test_a_held_link(self) -> None:
+        match = ["--network", "ring:3", "--hole", "2", "--agents", "1"]
+        game, fixture = self.game(*match, *self.odd("knows"))
+        answered = self.answered(fixture._replace(held=[(0, 0)]), game.agents)
+        self.assertEqual(answered.found, Fails("silent", 1, 0, (0, 0)))
+
+    def test_an_agent_that_is_no_function_is_found_by_drawn_schedules(self) -> None:
+        game, fixture = self.game("--network", "ring:3", "--hole", "1", *self.odd("hides"))
+        for is_told_all in (True, False):
+            with self.subTest(is_told_all=is_told_all), contextlib.ExitStack() as stack:
+                machines = Machines(fixture, game.agents, 5)
+                machines.start()
+                stack.callback(machines.stop)
+                if not is_told_all:
+                    # one history for all whiteboards
+                    plain = machines.next
+                    empty = re.compile('"board":"[^"]*"')
+                    stack.enter_context(mock.patch.object(
+                        machines, "next", lambda before, news: plain(before, empty.sub('"board":""', news))))
+                    stack.enter_context(self.assertRaises(NoFunction))
+                for seed in range(20):
+                    follow(fixture, game.agents, machines, seed, 5)
+
+    def test_drawn_ends_are_failures_of_both(self) -> None:
+        """One agent solves the match, and the other comes to an end that is drawn."""
+        kinds: Dict[str, int] = {}
+        for seed in range(ENDS):
+            naps = str(seed % 3)
+            game, fixture = self.game("--network", "ring:3", "--hole", "2", "--spurious-wakeups", naps,
+                                      *self.odd("knows"),
+                                      *self.odd(f"ends {seed}"))
+            found, beside = self.both(game, fixture, check=2)
+            kinds[name_of(type(found))] = kinds.get(name_of(type(found)), 0) + 1
+            self.assertEqual(not isinstance(found, Solves), beside.has_failed, (seed, found, beside))
+        self.assertLessEqual({"solves", "breaks", "fails"}, set(kinds), kinds)
+
+    def both(self, game: Game, fixture: Fixture, check: int = 0) -> Tuple[Finding, End]:
+        """What the program finds, and the worst end by the Python model."""
+        found = self.answered(fixture, game.agents, check=check).found
+        beside = explored(fixture, game.agents, mock.Mock()).explorer.worst
+        assert beside is not None and found is not None
+        return found, beside
+
+    def test_drawn_machines_come_to_what_the_model_comes_to(self) -> None:
+        kinds: Dict[str, int] = {}
+        for seed in range(MACHINES):
+            kind = self.compared(seed)
+            kinds[kind] = kinds.get(kind, 0) + 1
+        self.assertLessEqual({"fails", "solves", "exceeds"}, set(kinds), kinds)
+
+    def compared(self, seed: int) -> str:
+        """Compares both searches of a drawn match; gives what the program found."""
+        chance = random.Random(seed)
+        machines = [f"machine {chance.randrange(10 ** 6)} {chance.randrange(1, 4)}" for _ in range(2)]
+        if chance.random() < .5:
+            machines[1] = machines[0]
+        network = chance.choice(["ring:3", "ring:4"])
+        match = ["--network", network, "--hole", str(chance.randrange(1, int(network[-1])))]
+        match += ["--quota", str(chance.randrange(3, 9)), "--spurious-wakeups", str(chance.randrange(3))]
+        game, fixture = self.game(*match, *(word for it in machines for word in self.odd(it)))
+        found, beside = self.both(game, fixture)
+        if isinstance(found, (Fails, Breaks)):
+            self.assertTrue(beside.has_failed, (seed, found, beside))
+        elif isinstance(found, Solves):
+            self.assertFalse(beside.has_failed, (seed, found, beside))
+            self.assertEqual((beside.verdict.outcome, beside.verdict.moves), ("solved", found.moves), (seed, beside))
+        return name_of(type(found))

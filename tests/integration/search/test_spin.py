@@ -1,0 +1,41 @@
+"""The model checker SPIN finds the same most moves of all schedules as `./arena-lab explore`, and finds a mistake.
+
+The models in experiments/models were written by hand and share nothing with the program and the lab.
+"""
+import unittest
+from unittest import mock
+
+import arena_lab.api
+from bench import explore
+from bench import spin as bench_spin
+from bench import promela
+from tests.support.matches import RING_STEP, program
+
+
+@unittest.skipUnless(promela.HAS_SPIN, "Debian's spin is not installed, or there is no C compiler")
+class TestSpin(unittest.TestCase):
+    def test_spin_finds_the_same_most_moves(self) -> None:
+        for nodes in range(3, 10):
+            proof = arena_lab.api.explore(f"ring:{nodes}", RING_STEP.words, engine=program(), check=0)
+            self.assertTrue(proof.solves)
+            for model in (promela.NATURAL, promela.MERGED):
+                with self.subTest(nodes=nodes, model=model.name):
+                    found = promela.search(model, nodes)
+                    self.assertEqual(0, found.errors)
+                    self.assertEqual(max(row["moves"] for row in proof.rows), found.moves)
+
+    def test_spin_finds_a_mistake(self) -> None:
+        """An agent that does not look again before it writes overwrites what the other one has told."""
+        source = (promela.MODELS / "ring_merged.pml").read_text(encoding="utf-8")
+        unchanged = "#define IS_UNCHANGED (right_seen == right_mark[node] && left_seen == left_mark[node])"
+        self.assertIn(unchanged, source)
+        blind = source.replace(unchanged, "#define IS_UNCHANGED true")
+        self.assertNotEqual(0, promela.search(promela.MERGED, 6, blind).errors)
+
+    def test_the_benchmark_compares_them(self) -> None:
+        with mock.patch.object(explore, "PROGRAM", program()):
+            rows = bench_spin.rows_of(5)
+        names = ["SPIN, natural", "SPIN, merged", "./arena-lab explore", "arena explore alone",
+                 "arena explore --module"]
+        self.assertEqual(names, [it.name for it in rows])
+        self.assertEqual(1, len({it.moves for it in rows}))

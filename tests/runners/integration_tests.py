@@ -1,0 +1,66 @@
+"""Runs the tests of the lab that play: on the built program, by Debian's Python with Debian's packages.
+
+    python3 -m tests.runners.integration_tests PROGRAM [ROOM.FILE ..]
+
+The tests are those of tests/integration/ROOM/test_*.py, or of the files that are named, as many files at a time as there
+are processors, since most tests wait. A file is skipped if the machine lacks a package that each of its tests needs
+(tools/packages.toml). What a file's tests print comes once they have ended. The last line reads `N passed, M failed`,
+and the exit status is 1 if one failed.
+"""
+import concurrent.futures
+import os
+import pathlib
+import subprocess
+import sys
+import time
+from typing import Dict, List
+
+from arena_lab.support.missing import DEBIANS_PYTHON
+from tests.support.counts import Counts, concluded, counts_in
+from tools import packages
+from tests.runners.python_tests import SKIPPED
+
+TOP = pathlib.Path(__file__).resolve().parents[2]
+# runs tests/runners/python_tests.py and imports no `tools`: agents of the tests have modules of that name
+RUN = "import runpy; runpy.run_path('tests/runners/python_tests.py', run_name='__main__')"
+
+
+def lacking(name: str) -> List[str]:
+    """The packages that each test of a file needs and this machine lacks."""
+    groups = packages.groups("gate")
+    return packages.missing([*groups["lab"], *(groups["hall"] if name.startswith("hall.") else [])])
+
+
+def counts_of(name: str, variables: Dict[str, str]) -> Counts:
+    """Runs the tests of a file, prints what they said, and gives how many passed and failed. A file that has no tests,
+    or whose tests end the process, counts as one that failed."""
+    begun, absent = time.monotonic(), lacking(name)
+    if absent:
+        more = f" and {len(absent) - 1} more" if len(absent) > 1 else ""
+        print(f"{SKIPPED}tests.integration.{name}: not installed are Debian's {absent[0]}{more}", flush=True)
+        return 0, 0
+    words = [DEBIANS_PYTHON, "-c", RUN, f"tests.integration.{name}"]
+    ran = subprocess.run(words, cwd=TOP, env=variables, text=True, errors="replace", stdout=subprocess.PIPE,
+                         stderr=subprocess.STDOUT)
+    said, _, last = ran.stdout.rstrip("\n").rpartition("\n")
+    found = counts_in(last)
+    passed, failed = found or (0, 1)
+    print(f"{said if found else ran.stdout.rstrip()}\n{name}: {time.monotonic() - begun:.0f} s", flush=True)
+    return passed, max(failed, int(ran.returncode != 0))
+
+
+def main() -> int:
+    if len(sys.argv) < 2 or sys.argv[1] in ("-h", "--help"):
+        sys.exit((__doc__ or "").strip())
+    program, *names = sys.argv[1:]
+    variables = {**os.environ, "ARENA_PROGRAM": str(pathlib.Path(program).resolve())}
+    names = names or sorted(f"{path.parent.name}.{path.stem}" for path
+                            in (TOP / "tests" / "integration").glob("*/test_*.py"))
+    with concurrent.futures.ThreadPoolExecutor(len(os.sched_getaffinity(0))) as pool:
+        found = list(pool.map(lambda name: counts_of(name, variables), names))
+    passed, failed = map(sum, zip(*found))
+    return concluded(passed, failed)
+
+
+if __name__ == "__main__":
+    sys.exit(main())

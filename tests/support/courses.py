@@ -1,0 +1,24 @@
+"""What the tests of graded courses share: the tables of a course's file, and the rows of its results by team."""
+import pathlib
+from typing import Any, Dict, Sequence
+
+from arena_lab.sweep import tables
+from tests.support.matches import AGENTS
+
+HEAD = 'title = "A trial"\nnetworks = ["ring:4"]\nholes = [2]\nlimit = 60\n'
+
+
+def team(name: str, files: Sequence[Any], command: str, agents: int = 2) -> str:
+    """The table of a team in a course's file."""
+    return f'[[team]]\nname = "{name}"\nagents = {agents}\nfiles = {list(map(str, files))}\ncommand = "{command}"\n'
+
+
+HONEST = team("right", [AGENTS / "client.py", AGENTS / "ring.py"], "python3 ring.py {host} {port} {key} {nodes}")
+
+
+def rows_of_teams(out: pathlib.Path) -> Dict[str, Any]:
+    """The rows of each team in a folder of results."""
+    found: Dict[str, Any] = {}
+    for row in tables.rows_in(out / tables.RUNS):
+        found.setdefault(row["team"], []).append(row)
+    return found
