@@ -18,7 +18,8 @@ def called() -> str:
 
 def with_one_order() -> None:
     """Starts this process anew if Python draws in which order sets of texts are gone through: agents inside the lab
-    would do other things from start to start. Workers and programs have the same order then."""
+    would do other things from start to start. Workers and programs have the same order then.
+    """
     if os.environ.get("PYTHONHASHSEED") != "0":
         os.environ["PYTHONHASHSEED"] = "0"
         os.execv(sys.executable, [sys.executable, *sys.orig_argv[1:]])

@@ -31,25 +31,51 @@ class Command(NamedTuple):
 COMMANDS = {
     "new": Command("begin an agent in one of seven languages or as a module", ()),
     "examples": Command("say where the examples stand, or copy them", ()),
-    "play": Command("be the agents yourself, in the terminal or on a page", PAGES + ("aiohttp",)),
+    "play": Command(
+        "be the agents yourself, in the terminal or on a page", PAGES + ("aiohttp",)
+    ),
     "run": Command("play a team under schedules of a scheduler", PLAYS + PAGES),
-    "check": Command("check an agent before it is handed in", PLAYS + PAGES + ("hypothesis",)),
-    "hunt": Command("look for a schedule after which the team fails, or moves most", PLAYS + PAGES + ("hypothesis",)),
+    "check": Command(
+        "check an agent before it is handed in", PLAYS + PAGES + ("hypothesis",)
+    ),
+    "hunt": Command(
+        "look for a schedule after which the team fails, or moves most",
+        PLAYS + PAGES + ("hypothesis",),
+    ),
     "explore": Command("try every schedule of a small network", PLAYS + PAGES),
-    "adversary": Command("make two agents on a ring move as much as every team must", PLAYS + PAGES),
-    "invariant": Command("try a candidate invariant on every picture of small networks", PLAYS + PAGES),
+    "adversary": Command(
+        "make two agents on a ring move as much as every team must", PLAYS + PAGES
+    ),
+    "invariant": Command(
+        "try a candidate invariant on every picture of small networks", PLAYS + PAGES
+    ),
     "replay": Command("play a schedule again, and compare every byte", PLAYS + PAGES),
-    "serve": Command("a stand-in for `arena serve`, to try agents without building the program", ()),
+    "serve": Command(
+        "a stand-in for `arena serve`, to try agents without building the program", ()
+    ),
     "network": Command("write a network file, or a page to see it", ("networkx",)),
-    "tournament": Command("write a tournament of teams, networks and black holes, or another try of a match",
-                          ("networkx",)),
-    "sweep": Command("play teams over a grid of networks and schedules, and write a report",
-                     PLAYS + PAGES + ("matplotlib",)),
-    "grade": Command("grade the programs of a course, or repeat a graded course once more", PLAYS + PAGES),
-    "hall": Command("serve a hall, where teams practise, try again, and are ranked for a term",
-                    PLAYS + PAGES + ("django", "rest_framework", "waitress", "whitenoise")),
-    "page": Command("write a page of a match that has ended, or of each match of a contest", PAGES),
-    "watch": Command("show a contest that goes on, for a projector", PAGES + ("aiohttp",)),
+    "tournament": Command(
+        "write a tournament of teams, networks and black holes, or another try of a match",
+        ("networkx",),
+    ),
+    "sweep": Command(
+        "play teams over a grid of networks and schedules, and write a report",
+        PLAYS + PAGES + ("matplotlib",),
+    ),
+    "grade": Command(
+        "grade the programs of a course, or repeat a graded course once more",
+        PLAYS + PAGES,
+    ),
+    "hall": Command(
+        "serve a hall, where teams practise, try again, and are ranked for a term",
+        PLAYS + PAGES + ("django", "rest_framework", "waitress", "whitenoise"),
+    ),
+    "page": Command(
+        "write a page of a match that has ended, or of each match of a contest", PAGES
+    ),
+    "watch": Command(
+        "show a contest that goes on, for a projector", PAGES + ("aiohttp",)
+    ),
 }
 
 ABOUT = """Plays agents under a schedule that you choose, records it, and plays it again byte for byte.
@@ -61,11 +87,17 @@ STATUS = """exit status: 0 if all went well, 1 if a team fails or engines differ
 if it was stopped too early to say"""
 
 
-def parser(name_of_lab: str = IN_CLONE, called: Collection[str] = tuple(COMMANDS)) -> argparse.ArgumentParser:
+def parser(
+    name_of_lab: str = IN_CLONE, called: Collection[str] = tuple(COMMANDS)
+) -> argparse.ArgumentParser:
     """Reads the command line of the lab under this name. Only the commands that are called have their words: each
     imports its own part of the lab."""
-    made = argparse.ArgumentParser(name_of_lab, description=ABOUT.replace(IN_CLONE, name_of_lab), epilog=STATUS,
-                                   formatter_class=argparse.RawDescriptionHelpFormatter)
+    made = argparse.ArgumentParser(
+        name_of_lab,
+        description=ABOUT.replace(IN_CLONE, name_of_lab),
+        epilog=STATUS,
+        formatter_class=argparse.RawDescriptionHelpFormatter,
+    )
     commands = made.add_subparsers(required=True, metavar="COMMAND", dest="command")
     for name, command in COMMANDS.items():
         if name not in called:
@@ -73,8 +105,13 @@ def parser(name_of_lab: str = IN_CLONE, called: Collection[str] = tuple(COMMANDS
             continue
         module = importlib.import_module(f"arena_lab.commands.{name}")
         about = (module.__doc__ or "").replace(IN_CLONE, name_of_lab)
-        words = commands.add_parser(name, help=command.about, description=about, epilog=STATUS,
-                                    formatter_class=argparse.RawDescriptionHelpFormatter)
+        words = commands.add_parser(
+            name,
+            help=command.about,
+            description=about,
+            epilog=STATUS,
+            formatter_class=argparse.RawDescriptionHelpFormatter,
+        )
         module.add_words(words)
         spellings.take_old_spellings(words)
         call_by(name_of_lab, words)
@@ -87,7 +124,9 @@ def call_by(name: str, words: argparse.ArgumentParser) -> None:
     for action in words._actions:
         action.help = action.help and action.help.replace(IN_CLONE, name)
     for group in words._action_groups:
-        group.description = group.description and group.description.replace(IN_CLONE, name)
+        group.description = group.description and group.description.replace(
+            IN_CLONE, name
+        )
 
 
 def main(given: Optional[List[str]] = None) -> int:
@@ -115,7 +154,10 @@ def main(given: Optional[List[str]] = None) -> int:
         return 2
     except (Fault, OSError) as fault:
         said = told_of(fault, COMMANDS[words.command])
-        print(said if isinstance(fault, EngineRefused) else f"arena-lab: {said}", file=sys.stderr)
+        print(
+            said if isinstance(fault, EngineRefused) else f"arena-lab: {said}",
+            file=sys.stderr,
+        )
         return fault.status if isinstance(fault, Fault) else 2
 
 
@@ -127,7 +169,11 @@ def told_of(fault: Exception, command: Command) -> str:
         # all that the command will ask for: who installs them once is not sent back
         return str(Missing([*fault.modules, *missing_of(command.needs)]))
     if isinstance(fault, OSError) and fault.filename is not None and fault.strerror:
-        said = "there is no such file or folder" if isinstance(fault, FileNotFoundError) else fault.strerror.lower()
+        said = (
+            "there is no such file or folder"
+            if isinstance(fault, FileNotFoundError)
+            else fault.strerror.lower()
+        )
         return f"{os.fsdecode(fault.filename)}: {said}"
     return str(fault)
 

@@ -25,14 +25,34 @@ verified, "program" for the program that `./arena-lab` takes, or the path of a p
 import contextlib
 import importlib
 import pathlib
-from typing import Any, Callable, Dict, Iterable, List, NamedTuple, Optional, Sequence, Union
+from typing import (
+    Any,
+    Callable,
+    Dict,
+    Iterable,
+    List,
+    NamedTuple,
+    Optional,
+    Sequence,
+    Union,
+)
 
 from arena_lab.play.agent_files import NoAgent, client_module
 from arena_lab.play.bounds import LIMIT
 from arena_lab.play.games import Asked, Record, Row, SchedulerName, play_again, rows_of
 from arena_lab.play.schedulers import NAMED as SCHEDULERS
 from arena_lab.play.schedules import Schedule
-from arena_lab.play.teams import BOARD, INSIDE, NAPS, OUTSIDE, QUOTA, AgentWords, Game, agent_named, filled
+from arena_lab.play.teams import (
+    BOARD,
+    INSIDE,
+    NAPS,
+    OUTSIDE,
+    QUOTA,
+    AgentWords,
+    Game,
+    agent_named,
+    filled,
+)
 from arena_lab.rules import networks
 from arena_lab.rules.engines import MODEL, PROGRAM, name_of, program_at
 from arena_lab.rules.model import Place, Verdict
@@ -48,8 +68,24 @@ from arena_lab.search.program_search import SampleRequest
 from arena_lab.support.built import NoProgram
 from arena_lab.support.progress import bar
 
-__all__ = ["SCHEDULERS", "Exploration", "Game", "HuntResult", "Network", "Record", "Row", "SampleRequest",
-           "SearchResult", "client", "engine_name", "explore", "game", "hunt", "play", "program"]
+__all__ = [
+    "SCHEDULERS",
+    "Exploration",
+    "Game",
+    "HuntResult",
+    "Network",
+    "Record",
+    "Row",
+    "SampleRequest",
+    "SearchResult",
+    "client",
+    "engine_name",
+    "explore",
+    "game",
+    "hunt",
+    "play",
+    "program",
+]
 
 AgentLike = Union[str, AgentWords, Callable[..., None]]
 NetworkLike = Union[str, Network, Any]
@@ -70,20 +106,34 @@ def agent_of(agent: AgentLike) -> AgentWords:
     if isinstance(agent, str):
         return agent_named(INSIDE, agent)
     if not callable(agent):
-        raise NoAgent(f"{agent!r} is no agent: name a file, or give a function of an agent and its key")
+        raise NoAgent(
+            f"{agent!r} is no agent: name a file, or give a function of an agent and its key"
+        )
     return AgentWords(INSIDE, f"function:{getattr(agent, '__name__', 'agent')}", agent)
 
 
-def team_of(agents: Union[AgentLike, Sequence[AgentLike]], count: Optional[int]) -> List[AgentWords]:
+def team_of(
+    agents: Union[AgentLike, Sequence[AgentLike]], count: Optional[int]
+) -> List[AgentWords]:
     """The agents of a team."""
     is_list = isinstance(agents, (list, tuple)) and not isinstance(agents, AgentWords)
     named = [agent_of(it) for it in agents] if is_list else [agent_of(agents)]  # type: ignore[union-attr, arg-type]
     return filled(named, count)
 
 
-def game(network: NetworkLike, agents: Union[AgentLike, Sequence[AgentLike]], *, count: Optional[int] = None,
-         home: int = 0, holes: Iterable[int] = (), dark: Iterable[Place] = (), quota: int = QUOTA, board: int = BOARD,
-         naps: int = NAPS, limit: float = LIMIT) -> Game:
+def game(
+    network: NetworkLike,
+    agents: Union[AgentLike, Sequence[AgentLike]],
+    *,
+    count: Optional[int] = None,
+    home: int = 0,
+    holes: Iterable[int] = (),
+    dark: Iterable[Place] = (),
+    quota: int = QUOTA,
+    board: int = BOARD,
+    naps: int = NAPS,
+    limit: float = LIMIT,
+) -> Game:
     """What is played. If neither `holes` nor `dark` destroys, each seed has a black hole of its own. A dark link is
     (node, port)."""
     if isinstance(network, str):
@@ -91,9 +141,21 @@ def game(network: NetworkLike, agents: Union[AgentLike, Sequence[AgentLike]], *,
     elif isinstance(network, Network):
         name, found = f"{network.nodes} nodes", network
     else:
-        name, found = str(getattr(network, "name", "")) or f"graph of {len(network)} nodes", networks.of_graph(network)
-    return Game(name, networks.checked(found, name), team_of(agents, count), home, sorted(holes), list(dark), quota,
-                board, naps, limit)
+        name, found = str(
+            getattr(network, "name", "")
+        ) or f"graph of {len(network)} nodes", networks.of_graph(network)
+    return Game(
+        name,
+        networks.checked(found, name),
+        team_of(agents, count),
+        home,
+        sorted(holes),
+        list(dark),
+        quota,
+        board,
+        naps,
+        limit,
+    )
 
 
 def path_of(engine: str) -> Optional[str]:
@@ -103,8 +165,10 @@ def path_of(engine: str) -> Optional[str]:
     try:
         return program_at(None if engine == PROGRAM else engine)
     except NoProgram as fault:
-        raise NoProgram(f"{fault}; or give engine={MODEL!r}: the Python model needs none, and nothing of it is "
-                        "proved") from None
+        raise NoProgram(
+            f"{fault}; or give engine={MODEL!r}: the Python model needs none, and nothing of it is "
+            "proved"
+        ) from None
 
 
 def engine_name(engine: str) -> str:
@@ -112,12 +176,22 @@ def engine_name(engine: str) -> str:
     return name_of(path_of(engine))
 
 
-def play(network: NetworkLike, agents: Union[AgentLike, Sequence[AgentLike]], scheduler: SchedulerName = "fair",
-         seeds: Union[int, Iterable[int]] = 1, *, engine: str = MODEL, workers: int = 1, **more: Any) -> List[Row]:
+def play(
+    network: NetworkLike,
+    agents: Union[AgentLike, Sequence[AgentLike]],
+    scheduler: SchedulerName = "fair",
+    seeds: Union[int, Iterable[int]] = 1,
+    *,
+    engine: str = MODEL,
+    workers: int = 1,
+    **more: Any,
+) -> List[Row]:
     """Plays a match for each seed, and gives their rows. `seeds` is how many, or which; `more` is what `game` takes."""
     asked_game, path = game(network, agents, **more), path_of(engine)
     if isinstance(seeds, int) and seeds < 0:
-        raise ValueError(f"seeds is how many there are, or a list of which, and not {seeds}")
+        raise ValueError(
+            f"seeds is how many there are, or a list of which, and not {seeds}"
+        )
     numbers = range(seeds) if isinstance(seeds, int) else seeds
     asked = [Asked(asked_game, scheduler, seed, path) for seed in numbers]
     return [row.forget() for row in rows_of(asked, workers)]
@@ -148,8 +222,13 @@ class Exploration(NamedTuple):
         return self.worst.verdict.moves if self.worst else None
 
     def __str__(self) -> str:
-        said = "a schedule fails" if self.fails else "no schedule fails, of the Python model" if self.is_whole else (
-            "stopped before all were visited; no schedule failed until then")
+        said = (
+            "a schedule fails"
+            if self.fails
+            else "no schedule fails, of the Python model"
+            if self.is_whole
+            else ("stopped before all were visited; no schedule failed until then")
+        )
         worst = f"; {said_of(self.worst)}" if self.worst else ""
         return f"{self.states} states in {self.seconds:.1f} s: {said}{worst}"
 
@@ -190,15 +269,24 @@ class SearchResult(NamedTuple):
 
     @property
     def most_moves(self) -> Optional[int]:
-        return max((row["moves"] for row in self.rows if row["moves"] is not None), default=None)
+        return max(
+            (row["moves"] for row in self.rows if row["moves"] is not None),
+            default=None,
+        )
 
     @property
     def most_lost(self) -> Optional[int]:
-        return max((row["lost"] for row in self.rows if row["lost"] is not None), default=None)
+        return max(
+            (row["lost"] for row in self.rows if row["lost"] is not None), default=None
+        )
 
     def frame(self) -> Any:
         """The rows as a frame of pandas, or as a list of dicts if pandas is missing."""
-        return pandas_or_none().DataFrame(self.rows) if pandas_or_none() else list(self.rows)
+        return (
+            pandas_or_none().DataFrame(self.rows)
+            if pandas_or_none()
+            else list(self.rows)
+        )
 
     def __str__(self) -> str:
         if self.fails:
@@ -206,8 +294,11 @@ class SearchResult(NamedTuple):
         elif not self.is_whole:
             said = "stopped before all were visited; no schedule failed until then"
         else:
-            what = "no drawn schedule fails, which says nothing of the others" if self.is_drawn else \
-                "every schedule that the lab tried solves"
+            what = (
+                "no drawn schedule fails, which says nothing of the others"
+                if self.is_drawn
+                else "every schedule that the lab tried solves"
+            )
             said = f"{what}; most moves {self.most_moves}, most agents lost {self.most_lost}; {self.checked}"
         return f"{self.states} states in {self.seconds:.1f} s: {said}"
 
@@ -223,31 +314,57 @@ def pandas_or_none() -> Any:
         return None
 
 
-def explore(network: Union[NetworkLike, Sequence[NetworkLike]], agents: Union[AgentLike, Sequence[AgentLike]], *,
-            states: Optional[int] = None, engine: str = MODEL, draws: Optional[SampleRequest] = None,
-            check: int = CHECKED, **more: Any) -> Union[Exploration, SearchResult]:
+def explore(
+    network: Union[NetworkLike, Sequence[NetworkLike]],
+    agents: Union[AgentLike, Sequence[AgentLike]],
+    *,
+    states: Optional[int] = None,
+    engine: str = MODEL,
+    draws: Optional[SampleRequest] = None,
+    check: int = CHECKED,
+    **more: Any,
+) -> Union[Exploration, SearchResult]:
     """Tries every schedule on a network, or on several: a list, or a range of sizes such as "ring:3..8". Each node but
     the home base is the black hole unless something that destroys is named. The program tries them, up to the first
     match that fails; with `draws` it draws schedules instead. The engine "model" searches without it. Of `check` drawn
     schedules the agents play on each network, what they do is compared with what they answered. `states`
-    are the most of a match to visit: as many as take half of the memory that is left, unless you name a number."""
-    all_asked, path = [game(one, agents, **more) for one in networks_in(network)], path_of(engine)
+    are the most of a match to visit: as many as take half of the memory that is left, unless you name a number.
+    """
+    all_asked, path = [
+        game(one, agents, **more) for one in networks_in(network)
+    ], path_of(engine)
     if path is not None:
         most = exploring.MOST_STATES if draws is not None else fitting(OF_PROGRAM)
-        return by_program(all_asked, ExploreJob(all_asked[0].matches(), path, states or most, check, draws))
+        return by_program(
+            all_asked,
+            ExploreJob(all_asked[0].matches(), path, states or most, check, draws),
+        )
     if draws is not None:
         raise ValueError("draws need a program: name it by engine, or hunt")
     with bar(None, "state") as shown:
-        by_game = [(one, list(exploring.tried(one, states or fitting(OF_MODEL), shown))) for one in all_asked]
+        by_game = [
+            (one, list(exploring.tried(one, states or fitting(OF_MODEL), shown)))
+            for one in all_asked
+        ]
     found = [it for _, of_one in by_game for it in of_one]
     worst, record = max(found, key=exploring.Explored.rank), None
     if worst.explorer.worst:
-        record = play_again(worst.schedule(next(one for one, of_one in by_game if worst in of_one)), path)
-    return Exploration(sum(one.explorer.states() for one in found), all(one.is_whole for one in found),
-                       worst.rank()[0], sum(one.seconds for one in found), record)
+        record = play_again(
+            worst.schedule(next(one for one, of_one in by_game if worst in of_one)),
+            path,
+        )
+    return Exploration(
+        sum(one.explorer.states() for one in found),
+        all(one.is_whole for one in found),
+        worst.rank()[0],
+        sum(one.seconds for one in found),
+        record,
+    )
 
 
-def networks_in(network: Union[NetworkLike, Sequence[NetworkLike]]) -> List[NetworkLike]:
+def networks_in(
+    network: Union[NetworkLike, Sequence[NetworkLike]]
+) -> List[NetworkLike]:
     """The networks that are named, each by itself."""
     if isinstance(network, (list, tuple)) and not isinstance(network, Network):
         return [found for one in network for found in networks_in(one)]
@@ -277,17 +394,32 @@ def failing(given: Game, tried: MatchResult) -> Schedule:
     except NoFunction:
         if not tried.answered.modules:
             raise
-        raise NoFunction(f"a schedule fails; {unkept(turns_of(told_in(tried)))}") from None
+        raise NoFunction(
+            f"a schedule fails; {unkept(turns_of(told_in(tried)))}"
+        ) from None
 
 
 def row_of(given: Game, tried: MatchResult) -> Dict[str, Any]:
     """A match that was tried, as a row: what was found, in how many states, and the most moves and lost agents. What
     the program does not say is None."""
-    setup, answered, found, drawn = tried.fixture.setup, tried.answered, tried.answered.found, tried.answered.drawn
-    return {"network": given.name, "nodes": setup.nodes, "home": setup.home, "holes": setup.holes,
-            "found": found and kind_of(type(found)), "states": answered.states,
-            **{name: getattr(found, name, None) for name in ("moves", "lost", "turns")},
-            "drawn": drawn and drawn.solved + drawn.failed, "seconds": answered.seconds, "why": answered.why}
+    setup, answered, found, drawn = (
+        tried.fixture.setup,
+        tried.answered,
+        tried.answered.found,
+        tried.answered.drawn,
+    )
+    return {
+        "network": given.name,
+        "nodes": setup.nodes,
+        "home": setup.home,
+        "holes": setup.holes,
+        "found": found and kind_of(type(found)),
+        "states": answered.states,
+        **{name: getattr(found, name, None) for name in ("moves", "lost", "turns")},
+        "drawn": drawn and drawn.solved + drawn.failed,
+        "seconds": answered.seconds,
+        "why": answered.why,
+    }
 
 
 class HuntResult(NamedTuple):
@@ -302,23 +434,43 @@ class HuntResult(NamedTuple):
         return self.best.verdict
 
     def __str__(self) -> str:
-        said = "the team fails" if self.fails else "the team solved its network under each"
+        said = (
+            "the team fails" if self.fails else "the team solved its network under each"
+        )
         return f"{self.tried} schedules were tried: {said}; {said_of(self.best)}"
 
     def _repr_html_(self) -> str:
         return f"<p>{self}</p>{self.best._repr_html_()}"
 
 
-def hunt(network: NetworkLike, agents: Union[AgentLike, Sequence[AgentLike]], looking_for: str = hunting.FAILURE, *,
-         runs: int = hunting.RUNS, seed: int = 0, any_home: bool = False,
-         database: Union[None, str, pathlib.Path] = None, engine: str = MODEL, **more: Any) -> HuntResult:
+def hunt(
+    network: NetworkLike,
+    agents: Union[AgentLike, Sequence[AgentLike]],
+    looking_for: str = hunting.FAILURE,
+    *,
+    runs: int = hunting.RUNS,
+    seed: int = 0,
+    any_home: bool = False,
+    database: Union[None, str, pathlib.Path] = None,
+    engine: str = MODEL,
+    **more: Any,
+) -> HuntResult:
     """Looks for a schedule after which the team fails, or with the most "moves" or "lost" agents. The Python model
-    searches, and the engine plays what is found. Earlier finds are tried first if a `database`, a folder, is named."""
+    searches, and the engine plays what is found. Earlier finds are tried first if a `database`, a folder, is named.
+    """
     if looking_for not in (hunting.FAILURE, hunting.MOVES, hunting.LOST):
-        raise ValueError(f"{looking_for}: look for {hunting.FAILURE}, {hunting.MOVES} or {hunting.LOST}")
+        raise ValueError(
+            f"{looking_for}: look for {hunting.FAILURE}, {hunting.MOVES} or {hunting.LOST}"
+        )
     path = path_of(engine)
-    asked = hunting.Hunt(game(network, agents, **more), looking_for, any_home, runs, seed,
-                         pathlib.Path(database) if database else None)
+    asked = hunting.Hunt(
+        game(network, agents, **more),
+        looking_for,
+        any_home,
+        runs,
+        seed,
+        pathlib.Path(database) if database else None,
+    )
     with bar(runs, "schedule") as shown, contextlib.suppress(KeyboardInterrupt):
         hunter = hunting.Hunter(asked, shown)
         hunting.hunted(hunter)

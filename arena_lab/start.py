@@ -11,8 +11,10 @@ def arena() -> int:
     line of a contest's log."""
     program = built.ARENA.in_release()
     if program is None:
-        print("arena: no program was installed with this lab: take a release whose name has your machine",
-              file=sys.stderr)
+        print(
+            "arena: no program was installed with this lab: take a release whose name has your machine",
+            file=sys.stderr,
+        )
         return 1
     build = program.with_name("BUILD")
     if sys.argv[1:] == ["--version"] and build.is_file():
@@ -28,4 +30,5 @@ def lab() -> int:
     """Runs the lab."""
     with_one_order()
     from arena_lab.__main__ import main
+
     return main()

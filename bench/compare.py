@@ -39,7 +39,9 @@ def by_ports(nodes: int, pairs: Iterable[Pair]) -> str:
 
 
 def complete(nodes: int) -> str:
-    return by_ports(nodes, [(one, two) for one in range(nodes) for two in range(one + 1, nodes)])
+    return by_ports(
+        nodes, [(one, two) for one in range(nodes) for two in range(one + 1, nodes)]
+    )
 
 
 def sparse(nodes: int) -> str:
@@ -56,7 +58,9 @@ def sparse(nodes: int) -> str:
 
 def worst_dense(nodes: int) -> str:
     """All but two nodes are linked each to each, and two more hang on the last two of them."""
-    pairs = [(one, two) for one in range(nodes - 2) for two in range(one + 1, nodes - 2)]
+    pairs = [
+        (one, two) for one in range(nodes - 2) for two in range(one + 1, nodes - 2)
+    ]
     last, other = nodes - 4, nodes - 3
     pairs += [(last, nodes - 2), (other, nodes - 1), (nodes - 2, nodes - 1)]
     return by_ports(nodes, pairs)
@@ -76,7 +80,8 @@ def filled(lines: Iterable[str]) -> str:
 def entries(matches: int, agents: int) -> List[str]:
     return [
         '%d {"do":"enter","key":"%s"}' % (game * agents + agent, key(game, agent))
-        for game in range(matches) for agent in range(agents)
+        for game in range(matches)
+        for agent in range(agents)
     ]
 
 
@@ -113,22 +118,36 @@ def made(folder: pathlib.Path) -> List[Input]:
         ("longest texts", 1, 16, BOARD, filled(texts())),
     ]
     for place, (title, matches, agents, board, text) in enumerate(scripts):
-        (folder / f"t{place}.toml").write_text(tournament("torus.toml", matches, agents, board, 1))
+        (folder / f"t{place}.toml").write_text(
+            tournament("torus.toml", matches, agents, board, 1)
+        )
         source = folder / f"script{place}"
         source.write_text(text)
-        inputs.append((f"rehearse: {title}, {text.count(chr(10))} lines", ["rehearse", f"t{place}.toml"], source))
+        inputs.append(
+            (
+                f"rehearse: {title}, {text.count(chr(10))} lines",
+                ["rehearse", f"t{place}.toml"],
+                source,
+            )
+        )
     (folder / "empty").write_text("")
     for shape in (complete, sparse, worst_dense):
         for nodes in (128, 256):
             name = f"{shape.__name__}{nodes}"
             (folder / f"{name}.toml").write_text(shape(nodes))
-            (folder / f"of-{name}.toml").write_text(tournament(f"{name}.toml", 1, 2, 8, 1))
-            title = f"check: {shape.__name__.replace('_', ' ')} network of {nodes} nodes"
+            (folder / f"of-{name}.toml").write_text(
+                tournament(f"{name}.toml", 1, 2, 8, 1)
+            )
+            title = (
+                f"check: {shape.__name__.replace('_', ' ')} network of {nodes} nodes"
+            )
             inputs.append((title, ["check", f"of-{name}.toml"], folder / "empty"))
     return inputs
 
 
-def compared(chosen: Callable[[Sequence[float]], float], seconds: List[List[float]]) -> str:
+def compared(
+    chosen: Callable[[Sequence[float]], float], seconds: List[List[float]]
+) -> str:
     """What is chosen of the times of each of two programs, and the ratio."""
     one, two = map(chosen, zip(*seconds))
     return f"{one * 1000:.2f} ms, {two * 1000:.2f} ms, ratio {one / two:.2f}"
@@ -144,7 +163,7 @@ def line_of(title: str, runs: List[List[Run]]) -> str:
 
 def main() -> int:
     keeps = sys.argv[1:2] == ["--keep"]
-    named = sys.argv[2 if keeps else 1:]
+    named = sys.argv[2 if keeps else 1 :]
     if len(named) != 2 or any(word.startswith("-") for word in named):
         sys.exit(__doc__.strip())
     programs = [str(pathlib.Path(word).resolve()) for word in named]
@@ -152,9 +171,17 @@ def main() -> int:
     with tempfile.TemporaryDirectory() as name:
         folder = pathlib.Path(name)
         for title, words, source in made(folder):
-            runs = [[run(program, words, source, folder, keeps) for program in programs] for _ in range(ROUNDS)]
+            runs = [
+                [run(program, words, source, folder, keeps) for program in programs]
+                for _ in range(ROUNDS)
+            ]
             print(line_of(title, runs), flush=True)
-            if len({printed_by(program, words, source, folder) for program in programs}) > 1:
+            if (
+                len(
+                    {printed_by(program, words, source, folder) for program in programs}
+                )
+                > 1
+            ):
                 differs = True
                 print(f"{title}: the programs do not print the same")
     return 1 if differs else 0

@@ -70,27 +70,41 @@ def alone(fixture: Fixture, answers: Answers, states: int) -> Tuple[float, float
         write_tournament(fixture, folder)
         (folder / "answers").write_bytes(b"".join(answers.lines))
         with (folder / "answers").open("rb") as lines:
-            return watched(subprocess.Popen(program_words(PROGRAM, fixture, states), cwd=name, stdin=lines,
-                                            stdout=subprocess.DEVNULL))
+            return watched(
+                subprocess.Popen(
+                    program_words(PROGRAM, fixture, states),
+                    cwd=name,
+                    stdin=lines,
+                    stdout=subprocess.DEVNULL,
+                )
+            )
 
 
 def by_module(fixture: Fixture, module: str, states: int) -> Taken:
     """What one match takes whose agents run a module (a word of `--module`), all schedules of which solve it."""
     started = time.monotonic()
-    with tempfile.TemporaryDirectory(prefix="bench-") as name, tempfile.TemporaryFile() as printed:
+    with tempfile.TemporaryDirectory(
+        prefix="bench-"
+    ) as name, tempfile.TemporaryFile() as printed:
         write_tournament(fixture, pathlib.Path(name))
         words = [*program_words(PROGRAM, fixture, states), "--module", module]
-        program, memory = watched(subprocess.Popen(words, cwd=name, stdin=subprocess.DEVNULL, stdout=printed))
+        program, memory = watched(
+            subprocess.Popen(words, cwd=name, stdin=subprocess.DEVNULL, stdout=printed)
+        )
         printed.seek(0)
         told, counts = (json.loads(line) for line in printed.read().splitlines()[:2])
     found, whole = solved(finding_of(told)), time.monotonic() - started
-    return Taken(counts["states"], found.moves, found.lost, whole, program, program, memory)
+    return Taken(
+        counts["states"], found.moves, found.lost, whole, program, program, memory
+    )
 
 
 def solved(found: Optional[Finding]) -> Solves:
     """What is found of a match, if it is that every schedule solves it."""
     if not isinstance(found, Solves):
-        raise SystemExit(f"{PROGRAM} does not say that every schedule solves it: {found}")
+        raise SystemExit(
+            f"{PROGRAM} does not say that every schedule solves it: {found}"
+        )
     return found
 
 
@@ -108,17 +122,34 @@ def watched(child: "subprocess.Popen[bytes]") -> Tuple[float, float]:
 
 def processor_seconds() -> float:
     """The seconds of a processor that the lab and the programs that it waited for have taken so far."""
-    return sum(used.ru_utime + used.ru_stime for used in map(resource.getrusage, (OWN, CHILDREN)))
+    return sum(
+        used.ru_utime + used.ru_stime
+        for used in map(resource.getrusage, (OWN, CHILDREN))
+    )
 
 
 def tried(fixture: Fixture, machines: Machines, states: int) -> Taken:
     """What one match takes, all schedules of which solve it."""
-    answers, started, before, plain = Answers(), time.monotonic(), processor_seconds(), ProgramRun.answer
-    with mock.patch.object(ProgramRun, "answer", lambda run, question: answers.noted(plain(run, question))):
+    answers, started, before, plain = (
+        Answers(),
+        time.monotonic(),
+        processor_seconds(),
+        ProgramRun.answer,
+    )
+    with mock.patch.object(
+        ProgramRun, "answer", lambda run, question: answers.noted(plain(run, question))
+    ):
         answered = asked(PROGRAM, fixture, machines, states)
     whole, processor = time.monotonic() - started, processor_seconds() - before
     found = solved(answered.found)
-    return Taken(answered.states or 0, found.moves, found.lost, whole, processor, *alone(fixture, answers, states))
+    return Taken(
+        answered.states or 0,
+        found.moves,
+        found.lost,
+        whole,
+        processor,
+        *alone(fixture, answers, states),
+    )
 
 
 def words_of(agent: str) -> str:
@@ -128,14 +159,21 @@ def words_of(agent: str) -> str:
 
 def measured_by_module(network: str, module: str, states: int) -> List[Taken]:
     """What the matches of a network take whose agents run a module with the number of nodes as its argument."""
-    given = parser().parse_args(["explore", "--network", network, "--agent", words_of("ring_step")])
+    given = parser().parse_args(
+        ["explore", "--network", network, "--agent", words_of("ring_step")]
+    )
     [game] = games_of(given)
-    return [by_module(fixture, f"{AGENTS / module}:{fixture.setup.nodes}", states) for fixture in game.fixtures()]
+    return [
+        by_module(fixture, f"{AGENTS / module}:{fixture.setup.nodes}", states)
+        for fixture in game.fixtures()
+    ]
 
 
 def measured(network: str, agent: str, states: int) -> List[Taken]:
     """What the matches of a network take."""
-    given = parser().parse_args(["explore", "--network", network, "--agent", words_of(agent)])
+    given = parser().parse_args(
+        ["explore", "--network", network, "--agent", words_of(agent)]
+    )
     [game] = games_of(given)
     fixtures = game.fixtures()
     machines, found = Machines(fixtures[0], game.agents, game.limit), []
@@ -150,18 +188,30 @@ def measured(network: str, agent: str, states: int) -> List[Taken]:
 
 def main() -> None:
     given = argparse.ArgumentParser(description=(__doc__ or "").partition("\n")[0])
-    given.add_argument("--max-states", type=int, default=STATES, help="the most states of a match (1000000000)")
+    given.add_argument(
+        "--max-states",
+        type=int,
+        default=STATES,
+        help="the most states of a match (1000000000)",
+    )
     given.add_argument("matches", nargs="+", metavar="NETWORK=AGENT")
     words = given.parse_args()
-    print("| network | agent | most moves | states | whole, s | program, s | states a second | memory, MB |")
+    print(
+        "| network | agent | most moves | states | whole, s | program, s | states a second | memory, MB |"
+    )
     print("|---|---|---|---|---|---|---|---|")
     for match in words.matches:
         network, _, agent = match.partition("=")
         found = measured(network, agent, words.max_states)
-        states, program = sum(it.states for it in found), sum(it.program for it in found)
+        states, program = sum(it.states for it in found), sum(
+            it.program for it in found
+        )
         moves, whole = max(it.moves for it in found), sum(it.whole for it in found)
-        print(f"| {network} | {agent} | {moves} | {states:,} | {whole:.1f} | {program:.1f} | {states / program:,.0f} | "
-              f"{max(it.memory for it in found):.0f} |", flush=True)
+        print(
+            f"| {network} | {agent} | {moves} | {states:,} | {whole:.1f} | {program:.1f} | {states / program:,.0f} | "
+            f"{max(it.memory for it in found):.0f} |",
+            flush=True,
+        )
 
 
 if __name__ == "__main__":

@@ -43,7 +43,10 @@ depend on the machine and its load, so compare figures within one section only.
 """
 SECTION = re.compile(r"<!-- figures ([\w-]+) -->\n(.*?)<!-- end of \1 -->\n", re.DOTALL)
 TITLE = re.compile(r"## (.+)\n\n")
-MEASURED = re.compile(r"^Measured at (`\w+`[\w ]*), (\d{4}-\d\d-\d\d); (.+?); (.+?)\.\n\n", re.MULTILINE | re.DOTALL)
+MEASURED = re.compile(
+    r"^Measured at (`\w+`[\w ]*), (\d{4}-\d\d-\d\d); (.+?); (.+?)\.\n\n",
+    re.MULTILINE | re.DOTALL,
+)
 WIDTH = 120
 
 Cells = Sequence[str]
@@ -66,7 +69,8 @@ class Setting(NamedTuple):
 
 class Benchmark(NamedTuple):
     """A benchmark: the title of its section, its command, and the text that its output gives. `needs` says what is
-    missing, if anything is; `build` names the build, if it is not that of the setting."""
+    missing, if anything is; `build` names the build, if it is not that of the setting.
+    """
 
     title: str
     words: Callable[[Setting], List[str]]
@@ -105,7 +109,10 @@ def steps_text(printed: str) -> str:
 
 
 def submit_text(printed: str) -> str:
-    rows = found_in(r"lock (\w+) threads (\d+) matches (\d+) commands (\d+) kept \d+ in a second (\d+)", printed)
+    rows = found_in(
+        r"lock (\w+) threads (\d+) matches (\d+) commands (\d+) kept \d+ in a second (\d+)",
+        printed,
+    )
     return table(("lock", "threads", "matches", "commands", "commands a second"), rows)
 
 
@@ -115,17 +122,40 @@ def stages_text(printed: str) -> str:
 
 
 def rehearse_text(printed: str) -> str:
-    scripts = found_in(r"(\d+) lines, (\d+) bytes: ([\d.]+) s, (\d+) lines per second, peak (\d+) KiB", printed)
+    scripts = found_in(
+        r"(\d+) lines, (\d+) bytes: ([\d.]+) s, (\d+) lines per second, peak (\d+) KiB",
+        printed,
+    )
     starts = found_in(r"start, (.+): ([\d.]+) ms", printed)
-    return (table(("lines", "bytes", "seconds", "lines a second", "peak, KiB"), scripts) + "\n"
-            + table(("start without a line of", "milliseconds"), ([f"`{words}`", ms] for words, ms in starts)))
+    return (
+        table(("lines", "bytes", "seconds", "lines a second", "peak, KiB"), scripts)
+        + "\n"
+        + table(
+            ("start without a line of", "milliseconds"),
+            ([f"`{words}`", ms] for words, ms in starts),
+        )
+    )
 
 
 def compare_text(printed: str) -> str:
     pair = r"([\d.]+) ms, ([\d.]+) ms, ratio ([\d.]+)"
-    rows = found_in(rf"(.+): {pair}; processor {pair}; peak ([\d.]+) KiB, ([\d.]+) KiB", printed)
-    return table(("input", "ms", "other, ms", "ratio", "processor ms", "other, ms", "ratio", "peak, KiB", "other, KiB"),
-                 rows)
+    rows = found_in(
+        rf"(.+): {pair}; processor {pair}; peak ([\d.]+) KiB, ([\d.]+) KiB", printed
+    )
+    return table(
+        (
+            "input",
+            "ms",
+            "other, ms",
+            "ratio",
+            "processor ms",
+            "other, ms",
+            "ratio",
+            "peak, KiB",
+            "other, KiB",
+        ),
+        rows,
+    )
 
 
 def replays_text(printed: str) -> str:
@@ -135,55 +165,114 @@ def replays_text(printed: str) -> str:
         kind = re.match(r"(.+): (\d+) events, (\d+) bytes\n", part)
         if not kind:
             continue
-        timed = re.findall(r"^  (\w+): ([\d.]+) s, [\d.]+ us an event, peak (\d+) KiB$", part, re.MULTILINE)
-        tenth = re.findall(r"^  \w+: the whole takes ([\d.]+) times as long", part, re.MULTILINE)
+        timed = re.findall(
+            r"^  (\w+): ([\d.]+) s, [\d.]+ us an event, peak (\d+) KiB$",
+            part,
+            re.MULTILINE,
+        )
+        tenth = re.findall(
+            r"^  \w+: the whole takes ([\d.]+) times as long", part, re.MULTILINE
+        )
         if not tenth:
-            rows += ([*kind.groups(), f"`{word}`", seconds, peak] for word, seconds, peak in timed)
+            rows += (
+                [*kind.groups(), f"`{word}`", seconds, peak]
+                for word, seconds, peak in timed
+            )
         else:
-            for row, times in zip(rows[-len(tenth):], tenth):
+            for row, times in zip(rows[-len(tenth) :], tenth):
                 row.append(times)
     if not rows or any(len(row) != 7 for row in rows):
         raise ValueError("a replay has no figures")
-    return table(("replay", "events", "bytes", "command", "seconds", "peak, KiB", "times a tenth of it"), rows)
+    return table(
+        (
+            "replay",
+            "events",
+            "bytes",
+            "command",
+            "seconds",
+            "peak, KiB",
+            "times a tenth of it",
+        ),
+        rows,
+    )
 
 
 def serve_text(printed: str) -> str:
     """Two tables, of commands one at a time and of many at once, and the lines below them."""
-    lines = [line.split() for line in printed.splitlines() if re.match(r"(looks|moves|writes) ", line)]
+    lines = [
+        line.split()
+        for line in printed.splitlines()
+        if re.match(r"(looks|moves|writes) ", line)
+    ]
     one = [cells[:1] + cells[2:] for cells in lines if cells[1] == "one"]
     many = [cells[:1] + cells[2:] for cells in lines if cells[1] == "many"]
     if not one or not many:
         raise ValueError("the table of loads is missing")
     head = ("commands", "sessions", "sent", "a second", "echo", "ratio")
     more = re.findall(r"^(?:\w+: peak|.+ wanted: ).*$", printed, re.MULTILINE)
-    return ("One command at a time; answer times in microseconds:\n\n"
-            + table((*head, "median", "99th percentile", "median, echo", "99th percentile, echo"), one)
-            + "\nMany commands at once, beside an echo that answers many by one write, and one that writes each:\n\n"
-            + table((*head, "echo that writes each", "ratio"), many)
-            + "\n" + "".join(f"- {line}\n" for line in more))
+    return (
+        "One command at a time; answer times in microseconds:\n\n"
+        + table(
+            (
+                *head,
+                "median",
+                "99th percentile",
+                "median, echo",
+                "99th percentile, echo",
+            ),
+            one,
+        )
+        + "\nMany commands at once, beside an echo that answers many by one write, and one that writes each:\n\n"
+        + table((*head, "echo that writes each", "ratio"), many)
+        + "\n"
+        + "".join(f"- {line}\n" for line in more)
+    )
 
 
 def lab_text(printed: str) -> str:
     rows = found_in(r"(.+), (.+): (\d+) steps a second", printed)
     states = found_in(r"explore: (\d+) states a second()", printed)[0][0]
-    return table(("engine", "agents", "steps a second"), rows) + f"\n`explore` visited {states} states a second.\n"
+    return (
+        table(("engine", "agents", "steps a second"), rows)
+        + f"\n`explore` visited {states} states a second.\n"
+    )
 
 
 def flood_text(printed: str) -> str:
-    rows = found_in(r"(\d+) strangers a second: (\d+ of \d+) teams solved their networks; the slowest enter took "
-                    r"(\d+) ms, the slowest of (\d+) commands (\d+) ms, 99 of 100 at most ([\d.]+) ms", printed)
-    return table(("strangers a second", "teams that solved", "slowest enter, ms", "commands", "slowest command, ms",
-                  "99 of 100 commands, ms"), rows)
+    rows = found_in(
+        r"(\d+) strangers a second: (\d+ of \d+) teams solved their networks; the slowest enter took "
+        r"(\d+) ms, the slowest of (\d+) commands (\d+) ms, 99 of 100 at most ([\d.]+) ms",
+        printed,
+    )
+    return table(
+        (
+            "strangers a second",
+            "teams that solved",
+            "slowest enter, ms",
+            "commands",
+            "slowest command, ms",
+            "99 of 100 commands, ms",
+        ),
+        rows,
+    )
 
 
 def looks_text(printed: str) -> str:
-    return table(("after", "peak memory, MB", "seconds"), found_in(r"(.+): ([\d.]+) MB, ([\d.]+) s", printed))
+    return table(
+        ("after", "peak memory, MB", "seconds"),
+        found_in(r"(.+): ([\d.]+) MB, ([\d.]+) s", printed),
+    )
 
 
 def results_text(printed: str) -> str:
     """The lines of a tool that count or say what passed, an item each."""
-    return lines_text("\n".join(line for line in printed.splitlines()
-                                if re.match(r"(ok|FAILED|\d+ passed|\d+ skipped|Ran \d+ tests)", line)))
+    return lines_text(
+        "\n".join(
+            line
+            for line in printed.splitlines()
+            if re.match(r"(ok|FAILED|\d+ passed|\d+ skipped|Ran \d+ tests)", line)
+        )
+    )
 
 
 def lines_text(printed: str) -> str:
@@ -264,61 +353,166 @@ def without_benchmark(setting: Setting) -> str:
 
 def instructions_words(setting: Setting) -> List[str]:
     programs = [str(path) for path in (setting.program, setting.other) if path]
-    return of_python("bench.instructions", *programs, *(["--peer", str(setting.peer)] if setting.peer else []))
+    return of_python(
+        "bench.instructions",
+        *programs,
+        *(["--peer", str(setting.peer)] if setting.peer else []),
+    )
 
 
 def without_other(setting: Setting) -> str:
     return "" if setting.other else "name another build by --other"
 
 
-EXPLORED = ["ring:8=ring_step", "ring:16=ring_step", "ring:24=ring_step", "ring:27=ring_step", "ring:6=ring"]
-TRAPS = ["--contests", "5", "--nodes", "32", "--pause", "2", "--timeouts", "512", "1500", "--traps", "--turns", "30000"]
+EXPLORED = [
+    "ring:8=ring_step",
+    "ring:16=ring_step",
+    "ring:24=ring_step",
+    "ring:27=ring_step",
+    "ring:6=ring",
+]
+TRAPS = [
+    "--contests",
+    "5",
+    "--nodes",
+    "32",
+    "--pause",
+    "2",
+    "--timeouts",
+    "512",
+    "1500",
+    "--traps",
+    "--turns",
+    "30000",
+]
 BENCHMARKS: Dict[str, Benchmark] = {
-    "gate": Benchmark("The gate", lambda at: [sys.executable, "tools/prove/gate_times"], gate_text, build="the proofs"),
-    "steps": Benchmark("Steps", lambda at: [str(at.benchmark), "step", "2000000", "time"], steps_text,
-                       without_benchmark, "the proved program"),
-    "submit": Benchmark("Commands under locks", lambda at: [str(at.benchmark), "submit", "20", "time"], submit_text,
-                        without_benchmark, "the proved program"),
-    "stages": Benchmark("Stages of a line", lambda at: [str(at.benchmark), "stages", "200000", "time"], stages_text,
-                        without_benchmark, "the proved program"),
-    "rehearse": Benchmark("Rehearsals", lambda at: of_python("bench.rehearse", str(at.program)), rehearse_text),
-    "compare": Benchmark("Speed beside another build",
-                         lambda at: of_python("bench.compare", str(at.program), str(at.other)), compare_text,
-                         without_other),
-    "instructions": Benchmark("Instructions", instructions_words, noted_text(INSTRUCTIONS_NOTE),
-                              lambda at: "" if instructions.has_valgrind() else "valgrind is not installed"),
-    "replays": Benchmark("Replays", lambda at: of_python("bench.replays", str(at.program)), replays_text),
-    "serve": Benchmark("The server's speed", lambda at: of_python("bench.serve"), serve_text),
-    "lab": Benchmark("The lab", lambda at: of_debians("bench.speed", "--program", str(at.program)), lab_text),
-    "explore": Benchmark("Every schedule", lambda at: of_debians("bench.explore", *EXPLORED), noted_text(EXPLORE_NOTE)),
-    "spin": Benchmark("Every schedule beside SPIN", lambda at: of_debians("bench.spin"), noted_text(SPIN_NOTE),
-                      lambda at: "" if promela.HAS_SPIN else "spin is not installed"),
-    "hunts": Benchmark("Hunts", lambda at: of_debians("bench.hunts"), noted_text(HUNTS_NOTE),
-                       build="the Python model"),
-    "waits": Benchmark("Waiting", lambda at: of_python("bench.waits"), noted_text(WAITS_NOTE)),
-    "timeouts": Benchmark("Timeouts", lambda at: of_python("bench.timeouts", "--pause", "5"),
-                          noted_text(TIMEOUTS_NOTE)),
-    "traps": Benchmark("Timeouts and traps", lambda at: of_python("bench.timeouts", *TRAPS), noted_text(TRAPS_NOTE)),
-    "flood": Benchmark("A flood of strangers", lambda at: of_python("bench.flood"), noted_text(FLOOD_NOTE, flood_text)),
-    "looks": Benchmark("Memory of looks", lambda at: of_python("bench.looks"), noted_text(LOOKS_NOTE, looks_text)),
-    "bare": Benchmark("A bare Debian", lambda at: of_debians("tests.release.bare", "--program", str(at.program)),
-                      noted_text(BARE_NOTE, results_text)),
-    "hall": Benchmark("A hall", lambda at: of_debians("bench.hall", "--program", str(at.program)),
-                      noted_text(HALL_NOTE, lines_text)),
+    "gate": Benchmark(
+        "The gate",
+        lambda at: [sys.executable, "tools/prove/gate_times"],
+        gate_text,
+        build="the proofs",
+    ),
+    "steps": Benchmark(
+        "Steps",
+        lambda at: [str(at.benchmark), "step", "2000000", "time"],
+        steps_text,
+        without_benchmark,
+        "the proved program",
+    ),
+    "submit": Benchmark(
+        "Commands under locks",
+        lambda at: [str(at.benchmark), "submit", "20", "time"],
+        submit_text,
+        without_benchmark,
+        "the proved program",
+    ),
+    "stages": Benchmark(
+        "Stages of a line",
+        lambda at: [str(at.benchmark), "stages", "200000", "time"],
+        stages_text,
+        without_benchmark,
+        "the proved program",
+    ),
+    "rehearse": Benchmark(
+        "Rehearsals",
+        lambda at: of_python("bench.rehearse", str(at.program)),
+        rehearse_text,
+    ),
+    "compare": Benchmark(
+        "Speed beside another build",
+        lambda at: of_python("bench.compare", str(at.program), str(at.other)),
+        compare_text,
+        without_other,
+    ),
+    "instructions": Benchmark(
+        "Instructions",
+        instructions_words,
+        noted_text(INSTRUCTIONS_NOTE),
+        lambda at: "" if instructions.has_valgrind() else "valgrind is not installed",
+    ),
+    "replays": Benchmark(
+        "Replays", lambda at: of_python("bench.replays", str(at.program)), replays_text
+    ),
+    "serve": Benchmark(
+        "The server's speed", lambda at: of_python("bench.serve"), serve_text
+    ),
+    "lab": Benchmark(
+        "The lab",
+        lambda at: of_debians("bench.speed", "--program", str(at.program)),
+        lab_text,
+    ),
+    "explore": Benchmark(
+        "Every schedule",
+        lambda at: of_debians("bench.explore", *EXPLORED),
+        noted_text(EXPLORE_NOTE),
+    ),
+    "spin": Benchmark(
+        "Every schedule beside SPIN",
+        lambda at: of_debians("bench.spin"),
+        noted_text(SPIN_NOTE),
+        lambda at: "" if promela.HAS_SPIN else "spin is not installed",
+    ),
+    "hunts": Benchmark(
+        "Hunts",
+        lambda at: of_debians("bench.hunts"),
+        noted_text(HUNTS_NOTE),
+        build="the Python model",
+    ),
+    "waits": Benchmark(
+        "Waiting", lambda at: of_python("bench.waits"), noted_text(WAITS_NOTE)
+    ),
+    "timeouts": Benchmark(
+        "Timeouts",
+        lambda at: of_python("bench.timeouts", "--pause", "5"),
+        noted_text(TIMEOUTS_NOTE),
+    ),
+    "traps": Benchmark(
+        "Timeouts and traps",
+        lambda at: of_python("bench.timeouts", *TRAPS),
+        noted_text(TRAPS_NOTE),
+    ),
+    "flood": Benchmark(
+        "A flood of strangers",
+        lambda at: of_python("bench.flood"),
+        noted_text(FLOOD_NOTE, flood_text),
+    ),
+    "looks": Benchmark(
+        "Memory of looks",
+        lambda at: of_python("bench.looks"),
+        noted_text(LOOKS_NOTE, looks_text),
+    ),
+    "bare": Benchmark(
+        "A bare Debian",
+        lambda at: of_debians("tests.release.bare", "--program", str(at.program)),
+        noted_text(BARE_NOTE, results_text),
+    ),
+    "hall": Benchmark(
+        "A hall",
+        lambda at: of_debians("bench.hall", "--program", str(at.program)),
+        noted_text(HALL_NOTE, lines_text),
+    ),
 }
 
 
 def shown(words: Sequence[str]) -> str:
     """A command as one types it at the top of the repository."""
-    return shlex.join("python3" if word == sys.executable else word.replace(f"{TOP}/", "") for word in words)
+    return shlex.join(
+        "python3" if word == sys.executable else word.replace(f"{TOP}/", "")
+        for word in words
+    )
 
 
 def section(name: str, printed: str, setting: Setting) -> str:
     """The section of a benchmark, made of what the benchmark printed."""
     benchmark = BENCHMARKS[name]
-    where = textwrap.fill(f"Measured at {setting.place}; {benchmark.build or setting.build}; {setting.machine}.", WIDTH)
-    return (f"<!-- figures {name} -->\n## {benchmark.title}\n\n{where}\n\n"
-            f"    {shown(benchmark.words(setting))}\n\n{benchmark.text(printed)}<!-- end of {name} -->\n")
+    where = textwrap.fill(
+        f"Measured at {setting.place}; {benchmark.build or setting.build}; {setting.machine}.",
+        WIDTH,
+    )
+    return (
+        f"<!-- figures {name} -->\n## {benchmark.title}\n\n{where}\n\n"
+        f"    {shown(benchmark.words(setting))}\n\n{benchmark.text(printed)}<!-- end of {name} -->\n"
+    )
 
 
 def page(sections: Dict[str, str]) -> str:
@@ -327,9 +521,16 @@ def page(sections: Dict[str, str]) -> str:
     rows = []
     for name in names:
         title, measured = TITLE.search(sections[name]), MEASURED.findall(sections[name])
-        rows += [[title[1] if title else name, *(cell.replace("\n", " ") for cell in cells)] for cells in measured]
-    return HEAD + table(("figures", "commit", "day", "build", "machine"), rows) + "\n" + "\n".join(
-        sections[name] for name in names)
+        rows += [
+            [title[1] if title else name, *(cell.replace("\n", " ") for cell in cells)]
+            for cells in measured
+        ]
+    return (
+        HEAD
+        + table(("figures", "commit", "day", "build", "machine"), rows)
+        + "\n"
+        + "\n".join(sections[name] for name in names)
+    )
 
 
 def sections_of(text: str) -> Dict[str, str]:
@@ -344,8 +545,14 @@ def run(words: Sequence[str], setting: Setting) -> Tuple[int, str]:
     """Runs a command, and gives its status and what it printed. Its standard error is passed on, except that a build
     without a proof says so at each start."""
     with tempfile.TemporaryFile("w+") as printed:
-        with subprocess.Popen(words, cwd=TOP, stdout=printed, stderr=subprocess.PIPE, text=True,
-                              env={**os.environ, "ARENA": shlex.quote(str(setting.program))}) as child:
+        with subprocess.Popen(
+            words,
+            cwd=TOP,
+            stdout=printed,
+            stderr=subprocess.PIPE,
+            text=True,
+            env={**os.environ, "ARENA": shlex.quote(str(setting.program))},
+        ) as child:
             for line in child.stderr:
                 sys.stderr.write(built.without_warning(line))
         printed.seek(0)
@@ -359,7 +566,9 @@ def measured(name: str, setting: Setting) -> Optional[str]:
     begun = time.monotonic()
     status, printed = run(words, setting)
     if status != 0:
-        say(f"{name}: failed with status {status}; its section stays as it was\n{printed.rstrip()}")
+        say(
+            f"{name}: failed with status {status}; its section stays as it was\n{printed.rstrip()}"
+        )
         return None
     try:
         found = section(name, printed, setting)
@@ -372,14 +581,24 @@ def measured(name: str, setting: Setting) -> Optional[str]:
 
 def place() -> str:
     """The commit, whether the tree has changed since, and the day."""
+
     def git(*words: str) -> str:
-        return subprocess.run(["git", *words], cwd=TOP, capture_output=True, text=True, check=True).stdout.strip()
-    changed = " with changes" if git("status", "--porcelain", "--untracked-files=no") else ""
+        return subprocess.run(
+            ["git", *words], cwd=TOP, capture_output=True, text=True, check=True
+        ).stdout.strip()
+
+    changed = (
+        " with changes" if git("status", "--porcelain", "--untracked-files=no") else ""
+    )
     return f"`{git('rev-parse', '--short', 'HEAD')}`{changed}, {datetime.date.today()}"
 
 
 def machine() -> str:
-    model = re.search(r"^model name\s*: (.+)$", pathlib.Path("/proc/cpuinfo").read_text(), re.MULTILINE)
+    model = re.search(
+        r"^model name\s*: (.+)$",
+        pathlib.Path("/proc/cpuinfo").read_text(),
+        re.MULTILINE,
+    )
     count = len(os.sched_getaffinity(0))
     processors = "1 processor" if count == 1 else f"{count} processors"
     model_name = f", {model[1].rstrip('.')}" if model else ""
@@ -387,25 +606,67 @@ def machine() -> str:
 
 
 def asked(words: Sequence[str]) -> argparse.Namespace:
-    names = "".join(f"    {name:<11} {benchmark.title}\n" for name, benchmark in BENCHMARKS.items())
-    parser = argparse.ArgumentParser(description=__doc__, epilog=f"names:\n{names}",
-                                     formatter_class=argparse.RawDescriptionHelpFormatter)
-    parser.add_argument("--only", metavar="NAME", choices=list(BENCHMARKS), action="append", help="run this benchmark")
-    parser.add_argument("--program", metavar="PATH", type=pathlib.Path, help="the arena that is measured")
-    parser.add_argument("--other", metavar="PATH", type=pathlib.Path, help="the build beside which `compare` measures")
-    parser.add_argument("--peer", metavar="PATH", type=pathlib.Path,
-                        help="a plain program with the same commands, for `instructions`")
-    parser.add_argument("--benchmark", metavar="PATH", type=pathlib.Path, default=BENCHMARK,
-                        help="the program bhs_bench")
-    parser.add_argument("--out", metavar="FILE", type=pathlib.Path, default=PAGE, help="the page to write")
+    names = "".join(
+        f"    {name:<11} {benchmark.title}\n" for name, benchmark in BENCHMARKS.items()
+    )
+    parser = argparse.ArgumentParser(
+        description=__doc__,
+        epilog=f"names:\n{names}",
+        formatter_class=argparse.RawDescriptionHelpFormatter,
+    )
+    parser.add_argument(
+        "--only",
+        metavar="NAME",
+        choices=list(BENCHMARKS),
+        action="append",
+        help="run this benchmark",
+    )
+    parser.add_argument(
+        "--program",
+        metavar="PATH",
+        type=pathlib.Path,
+        help="the arena that is measured",
+    )
+    parser.add_argument(
+        "--other",
+        metavar="PATH",
+        type=pathlib.Path,
+        help="the build beside which `compare` measures",
+    )
+    parser.add_argument(
+        "--peer",
+        metavar="PATH",
+        type=pathlib.Path,
+        help="a plain program with the same commands, for `instructions`",
+    )
+    parser.add_argument(
+        "--benchmark",
+        metavar="PATH",
+        type=pathlib.Path,
+        default=BENCHMARK,
+        help="the program bhs_bench",
+    )
+    parser.add_argument(
+        "--out",
+        metavar="FILE",
+        type=pathlib.Path,
+        default=PAGE,
+        help="the page to write",
+    )
     return parser.parse_args(words)
 
 
 def main(words: Sequence[str]) -> int:
     given = asked(words)
     program = (given.program or built.any_program()).resolve()
-    setting = Setting(program, given.other and given.other.resolve(), given.benchmark.resolve(), place(), machine(),
-                      given.peer and given.peer.resolve())
+    setting = Setting(
+        program,
+        given.other and given.other.resolve(),
+        given.benchmark.resolve(),
+        place(),
+        machine(),
+        given.peer and given.peer.resolve(),
+    )
     status = 0
     for name in given.only or BENCHMARKS:
         missing = BENCHMARKS[name].needs(setting)

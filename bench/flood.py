@@ -43,6 +43,7 @@ SAID = (b"", b'{"do":"enter","key"', b'{"do":"enter","key":"nobody"}\n')
 
 class Rules(NamedTuple):
     """What is the same in both contests."""
+
     teams: int
     nodes: int
     turns: int
@@ -51,6 +52,7 @@ class Rules(NamedTuple):
 
 class Waits(NamedTuple):
     """How many seconds agents waited for their enters, and for their other commands."""
+
     enters: List[float]
     others: List[float]
 
@@ -146,23 +148,45 @@ def heard(client: Any) -> bool:
 def contest(rules: Rules, rate: float) -> Tuple[str, float, Waits]:
     """The table of a contest under a flood, how many clients a second it had, and how long the agents waited."""
     keys = [f"t{team}-{agent}" for team in range(rules.teams) for agent in range(2)]
-    shares = [keys[place:place + 2 * SHARE] for place in range(0, len(keys), 2 * SHARE)]
+    shares = [
+        keys[place : place + 2 * SHARE] for place in range(0, len(keys), 2 * SHARE)
+    ]
     with tempfile.TemporaryDirectory() as folder_name:
         folder = pathlib.Path(folder_name)
-        write_cup(folder, [match(f"t{team}", ring(rules.nodes), [rules.nodes // 2], quota=QUOTA, board=BOARD)
-                           for team in range(rules.teams)], seed="07" * 32)
-        with serving(folder, MAX_SESSIONS, rules.turns, rules.pause, "--early") as server:
+        write_cup(
+            folder,
+            [
+                match(
+                    f"t{team}",
+                    ring(rules.nodes),
+                    [rules.nodes // 2],
+                    quota=QUOTA,
+                    board=BOARD,
+                )
+                for team in range(rules.teams)
+            ],
+            seed="07" * 32,
+        )
+        with serving(
+            folder, MAX_SESSIONS, rules.turns, rules.pause, "--early"
+        ) as server:
             port = server.port
             stop, count = multiprocessing.Event(), multiprocessing.Value("q", 0)
-            flooding = multiprocessing.Process(target=flood, args=(port, rate, stop, count), daemon=True)
+            flooding = multiprocessing.Process(
+                target=flood, args=(port, rate, stop, count), daemon=True
+            )
             flooding.start()
             time.sleep(1.0 if rate else 0.0)
             begun, before, found = time.monotonic(), count.value, Waits([], [])
             table: List[str] = []
-            reading = threading.Thread(target=lambda: table.append(server.child.stdout.read().decode()))
+            reading = threading.Thread(
+                target=lambda: table.append(server.child.stdout.read().decode())
+            )
             reading.start()
             with concurrent.futures.ProcessPoolExecutor(len(shares)) as pool:
-                for waits in pool.map(share, [port] * len(shares), [rules.nodes] * len(shares), shares):
+                for waits in pool.map(
+                    share, [port] * len(shares), [rules.nodes] * len(shares), shares
+                ):
                     found.add(waits)
             had = (count.value - before) / (time.monotonic() - begun)
             stop.set()
@@ -176,19 +200,36 @@ def told(rules: Rules, rate: float) -> str:
     table, had, waits = contest(rules, rate)
     solved = sum(row.split()[2] == "solved" for row in table.splitlines()[1:])
     others = sorted(waits.others)
-    return (f"{had:.0f} strangers a second: {solved} of {rules.teams} teams solved their networks; the slowest enter "
-            f"took {1000 * max(waits.enters):.0f} ms, the slowest of {len(others)} commands "
-            f"{1000 * others[-1]:.0f} ms, "
-            f"99 of 100 at most {1000 * others[len(others) * 99 // 100]:.1f} ms")
+    return (
+        f"{had:.0f} strangers a second: {solved} of {rules.teams} teams solved their networks; the slowest enter "
+        f"took {1000 * max(waits.enters):.0f} ms, the slowest of {len(others)} commands "
+        f"{1000 * others[-1]:.0f} ms, "
+        f"99 of 100 at most {1000 * others[len(others) * 99 // 100]:.1f} ms"
+    )
 
 
 def main(arguments: List[str]) -> int:
-    parser = argparse.ArgumentParser(description=__doc__, formatter_class=argparse.RawDescriptionHelpFormatter)
-    parser.add_argument("--teams", type=int, default=50, help="teams of two agents (default: 50)")
-    parser.add_argument("--nodes", type=int, default=16, help="nodes of the ring (default: 16)")
-    parser.add_argument("--rate", type=float, default=500, help="strangers a second (default: 500)")
-    parser.add_argument("--turns", type=int, default=100_000, help="turns of a match (default: 100,000)")
-    parser.add_argument("--pause", type=int, default=5, help="milliseconds before each turn (default: 5)")
+    parser = argparse.ArgumentParser(
+        description=__doc__, formatter_class=argparse.RawDescriptionHelpFormatter
+    )
+    parser.add_argument(
+        "--teams", type=int, default=50, help="teams of two agents (default: 50)"
+    )
+    parser.add_argument(
+        "--nodes", type=int, default=16, help="nodes of the ring (default: 16)"
+    )
+    parser.add_argument(
+        "--rate", type=float, default=500, help="strangers a second (default: 500)"
+    )
+    parser.add_argument(
+        "--turns", type=int, default=100_000, help="turns of a match (default: 100,000)"
+    )
+    parser.add_argument(
+        "--pause",
+        type=int,
+        default=5,
+        help="milliseconds before each turn (default: 5)",
+    )
     given = parser.parse_args(arguments)
     prepare(8192)
     rules = Rules(given.teams, given.nodes, given.turns, given.pause)

@@ -60,7 +60,11 @@ class Load:
         began = time.monotonic()
         told = self._hall.ask(how, path, self._tokens[name], body)
         self.asked.append(time.monotonic() - began)
-        return told.json() if told.status in (200, 201) else {"state": f"refused {told.status}"}
+        return (
+            told.json()
+            if told.status in (200, 201)
+            else {"state": f"refused {told.status}"}
+        )
 
     def at(self, moment: float, does: Callable[[str], None], name: str) -> None:
         """What a team does at a time."""
@@ -102,14 +106,20 @@ class Load:
             told = self.request("GET", f"/api/matches/{told['id']}", name)
         for agent in agents:
             agent.wait()
-        came = told["verdicts"][0]["outcome"] if told["verdicts"] else f"{told['state']} {told['fault']}"
+        came = (
+            told["verdicts"][0]["outcome"]
+            if told["verdicts"]
+            else f"{told['state']} {told['fault']}"
+        )
         self.outcomes[came] += 1
 
     def flood(self, name: str) -> None:
         """Requests of a team as fast as they are answered."""
         while not self.is_over.is_set():
             with contextlib.suppress(OSError, http.client.HTTPException):
-                self.flooded[self._hall.ask("GET", "/api/standings", self._tokens[name]).status] += 1
+                self.flooded[
+                    self._hall.ask("GET", "/api/standings", self._tokens[name]).status
+                ] += 1
 
 
 def seconds_of(hall: Served) -> float:
@@ -117,8 +127,12 @@ def seconds_of(hall: Served) -> float:
     total = 0
     for path in pathlib.Path("/proc").glob("[0-9]*/stat"):
         with contextlib.suppress(OSError):
-            if str(hall.folder) in (path.parent / "environ").read_bytes().decode(errors="replace"):
-                total += sum(map(int, path.read_text().rpartition(")")[2].split()[11:15]))
+            if str(hall.folder) in (path.parent / "environ").read_bytes().decode(
+                errors="replace"
+            ):
+                total += sum(
+                    map(int, path.read_text().rpartition(")")[2].split()[11:15])
+                )
     return total / os.sysconf("SC_CLK_TCK")
 
 
@@ -128,8 +142,12 @@ def served(teams: int) -> Iterator[Served]:
     with tempfile.TemporaryDirectory(prefix="hall-") as name:
         hall = Served(pathlib.Path(name), workers=2)
         hall.lease = USUAL_LEASE
-        hall.course.write_text(COURSE.format(first=21_000, last=21_199) + "".join(
-            f'[[team]]\nname = "team{number}"\n' for number in range(teams + 1)))
+        hall.course.write_text(
+            COURSE.format(first=21_000, last=21_199)
+            + "".join(
+                f'[[team]]\nname = "team{number}"\n' for number in range(teams + 1)
+            )
+        )
         try:
             hall.start()
             yield hall
@@ -151,10 +169,18 @@ def run(words: argparse.Namespace) -> None:
         began = time.monotonic()
         names = [f"team{number % words.teams}" for number in range(words.attempts)]
         handed = [f"team{number % words.teams}" for number in range(words.hand_ins)]
-        teams = [threading.Thread(target=load.at, args=(began + chance.uniform(0, words.minutes * 60), does, name))
-                 for does, those in ((load.ask_and_play, names), (load.hand_in, handed)) for name in those]
-        floods = [threading.Thread(target=load.flood, args=(f"team{words.teams}",))
-                  for _ in range(0 if words.no_flood else FLOODS)]
+        teams = [
+            threading.Thread(
+                target=load.at,
+                args=(began + chance.uniform(0, words.minutes * 60), does, name),
+            )
+            for does, those in ((load.ask_and_play, names), (load.hand_in, handed))
+            for name in those
+        ]
+        floods = [
+            threading.Thread(target=load.flood, args=(f"team{words.teams}",))
+            for _ in range(0 if words.no_flood else FLOODS)
+        ]
         for thread in [*teams, *floods]:
             thread.start()
         for thread in teams:
@@ -163,25 +189,62 @@ def run(words: argparse.Namespace) -> None:
         load.is_over.set()
         for thread in floods:
             thread.join()
-        print(f"{words.attempts} attempts and {words.hand_ins} programs of {words.teams} teams in {took / 60:.1f} "
-              f"minutes: {dict(load.outcomes)}")
-        print(f"from the request to the keys, median, 99 of 100, most: {told(load.waited)}")
+        print(
+            f"{words.attempts} attempts and {words.hand_ins} programs of {words.teams} teams in {took / 60:.1f} "
+            f"minutes: {dict(load.outcomes)}"
+        )
+        print(
+            f"from the request to the keys, median, 99 of 100, most: {told(load.waited)}"
+        )
         if load.graded:
-            print(f"from a hand-in to its grade, median, 99 of 100, most: {told(load.graded)}")
-        print(f"{len(load.asked)} requests of these teams, median, 99 of 100, most: {told(load.asked)}")
+            print(
+                f"from a hand-in to its grade, median, 99 of 100, most: {told(load.graded)}"
+            )
+        print(
+            f"{len(load.asked)} requests of these teams, median, 99 of 100, most: {told(load.asked)}"
+        )
         print(f"the flood: {dict(load.flooded)}")
-        print(f"the hall took {seconds_of(hall):.0f} processor seconds; servers left: {len(hall.servers())}")
+        print(
+            f"the hall took {seconds_of(hall):.0f} processor seconds; servers left: {len(hall.servers())}"
+        )
 
 
 def main() -> None:
-    parser = argparse.ArgumentParser("python3 -m bench.hall", description=__doc__,
-                                     formatter_class=argparse.RawDescriptionHelpFormatter)
-    parser.add_argument("--teams", metavar="N", type=int, default=60, help="how many teams (60)")
-    parser.add_argument("--attempts", metavar="N", type=int, default=600, help="how many attempts in all (600)")
-    parser.add_argument("--hand-ins", metavar="N", type=int, default=60, help="how many programs in all (60)")
-    parser.add_argument("--minutes", metavar="N", type=float, default=60, help="in how many minutes they begin (60)")
-    parser.add_argument("--no-flood", action="store_true", help="without the team that floods")
-    parser.add_argument("--program", metavar="PATH", help="the program (the proved one if it is built)")
+    parser = argparse.ArgumentParser(
+        "python3 -m bench.hall",
+        description=__doc__,
+        formatter_class=argparse.RawDescriptionHelpFormatter,
+    )
+    parser.add_argument(
+        "--teams", metavar="N", type=int, default=60, help="how many teams (60)"
+    )
+    parser.add_argument(
+        "--attempts",
+        metavar="N",
+        type=int,
+        default=600,
+        help="how many attempts in all (600)",
+    )
+    parser.add_argument(
+        "--hand-ins",
+        metavar="N",
+        type=int,
+        default=60,
+        help="how many programs in all (60)",
+    )
+    parser.add_argument(
+        "--minutes",
+        metavar="N",
+        type=float,
+        default=60,
+        help="in how many minutes they begin (60)",
+    )
+    parser.add_argument(
+        "--no-flood", action="store_true", help="without the team that floods"
+    )
+    parser.add_argument(
+        "--program", metavar="PATH", help="the program (the proved one if it is built)"
+    )
     words = parser.parse_args()
     os.environ["ARENA_PROGRAM"] = program_at(words.program)
     run(words)

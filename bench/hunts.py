@@ -53,34 +53,64 @@ def hunts(name: str, seed: int) -> Optional[int]:
 def runs(name: str, seed: int, most: int) -> Optional[int]:
     """After how many schedules `run` finds that the team fails; None if not within this number."""
     game = game_of(name)
-    tried = (count for count in range(1, most + 1)
-             if play_seed(game, "fair", seed * DRAWS + count - 1, None).has_failed)
+    tried = (
+        count
+        for count in range(1, most + 1)
+        if play_seed(game, "fair", seed * DRAWS + count - 1, None).has_failed
+    )
     return next(tried, None)
 
 
 def cells(found: Sequence[Optional[int]], most: int) -> List[str]:
     """The median and the most of some counts."""
     known = [most + 1 if count is None else count for count in found]
-    return [f"more than {most}" if count > most else f"{count:g}" for count in (median(known), max(known))]
+    return [
+        f"more than {most}" if count > most else f"{count:g}"
+        for count in (median(known), max(known))
+    ]
 
 
 def main(words: Sequence[str]) -> int:
-    parser = argparse.ArgumentParser(prog="python3 -m bench.hunts", description=__doc__,
-                                     formatter_class=argparse.RawDescriptionHelpFormatter)
-    parser.add_argument("names", metavar="NAME", nargs="*", help="which of them; all by default")
-    parser.add_argument("--seeds", type=int, default=SEEDS, metavar="N", help="how many seeds (%(default)s)")
-    parser.add_argument("--most", type=int, default=MOST, metavar="N",
-                        help="after how many schedules `run` is given up (%(default)s)")
+    parser = argparse.ArgumentParser(
+        prog="python3 -m bench.hunts",
+        description=__doc__,
+        formatter_class=argparse.RawDescriptionHelpFormatter,
+    )
+    parser.add_argument(
+        "names", metavar="NAME", nargs="*", help="which of them; all by default"
+    )
+    parser.add_argument(
+        "--seeds",
+        type=int,
+        default=SEEDS,
+        metavar="N",
+        help="how many seeds (%(default)s)",
+    )
+    parser.add_argument(
+        "--most",
+        type=int,
+        default=MOST,
+        metavar="N",
+        help="after how many schedules `run` is given up (%(default)s)",
+    )
     given = parser.parse_args(words)
-    print("| agent | network | hunt: median | hunt: most | run: median | run: most |\n"
-          "| --- | --- | --- | --- | --- | --- |")
+    print(
+        "| agent | network | hunt: median | hunt: most | run: median | run: most |\n"
+        "| --- | --- | --- | --- | --- | --- |"
+    )
     is_behind = False
     for name in given.names or sorted(PLANS):
         by_hunt = [hunts(name, seed) for seed in range(given.seeds)]
         by_run = [runs(name, seed, given.most) for seed in range(given.seeds)]
-        is_behind |= any((hunt or given.most + 1) > (run or given.most + 1) for hunt, run in zip(by_hunt, by_run))
-        print(f"| `{name}` | {PLANS[name].hunted.network} | "
-              f"{' | '.join(cells(by_hunt, given.most) + cells(by_run, given.most))} |", flush=True)
+        is_behind |= any(
+            (hunt or given.most + 1) > (run or given.most + 1)
+            for hunt, run in zip(by_hunt, by_run)
+        )
+        print(
+            f"| `{name}` | {PLANS[name].hunted.network} | "
+            f"{' | '.join(cells(by_hunt, given.most) + cells(by_run, given.most))} |",
+            flush=True,
+        )
     return int(is_behind)
 
 

@@ -20,8 +20,14 @@ def key(game: int, agent: int) -> str:
     return f"k{game}-{agent}"
 
 
-def tournament(name: str, matches: int, agents: int, board: int, version: int = 2,
-               holes: Sequence[Sequence[int]] = ()) -> str:
+def tournament(
+    name: str,
+    matches: int,
+    agents: int,
+    board: int,
+    version: int = 2,
+    holes: Sequence[Sequence[int]] = (),
+) -> str:
     """A tournament of matches on one network, each of its own team, with the largest quota. The first of them have
     these black holes, which takes version 2; the others are practice matches."""
     parts = [f'version = {version}\nseed = "{"0" * 64}"\n']
@@ -39,6 +45,7 @@ def tournament(name: str, matches: int, agents: int, board: int, version: int = 
 class Run(NamedTuple):
     """One run of a program: the seconds that it took, those that a processor worked for it, and the most memory, in
     KiB, that it held."""
+
     seconds: float
     processor: float
     peak: int
@@ -51,27 +58,53 @@ def timer() -> str:
     atexit.register(folder.cleanup)
     made = str(pathlib.Path(folder.name) / "timer")
     source = str(pathlib.Path(__file__).resolve().parent / "timer.c")
-    subprocess.run(["cc", "-O2", "-Wall", "-Wextra", "-Werror", "-o", made, source], check=True)
+    subprocess.run(
+        ["cc", "-O2", "-Wall", "-Wextra", "-Werror", "-o", made, source], check=True
+    )
     return made
 
 
-def run(program: str, words: Sequence[str], source: pathlib.Path, folder: pathlib.Path, keeps: bool = False) -> Run:
+def run(
+    program: str,
+    words: Sequence[str],
+    source: pathlib.Path,
+    folder: pathlib.Path,
+    keeps: bool = False,
+) -> Run:
     """One run of a program. What it prints goes to nobody, or is kept in memory, so that no reader and no disk is
     timed."""
     told, teller = os.pipe()
-    with open(told) as figures, open(teller, "w") as tells, open(source, "rb") as given, \
-            open(os.memfd_create("printed") if keeps else os.devnull, "wb") as taken:
+    with open(told) as figures, open(teller, "w") as tells, open(
+        source, "rb"
+    ) as given, open(
+        os.memfd_create("printed") if keeps else os.devnull, "wb"
+    ) as taken:
         command = [timer(), str(tells.fileno()), program, *words]
-        subprocess.run(command, stdin=given, stdout=taken, cwd=folder, pass_fds=[tells.fileno()], check=True)
+        subprocess.run(
+            command,
+            stdin=given,
+            stdout=taken,
+            cwd=folder,
+            pass_fds=[tells.fileno()],
+            check=True,
+        )
         tells.close()
         seconds, processor, peak = figures.read().split()
         return Run(float(seconds), float(processor), int(peak))
 
 
-def printed_by(program: str, words: Sequence[str], source: pathlib.Path, folder: pathlib.Path) -> bytes:
+def printed_by(
+    program: str, words: Sequence[str], source: pathlib.Path, folder: pathlib.Path
+) -> bytes:
     """What one run prints."""
     with open(source, "rb") as given:
-        return subprocess.run([program, *words], stdin=given, stdout=subprocess.PIPE, cwd=folder, check=True).stdout
+        return subprocess.run(
+            [program, *words],
+            stdin=given,
+            stdout=subprocess.PIPE,
+            cwd=folder,
+            check=True,
+        ).stdout
 
 
 def peak_so_far(child: subprocess.Popen) -> int:
@@ -84,7 +117,8 @@ def peak_so_far(child: subprocess.Popen) -> int:
 
 def peak_of_child(child: subprocess.Popen) -> int:
     """The most memory, in KiB, that a program holds until it ends: what the system said last before that, asked every
-    half millisecond. What the system says afterwards counts the memory of the one that started it as well."""
+    half millisecond. What the system says afterwards counts the memory of the one that started it as well.
+    """
     peak = 0
     while child.poll() is None:
         peak = max(peak, peak_so_far(child))
@@ -92,6 +126,14 @@ def peak_of_child(child: subprocess.Popen) -> int:
     return peak
 
 
-def median_run(rounds: int, program: str, words: Sequence[str], source: pathlib.Path, folder: pathlib.Path) -> Run:
+def median_run(
+    rounds: int,
+    program: str,
+    words: Sequence[str],
+    source: pathlib.Path,
+    folder: pathlib.Path,
+) -> Run:
     """Of this many runs, that with the median time."""
-    return sorted(run(program, words, source, folder) for _ in range(rounds))[rounds // 2]
+    return sorted(run(program, words, source, folder) for _ in range(rounds))[
+        rounds // 2
+    ]

@@ -58,16 +58,20 @@ Play = Callable[[Match, int], None]
 
 class Size(NamedTuple):
     """How large the inputs are: the bytes of the script, the nodes of the network, and the commands of an agent."""
+
     script: int
     nodes: int
     commands: int
 
 
-WHOLE, SMALL = Size(MAX_SCRIPT * 3 // 4, 256, MAX_QUOTA), Size(MAX_SCRIPT * 3 // 40, 64, MAX_QUOTA // 10)
+WHOLE, SMALL = Size(MAX_SCRIPT * 3 // 4, 256, MAX_QUOTA), Size(
+    MAX_SCRIPT * 3 // 40, 64, MAX_QUOTA // 10
+)
 
 
 class Work(NamedTuple):
     """What is counted: the words of a run, and its standard input."""
+
     title: str
     words: List[str]
     source: str = "empty"
@@ -75,7 +79,18 @@ class Work(NamedTuple):
 
 def entered() -> Match:
     """A match on a torus that all agents have entered."""
-    match = Match(Setup(SIDE * SIDE, torus(SIDE, SIDE).links, 0, [HOLE], AGENTS, MAX_QUOTA, BOARD, []))
+    match = Match(
+        Setup(
+            SIDE * SIDE,
+            torus(SIDE, SIDE).links,
+            0,
+            [HOLE],
+            AGENTS,
+            MAX_QUOTA,
+            BOARD,
+            [],
+        )
+    )
     for agent in range(AGENTS):
         match.tell(agent, {"do": "enter"})
     return match
@@ -111,8 +126,16 @@ def replay(play: Play, commands: int) -> Iterator[str]:
     for agent in range(AGENTS):
         match.tell(agent, {"do": "leave"})
     match.close()
-    head = {name: value for name, value in match.head().items() if name not in ("dark", "holes")}
-    lines: List[Object] = [{**head, "replay": 1, "hole": HOLE}, *match.log, {"end": len(match.log)}]
+    head = {
+        name: value
+        for name, value in match.head().items()
+        if name not in ("dark", "holes")
+    }
+    lines: List[Object] = [
+        {**head, "replay": 1, "hole": HOLE},
+        *match.log,
+        {"end": len(match.log)},
+    ]
     return (spelled(line) + "\n" for line in lines)
 
 
@@ -120,17 +143,26 @@ def written(folder: pathlib.Path, size: Size) -> List[Work]:
     """Writes the inputs, and gives what is counted on them."""
     script, lines = rehearse.script(size.script, MATCHES)
     files = {
-        "script": script, "torus.toml": text_of(torus(SIDE, SIDE)),
+        "script": script,
+        "torus.toml": text_of(torus(SIDE, SIDE)),
         "t.toml": tournament("torus.toml", MATCHES, AGENTS, BOARD, 1),
-        "complete.toml": compare.complete(size.nodes), "c.toml": tournament("complete.toml", 1, 1, BOARD, 1),
-        "moves": "".join(replay(moves, size.commands)), "texts": "".join(replay(texts, size.commands)), "empty": "",
+        "complete.toml": compare.complete(size.nodes),
+        "c.toml": tournament("complete.toml", 1, 1, BOARD, 1),
+        "moves": "".join(replay(moves, size.commands)),
+        "texts": "".join(replay(texts, size.commands)),
+        "empty": "",
     }
     for name, text in files.items():
         (folder / name).write_text(text)
-    return [Work(f"`rehearse`, {lines:,} lines", ["rehearse", "t.toml"], "script"),
-            Work(f"`check`, {size.nodes} nodes", ["check", "c.toml"]),
-            *(Work(f"`{words[0]}`, {name}", [words[0], name, *words[1:]]) for name in ("moves", "texts")
-              for words in (["judge"], ["explain", str(EXPLAINED)], ["twin", str(TWIN)]))]
+    return [
+        Work(f"`rehearse`, {lines:,} lines", ["rehearse", "t.toml"], "script"),
+        Work(f"`check`, {size.nodes} nodes", ["check", "c.toml"]),
+        *(
+            Work(f"`{words[0]}`, {name}", [words[0], name, *words[1:]])
+            for name in ("moves", "texts")
+            for words in (["judge"], ["explain", str(EXPLAINED)], ["twin", str(TWIN)])
+        ),
+    ]
 
 
 def has_valgrind() -> bool:
@@ -139,10 +171,22 @@ def has_valgrind() -> bool:
 
 def counted(program: str, work: Work, folder: pathlib.Path) -> int:
     """How many instructions a run takes."""
-    words = [VALGRIND, "--tool=callgrind", "--callgrind-out-file=/dev/null", program, *work.words]
+    words = [
+        VALGRIND,
+        "--tool=callgrind",
+        "--callgrind-out-file=/dev/null",
+        program,
+        *work.words,
+    ]
     with open(folder / work.source, "rb") as given:
-        ran = subprocess.run(words, stdin=given, stdout=subprocess.DEVNULL, stderr=subprocess.PIPE, cwd=folder,
-                             text=True)
+        ran = subprocess.run(
+            words,
+            stdin=given,
+            stdout=subprocess.DEVNULL,
+            stderr=subprocess.PIPE,
+            cwd=folder,
+            text=True,
+        )
     found = COUNTED.search(ran.stderr)
     if ran.returncode != 0 or not found:
         raise SystemExit(f"{shlex.join(words)}: status {ran.returncode}\n{ran.stderr}")
@@ -151,14 +195,21 @@ def counted(program: str, work: Work, folder: pathlib.Path) -> int:
 
 def row(work: Work, counts: Sequence[int]) -> str:
     """A row of the table: the count of the program, and of each other program the count and the ratio."""
-    others = [cell for other in counts[1:] for cell in (f"{other / 1e6:,.1f}", f"{counts[0] / other:.2f}")]
+    others = [
+        cell
+        for other in counts[1:]
+        for cell in (f"{other / 1e6:,.1f}", f"{counts[0] / other:.2f}")
+    ]
     return f"| {' | '.join([work.title, f'{counts[0] / 1e6:,.1f}', *others])} |"
 
 
 def risen(counts: Dict[str, float], kept: Dict[str, float]) -> List[str]:
     """What is wrong with the millions of instructions of some runs, by those that are kept."""
-    return [f"{title} takes {count:.2f} million instructions, and {kept.get(title, 0):.2f} are kept: see {KEPT.name}"
-            for title, count in counts.items() if count > MOST * kept.get(title, 0)]
+    return [
+        f"{title} takes {count:.2f} million instructions, and {kept.get(title, 0):.2f} are kept: see {KEPT.name}"
+        for title, count in counts.items()
+        if count > MOST * kept.get(title, 0)
+    ]
 
 
 def compare_kept(program: str) -> int:
@@ -166,7 +217,10 @@ def compare_kept(program: str) -> int:
     kept = tomllib.loads(KEPT.read_text(encoding="utf-8"))
     with tempfile.TemporaryDirectory() as name:
         folder = pathlib.Path(name)
-        counts = {work.title.replace("`", ""): counted(program, work, folder) / 1e6 for work in written(folder, SMALL)}
+        counts = {
+            work.title.replace("`", ""): counted(program, work, folder) / 1e6
+            for work in written(folder, SMALL)
+        }
     for title, count in counts.items():
         print(f"{title}: {count:.2f} million instructions", flush=True)
     wrong = risen(counts, kept)
@@ -176,13 +230,29 @@ def compare_kept(program: str) -> int:
 
 
 def given_words(words: Sequence[str]) -> argparse.Namespace:
-    parser = argparse.ArgumentParser(prog="python3 -m bench.instructions", description=__doc__,
-                                     formatter_class=argparse.RawDescriptionHelpFormatter)
-    parser.add_argument("program", nargs="?", type=pathlib.Path, default=PROGRAM, help="a built program")
-    parser.add_argument("other", nargs="?", type=pathlib.Path, help="an older build of it")
-    parser.add_argument("--peer", type=pathlib.Path, metavar="PATH", help="a plain program with the same commands")
-    parser.add_argument("--small", action="store_true", help="on inputs of a tenth of the size")
-    parser.add_argument("--kept", action="store_true", help=f"compare with {KEPT.name}, on small inputs")
+    parser = argparse.ArgumentParser(
+        prog="python3 -m bench.instructions",
+        description=__doc__,
+        formatter_class=argparse.RawDescriptionHelpFormatter,
+    )
+    parser.add_argument(
+        "program", nargs="?", type=pathlib.Path, default=PROGRAM, help="a built program"
+    )
+    parser.add_argument(
+        "other", nargs="?", type=pathlib.Path, help="an older build of it"
+    )
+    parser.add_argument(
+        "--peer",
+        type=pathlib.Path,
+        metavar="PATH",
+        help="a plain program with the same commands",
+    )
+    parser.add_argument(
+        "--small", action="store_true", help="on inputs of a tenth of the size"
+    )
+    parser.add_argument(
+        "--kept", action="store_true", help=f"compare with {KEPT.name}, on small inputs"
+    )
     return parser.parse_args(words)
 
 
@@ -200,13 +270,22 @@ def main(words: Sequence[str]) -> int:
         raise SystemExit("valgrind is missing: install Debian's package valgrind")
     if given.kept:
         return compare_kept(programs["program"])
-    head = ["millions of instructions", *(cell for name in programs for cell in (name, "ratio"))]
+    head = [
+        "millions of instructions",
+        *(cell for name in programs for cell in (name, "ratio")),
+    ]
     head.remove("ratio")
     print(f"| {' | '.join(head)} |\n|{' --- |' * len(head)}", flush=True)
     with tempfile.TemporaryDirectory() as name:
         folder = pathlib.Path(name)
         for work in written(folder, SMALL if given.small else WHOLE):
-            print(row(work, [counted(program, work, folder) for program in programs.values()]), flush=True)
+            print(
+                row(
+                    work,
+                    [counted(program, work, folder) for program in programs.values()],
+                ),
+                flush=True,
+            )
     return 0
 
 

@@ -43,18 +43,25 @@ class Agent:
         self.socket.sendall((json.dumps(command).encode() + b"\n") * times)
         for _ in range(times):
             answer = json.loads(self.answers.readline() or b"{}")
-            require(answer.get("ok") == wanted, f"{command['do']} is answered {str(answer)[:60]}")
+            require(
+                answer.get("ok") == wanted,
+                f"{command['do']} is answered {str(answer)[:60]}",
+            )
 
 
 def measured(looks: int, size: int) -> Iterator[Tuple[str, float, float]]:
     """What was done, the most memory in MB that the server has held then, and the seconds since the first look."""
     with tempfile.TemporaryDirectory() as name:
         folder = pathlib.Path(name)
-        write_cup(folder, [match("red", ring(3), [2], agents=1, quota=MOST, board=MOST)])
+        write_cup(
+            folder, [match("red", ring(3), [2], agents=1, quota=MOST, board=MOST)]
+        )
         with serving(folder, 1, TURNS, PAUSE) as server:
             agent = Agent(server.port)
             agent.say({"do": "enter", "key": "red-0"})
-            agent.say({"do": "write", "expect": "", "put": "x" * size}, wanted="written")
+            agent.say(
+                {"do": "write", "expect": "", "put": "x" * size}, wanted="written"
+            )
             yield "before the looks", peak_so_far(server.child) / 1024, 0.0
             begun, said = time.monotonic(), 0
             for quarter in range(1, 5):
@@ -62,14 +69,31 @@ def measured(looks: int, size: int) -> Iterator[Tuple[str, float, float]]:
                     together = min(TOGETHER, looks * quarter // 4 - said)
                     agent.say({"do": "look"}, together)
                     said += together
-                yield f"{said:,} looks", peak_so_far(server.child) / 1024, time.monotonic() - begun
+                yield f"{said:,} looks", peak_so_far(
+                    server.child
+                ) / 1024, time.monotonic() - begun
 
 
 def main(words_given: list) -> int:
-    parser = argparse.ArgumentParser(prog="python3 -m bench.looks", description=__doc__,
-                                     formatter_class=argparse.RawDescriptionHelpFormatter)
-    parser.add_argument("--looks", type=int, default=MOST - 1, metavar="N", help="how many looks (%(default)s)")
-    parser.add_argument("--size", type=int, default=SIZE, metavar="N", help="bytes of the text (%(default)s)")
+    parser = argparse.ArgumentParser(
+        prog="python3 -m bench.looks",
+        description=__doc__,
+        formatter_class=argparse.RawDescriptionHelpFormatter,
+    )
+    parser.add_argument(
+        "--looks",
+        type=int,
+        default=MOST - 1,
+        metavar="N",
+        help="how many looks (%(default)s)",
+    )
+    parser.add_argument(
+        "--size",
+        type=int,
+        default=SIZE,
+        metavar="N",
+        help="bytes of the text (%(default)s)",
+    )
     given = parser.parse_args(words_given)
     try:
         for what, memory, seconds in measured(given.looks, given.size):

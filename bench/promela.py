@@ -47,22 +47,42 @@ def search(model: Model, nodes: int, source: str = "") -> Searched:
         folder = pathlib.Path(name)
         text = source or (MODELS / f"{model.name}.pml").read_text(encoding="utf-8")
         (folder / "model.pml").write_text(text, encoding="utf-8")
-        subprocess.run(["spin", "-a", f"-DN={nodes}", "model.pml"], cwd=folder, check=True, stdout=subprocess.DEVNULL)
-        subprocess.run(["cc", "-O2", "-w", *model.options, "-o", "pan", "pan.c"], cwd=folder, check=True)
+        subprocess.run(
+            ["spin", "-a", f"-DN={nodes}", "model.pml"],
+            cwd=folder,
+            check=True,
+            stdout=subprocess.DEVNULL,
+        )
+        subprocess.run(
+            ["cc", "-O2", "-w", *model.options, "-o", "pan", "pan.c"],
+            cwd=folder,
+            check=True,
+        )
         return searched(folder)
 
 
 def searched(folder: pathlib.Path) -> Searched:
     """What the compiled program comes to."""
     with (folder / "printed").open("wb+") as printed:
-        child = subprocess.Popen([str(folder / "pan"), *SEARCH], cwd=folder, stdout=printed)
+        child = subprocess.Popen(
+            [str(folder / "pan"), *SEARCH], cwd=folder, stdout=printed
+        )
         _, status, used = os.wait4(child.pid, 0)
         child.returncode = os.waitstatus_to_exitcode(status)
     text = (folder / "printed").read_text(encoding="utf-8")
-    if "max search depth too small" in text or "Search not completed" in text and number(r"errors: (\d+)", text) == 0:
+    if (
+        "max search depth too small" in text
+        or "Search not completed" in text
+        and number(r"errors: (\d+)", text) == 0
+    ):
         raise RuntimeError(f"SPIN did not search all states:\n{text}")
-    return Searched(int(number(r"([\d.e+]+) states, stored", text)), int(number(r"MOST MOVES (\d+)", text)),
-                    int(number(r"errors: (\d+)", text)), used.ru_utime + used.ru_stime, used.ru_maxrss / 1024)
+    return Searched(
+        int(number(r"([\d.e+]+) states, stored", text)),
+        int(number(r"MOST MOVES (\d+)", text)),
+        int(number(r"errors: (\d+)", text)),
+        used.ru_utime + used.ru_stime,
+        used.ru_maxrss / 1024,
+    )
 
 
 def number(pattern: str, text: str) -> float:

@@ -44,7 +44,10 @@ def script(length: int, matches: int = MATCHES) -> Tuple[str, int]:
         return True
 
     for conn in range(CONNECTIONS):
-        add('%d {"do":"enter","key":"%s"}' % (conn, key(conn % matches, conn // matches)))
+        add(
+            '%d {"do":"enter","key":"%s"}'
+            % (conn, key(conn % matches, conn // matches))
+        )
     commands = [
         lambda: '{"do":"look"}',
         lambda: '{"do":"depart","port":%d}' % chance.randrange(4),
@@ -75,7 +78,9 @@ def main() -> None:
     with tempfile.TemporaryDirectory() as name:
         folder = pathlib.Path(name)
         (folder / "torus.toml").write_text(text_of(torus(SIDE, SIDE)))
-        (folder / "long.toml").write_text(tournament("torus.toml", MATCHES, AGENTS, BOARD))
+        (folder / "long.toml").write_text(
+            tournament("torus.toml", MATCHES, AGENTS, BOARD)
+        )
         (folder / "empty").write_text("")
         words = ["rehearse", "long.toml"]
         figures = []
@@ -87,7 +92,9 @@ def main() -> None:
             figures.append((lines, seconds, peak))
             print(line_of(lines, len(text), seconds, peak), flush=True)
         (most, slow, high), (few, fast, low) = figures
-        print(f"ratios: lines {most / few:.1f}, seconds {slow / fast:.1f}, peak memory {high / low:.1f}")
+        print(
+            f"ratios: lines {most / few:.1f}, seconds {slow / fast:.1f}, peak memory {high / low:.1f}"
+        )
         for words in (["rehearse"], ["rehearse", "long.toml"]):
             seconds, _, _ = median_run(RUNS, program, words, folder / "empty", folder)
             print(f"start, {' '.join(words)}: {seconds * 1000:.1f} ms")

@@ -28,7 +28,18 @@ import pathlib
 import subprocess
 import sys
 import tempfile
-from typing import Any, Callable, Dict, Iterator, List, NamedTuple, Optional, Sequence, TextIO, Tuple
+from typing import (
+    Any,
+    Callable,
+    Dict,
+    Iterator,
+    List,
+    NamedTuple,
+    Optional,
+    Sequence,
+    TextIO,
+    Tuple,
+)
 
 from bench.compare import line_of
 from bench.inputs import MAX_AGENTS, MAX_BOARD, MAX_QUOTA, median_run, run
@@ -115,18 +126,37 @@ class Kind(NamedTuple):
 
 
 KINDS = [
-    Kind("moves", moves, MAX_QUOTA, hole_of_moves, lambda commands: MAX_AGENTS * commands, 1),
+    Kind(
+        "moves",
+        moves,
+        MAX_QUOTA,
+        hole_of_moves,
+        lambda commands: MAX_AGENTS * commands,
+        1,
+    ),
     Kind("whiteboards", whiteboards, MAX_QUOTA, lambda _: NODES // 2, lambda _: 0, 0),
-    Kind("long lines", long_lines, MAX_QUOTA // 10, lambda _: NODES // 2, lambda _: 0, 0),
+    Kind(
+        "long lines", long_lines, MAX_QUOTA // 10, lambda _: NODES // 2, lambda _: 0, 0
+    ),
 ]
 
 
 def head(hole: int) -> Event:
     """The head of a replay on the torus: each link from its lesser node, in order of that node and its port there."""
-    links = [(v, p, w, q) if v < w else (w, q, v, p) for v, p, w, q in torus(SIDE, SIDE).links]
+    links = [
+        (v, p, w, q) if v < w else (w, q, v, p)
+        for v, p, w, q in torus(SIDE, SIDE).links
+    ]
     return {
-        "replay": 2, "agents": MAX_AGENTS, "quota": MAX_QUOTA, "board": MAX_BOARD, "home": 0, "holes": [hole],
-        "dark": [], "nodes": NODES, "links": sorted(links),
+        "replay": 2,
+        "agents": MAX_AGENTS,
+        "quota": MAX_QUOTA,
+        "board": MAX_BOARD,
+        "home": 0,
+        "holes": [hole],
+        "dark": [],
+        "nodes": NODES,
+        "links": sorted(links),
     }
 
 
@@ -143,10 +173,17 @@ def write_replay(out: TextIO, hole: int, events: Iterator[Event]) -> int:
 
 def commands_on(name: str) -> List[List[str]]:
     """The words of each command on a replay."""
-    return [["judge", name], ["table", f"team={name}"], ["explain", name, "0"], ["twin", name, str(NEVER_REACHED)]]
+    return [
+        ["judge", name],
+        ["table", f"team={name}"],
+        ["explain", name, "0"],
+        ["twin", name, str(NEVER_REACHED)],
+    ]
 
 
-def measured(program: str, name: str, folder: pathlib.Path) -> List[Tuple[str, float, int]]:
+def measured(
+    program: str, name: str, folder: pathlib.Path
+) -> List[Tuple[str, float, int]]:
     """For each command its word, median time and peak memory."""
     figures = []
     for words in commands_on(name):
@@ -155,10 +192,18 @@ def measured(program: str, name: str, folder: pathlib.Path) -> List[Tuple[str, f
     return figures
 
 
-def is_judged(program: str, kind: Kind, commands: int, name: str, folder: pathlib.Path) -> bool:
+def is_judged(
+    program: str, kind: Kind, commands: int, name: str, folder: pathlib.Path
+) -> bool:
     """Whether `judge` says what the replay was made to give. Where it does not, that is told."""
     verdict = f"silent moves {kind.moves(commands)} lost {kind.lost}"
-    ran = subprocess.run([program, "judge", name], cwd=folder, stdout=subprocess.PIPE, check=True, text=True)
+    ran = subprocess.run(
+        [program, "judge", name],
+        cwd=folder,
+        stdout=subprocess.PIPE,
+        check=True,
+        text=True,
+    )
     if ran.stdout.strip() != verdict:
         print(f"{kind.title}: judge should say: {verdict}")
     return ran.stdout.strip() == verdict
@@ -192,18 +237,27 @@ def alone(program: str, kind: Kind, folder: pathlib.Path) -> bool:
             whole = figures
         else:
             for (word, slow, high), (_, fast, low) in zip(whole, figures):
-                print(f"  {word}: the whole takes {slow / fast:.1f} times as long, {high / low:.1f} times the memory")
+                print(
+                    f"  {word}: the whole takes {slow / fast:.1f} times as long, {high / low:.1f} times the memory"
+                )
         (folder / name).unlink()
     return right
 
 
-def print_the_same(programs: Sequence[str], words: Sequence[str], folder: pathlib.Path) -> bool:
+def print_the_same(
+    programs: Sequence[str], words: Sequence[str], folder: pathlib.Path
+) -> bool:
     """Whether the programs print the same bytes. They go to files, since they may be many."""
     paths = [folder / f"printed{place}" for place in range(len(programs))]
     for program, path in zip(programs, paths):
         with open(path, "wb") as out:
             subprocess.run([program, *words], stdout=out, cwd=folder, check=True)
-    same = subprocess.run(["cmp", *map(str, paths)], stdout=subprocess.DEVNULL, check=False).returncode == 0
+    same = (
+        subprocess.run(
+            ["cmp", *map(str, paths)], stdout=subprocess.DEVNULL, check=False
+        ).returncode
+        == 0
+    )
     for path in paths:
         path.unlink()
     if not same:
@@ -211,13 +265,20 @@ def print_the_same(programs: Sequence[str], words: Sequence[str], folder: pathli
     return same
 
 
-def beside(programs: Sequence[str], kind: Kind, rounds: int, folder: pathlib.Path) -> bool:
+def beside(
+    programs: Sequence[str], kind: Kind, rounds: int, folder: pathlib.Path
+) -> bool:
     """Times two programs on one kind, in turn; answers whether they print the same, and `judge` what it should."""
     name = "replay.jsonl"
     written(kind, kind.commands, folder / name)
-    right = all([is_judged(program, kind, kind.commands, name, folder) for program in programs])
+    right = all(
+        [is_judged(program, kind, kind.commands, name, folder) for program in programs]
+    )
     for words in commands_on(name):
-        runs = [[run(program, words, folder / "empty", folder) for program in programs] for _ in range(rounds)]
+        runs = [
+            [run(program, words, folder / "empty", folder) for program in programs]
+            for _ in range(rounds)
+        ]
         print(line_of(f"  {words[0]}", runs), flush=True)
         right = print_the_same(programs, words, folder) and right
     (folder / name).unlink()
@@ -225,10 +286,22 @@ def beside(programs: Sequence[str], kind: Kind, rounds: int, folder: pathlib.Pat
 
 
 def given_words(words: Optional[Sequence[str]] = None) -> argparse.Namespace:
-    parser = argparse.ArgumentParser(description=__doc__, formatter_class=argparse.RawDescriptionHelpFormatter)
-    parser.add_argument("program", nargs="?", type=pathlib.Path, default=PROGRAM, help="a built program")
-    parser.add_argument("other", nargs="?", type=pathlib.Path, help="another build of it")
-    parser.add_argument("--rounds", type=int, default=ROUNDS, metavar="N", help="how often both programs run in turn")
+    parser = argparse.ArgumentParser(
+        description=__doc__, formatter_class=argparse.RawDescriptionHelpFormatter
+    )
+    parser.add_argument(
+        "program", nargs="?", type=pathlib.Path, default=PROGRAM, help="a built program"
+    )
+    parser.add_argument(
+        "other", nargs="?", type=pathlib.Path, help="another build of it"
+    )
+    parser.add_argument(
+        "--rounds",
+        type=int,
+        default=ROUNDS,
+        metavar="N",
+        help="how often both programs run in turn",
+    )
     return parser.parse_args(words)
 
 
@@ -242,7 +315,10 @@ def main() -> int:
         folder = pathlib.Path(name)
         (folder / "empty").write_text("")
         if given.other:
-            results = [beside([*map(str, programs)], kind, given.rounds, folder) for kind in KINDS]
+            results = [
+                beside([*map(str, programs)], kind, given.rounds, folder)
+                for kind in KINDS
+            ]
         else:
             results = [alone(str(programs[0]), kind, folder) for kind in KINDS]
     return 0 if all(results) else 1

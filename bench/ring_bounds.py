@@ -21,12 +21,17 @@ EXPERIMENTS = TOP / "docs" / "EXPERIMENTS.md"
 FIRST, LAST = 3, 256
 # a row of explored networks: the ring, the team, its states, and the most moves
 ROW = r"^\| ring:(\d+) \| 2, `{}` \| \d+ \| (\d+) \|"
-AGENTS = {"ring_step.py": ("halves, every schedule tried", "o"), "ring3.py": ("thirds, every schedule tried", "^")}
+AGENTS = {
+    "ring_step.py": ("halves, every schedule tried", "o"),
+    "ring3.py": ("thirds, every schedule tried", "^"),
+}
 
 
 def explored(agent: str) -> Dict[int, int]:
     """The most moves of two agents of this program by the number of nodes, where every schedule was tried."""
-    rows = re.findall(ROW.format(re.escape(agent)), EXPERIMENTS.read_text(encoding="utf-8"), re.M)
+    rows = re.findall(
+        ROW.format(re.escape(agent)), EXPERIMENTS.read_text(encoding="utf-8"), re.M
+    )
     return {int(nodes): int(moves) for nodes, moves in rows}
 
 
@@ -35,13 +40,27 @@ def drawn() -> Any:
     figure = new_figure()
     axes = figure.add_subplot()
     sizes = range(FIRST, LAST + 1)
-    for name, bound, style in (("search by halves: proved, at most", most_moves, "-"),
-                               ("every team of two: proved, at least (1.44)", more_moves, "-."),
-                               ("every team of two: proved, at least (R (n - 2) + 1)", least_moves, "--")):
-        axes.plot(sizes, [bound(nodes) / nodes for nodes in sizes], style, linewidth=1, label=name)
+    for name, bound, style in (
+        ("search by halves: proved, at most", most_moves, "-"),
+        ("every team of two: proved, at least (1.44)", more_moves, "-."),
+        ("every team of two: proved, at least (R (n - 2) + 1)", least_moves, "--"),
+    ):
+        axes.plot(
+            sizes,
+            [bound(nodes) / nodes for nodes in sizes],
+            style,
+            linewidth=1,
+            label=name,
+        )
     for agent, (name, mark) in AGENTS.items():
         points = explored(agent)
-        axes.plot(list(points), [moves / nodes for nodes, moves in points.items()], mark, markersize=4, label=name)
+        axes.plot(
+            list(points),
+            [moves / nodes for nodes, moves in points.items()],
+            mark,
+            markersize=4,
+            label=name,
+        )
     axes.set_xscale("log", base=2)
     axes.set_xlabel("nodes")
     axes.set_ylabel("moves by nodes")
@@ -51,7 +70,9 @@ def drawn() -> Any:
 
 
 def main(words: Optional[Sequence[str]] = None) -> int:
-    parser = argparse.ArgumentParser(description=__doc__, formatter_class=argparse.RawDescriptionHelpFormatter)
+    parser = argparse.ArgumentParser(
+        description=__doc__, formatter_class=argparse.RawDescriptionHelpFormatter
+    )
     parser.add_argument("file", nargs="?", type=pathlib.Path, default=PICTURE)
     file = parser.parse_args(words).file
     file.write_text(svg_of(drawn()), encoding="utf-8")

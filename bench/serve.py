@@ -99,25 +99,45 @@ class Bench(NamedTuple):
         """Compiles the programs, and writes the tournament."""
         for name in ("load", "echo"):
             flags = ["-O2", "-Wall", "-Wextra", "-pthread"]
-            subprocess.run(["cc", *flags, "-o", str(folder / name), str(SOURCES / f"{name}.c")], check=True)
+            subprocess.run(
+                ["cc", *flags, "-o", str(folder / name), str(SOURCES / f"{name}.c")],
+                check=True,
+            )
         (folder / "torus.toml").write_text(text_of(torus(SIDE, SIDE)))
-        (folder / "cup.toml").write_text(tournament(str(folder / "torus.toml"), MATCHES, AGENTS, BOARD))
+        (folder / "cup.toml").write_text(
+            tournament(str(folder / "torus.toml"), MATCHES, AGENTS, BOARD)
+        )
         return cls(folder)
 
     def echo(self, mode: str) -> Server:
         """An echo server."""
         port = free_port()
-        return Server([self.folder / "echo", port, mode], port=port, errors=self.folder / "errors")
+        return Server(
+            [self.folder / "echo", port, mode], port=port, errors=self.folder / "errors"
+        )
 
     def words_of_load(self, port: int, load: Load) -> List[str]:
         threads = min(load.active, max(1, (os.cpu_count() or 1) // 2))
-        given = [self.folder / "load", port, load.kind, load.mode, load.active, load.commands, threads]
+        given = [
+            self.folder / "load",
+            port,
+            load.kind,
+            load.mode,
+            load.active,
+            load.commands,
+            threads,
+        ]
         return [str(word) for word in given]
 
     def figures(self, port: int, load: Load) -> Figures:
         """Loads a server."""
-        ran = subprocess.run(self.words_of_load(port, load), input=keys(load), capture_output=True, text=True,
-                             timeout=LIMIT)
+        ran = subprocess.run(
+            self.words_of_load(port, load),
+            input=keys(load),
+            capture_output=True,
+            text=True,
+            timeout=LIMIT,
+        )
         require(ran.returncode == 0, ran.stderr.strip())
         found = json.loads(ran.stdout)
         return Figures(found["commands"] / found["seconds"], found["p50"], found["p99"])
@@ -136,13 +156,20 @@ class Bench(NamedTuple):
         """The peak memory of a server in KiB, before anybody has come and while all sessions are open."""
         with server:
             before = peak_so_far(server.child)
-            holder = subprocess.Popen(self.words_of_load(server.port, load), stdin=subprocess.PIPE,
-                                      stdout=subprocess.PIPE, text=True)
+            holder = subprocess.Popen(
+                self.words_of_load(server.port, load),
+                stdin=subprocess.PIPE,
+                stdout=subprocess.PIPE,
+                text=True,
+            )
             try:
                 # it reads all keys before it connects, and prints one line or none
                 holder.stdin.write(keys(load))
                 holder.stdin.close()
-                require(holder.stdout.readline() == "open\n", "the sessions could not be opened")
+                require(
+                    holder.stdout.readline() == "open\n",
+                    "the sessions could not be opened",
+                )
                 return [before, peak_so_far(server.child)]
             finally:
                 holder.kill()
@@ -178,8 +205,10 @@ def median(figures: List[Figures]) -> Figures:
     return Figures(*(statistics.median(column) for column in zip(*figures)))
 
 
-HEAD = (f"{'kind':<7}{'mode':<5}{'sessions':>8}{'commands':>10}{'arena/s':>11}{'echo/s':>11}{'ratio':>7}{'each/s':>11}"
-        f"{'ratio':>7}{'arena p50':>11}{'p99':>9}{'echo p50':>10}{'p99':>9}")
+HEAD = (
+    f"{'kind':<7}{'mode':<5}{'sessions':>8}{'commands':>10}{'arena/s':>11}{'echo/s':>11}{'ratio':>7}{'each/s':>11}"
+    f"{'ratio':>7}{'arena p50':>11}{'p99':>9}{'echo p50':>10}{'p99':>9}"
+)
 
 
 def row(load: Load, found: Dict[str, Figures]) -> str:
@@ -189,10 +218,15 @@ def row(load: Load, found: Dict[str, Figures]) -> str:
     line += f"{echo.rate:>11.0f}{arena.rate / echo.rate:>7.3f}"
     if each:
         return line + f"{each.rate:>11.0f}{arena.rate / each.rate:>7.3f}"
-    return line + f"{'':18}{arena.p50:>11.1f}{arena.p99:>9.1f}{echo.p50:>10.1f}{echo.p99:>9.1f}"
+    return (
+        line
+        + f"{'':18}{arena.p50:>11.1f}{arena.p99:>9.1f}{echo.p50:>10.1f}{echo.p99:>9.1f}"
+    )
 
 
-def measured(bench: Bench, load: Load, echoes: Dict[str, int], rounds: int) -> Dict[str, Figures]:
+def measured(
+    bench: Bench, load: Load, echoes: Dict[str, int], rounds: int
+) -> Dict[str, Figures]:
     """The medians of a load on each server."""
     modes = [mode for mode in echoes if load.mode == "many" or mode == "all"]
     found: Dict[str, List[Figures]] = {server: [] for server in ("arena", *modes)}
@@ -215,10 +249,15 @@ def judged(load: Load, found: Dict[str, Figures]) -> Optional[str]:
 def memory(bench: Bench, count: int) -> List[str]:
     """The peak memory of both servers with this many sessions open."""
     load, lines = Load("looks", "hold", 1, count, 1), []
-    for name, start in (("arena", lambda: bench.arena(load)), ("echo", lambda: bench.echo("all"))):
+    for name, start in (
+        ("arena", lambda: bench.arena(load)),
+        ("echo", lambda: bench.echo("all")),
+    ):
         before, peak = bench.peaks(start(), load)
-        lines.append(f"{name}: peak {peak} KiB with {count} sessions open, {before} KiB before, "
-                     f"{(peak - before) / count:.1f} KiB a session")
+        lines.append(
+            f"{name}: peak {peak} KiB with {count} sessions open, {before} KiB before, "
+            f"{(peak - before) / count:.1f} KiB a session"
+        )
     return lines
 
 
@@ -231,7 +270,9 @@ def run(bench: Bench, loads: List[Load], rounds: int, count: int) -> int:
             if failed == MOST_FAILED:
                 return failed
             try:
-                found = measured(bench, load, {"all": together.port, "each": apart.port}, rounds)
+                found = measured(
+                    bench, load, {"all": together.port, "each": apart.port}, rounds
+                )
             except (Wrong, subprocess.TimeoutExpired) as fault:
                 print(f"{load.title}: could not be measured: {fault}", flush=True)
                 failed += 1
@@ -248,21 +289,36 @@ def run(bench: Bench, loads: List[Load], rounds: int, count: int) -> int:
 
 
 def main() -> int:
-    parser = argparse.ArgumentParser(description=__doc__, formatter_class=argparse.RawDescriptionHelpFormatter)
+    parser = argparse.ArgumentParser(
+        description=__doc__, formatter_class=argparse.RawDescriptionHelpFormatter
+    )
     parser.add_argument("--rounds", metavar="N", type=int, default=ROUNDS)
-    parser.add_argument("--active", metavar="A,B,..", default=",".join(map(str, ACTIVE)))
+    parser.add_argument(
+        "--active", metavar="A,B,..", default=",".join(map(str, ACTIVE))
+    )
     parser.add_argument("--part", metavar="N", type=int, default=1)
     parser.add_argument("--open", metavar="N", type=int, default=MAX_SESSIONS)
     given = parser.parse_args()
     if min(given.rounds, given.part, given.open) < 1 or given.open > MAX_SESSIONS:
-        parser.error(f"numbers begin with 1, and at most {MAX_SESSIONS} sessions are open")
+        parser.error(
+            f"numbers begin with 1, and at most {MAX_SESSIONS} sessions are open"
+        )
     active = [int(word) for word in given.active.split(",")]
     if any(count < 1 or MATCHES * BOARDS % count for count in active):
         parser.error("--active takes powers of two up to 256")
     prepare(2 * MAX_SESSIONS)
-    loads = [load_of(kind, mode, count, given.part) for kind in KINDS for mode in TOTALS for count in active]
+    loads = [
+        load_of(kind, mode, count, given.part)
+        for kind in KINDS
+        for mode in TOTALS
+        for count in active
+    ]
     with tempfile.TemporaryDirectory() as name:
-        return 1 if run(Bench.made(pathlib.Path(name)), loads, given.rounds, given.open) else 0
+        return (
+            1
+            if run(Bench.made(pathlib.Path(name)), loads, given.rounds, given.open)
+            else 0
+        )
 
 
 if __name__ == "__main__":

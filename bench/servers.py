@@ -10,10 +10,22 @@ from tests.support.servers import Server
 MAX_SESSIONS = 1024
 
 
-def serving(folder: pathlib.Path, sessions: int, turns: int, pause: int, *options: object) -> Server:
+def serving(
+    folder: pathlib.Path, sessions: int, turns: int, pause: int, *options: object
+) -> Server:
     """The arena serves the tournament of a folder, cup.toml."""
-    given = ["serve", folder / "cup.toml", "--sessions", sessions, "--turns", turns, "--pause", pause, "--replay",
-             folder / "match"]
+    given = [
+        "serve",
+        folder / "cup.toml",
+        "--sessions",
+        sessions,
+        "--turns",
+        turns,
+        "--pause",
+        pause,
+        "--replay",
+        folder / "match",
+    ]
     return Server([*arena(), *given, *options], errors=folder / "errors")
 
 
@@ -22,7 +34,9 @@ def prepare(files: int) -> None:
     end."""
     soft, hard = resource.getrlimit(resource.RLIMIT_NOFILE)
     if hard != resource.RLIM_INFINITY and hard < files:
-        raise SystemExit(f"the system lets a program open {hard} files, and {files} are needed")
+        raise SystemExit(
+            f"the system lets a program open {hard} files, and {files} are needed"
+        )
     if soft != resource.RLIM_INFINITY and soft < files:
         resource.setrlimit(resource.RLIMIT_NOFILE, (files, hard))
     signal.signal(signal.SIGTERM, lambda *_: sys.exit(1))

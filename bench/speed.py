@@ -32,7 +32,9 @@ NODES, HOLE, SMALL = 64, 20, 7
 ROUNDS = 5
 TEAMS = {
     "agents inside the lab": AgentWords(INSIDE, f"{AGENT} {{nodes}}"),
-    "programs over loopback": AgentWords(OUTSIDE, f"{sys.executable} {AGENT} {{host}} {{port}} {{key}} {NODES}"),
+    "programs over loopback": AgentWords(
+        OUTSIDE, f"{sys.executable} {AGENT} {{host}} {{port}} {{key}} {NODES}"
+    ),
 }
 
 
@@ -44,14 +46,30 @@ def steps(agent: AgentWords, program: Optional[str], seed: int) -> int:
     """Plays one match, and gives how many steps it had."""
     fixture = on_ring(NODES, HOLE)
     engine = engine_of(schedule_of(fixture, [agent] * 2, "speed", []), program)
-    return len(play(engine, Together([agent] * 2, fixture, 5), schedulers.slow_agents(seed), fixture).choices)
+    return len(
+        play(
+            engine,
+            Together([agent] * 2, fixture, 5),
+            schedulers.slow_agents(seed),
+            fixture,
+        ).choices
+    )
 
 
 def states() -> int:
     """Explores a ring, and gives how many states it has."""
-    game = Game(f"ring:{SMALL}", ring(SMALL), [TEAMS["agents inside the lab"]] * 2, holes=[SMALL // 2], board=64)
+    game = Game(
+        f"ring:{SMALL}",
+        ring(SMALL),
+        [TEAMS["agents inside the lab"]] * 2,
+        holes=[SMALL // 2],
+        board=64,
+    )
     with bar(None, "state") as shown:
-        return sum(found.explorer.states() for found in explore.tried(game, explore.MOST_STATES, shown))
+        return sum(
+            found.explorer.states()
+            for found in explore.tried(game, explore.MOST_STATES, shown)
+        )
 
 
 def rate(count: Callable[[int], int], rounds: int) -> int:
@@ -64,14 +82,25 @@ def rate(count: Callable[[int], int], rounds: int) -> int:
 
 
 def main() -> int:
-    parser = argparse.ArgumentParser("python3 -m bench.speed", description=__doc__,
-                                     formatter_class=argparse.RawDescriptionHelpFormatter)
-    parser.add_argument("--rounds", metavar="N", type=at_least_one, default=ROUNDS, help="how often to measure each "
-                        f"({ROUNDS})")
+    parser = argparse.ArgumentParser(
+        "python3 -m bench.speed",
+        description=__doc__,
+        formatter_class=argparse.RawDescriptionHelpFormatter,
+    )
+    parser.add_argument(
+        "--rounds",
+        metavar="N",
+        type=at_least_one,
+        default=ROUNDS,
+        help="how often to measure each " f"({ROUNDS})",
+    )
     add_program(parser)
     words = parser.parse_args()
     named = program_at(words.program)
-    engines: Dict[str, Optional[str]] = {"the Python model": None, name_of(named): named}
+    engines: Dict[str, Optional[str]] = {
+        "the Python model": None,
+        name_of(named): named,
+    }
     for engine, program in engines.items():
         for team, agent in TEAMS.items():
             found = rate(lambda seed: steps(agent, program, seed), words.rounds)

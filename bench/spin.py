@@ -32,19 +32,46 @@ class Row(NamedTuple):
 def rows_of(nodes: int) -> List[Row]:
     """What each search takes on a ring."""
     found = []
-    for name, model in (("SPIN, natural", promela.NATURAL), ("SPIN, merged", promela.MERGED)):
+    for name, model in (
+        ("SPIN, natural", promela.NATURAL),
+        ("SPIN, merged", promela.MERGED),
+    ):
         one = promela.search(model, nodes)
         if one.errors:
-            raise SystemExit(f"{name} finds a schedule of the ring of {nodes} that fails")
+            raise SystemExit(
+                f"{name} finds a schedule of the ring of {nodes} that fails"
+            )
         found.append(Row(name, one.states, one.moves, one.seconds, f"{one.memory:.0f}"))
     matches = measured(f"ring:{nodes}", "ring_step", STATES)
     states, moves = sum(it.states for it in matches), max(it.moves for it in matches)
-    found.append(Row("./arena-lab explore", states, moves, sum(it.processor for it in matches), ""))
-    found.append(Row("arena explore alone", states, moves, sum(it.program for it in matches),
-                     f"{max(it.memory for it in matches):.0f}"))
+    found.append(
+        Row(
+            "./arena-lab explore",
+            states,
+            moves,
+            sum(it.processor for it in matches),
+            "",
+        )
+    )
+    found.append(
+        Row(
+            "arena explore alone",
+            states,
+            moves,
+            sum(it.program for it in matches),
+            f"{max(it.memory for it in matches):.0f}",
+        )
+    )
     matches = measured_by_module(f"ring:{nodes}", "wasm/ring.wasm", STATES)
-    found.append(Row("arena explore --module", sum(it.states for it in matches), max(it.moves for it in matches),
-                     sum(it.program for it in matches), f"{max(it.memory for it in matches):.0f}"))
+    found.append(
+        Row(
+            "arena explore --module",
+            sum(it.states for it in matches),
+            max(it.moves for it in matches),
+            sum(it.program for it in matches),
+            f"{max(it.memory for it in matches):.0f}",
+        )
+    )
     if len({row.moves for row in found}) > 1:
         raise SystemExit(f"they differ on the ring of {nodes}: {found}")
     return found
@@ -52,17 +79,27 @@ def rows_of(nodes: int) -> List[Row]:
 
 def main() -> None:
     given = argparse.ArgumentParser(description=(__doc__ or "").partition("\n")[0])
-    given.add_argument("nodes", type=int, nargs="*", default=[16, 24, 32], metavar="N",
-                       help="numbers of nodes of rings (16 24 32)")
+    given.add_argument(
+        "nodes",
+        type=int,
+        nargs="*",
+        default=[16, 24, 32],
+        metavar="N",
+        help="numbers of nodes of rings (16 24 32)",
+    )
     words = given.parse_args()
     if not promela.HAS_SPIN:
-        raise SystemExit("spin is not installed, or there is no C compiler: apt install spin gcc")
+        raise SystemExit(
+            "spin is not installed, or there is no C compiler: apt install spin gcc"
+        )
     print("| ring | searched by | states | most moves | processor, s | memory, MB |")
     print("|---|---|---|---|---|---|")
     for nodes in words.nodes:
         for row in rows_of(nodes):
-            print(f"| {nodes} | {row.name} | {row.states:,} | {row.moves} | {row.seconds:.2f} | {row.memory} |",
-                  flush=True)
+            print(
+                f"| {nodes} | {row.name} | {row.states:,} | {row.moves} | {row.seconds:.2f} | {row.memory} |",
+                flush=True,
+            )
 
 
 if __name__ == "__main__":

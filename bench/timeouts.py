@@ -50,6 +50,7 @@ BACK, AHEAD = 1, 0
 
 class Rules(NamedTuple):
     """What is the same in all matches."""
+
     nodes: int
     turns: int
     pause: int
@@ -75,8 +76,18 @@ def fixtures(rules: Rules, names: List[str]) -> List[Fixture]:
     """The matches of these teams."""
     network, node = networks.ring(rules.nodes), rules.nodes // 2
     ends = networks.places_into(network.links, (node, node + 1))
-    return [match(name, network, [] if is_trap else [node], quota=QUOTA, board=BOARD, held=ends if is_trap else [])
-            for name in names for is_trap in [f"-{TRAP}-" in name]]
+    return [
+        match(
+            name,
+            network,
+            [] if is_trap else [node],
+            quota=QUOTA,
+            board=BOARD,
+            held=ends if is_trap else [],
+        )
+        for name in names
+        for is_trap in [f"-{TRAP}-" in name]
+    ]
 
 
 def step_out(agent: client.Agent, nodes: int) -> None:
@@ -88,7 +99,9 @@ def step_out(agent: client.Agent, nodes: int) -> None:
         agent.depart(AHEAD)
 
 
-def watch(agent: client.Agent, nodes: int, seconds: float, every: float, is_hasty: bool) -> None:
+def watch(
+    agent: client.Agent, nodes: int, seconds: float, every: float, is_hasty: bool
+) -> None:
     """Follows while the other comes back in time; else visits the nodes that are left, and accuses from behind, or
     accuses at once."""
     safe = 0
@@ -127,11 +140,14 @@ def plays(port: int, rules: Rules, name: str, number: int) -> Callable[[], None]
             else:
                 timeout = int(name.split("-")[1])
                 every = max(1, timeout // 8) * pause / 2
-                watch(agent, rules.nodes, timeout * pause, every, name.startswith(HASTY))
+                watch(
+                    agent, rules.nodes, timeout * pause, every, name.startswith(HASTY)
+                )
         except client.Refused:
             pass
         finally:
             agent.close()
+
     return play
 
 
@@ -147,25 +163,71 @@ def contest(rules: Rules, contests: int) -> Dict[str, str]:
     with tempfile.TemporaryDirectory() as folder_name:
         folder = pathlib.Path(folder_name)
         write_cup(folder, fixtures(rules, names), SCHEDULES[rules.schedule], SEED)
-        with serving(folder, 2 * len(names), rules.turns, rules.pause, "--early", "--gather", 10_000) as server:
+        with serving(
+            folder,
+            2 * len(names),
+            rules.turns,
+            rules.pause,
+            "--early",
+            "--gather",
+            10_000,
+        ) as server:
             for name in names:
                 for number in range(2):
-                    threading.Thread(target=plays(server.port, rules, name, number), daemon=True).start()
+                    threading.Thread(
+                        target=plays(server.port, rules, name, number), daemon=True
+                    ).start()
             return table_of(server.child.stdout.read().decode())
 
 
 def main(arguments: List[str]) -> int:
-    parser = argparse.ArgumentParser(description=__doc__, formatter_class=argparse.RawDescriptionHelpFormatter)
-    parser.add_argument("--contests", type=int, default=20, help="how many matches each team plays (default: 20)")
-    parser.add_argument("--nodes", type=int, default=64, help="nodes of the ring (default: 64)")
-    parser.add_argument("--turns", type=int, default=20_000, help="turns of a match (default: 20,000)")
-    parser.add_argument("--pause", type=int, default=4, help="milliseconds before each turn (default: 4)")
-    parser.add_argument("--timeouts", type=int, nargs="+", default=TIMEOUTS, help="in turns (default: 1 8 64 512)")
-    parser.add_argument("--traps", action="store_true", help="each team also plays a trap")
-    parser.add_argument("--schedule", choices=sorted(SCHEDULES), default="oblivious", help="(default: oblivious)")
+    parser = argparse.ArgumentParser(
+        description=__doc__, formatter_class=argparse.RawDescriptionHelpFormatter
+    )
+    parser.add_argument(
+        "--contests",
+        type=int,
+        default=20,
+        help="how many matches each team plays (default: 20)",
+    )
+    parser.add_argument(
+        "--nodes", type=int, default=64, help="nodes of the ring (default: 64)"
+    )
+    parser.add_argument(
+        "--turns", type=int, default=20_000, help="turns of a match (default: 20,000)"
+    )
+    parser.add_argument(
+        "--pause",
+        type=int,
+        default=4,
+        help="milliseconds before each turn (default: 4)",
+    )
+    parser.add_argument(
+        "--timeouts",
+        type=int,
+        nargs="+",
+        default=TIMEOUTS,
+        help="in turns (default: 1 8 64 512)",
+    )
+    parser.add_argument(
+        "--traps", action="store_true", help="each team also plays a trap"
+    )
+    parser.add_argument(
+        "--schedule",
+        choices=sorted(SCHEDULES),
+        default="oblivious",
+        help="(default: oblivious)",
+    )
     given = parser.parse_args(arguments)
     prepare(MAX_SESSIONS)
-    rules = Rules(given.nodes, given.turns, given.pause, given.schedule, given.timeouts, given.traps)
+    rules = Rules(
+        given.nodes,
+        given.turns,
+        given.pause,
+        given.schedule,
+        given.timeouts,
+        given.traps,
+    )
     found: Dict[str, Counter[str]] = collections.defaultdict(collections.Counter)
     left = given.contests
     while left:
@@ -179,7 +241,9 @@ def main(arguments: List[str]) -> int:
         left -= some
     print(f"| team | {' | '.join(OUTCOMES)} |\n| --- |{' --- |' * len(OUTCOMES)}")
     for name in rules.kinds():
-        print(f"| {name} | {' | '.join(str(found[name][outcome]) for outcome in OUTCOMES)} |")
+        print(
+            f"| {name} | {' | '.join(str(found[name][outcome]) for outcome in OUTCOMES)} |"
+        )
     return 0
 
 

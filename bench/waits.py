@@ -30,12 +30,17 @@ NODES = 8
 TURNS = 1_000_000
 LIMIT = 60
 # where the first agent is, with the black hole and the held links of the match
-PLACES: Dict[str, Tuple[int, List[Place]]] = {"stands": (1, []), "destroyed": (1, []), "held": (4, [(0, 0)])}
+PLACES: Dict[str, Tuple[int, List[Place]]] = {
+    "stands": (1, []),
+    "destroyed": (1, []),
+    "held": (4, [(0, 0)]),
+}
 SCHEDULES = {"adaptive": None, "oblivious": Delays(0, 1), "with delays": Delays(5, 32)}
 
 
 class Agent(NamedTuple):
     """An agent that has entered."""
+
     connection: socket.socket
     lines: TextIO
 
@@ -51,7 +56,10 @@ class Agent(NamedTuple):
 
     def goes(self, port: int) -> None:
         """Departs and waits for its arrival."""
-        if self.says(do="depart", port=port) != {"ok": "gone"} or self.hears().get("ok") != "here":
+        if (
+            self.says(do="depart", port=port) != {"ok": "gone"}
+            or self.hears().get("ok") != "here"
+        ):
             raise Wrong("an agent could not move")
 
 
@@ -59,7 +67,10 @@ def entered(port: int, key: str) -> Agent:
     connection = socket.create_connection(("127.0.0.1", port), timeout=LIMIT)
     connection.setsockopt(socket.IPPROTO_TCP, socket.TCP_NODELAY, 1)
     agent = Agent(connection, connection.makefile("r"))
-    require(agent.says(do="enter", key=key).get("ok") == "here", f"the agent with the key {key} could not enter")
+    require(
+        agent.says(do="enter", key=key).get("ok") == "here",
+        f"the agent with the key {key} could not enter",
+    )
     return agent
 
 
@@ -68,7 +79,12 @@ def waits(place: str, schedule: str, moves: int, pause: int) -> List[float]:
     with tempfile.TemporaryDirectory() as name:
         folder = pathlib.Path(name)
         hole, held = PLACES[place]
-        write_cup(folder, [match("red", ring(NODES), [hole], board=8, held=held)], SCHEDULES[schedule], "07" * 32)
+        write_cup(
+            folder,
+            [match("red", ring(NODES), [hole], board=8, held=held)],
+            SCHEDULES[schedule],
+            "07" * 32,
+        )
         with serving(folder, 8, TURNS, pause) as server:
             first, second = entered(server.port, "red-0"), entered(server.port, "red-1")
             if place != "stands":
@@ -85,11 +101,22 @@ def waits(place: str, schedule: str, moves: int, pause: int) -> List[float]:
 
 
 def main(arguments: List[str]) -> int:
-    parser = argparse.ArgumentParser(description=__doc__, formatter_class=argparse.RawDescriptionHelpFormatter)
-    parser.add_argument("--moves", type=int, default=400, help="how many moves are timed (default: 400)")
-    parser.add_argument("--pause", type=int, default=5, help="milliseconds before each turn (default: 5)")
+    parser = argparse.ArgumentParser(
+        description=__doc__, formatter_class=argparse.RawDescriptionHelpFormatter
+    )
+    parser.add_argument(
+        "--moves", type=int, default=400, help="how many moves are timed (default: 400)"
+    )
+    parser.add_argument(
+        "--pause",
+        type=int,
+        default=5,
+        help="milliseconds before each turn (default: 5)",
+    )
     given = parser.parse_args(arguments)
-    print("| schedule | the other agent | turns of a move | error | longest |\n| --- | --- | --- | --- | --- |")
+    print(
+        "| schedule | the other agent | turns of a move | error | longest |\n| --- | --- | --- | --- | --- |"
+    )
     for schedule in SCHEDULES:
         for place in PLACES:
             try:
@@ -99,7 +126,10 @@ def main(arguments: List[str]) -> int:
                 return 1
             error = statistics.stdev(taken) / len(taken) ** 0.5
             mean = statistics.mean(taken)
-            print(f"| {schedule} | {place} | {mean:.2f} | {error:.2f} | {max(taken):.1f} |", flush=True)
+            print(
+                f"| {schedule} | {place} | {mean:.2f} | {error:.2f} | {max(taken):.1f} |",
+                flush=True,
+            )
     return 0
 
 

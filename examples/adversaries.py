@@ -11,6 +11,11 @@ def writers_wait(seed):
     chance = random.Random(seed)
 
     def choose(choices, state):
-        others = [choice for choice in choices if (state.said(choice.agent) or {}).get("do") != "write"]
+        others = [
+            choice
+            for choice in choices
+            if (state.said(choice.agent) or {}).get("do") != "write"
+        ]
         return chance.choice(others or choices)
+
     return choose

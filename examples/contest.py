@@ -81,7 +81,9 @@ def arena() -> List[str]:
     server in Python, if there is no program."""
     if "ARENA" in os.environ:
         return shlex.split(os.environ["ARENA"])
-    launcher = next((it / "arena" for it in (TOP, built.TOP) if (it / "arena").exists()), None)
+    launcher = next(
+        (it / "arena" for it in (TOP, built.TOP) if (it / "arena").exists()), None
+    )
     if launcher is None:
         return [str(built.ARENA.packaged)]
     return [str(launcher if built.can_play() else launcher.with_name(LAB))]
@@ -92,17 +94,47 @@ def build(folder: pathlib.Path) -> None:
     if RELEASED_RING.exists():
         shutil.copy2(RELEASED_RING, folder / "ring")
         return
-    words = ["-O2", "-Wall", "-Wextra", "-o", str(folder / "ring"), str(AGENTS / "ring.c")]
+    words = [
+        "-O2",
+        "-Wall",
+        "-Wextra",
+        "-o",
+        str(folder / "ring"),
+        str(AGENTS / "ring.c"),
+    ]
     try:
         subprocess.run(["cc", *words], check=True)
     except FileNotFoundError:
-        raise SystemExit("contest: cc is missing: install a C compiler, by Debian's package gcc") from None
+        raise SystemExit(
+            "contest: cc is missing: install a C compiler, by Debian's package gcc"
+        ) from None
 
 
-def start_server(server: List[str], port: int, replays: str, pause: int) -> subprocess.Popen:
+def start_server(
+    server: List[str], port: int, replays: str, pause: int
+) -> subprocess.Popen:
     sessions = sum(len(agents) for agents in TEAMS.values())
-    words = ["serve", TOURNAMENT, "--port", port, "--sessions", sessions, "--turns", TURNS, "--pause", pause]
-    command = [*server, *map(str, words), "--gather", str(GATHER), "--early", "--replay", replays]
+    words = [
+        "serve",
+        TOURNAMENT,
+        "--port",
+        port,
+        "--sessions",
+        sessions,
+        "--turns",
+        TURNS,
+        "--pause",
+        pause,
+    ]
+    command = [
+        *server,
+        *map(str, words),
+        "--gather",
+        str(GATHER),
+        "--early",
+        "--replay",
+        replays,
+    ]
     started = subprocess.Popen(command, cwd=TOP, stdout=subprocess.PIPE, text=True)
     line = started.stdout.readline()
     if line != f"listening {port}\n":
@@ -110,14 +142,22 @@ def start_server(server: List[str], port: int, replays: str, pause: int) -> subp
     return started
 
 
-def play(command: List[str], folder: pathlib.Path, replays: str, pause: int, kills: bool) -> str:
+def play(
+    command: List[str], folder: pathlib.Path, replays: str, pause: int, kills: bool
+) -> str:
     """Plays the contest, and answers the server's table. The agents of one team may be killed meanwhile."""
     build(folder)
     port = free_port()
     server = start_server(command, port, replays, pause)
     agents = {
-        team: [subprocess.Popen(command_of(agent, f"{team}-{number}", port, folder), stderr=subprocess.DEVNULL,
-                                stdout=subprocess.DEVNULL) for number, agent in enumerate(programs)]
+        team: [
+            subprocess.Popen(
+                command_of(agent, f"{team}-{number}", port, folder),
+                stderr=subprocess.DEVNULL,
+                stdout=subprocess.DEVNULL,
+            )
+            for number, agent in enumerate(programs)
+        ]
         for team, programs in TEAMS.items()
     }
     try:
@@ -127,7 +167,9 @@ def play(command: List[str], folder: pathlib.Path, replays: str, pause: int, kil
                 agent.kill()
         printed, _ = server.communicate(timeout=PATIENCE * max(1, pause // SLOW_PAUSE))
     except subprocess.TimeoutExpired:
-        raise SystemExit(f"contest: the server did not end within {PATIENCE} seconds") from None
+        raise SystemExit(
+            f"contest: the server did not end within {PATIENCE} seconds"
+        ) from None
     finally:
         for child in [server, *itertools.chain.from_iterable(agents.values())]:
             if child.poll() is None:
@@ -148,8 +190,24 @@ def write_pages(replays: str, folder: pathlib.Path) -> None:
     """Writes a page of each match and one that lists them, by the program that served them, or by the model."""
     server = arena()
     is_model = pathlib.Path(server[0]).name == LAB or len(server) > 1
-    program = ["--engine", "model"] if is_model else ["--program", server[0]] if "ARENA" in os.environ else []
-    tool = [DEBIANS_PYTHON, "-m", "arena_lab", "page", TOURNAMENT, replays, "--out", str(folder.resolve()), *program]
+    program = (
+        ["--engine", "model"]
+        if is_model
+        else ["--program", server[0]]
+        if "ARENA" in os.environ
+        else []
+    )
+    tool = [
+        DEBIANS_PYTHON,
+        "-m",
+        "arena_lab",
+        "page",
+        TOURNAMENT,
+        replays,
+        "--out",
+        str(folder.resolve()),
+        *program,
+    ]
     subprocess.run(tool, cwd=TOP, check=True)
 
 
@@ -157,10 +215,24 @@ def write_pages(replays: str, folder: pathlib.Path) -> None:
 def watched(replays: str, pause: int) -> Iterator[None]:
     """Shows the contest in a browser while it goes on, and until Enter is pressed."""
     port = free_port()
-    words = [TOURNAMENT, replays, "--port", port, "--turns", TURNS, "--pause", pause, "--gather", GATHER]
-    with subprocess.Popen([DEBIANS_PYTHON, "-m", "arena_lab", "watch", *map(str, words)], cwd=TOP,
-                          stdout=subprocess.PIPE,
-                          text=True) as child:
+    words = [
+        TOURNAMENT,
+        replays,
+        "--port",
+        port,
+        "--turns",
+        TURNS,
+        "--pause",
+        pause,
+        "--gather",
+        GATHER,
+    ]
+    with subprocess.Popen(
+        [DEBIANS_PYTHON, "-m", "arena_lab", "watch", *map(str, words)],
+        cwd=TOP,
+        stdout=subprocess.PIPE,
+        text=True,
+    ) as child:
         try:
             line = child.stdout.readline()
             if not line:
@@ -174,12 +246,28 @@ def watched(replays: str, pause: int) -> Iterator[None]:
 
 
 def main() -> int:
-    parser = argparse.ArgumentParser(description=__doc__, formatter_class=argparse.RawDescriptionHelpFormatter)
-    parser.add_argument("--keep", metavar="FOLDER", type=pathlib.Path, help="write the replays there")
-    parser.add_argument("--pages", metavar="FOLDER", type=pathlib.Path,
-                        help="write a page of each match there, and a list of them")
-    parser.add_argument("--watch", action="store_true", help="show the contest in a browser while it goes on")
-    parser.add_argument("--kill", action="store_true", help=f"kill the agents of {VICTIM} after a second")
+    parser = argparse.ArgumentParser(
+        description=__doc__, formatter_class=argparse.RawDescriptionHelpFormatter
+    )
+    parser.add_argument(
+        "--keep", metavar="FOLDER", type=pathlib.Path, help="write the replays there"
+    )
+    parser.add_argument(
+        "--pages",
+        metavar="FOLDER",
+        type=pathlib.Path,
+        help="write a page of each match there, and a list of them",
+    )
+    parser.add_argument(
+        "--watch",
+        action="store_true",
+        help="show the contest in a browser while it goes on",
+    )
+    parser.add_argument(
+        "--kill",
+        action="store_true",
+        help=f"kill the agents of {VICTIM} after a second",
+    )
     words = parser.parse_args()
     with tempfile.TemporaryDirectory() as name:
         kept = words.keep or words.pages or pathlib.Path(name)
@@ -188,8 +276,12 @@ def main() -> int:
         pause = WATCHED_PAUSE if words.watch else SLOW_PAUSE if words.kill else PAUSE
         server = arena()
         if "ARENA" not in os.environ and pathlib.Path(server[0]).name == LAB:
-            print("contest: there is no program, and no toolchain that compiles one: `./arena-lab serve` plays, a "
-                  "server in Python, of which nothing is proved", file=sys.stderr, flush=True)
+            print(
+                "contest: there is no program, and no toolchain that compiles one: `./arena-lab serve` plays, a "
+                "server in Python, of which nothing is proved",
+                file=sys.stderr,
+                flush=True,
+            )
         with watched(replays, pause) if words.watch else contextlib.nullcontext():
             table = play(server, pathlib.Path(name), replays, pause, words.kill)
             print(table, end="", flush=True)
@@ -197,7 +289,11 @@ def main() -> int:
         judged = [team for team in TEAMS if not (words.kill and team == VICTIM)]
         failed = [team for team in judged if found.get(team) != "solved"]
         for team in judged:
-            print(f"{team} solved its network" if team not in failed else f"{team} did not solve its network")
+            print(
+                f"{team} solved its network"
+                if team not in failed
+                else f"{team} did not solve its network"
+            )
         if words.pages:
             write_pages(replays, words.pages)
     return 1 if failed else 0

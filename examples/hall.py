@@ -36,12 +36,19 @@ sys.path.insert(0, str(TOP))
 
 from arena_lab.support.ports import free_port  # noqa: E402
 
-AGENTS, PRACTISE = TOP / "examples" / "agents", TOP / "examples" / "hall" / "practise.py"
+AGENTS, PRACTISE = (
+    TOP / "examples" / "agents",
+    TOP / "examples" / "hall" / "practise.py",
+)
 COURSE = TOP / "examples" / "hall" / "course.toml"
 DEBIANS_PYTHON = "/usr/bin/python3"
 PATIENCE = 120
 ENTERS = ["{host}", "{port}", "{key}"]
-ON_RINGS, WITH_SIDE, WITH_MAP = [*ENTERS, "{nodes}"], [*ENTERS, "{nodes}", "{agent}"], [*ENTERS, "{network}", "{home}"]
+ON_RINGS, WITH_SIDE, WITH_MAP = (
+    [*ENTERS, "{nodes}"],
+    [*ENTERS, "{nodes}", "{agent}"],
+    [*ENTERS, "{network}", "{home}"],
+)
 
 
 class Turn(NamedTuple):
@@ -71,9 +78,21 @@ class Demo:
         self._is_over = threading.Event()
         course = shutil.copy2(COURSE, folder)
         program = ["--program", os.environ["ARENA"]] if "ARENA" in os.environ else []
-        self._hall = subprocess.Popen([DEBIANS_PYTHON, "-m", "arena_lab", "hall", str(course), "--port", str(port),
-                                       "--weak-walls", *program],
-                                      cwd=TOP, stdout=subprocess.DEVNULL)
+        self._hall = subprocess.Popen(
+            [
+                DEBIANS_PYTHON,
+                "-m",
+                "arena_lab",
+                "hall",
+                str(course),
+                "--port",
+                str(port),
+                "--weak-walls",
+                *program,
+            ],
+            cwd=TOP,
+            stdout=subprocess.DEVNULL,
+        )
         self._teams: List[threading.Thread] = []
 
     def begin(self) -> None:
@@ -84,7 +103,10 @@ class Demo:
                 raise SystemExit("hall: the hall did not begin")
             time.sleep(0.2)
         tokens = self.tokens()
-        self._teams = [threading.Thread(target=self._play, args=(name, tokens[name])) for name in PLAYED]
+        self._teams = [
+            threading.Thread(target=self._play, args=(name, tokens[name]))
+            for name in PLAYED
+        ]
         for team in self._teams:
             team.start()
 
@@ -97,12 +119,17 @@ class Demo:
 
     def standings(self) -> str:
         """The standings, as lines."""
-        asked = urllib.request.Request(f"{self.address}/api/standings",
-                                       headers={"Authorization": f"Bearer {self.tokens()['amber']}"})
+        asked = urllib.request.Request(
+            f"{self.address}/api/standings",
+            headers={"Authorization": f"Bearer {self.tokens()['amber']}"},
+        )
         with urllib.request.urlopen(asked) as told:
             rows = json.load(told)["teams"]
-        return "".join(f"{'absent' if row['absent'] else row['place']:>6} {row['name']:<16} "
-                       f"{row['solved']} of {row['matches']}\n" for row in rows)
+        return "".join(
+            f"{'absent' if row['absent'] else row['place']:>6} {row['name']:<16} "
+            f"{row['solved']} of {row['matches']}\n"
+            for row in rows
+        )
 
     def hand_in(self, team: str, program: str) -> None:
         """Hands in a program with the module that it imports."""
@@ -112,8 +139,13 @@ class Demo:
             archive.write(AGENTS / "client.py", "client.py")
         head = f'--{EDGE}\r\nContent-Disposition: form-data; name="file"; filename="agent.zip"\r\n\r\n'
         asked = urllib.request.Request(
-            f"{self.address}/api/hand-ins", head.encode() + made.getvalue() + f"\r\n--{EDGE}--\r\n".encode(),
-            {"Authorization": f"Bearer {self.tokens()[team]}", "Content-Type": f"multipart/form-data; boundary={EDGE}"})
+            f"{self.address}/api/hand-ins",
+            head.encode() + made.getvalue() + f"\r\n--{EDGE}--\r\n".encode(),
+            {
+                "Authorization": f"Bearer {self.tokens()[team]}",
+                "Content-Type": f"multipart/form-data; boundary={EDGE}",
+            },
+        )
         urllib.request.urlopen(asked).close()
 
     def end(self) -> None:
@@ -138,9 +170,19 @@ class Demo:
             for turn in PLAYED[team]:
                 if self._is_over.is_set():
                     return
-                words = [self.address, turn.network, sys.executable, str(AGENTS / turn.agent), *turn.words]
-                ran = subprocess.Popen([sys.executable, str(PRACTISE), *words], stdout=subprocess.DEVNULL,
-                                       stderr=subprocess.DEVNULL, env={**os.environ, "ARENA_TOKEN": token})
+                words = [
+                    self.address,
+                    turn.network,
+                    sys.executable,
+                    str(AGENTS / turn.agent),
+                    *turn.words,
+                ]
+                ran = subprocess.Popen(
+                    [sys.executable, str(PRACTISE), *words],
+                    stdout=subprocess.DEVNULL,
+                    stderr=subprocess.DEVNULL,
+                    env={**os.environ, "ARENA_TOKEN": token},
+                )
                 while ran.poll() is None and not self._is_over.wait(0.2):
                     pass
                 ran.terminate()
@@ -160,9 +202,22 @@ def wait(seconds: Optional[float]) -> None:
 
 
 def main() -> int:
-    parser = argparse.ArgumentParser(description=__doc__, formatter_class=argparse.RawDescriptionHelpFormatter)
-    parser.add_argument("--demo-seconds", metavar="N", type=float, help="end after this number of seconds")
-    parser.add_argument("--port", metavar="N", type=int, default=0, help="the port of the pages (a free one)")
+    parser = argparse.ArgumentParser(
+        description=__doc__, formatter_class=argparse.RawDescriptionHelpFormatter
+    )
+    parser.add_argument(
+        "--demo-seconds",
+        metavar="N",
+        type=float,
+        help="end after this number of seconds",
+    )
+    parser.add_argument(
+        "--port",
+        metavar="N",
+        type=int,
+        default=0,
+        help="the port of the pages (a free one)",
+    )
     parser.add_argument("--no-browser", action="store_true", help="open no browser")
     words = parser.parse_args()
     # whoever ends it so ends the hall and the teams too
@@ -172,8 +227,11 @@ def main() -> int:
         demo = Demo(pathlib.Path(name), words.port or free_port())
         try:
             demo.begin()
-            print(f"hall {demo.address}/\nlog in as a team: {demo.tokens()['amber']}\n"
-                  f"the teacher's pages: {demo.address}/teacher/, user teacher, password {demo.password()}", flush=True)
+            print(
+                f"hall {demo.address}/\nlog in as a team: {demo.tokens()['amber']}\n"
+                f"the teacher's pages: {demo.address}/teacher/, user teacher, password {demo.password()}",
+                flush=True,
+            )
             if not words.no_browser and words.demo_seconds is None:
                 webbrowser.open(demo.address)
             wait(words.demo_seconds)

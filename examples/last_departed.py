@@ -10,9 +10,17 @@ import sys
 from typing import List
 
 PROGRAM = sys.argv[1:] or ["./arena"]
-ARENA = subprocess.Popen([*PROGRAM, "rehearse", "--interactive"], stdin=subprocess.PIPE, stdout=subprocess.PIPE,
-                         text=True)
-on_links: List[str] = []  # the connections whose agents are on a link, in the order in which they departed
+ARENA = subprocess.Popen(
+    [*PROGRAM, "rehearse", "--interactive"],
+    stdin=subprocess.PIPE,
+    stdout=subprocess.PIPE,
+    text=True,
+)
+on_links: List[
+    str
+] = (
+    []
+)  # the connections whose agents are on a link, in the order in which they departed
 
 
 def play(line: str) -> None:

@@ -24,7 +24,9 @@ def worst_case(seed: int) -> Callable[[List[Any], Any], Any]:
     def begin(match: Any) -> None:
         runs, right = Table(match.setup.nodes, of_ring3).runs()
         if list(match.setup.holes) != [right + 1]:
-            raise ValueError(f"the worst case on {match.setup.nodes} nodes has its black hole at node {right + 1}")
+            raise ValueError(
+                f"the worst case on {match.setup.nodes} nodes has its black hole at node {right + 1}"
+            )
         turns.extend([agent for agent, count in runs for _ in range(count)] + [None])
 
     def choose(choices: List[Any], state: Any) -> Any:
@@ -35,8 +37,13 @@ def worst_case(seed: int) -> Callable[[List[Any], Any], Any]:
         for choice in choices:
             agent = match.agents[choice.agent]
             ahead = (agent.node + (1 if agent.port == 0 else -1)) % match.setup.nodes
-            if choice.do != "arrive" or ahead in match.reached or ahead == match.setup.home:
+            if (
+                choice.do != "arrive"
+                or ahead in match.reached
+                or ahead == match.setup.home
+            ):
                 return choice
             new[choice.agent] = choice
         return new[turns.pop(0)] if turns[0] in new else choices[0]
+
     return choose

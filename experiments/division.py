@@ -67,12 +67,23 @@ def cases(left: int, way: int, division: Division) -> List[Case]:
     """All answers of the adversary, without how far the one that comes last has come."""
     s, m, t, p = division
     found = []
-    for first, mine, last, theirs, near, far in ((RIGHT, t, LEFT, s, way - p, p), (LEFT, s, RIGHT, t, p, way - p)):
+    for first, mine, last, theirs, near, far in (
+        (RIGHT, t, LEFT, s, way - p, p),
+        (LEFT, s, RIGHT, t, p, way - p),
+    ):
         if m == 0:
-            found.append(Case(0 if theirs == 1 else way + mine - BACK, [(first, mine)], theirs))
+            found.append(
+                Case(0 if theirs == 1 else way + mine - BACK, [(first, mine)], theirs)
+            )
             continue
         taken = 2 * (near + mine) - BACK
-        found.append(Case(taken + (0 if theirs == 1 else way + mine + m - BACK), [(first, mine), (first, m)], theirs))
+        found.append(
+            Case(
+                taken + (0 if theirs == 1 else way + mine + m - BACK),
+                [(first, mine), (first, m)],
+                theirs,
+            )
+        )
         end = 2 * (far + theirs) - BACK if m == 1 else way + s + t - BACK
         found.append(Case(taken + end, [(first, mine), (last, theirs)], m))
     return found
@@ -85,7 +96,9 @@ Costed = Tuple[int, Division]
 def least(cost: "np.ndarray", *division: "np.ndarray") -> Costed:
     """The least of these costs, with its division."""
     it = int(cost.argmin())
-    return int(cost.flat[it]), Division(*(int(np.broadcast_to(x, cost.shape).flat[it]) for x in division))
+    return int(cost.flat[it]), Division(
+        *(int(np.broadcast_to(x, cost.shape).flat[it]) for x in division)
+    )
 
 
 class Table:
@@ -99,7 +112,9 @@ class Table:
         for left in range(2, nodes):
             way = nodes - 1 - left
             self.division[left] = divide(left, way) if divide else self._best(left, way)
-            self.value[left] = way + max(it.moves + self.share[it.rest] for it in self.cases(left))
+            self.value[left] = way + max(
+                it.moves + self.share[it.rest] for it in self.cases(left)
+            )
             self.share[left] = max(i + self.value[left - i] for i in range(left))
 
     def cases(self, left: int) -> List[Case]:
@@ -116,14 +131,18 @@ class Table:
         share = self.share
         s = np.arange(1, left // 2 + 1)
         t, none = left - s, np.zeros_like(s)
-        cost = np.maximum(np.where(s == 1, 0, way + t - BACK + share[s]),
-                          np.where(t == 1, 0, way + s - BACK + share[t]))
+        cost = np.maximum(
+            np.where(s == 1, 0, way + t - BACK + share[s]),
+            np.where(t == 1, 0, way + s - BACK + share[t]),
+        )
         return least(cost, s, none, t, none)
 
     def _best_thirds(self, left: int, way: int) -> List[Costed]:
         """The best with a middle of several nodes, and with a middle of one node, if there are such."""
         share = self.share
-        s, t = (it.ravel() for it in np.meshgrid(np.arange(1, left), np.arange(1, left)))
+        s, t = (
+            it.ravel() for it in np.meshgrid(np.arange(1, left), np.arange(1, left))
+        )
         fits = (s <= t) & (s + t < left)
         s, t = s[fits], t[fits]
         m = left - s - t
@@ -137,13 +156,17 @@ class Table:
             even = np.floor_divide(2 * way + 2 * t - 2 * s + x - y, 4)
             for p in (np.clip(even, 0, way), np.clip(even + 1, 0, way)):
                 cost = np.maximum(2 * (way - p + t) - BACK + x, 2 * (p + s) - BACK + y)
-                found.append(least(np.where(m == 1, np.iinfo(np.int64).max, cost), s, m, t, p))
+                found.append(
+                    least(np.where(m == 1, np.iinfo(np.int64).max, cost), s, m, t, p)
+                )
             one = m == 1
             s, t, right, left_ = s[one], t[one], right[one], left_[one]
             p = np.arange(way + 1)[:, None]
             q = way - p
-            cost = np.maximum(2 * (q + t) - BACK + np.maximum(right, 2 * (p + s) - BACK),
-                              2 * (p + s) - BACK + np.maximum(left_, 2 * (q + t) - BACK))
+            cost = np.maximum(
+                2 * (q + t) - BACK + np.maximum(right, 2 * (p + s) - BACK),
+                2 * (p + s) - BACK + np.maximum(left_, 2 * (q + t) - BACK),
+            )
             found.append(least(cost, s, np.ones_like(s), t, p))
         return found
 
@@ -165,12 +188,17 @@ def bound(nodes: int) -> float:
 
 def table(sizes: List[int]) -> None:
     """Prints what the searches come to on rings of these sizes."""
-    print("n | best division | ring3.py | ring.py | 3 n log3 n | best / bound | ring3 / bound | ring3 / ring")
+    print(
+        "n | best division | ring3.py | ring.py | 3 n log3 n | best / bound | ring3 / bound | ring3 / ring"
+    )
     for nodes in sizes:
         best, thirds = Table(nodes).moves(), Table(nodes, of_ring3).moves()
         halves, most = most_moves(nodes), bound(nodes)
-        print(f"{nodes} | {best} | {thirds} | {halves} | {most:.1f} | {best / most:.3f} | {thirds / most:.3f} | "
-              f"{thirds / halves:.3f}", flush=True)
+        print(
+            f"{nodes} | {best} | {thirds} | {halves} | {most:.1f} | {best / most:.3f} | {thirds / most:.3f} | "
+            f"{thirds / halves:.3f}",
+            flush=True,
+        )
 
 
 def attain(sizes: List[int]) -> None:
@@ -179,15 +207,21 @@ def attain(sizes: List[int]) -> None:
         found = Table(nodes, of_ring3)
         runs, right = found.runs()
         ended = played(ring3.search, nodes, runs)
-        print(f"ring:{nodes} counted {found.moves()}, played {ended.moves}, black hole {ended.hole}, commands "
-              f"{ended.commands}, runs {runs}")
+        print(
+            f"ring:{nodes} counted {found.moves()}, played {ended.moves}, black hole {ended.hole}, commands "
+            f"{ended.commands}, runs {runs}"
+        )
         if (ended.moves, ended.hole) != (found.moves(), right + 1):
             sys.exit(f"ring:{nodes}: the count is not attained")
 
 
 def main(given: List[str]) -> None:
     commands = {"table": table, "attain": attain}
-    if len(given) < 2 or given[0] not in commands or not all(it.isdigit() and int(it) > 2 for it in given[1:]):
+    if (
+        len(given) < 2
+        or given[0] not in commands
+        or not all(it.isdigit() and int(it) > 2 for it in given[1:])
+    ):
         sys.exit((__doc__ or "").strip())
     commands[given[0]]([int(it) for it in given[1:]])
 

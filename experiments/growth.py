@@ -28,15 +28,26 @@ class Series(NamedTuple):
     mark: str
 
 
-ALL_SERIES = (Series("two agents on rings", ("rings", "large-rings"), "2 n log2 n", "o"),
-              Series("two agents with a map", ("known-map", "large-known-map"), "n log2 n", "^"),
-              Series("without a map, one agent more than the degree", ("no-map", "large-no-map"), "n^2", "s"))
+ALL_SERIES = (
+    Series("two agents on rings", ("rings", "large-rings"), "2 n log2 n", "o"),
+    Series("two agents with a map", ("known-map", "large-known-map"), "n log2 n", "^"),
+    Series(
+        "without a map, one agent more than the degree",
+        ("no-map", "large-no-map"),
+        "n^2",
+        "s",
+    ),
+)
 
 
 def cells_in(document: str, name: str) -> List[List[str]]:
     """The rows of a table of the document, and its head before them."""
     text = document.partition(f"<!-- table {name} -->")[2].partition("<!-- end")[0]
-    head, _, *rows = [line.strip("| ").split(" | ") for line in text.splitlines() if line.startswith("|")]
+    head, _, *rows = [
+        line.strip("| ").split(" | ")
+        for line in text.splitlines()
+        if line.startswith("|")
+    ]
     return [head, *rows]
 
 
@@ -48,9 +59,18 @@ def rows_in(document: str, name: str) -> List[Dict[str, str]]:
 
 def points(document: str, series: Series) -> List[Tuple[int, int]]:
     """The nodes of each network, and the most moves in any column of its row."""
-    return [(networks.named(row["network"]).nodes,
-             max(int(cell) for head, cell in row.items() if head.endswith(MOST) and cell.isdigit()))
-            for name in series.tables for row in rows_in(document, name)]
+    return [
+        (
+            networks.named(row["network"]).nodes,
+            max(
+                int(cell)
+                for head, cell in row.items()
+                if head.endswith(MOST) and cell.isdigit()
+            ),
+        )
+        for name in series.tables
+        for row in rows_in(document, name)
+    ]
 
 
 def drawn(document: str) -> Any:
@@ -60,9 +80,17 @@ def drawn(document: str) -> Any:
     for series, colour in zip(ALL_SERIES, COLOURS):
         found = points(document, series)
         sizes = sorted({nodes for nodes, _ in found})
-        axes.plot(*zip(*found), series.mark, color=colour, markersize=4, label=series.name)
-        axes.plot(sizes, [BOUNDS[series.bound](nodes) for nodes in sizes], "-", color=colour, linewidth=0.8,
-                  label=series.bound)
+        axes.plot(
+            *zip(*found), series.mark, color=colour, markersize=4, label=series.name
+        )
+        axes.plot(
+            sizes,
+            [BOUNDS[series.bound](nodes) for nodes in sizes],
+            "-",
+            color=colour,
+            linewidth=0.8,
+            label=series.bound,
+        )
     axes.set_xscale("log", base=2)
     axes.set_yscale("log", base=10)
     axes.set_xlabel("nodes")
@@ -74,7 +102,9 @@ def drawn(document: str) -> Any:
 
 def write(file: pathlib.Path = PICTURE) -> None:
     """Draws the document's tables."""
-    file.write_text(svg_of(drawn(DOCUMENT.read_text(encoding="utf-8"))), encoding="utf-8")
+    file.write_text(
+        svg_of(drawn(DOCUMENT.read_text(encoding="utf-8"))), encoding="utf-8"
+    )
     print(f"{file}: written", flush=True)
 
 

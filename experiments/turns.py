@@ -32,7 +32,9 @@ class World:
         self.accused: List[int] = []
         self.hub = greenlet.getcurrent()
         self.clients = [Client(self), Client(self)]
-        self.agents = [greenlet(lambda it=it: search(it, "", nodes)) for it in self.clients]
+        self.agents = [
+            greenlet(lambda it=it: search(it, "", nodes)) for it in self.clients
+        ]
         for agent in self.agents:
             agent.switch()
 
@@ -80,5 +82,7 @@ def played(search: Any, nodes: int, runs: Sequence[Run]) -> Ended:
             assert not world.accused, "the search has ended before the runs have"
             world.agents[agent].switch()
     assert world.accused, "nobody accuses"
-    assert set(range(nodes)) - world.reached == set(world.accused), "another node is accused"
+    assert set(range(nodes)) - world.reached == set(
+        world.accused
+    ), "another node is accused"
     return Ended(world.moves, world.accused[0], [it.commands for it in world.clients])

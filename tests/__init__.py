@@ -9,4 +9,6 @@ TOP = pathlib.Path(__file__).resolve().parent.parent
 
 def needs(command: str, package: str) -> Callable[[Any], Any]:
     """Skips a test or a class of tests if a command of one of Debian's packages is missing."""
-    return unittest.skipUnless(shutil.which(command), f"Debian's {package} is not installed")
+    return unittest.skipUnless(
+        shutil.which(command), f"Debian's {package} is not installed"
+    )

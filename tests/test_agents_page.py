@@ -20,7 +20,9 @@ OVER = '{"ok":"over"}'
 
 def lines() -> List[Tuple[str, str]]:
     """The lines of the conversations, in order, each with who says it."""
-    return [(found[1], found[2]) for found in map(LINE.fullmatch, PAGE.split("\n")) if found]
+    return [
+        (found[1], found[2]) for found in map(LINE.fullmatch, PAGE.split("\n")) if found
+    ]
 
 
 class Conversation(unittest.TestCase):
@@ -36,7 +38,9 @@ class Conversation(unittest.TestCase):
 
     def hear(self, line: str) -> None:
         if not self.told and line == OVER:
-            self.assertEqual([], self.engine.draw(0), "the first agent is in the black hole")
+            self.assertEqual(
+                [], self.engine.draw(0), "the first agent is in the black hole"
+            )
             self.told = self.engine.close()
         elif not self.told:
             self.told = self.engine.draw(len(self.engine.match.pool) - 1)
@@ -59,6 +63,9 @@ class Words(unittest.TestCase):
                 self.assertIn(f"`{language}`", PAGE)
 
     def test_each_refusal_has_a_row(self) -> None:
-        for why in re.findall(r'"(\w+)": [A-Z]\w+[,\n]', CLIENT.partition("REFUSALS = {")[2].partition("}")[0]):
+        for why in re.findall(
+            r'"(\w+)": [A-Z]\w+[,\n]',
+            CLIENT.partition("REFUSALS = {")[2].partition("}")[0],
+        ):
             with self.subTest(why):
                 self.assertRegex(PAGE, rf"\| (`\w+`, )*`{why}`(, `\w+`)* \|")

@@ -22,19 +22,34 @@ class Command(InTemporary):
         return str(self.folder / name)
 
     def said(self, *words: str, **variables: str) -> str:
-        kept = {name: text for name, text in os.environ.items() if name not in ("VIRTUAL_ENV", "CONDA_PREFIX")}
-        return subprocess.run([TOP / "arena-lab", *words], cwd=self.folder, env={**kept, **variables}, check=True,
-                              stdout=subprocess.PIPE, text=True).stdout
+        kept = {
+            name: text
+            for name, text in os.environ.items()
+            if name not in ("VIRTUAL_ENV", "CONDA_PREFIX")
+        }
+        return subprocess.run(
+            [TOP / "arena-lab", *words],
+            cwd=self.folder,
+            env={**kept, **variables},
+            check=True,
+            stdout=subprocess.PIPE,
+            text=True,
+        ).stdout
 
     def test_an_active_environment_with_the_packages_is_taken(self) -> None:
         for variable in ("VIRTUAL_ENV", "CONDA_PREFIX"):
             place = self.environment(f"mine-{variable}", True)
-            self.assertEqual(self.said("run", "two words", PYTHONPATH="mine", **{variable: place}),
-                             f"mine-{variable}: {TOP} run two words path=mine\n")
+            self.assertEqual(
+                self.said("run", "two words", PYTHONPATH="mine", **{variable: place}),
+                f"mine-{variable}: {TOP} run two words path=mine\n",
+            )
 
     def test_another_environment_gives_way_to_debians_python(self) -> None:
         bare = self.environment("bare", False)
-        whole = subprocess.run(["/usr/bin/python3", "-c", "import greenlet, jinja2, tqdm"], stderr=subprocess.DEVNULL)
+        whole = subprocess.run(
+            ["/usr/bin/python3", "-c", "import greenlet, jinja2, tqdm"],
+            stderr=subprocess.DEVNULL,
+        )
         said = self.said("--help", VIRTUAL_ENV=bare)
         if whole.returncode == 0:
             self.assertIn("usage: ./arena-lab", said)

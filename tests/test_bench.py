@@ -20,12 +20,18 @@ from arena_lab.rules.networks import text_of, torus
 class Inputs(InTemporary):
     def test_a_torus_has_each_link_once(self) -> None:
         network = tomllib.loads(text_of(torus(3, 4)))
-        ends = [(v, p) for v, p, _, _ in network["links"]] + [(w, q) for _, _, w, q in network["links"]]
-        self.assertEqual(sorted(ends), [(node, port) for node in range(12) for port in range(4)])
+        ends = [(v, p) for v, p, _, _ in network["links"]] + [
+            (w, q) for _, _, w, q in network["links"]
+        ]
+        self.assertEqual(
+            sorted(ends), [(node, port) for node in range(12) for port in range(4)]
+        )
 
     def test_tournaments_of_both_versions(self) -> None:
         for version, hole in ((1, {"hole": "none"}), (2, {"holes": []})):
-            matches = tomllib.loads(inputs.tournament("n.toml", 2, 3, 8, version))["match"]
+            matches = tomllib.loads(inputs.tournament("n.toml", 2, 3, 8, version))[
+                "match"
+            ]
             self.assertEqual([match["keys"][2] for match in matches], ["k0-2", "k1-2"])
             self.assertEqual({name: matches[0].get(name) for name in hole}, hole)
 
@@ -34,15 +40,22 @@ class Inputs(InTemporary):
         self.assertLessEqual(len(text), 20_000)
         self.assertGreater(len(text), 19_900)
         self.assertEqual(text.count("\n"), lines)
-        self.assertGreater(len(compare.filled(compare.moves())), inputs.MAX_SCRIPT - 100)
+        self.assertGreater(
+            len(compare.filled(compare.moves())), inputs.MAX_SCRIPT - 100
+        )
 
     def test_times_are_compared(self) -> None:
-        self.assertEqual(compare.compared(min, [[0.002, 0.004], [0.003, 0.008]]), "2.00 ms, 4.00 ms, ratio 0.50")
+        self.assertEqual(
+            compare.compared(min, [[0.002, 0.004], [0.003, 0.008]]),
+            "2.00 ms, 4.00 ms, ratio 0.50",
+        )
 
     @needs("cc", "gcc")
     def test_a_run_is_measured(self) -> None:
         (self.folder / "in").write_text("text")
-        self.assertEqual(inputs.printed_by("cat", [], self.folder / "in", self.folder), b"text")
+        self.assertEqual(
+            inputs.printed_by("cat", [], self.folder / "in", self.folder), b"text"
+        )
         for keeps in (False, True):
             ran = inputs.run("cat", [], self.folder / "in", self.folder, keeps)
             self.assertGreater(ran.seconds, 0)
@@ -51,7 +64,9 @@ class Inputs(InTemporary):
         with self.assertRaises(subprocess.CalledProcessError):
             inputs.run("false", [], self.folder / "in", self.folder)
         words = ["-c", "held = b'x' * (32 * 1024 * 1024)"]
-        held = inputs.median_run(3, sys.executable, words, self.folder / "in", self.folder)
+        held = inputs.median_run(
+            3, sys.executable, words, self.folder / "in", self.folder
+        )
         self.assertGreater(held.peak, 32 * 1024)
 
 
@@ -76,38 +91,63 @@ class Figures(unittest.TestCase):
         setting = figures.Setting(figures.TOP, None, figures.TOP, place, machine)
         page = figures.page({name: figures.section(name, "| a |\n", setting)})
         self.assertEqual(figures.page(figures.sections_of(page)), page)
-        self.assertIn(f"| Waiting | `abc1234` with changes | 2026-01-02 | {setting.build} | {machine} |\n", page)
-        self.assertLess(max(len(line) for line in page.splitlines() if not line.startswith("|")), 121)
+        self.assertIn(
+            f"| Waiting | `abc1234` with changes | 2026-01-02 | {setting.build} | {machine} |\n",
+            page,
+        )
+        self.assertLess(
+            max(len(line) for line in page.splitlines() if not line.startswith("|")),
+            121,
+        )
 
     def test_lines_of_benchmarks_become_rows(self) -> None:
-        flood = ("500 strangers a second: 50 of 50 teams solved their networks; the slowest enter took 176 ms, "
-                 "the slowest of 4430 commands 52 ms, 99 of 100 at most 16.9 ms\n")
-        self.assertIn("| 500 | 50 of 50 | 176 | 4430 | 52 | 16.9 |\n", figures.flood_text(flood))
-        self.assertIn("| 16,383 looks | 9.4 | 1.5 |\n", figures.looks_text("16,383 looks: 9.4 MB, 1.5 s\n"))
+        flood = (
+            "500 strangers a second: 50 of 50 teams solved their networks; the slowest enter took 176 ms, "
+            "the slowest of 4430 commands 52 ms, 99 of 100 at most 16.9 ms\n"
+        )
+        self.assertIn(
+            "| 500 | 50 of 50 | 176 | 4430 | 52 | 16.9 |\n", figures.flood_text(flood)
+        )
+        self.assertIn(
+            "| 16,383 looks | 9.4 | 1.5 |\n",
+            figures.looks_text("16,383 looks: 9.4 MB, 1.5 s\n"),
+        )
         with self.assertRaisesRegex(ValueError, "no line reads"):
             figures.looks_text("nothing\n")
 
 
 class Words(unittest.TestCase):
     def test_the_first_words_of_the_zero_seed(self) -> None:
-        published = bytes.fromhex("3e00ef2f895f40d67f5bb8e81f09a5a12c840ec3ce9a7f3b181be188ef711a1e")
+        published = bytes.fromhex(
+            "3e00ef2f895f40d67f5bb8e81f09a5a12c840ec3ce9a7f3b181be188ef711a1e"
+        )
         words = list(chacha8.block(bytes(32), 0, 0))[:8]
-        self.assertEqual(b"".join(word.to_bytes(4, "little") for word in words), published)
+        self.assertEqual(
+            b"".join(word.to_bytes(4, "little") for word in words), published
+        )
 
 
 class Tables(unittest.TestCase):
     ROWS = [("blue", Verdict("guess 1", 0, 0)), ("red", Verdict("solved", 1, 0))]
 
     def test_the_table_is_laid_out_as_the_arena_does(self) -> None:
-        self.assertEqual(table(self.ROWS), (
-            "  # team             outcome     moves lost\n"
-            "  1 red              solved          1    0\n"
-            "  2 blue             guess 1         0    0\n"))
+        self.assertEqual(
+            table(self.ROWS),
+            (
+                "  # team             outcome     moves lost\n"
+                "  1 red              solved          1    0\n"
+                "  2 blue             guess 1         0    0\n"
+            ),
+        )
 
     def test_the_contest_reads_the_outcomes(self) -> None:
-        self.assertEqual(contest.outcomes(table(self.ROWS)), {"red": "solved", "blue": "guess 1"})
+        self.assertEqual(
+            contest.outcomes(table(self.ROWS)), {"red": "solved", "blue": "guess 1"}
+        )
 
     def test_the_contest_has_an_agent_for_each_key(self) -> None:
         matches = tomllib.loads((contest.TOP / contest.TOURNAMENT).read_text())["match"]
         keys = {match["team"]: len(match["keys"]) for match in matches}
-        self.assertEqual(keys, {team: len(agents) for team, agents in contest.TEAMS.items()})
+        self.assertEqual(
+            keys, {team: len(agents) for team, agents in contest.TEAMS.items()}
+        )

@@ -17,21 +17,30 @@ class Inputs(InTemporary):
         head, *lines = instructions.replay(play, 3)
         values = json.loads(head)
         self.assertEqual((values.pop("replay"), len(lines)), (1, events + 1))
-        second = json.dumps({**values, "replay": 2, "dark": [], "holes": [values.pop("hole")]})
+        second = json.dumps(
+            {**values, "replay": 2, "dark": [], "holes": [values.pop("hole")]}
+        )
         match = played("".join([second + "\n", *lines]))
         self.assertEqual(match.replay().split("\n")[1:], "".join(lines).split("\n"))
         self.assertEqual(str(judge(match)), verdict)
         self.assertNotIn(instructions.TWIN, match.reached)
 
     def test_replays(self) -> None:
-        self.plays(instructions.moves, 16 + 3 * 2 * 16 + 16 + 1, "silent moves 48 lost 0")
-        self.plays(instructions.texts, 16 + 1 + 2 * 16 + 16 + 1, "silent moves 0 lost 0")
+        self.plays(
+            instructions.moves, 16 + 3 * 2 * 16 + 16 + 1, "silent moves 48 lost 0"
+        )
+        self.plays(
+            instructions.texts, 16 + 1 + 2 * 16 + 16 + 1, "silent moves 0 lost 0"
+        )
 
     def test_small_inputs(self) -> None:
         works = instructions.written(self.folder, instructions.SMALL)
         self.assertEqual(len({work.title for work in works}), 8)
         for work in works:
-            self.assertTrue((self.folder / work.source).exists() and (self.folder / work.words[1]).exists())
+            self.assertTrue(
+                (self.folder / work.source).exists()
+                and (self.folder / work.words[1]).exists()
+            )
         self.assertGreater((self.folder / "script").read_text().count("\n"), 3000)
 
 
@@ -43,30 +52,45 @@ class Counts(InTemporary):
     def printed(self, said: str) -> str:
         """What is printed of two programs, with this script in the place of valgrind."""
         programs = [self.made("one", "exit"), "--peer", self.made("two", "exit")]
-        with unittest.mock.patch.object(instructions, "VALGRIND", self.made("valgrind", said)), \
-                contextlib.redirect_stdout(io.StringIO()) as told:
+        with unittest.mock.patch.object(
+            instructions, "VALGRIND", self.made("valgrind", said)
+        ), contextlib.redirect_stdout(io.StringIO()) as told:
             instructions.main([*programs, "--small"])
         return told.getvalue()
 
     def test_a_table_has_the_counts_and_ratios(self) -> None:
         counts = "case $3 in *two) count=1000000;; *) count=2500000;; esac"
         lines = self.printed(f"{counts}; echo ==7== Collected : $count >&2").split("\n")
-        self.assertEqual(lines[:2], ["| millions of instructions | program | peer | ratio |",
-                                     "| --- | --- | --- | --- |"])
+        self.assertEqual(
+            lines[:2],
+            [
+                "| millions of instructions | program | peer | ratio |",
+                "| --- | --- | --- | --- |",
+            ],
+        )
         self.assertEqual(lines[-2], "| `twin`, texts | 2.5 | 1.0 | 2.50 |")
 
     def test_what_takes_more_than_is_kept_fails(self) -> None:
-        self.assertEqual(instructions.risen({"a": 1.03, "b": 2.0}, {"a": 1.0, "b": 2.5, "c": 1.0}), [])
+        self.assertEqual(
+            instructions.risen({"a": 1.03, "b": 2.0}, {"a": 1.0, "b": 2.5, "c": 1.0}),
+            [],
+        )
         wrong = instructions.risen({"a": 1.04, "new": 0.1}, {"a": 1.0})
         self.assertEqual([line.partition(" takes ")[0] for line in wrong], ["a", "new"])
 
     def test_each_run_is_compared_with_what_is_kept(self) -> None:
         titles = list(tomllib.loads(instructions.KEPT.read_text()))
-        kept, valgrind = self.folder / "kept.toml", self.made("valgrind", "echo ==7== Collected : 2000000 >&2")
+        kept, valgrind = self.folder / "kept.toml", self.made(
+            "valgrind", "echo ==7== Collected : 2000000 >&2"
+        )
         for number, last in ((2, "8 passed, 0 failed"), (1, "0 passed, 8 failed")):
             kept.write_text("".join(f'"{title}" = {number}\n' for title in titles))
-            with unittest.mock.patch.multiple(instructions, KEPT=kept, VALGRIND=valgrind):
-                status, told, _ = ran(instructions.main, [self.made("one", "exit"), "--kept"])
+            with unittest.mock.patch.multiple(
+                instructions, KEPT=kept, VALGRIND=valgrind
+            ):
+                status, told, _ = ran(
+                    instructions.main, [self.made("one", "exit"), "--kept"]
+                )
                 self.assertEqual(status, number == 1)
             self.assertEqual(told.splitlines()[-1], last)
 

@@ -42,7 +42,9 @@ class LargeReplays(unittest.TestCase):
 class TwoPrograms(InTemporary):
     """How two programs are compared."""
 
-    KIND = replays.Kind("none", lambda commands: iter(()), 1, lambda _: 1, lambda _: 0, 0)
+    KIND = replays.Kind(
+        "none", lambda commands: iter(()), 1, lambda _: 1, lambda _: 0, 0
+    )
 
     def setUp(self) -> None:
         super().setUp()
@@ -61,7 +63,10 @@ class TwoPrograms(InTemporary):
         right, told = self.compared("echo twin")
         self.assertTrue(right)
         for word in ("judge", "table", "explain", "twin"):
-            self.assertRegex(told, rf"  {word}: .* ms, .* ms, ratio .*; processor .*, ratio .*; peak .* KiB, .* KiB")
+            self.assertRegex(
+                told,
+                rf"  {word}: .* ms, .* ms, ratio .*; processor .*, ratio .*; peak .* KiB, .* KiB",
+            )
 
     def test_programs_that_do_not(self) -> None:
         right, told = self.compared("echo other")
@@ -70,5 +75,7 @@ class TwoPrograms(InTemporary):
 
     def test_words(self) -> None:
         given = replays.given_words(["one", "two", "--rounds", "5"])
-        self.assertEqual((str(given.program), str(given.other), given.rounds), ("one", "two", 5))
+        self.assertEqual(
+            (str(given.program), str(given.other), given.rounds), ("one", "two", 5)
+        )
         self.assertEqual(replays.given_words([]).program, replays.PROGRAM)

@@ -25,8 +25,13 @@ class Bends(unittest.TestCase):
             self.assertEqual(played(text).replay(), text)
 
     def test_each_bend_changes_most_texts(self) -> None:
-        replay, drawn = bent_inputs.drawn_replay(random.Random(8)), bent_inputs.drawn_script(random.Random(8))
-        for bends, long in ((bent_inputs.REPLAY_BENDS, replay), (bent_inputs.SCRIPT_BENDS, drawn.script)):
+        replay, drawn = bent_inputs.drawn_replay(
+            random.Random(8)
+        ), bent_inputs.drawn_script(random.Random(8))
+        for bends, long in (
+            (bent_inputs.REPLAY_BENDS, replay),
+            (bent_inputs.SCRIPT_BENDS, drawn.script),
+        ):
             for bend in bends:
                 found = [bend(long, random.Random(seed)) != long for seed in range(40)]
                 self.assertGreater(sum(found), 10, bend)
@@ -34,21 +39,32 @@ class Bends(unittest.TestCase):
     def test_bends_by_hand(self) -> None:
         chance = random.Random(0)
         self.assertIn(bent_inputs.zero_in_front(b'{"end":2}', chance), (b'{"end":02}',))
-        self.assertEqual(bent_inputs.replaced(b"none", rb"\d", chance, lambda _: b"x"), b"none")
+        self.assertEqual(
+            bent_inputs.replaced(b"none", rb"\d", chance, lambda _: b"x"), b"none"
+        )
         lines = REPLAY.split(b"\n")
         bent_inputs.drop(lines, 1, chance)
         self.assertEqual(lines[1], b'{"do":"close","reply":null}')
         with mock.patch.object(bent_inputs, "REPLIES", (b"null",)):
             found = collections.Counter(
-                bent_inputs.on_lines(bent_inputs.other_reply)(REPLAY, random.Random(seed)) for seed in range(60))
+                bent_inputs.on_lines(bent_inputs.other_reply)(
+                    REPLAY, random.Random(seed)
+                )
+                for seed in range(60)
+            )
         self.assertIn(REPLAY.replace(b'{"no":"away"}', b"null"), found)
 
     def test_scripts_by_hand(self) -> None:
         lines = [b'1 {"do":"look"}', b"# none"]
         for at in (1, 0):
             bent_inputs.in_hexadecimal(lines, at, random.Random(0))
-        self.assertEqual([line[:6] for line in lines], [b"hex 1 ", b"hex 1 ", b"# none"])
-        self.assertEqual(bytes.fromhex((lines[0][6:] + lines[1][6:]).decode()).rstrip(), b'{"do":"look"}')
+        self.assertEqual(
+            [line[:6] for line in lines], [b"hex 1 ", b"hex 1 ", b"# none"]
+        )
+        self.assertEqual(
+            bytes.fromhex((lines[0][6:] + lines[1][6:]).decode()).rstrip(),
+            b'{"do":"look"}',
+        )
         sizes = set()
         for seed in range(20):
             lines = []
@@ -58,11 +74,19 @@ class Bends(unittest.TestCase):
 
     def test_the_same_seed_makes_the_same_inputs(self) -> None:
         made = [bent_inputs.replay_of(number, 3, [REPLAY]) for number in range(30)]
-        self.assertEqual(made, [bent_inputs.replay_of(number, 3, [REPLAY]) for number in range(30)])
-        self.assertNotEqual(made, [bent_inputs.replay_of(number, 4, [REPLAY]) for number in range(30)])
+        self.assertEqual(
+            made, [bent_inputs.replay_of(number, 3, [REPLAY]) for number in range(30)]
+        )
+        self.assertNotEqual(
+            made, [bent_inputs.replay_of(number, 4, [REPLAY]) for number in range(30)]
+        )
         scripts = [bent_inputs.script_of(number, 3) for number in range(30)]
-        self.assertEqual(scripts, [bent_inputs.script_of(number, 3) for number in range(30)])
-        self.assertNotEqual(scripts, [bent_inputs.script_of(number, 4) for number in range(30)])
+        self.assertEqual(
+            scripts, [bent_inputs.script_of(number, 3) for number in range(30)]
+        )
+        self.assertNotEqual(
+            scripts, [bent_inputs.script_of(number, 4) for number in range(30)]
+        )
 
 
 class Programs(InTemporary):
@@ -73,9 +97,14 @@ class Programs(InTemporary):
         kept = self.folder / "kept"
         kept.mkdir(exist_ok=True)
         one, two = self.program("one", "exit 3"), self.program("two", other)
-        given = bent_inputs.words([one, two, "--replays", "4", "--scripts", "2", "--keep", str(kept)])
-        return collections.Counter(name for found in bent_inputs.Comparing(given, self.folder).all()
-                                   for name in found.differing)
+        given = bent_inputs.words(
+            [one, two, "--replays", "4", "--scripts", "2", "--keep", str(kept)]
+        )
+        return collections.Counter(
+            name
+            for found in bent_inputs.Comparing(given, self.folder).all()
+            for name in found.differing
+        )
 
     def test_the_same_programs(self) -> None:
         self.assertEqual(self.differing("exit 3"), {})
@@ -88,5 +117,10 @@ class Programs(InTemporary):
         self.assertEqual(self.differing("echo >&2; exit 3"), {"explain": 4, "twin": 4})
 
     def test_faults_have_no_numbers(self) -> None:
-        self.assertEqual(bent_inputs.fault_of(bent_inputs.Said(3, b"", b"note\n/tmp/a: event 13\n")), "event N")
-        self.assertEqual(bent_inputs.fault_of(bent_inputs.Said(0, b"", b"note\n")), "none")
+        self.assertEqual(
+            bent_inputs.fault_of(bent_inputs.Said(3, b"", b"note\n/tmp/a: event 13\n")),
+            "event N",
+        )
+        self.assertEqual(
+            bent_inputs.fault_of(bent_inputs.Said(0, b"", b"note\n")), "none"
+        )

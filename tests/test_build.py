@@ -15,9 +15,21 @@ from tests.support.output import ran, write
 from tools.prove import version
 from tools.prove import bar
 from tools.prove import prover
-from tools.prove.forecast import LAST_PART, SECONDS, TRUST, Forecast, seconds_of, text_of
+from tools.prove.forecast import (
+    LAST_PART,
+    SECONDS,
+    TRUST,
+    Forecast,
+    seconds_of,
+    text_of,
+)
 
-LIBRARIES = {"low": [], "left": ["low"], "right": ["low", "json"], "bhs_main": ["left", "right"]}
+LIBRARIES = {
+    "low": [],
+    "left": ["low"],
+    "right": ["low", "json"],
+    "bhs_main": ["left", "right"],
+}
 # the player is another program
 ALL = {**LIBRARIES, "bhs_player": ["right"]}
 RATTLE = f"""#!{sys.executable}
@@ -37,7 +49,12 @@ pathlib.Path(words[words.index("-o") + 1]).write_text("the program")
 
 class Forecasts(unittest.TestCase):
     def forecast(self, workers: int) -> Forecast:
-        return Forecast(LIBRARIES, {*LIBRARIES}, {"low": 100, "left": 100, "right": 200, "bhs_main": 100}, workers)
+        return Forecast(
+            LIBRARIES,
+            {*LIBRARIES},
+            {"low": 100, "left": 100, "right": 200, "bhs_main": 100},
+            workers,
+        )
 
     def test_at_first_it_is_what_earlier_runs_took(self) -> None:
         self.assertEqual(self.forecast(1).seconds_left(0), 500)
@@ -97,8 +114,15 @@ class Build(unittest.TestCase):
             write(self.top / name, (TOP / name).read_text(), 0o755)
         self.build = module(TOP / "tools" / "build")
         self.record = prover.record_of(self.crates, "bhs_main")
-        for owner, found in ((prover, {"BUILT": self.crates}), (self.build, {"libraries_of": lambda: ALL})):
-            self.enterContext(unittest.mock.patch.multiple(owner, CRATES=self.crates, KIT=kit, TOP=self.top, **found))
+        for owner, found in (
+            (prover, {"BUILT": self.crates}),
+            (self.build, {"libraries_of": lambda: ALL}),
+        ):
+            self.enterContext(
+                unittest.mock.patch.multiple(
+                    owner, CRATES=self.crates, KIT=kit, TOP=self.top, **found
+                )
+            )
         self.enterContext(unittest.mock.patch.object(version, "KIT", kit))
 
     def said(self, status: int) -> str:
@@ -111,10 +135,18 @@ class Build(unittest.TestCase):
     def test_it_shows_what_is_done_and_what_is_left(self) -> None:
         said = self.said(0)
         self.assertIn("meanwhile `./arena` plays without a proof", said)
-        self.assertRegex(said, r"arena: \[\.{20}\]   \d% 0 of 5 crates are proved, \d.* s, (about \d+ min|less than a "
-                         r"minute) left; now low\n")
-        self.assertRegex(said, r"\[#+\.+\] +\d+% [34] of 5 crates are proved, \d.* s, .* left; now bhs_main")
-        self.assertRegex(said, r"all 5 crates are proved and the programs are built, \d.* s\n$")
+        self.assertRegex(
+            said,
+            r"arena: \[\.{20}\]   \d% 0 of 5 crates are proved, \d.* s, (about \d+ min|less than a "
+            r"minute) left; now low\n",
+        )
+        self.assertRegex(
+            said,
+            r"\[#+\.+\] +\d+% [34] of 5 crates are proved, \d.* s, .* left; now bhs_main",
+        )
+        self.assertRegex(
+            said, r"all 5 crates are proved and the programs are built, \d.* s\n$"
+        )
         self.assertEqual(self.record.with_name("bhs_main").read_text(), "the program")
         self.assertIn("\n# toolchain kit 1\n", self.record.read_text())
         self.assertTrue(prover.is_current(self.record))
@@ -130,9 +162,15 @@ class Build(unittest.TestCase):
         self.said(0)
         late = time.time() + 10
         os.utime(self.crates / "left" / "src" / "lib.rt", (late, late))
-        self.assertEqual(self.said(0), "arena: the programs are proved and built of the sources as they are\n")
+        self.assertEqual(
+            self.said(0),
+            "arena: the programs are proved and built of the sources as they are\n",
+        )
         source = write(self.crates / "left" / "src" / "lib.rt", "changed\n")
-        self.assertEqual(self.build.unbuilt(LIBRARIES, ["low", "left", "right", "bhs_main"]), {"left", "bhs_main"})
+        self.assertEqual(
+            self.build.unbuilt(LIBRARIES, ["low", "left", "right", "bhs_main"]),
+            {"left", "bhs_main"},
+        )
         said = self.said(0)
         self.assertIn("3 of 5 crates are proved", said)
         self.assertNotIn("the first time", said)
@@ -141,7 +179,9 @@ class Build(unittest.TestCase):
         self.assertIn("left was not proved: see crates/left/out/build.log\n", said)
         self.assertNotIn("all 5 crates are proved", said)
 
-    def test_a_source_that_is_put_in_its_place_is_proved_whatever_its_time(self) -> None:
+    def test_a_source_that_is_put_in_its_place_is_proved_whatever_its_time(
+        self,
+    ) -> None:
         self.said(0)
         source = write(self.crates / "low" / "src" / "lib.rt", "an older one\n")
         os.utime(source, (1, 1))
@@ -150,7 +190,9 @@ class Build(unittest.TestCase):
     def test_what_changes_meanwhile_is_not_recorded_as_proved(self) -> None:
         change = f"import pathlib\npathlib.Path({str(self.crates / 'low' / 'src' / 'lib.rt')!r}).write_text('new')\n"
         write(self.top / "kit" / "bin" / "rattle-link", LINK + change, 0o755)
-        self.assertIn("arena: the sources have changed meanwhile: run it again\n", self.said(1))
+        self.assertIn(
+            "arena: the sources have changed meanwhile: run it again\n", self.said(1)
+        )
         self.assertFalse(prover.is_current(self.record))
         self.said(0)
         self.assertTrue(prover.is_current(self.record))
@@ -165,10 +207,19 @@ class Build(unittest.TestCase):
 class GateTimes(unittest.TestCase):
     def test_it_keeps_what_the_proofs_took(self) -> None:
         times = module(TOP / "tools" / "prove" / "gate_times")
-        path = pathlib.Path(self.enterContext(tempfile.TemporaryDirectory())) / "seconds"
+        path = (
+            pathlib.Path(self.enterContext(tempfile.TemporaryDirectory())) / "seconds"
+        )
         path.write_text("# shares\nold 3\n")
-        times.keep({(1, ("low", "proof")): 2.6, (2, ("low", "proof")): 1.0, (3, ("low", "edits")): 9,
-                    (4, ("high", "proof")): 5}, path)
+        times.keep(
+            {
+                (1, ("low", "proof")): 2.6,
+                (2, ("low", "proof")): 1.0,
+                (3, ("low", "edits")): 9,
+                (4, ("high", "proof")): 5,
+            },
+            path,
+        )
         self.assertEqual(path.read_text(), "# shares\nhigh 5\nlow 4\n")
 
     def test_its_help_names_what_it_takes(self) -> None:

@@ -29,8 +29,11 @@ class Dying(unittest.TestCase):
         cases.case("another passes")(lambda program, folder: None)
         status, printed, _ = ran(cases.command, "usage", ["program"])
         self.assertEqual(status, 1)
-        self.assertEqual(printed, "FAILED: one dies: KeyError: 'who dies'\nok: another passes\n"
-                         "1 passed, 1 failed\n")
+        self.assertEqual(
+            printed,
+            "FAILED: one dies: KeyError: 'who dies'\nok: another passes\n"
+            "1 passed, 1 failed\n",
+        )
 
     def test_a_row_that_dies_is_one_failure(self) -> None:
         self.assertEqual(fault_of("program", dies), "KeyError: 'who dies'")
@@ -69,8 +72,14 @@ class Waiting(unittest.TestCase):
 
     def test_nothing_waits_by_select(self) -> None:
         tops = ("arena_lab", "tools", "bench", "examples", "tests")
-        found = [f"{path.relative_to(TOP)}: {node.lineno}" for top in tops
-                 for path in sorted((TOP / top).rglob("*.py")) for node in ast.walk(ast.parse(path.read_text()))
-                 if isinstance(node, ast.Attribute) and node.attr == "select" and isinstance(node.value, ast.Name)
-                 and node.value.id == "select"]
+        found = [
+            f"{path.relative_to(TOP)}: {node.lineno}"
+            for top in tops
+            for path in sorted((TOP / top).rglob("*.py"))
+            for node in ast.walk(ast.parse(path.read_text()))
+            if isinstance(node, ast.Attribute)
+            and node.attr == "select"
+            and isinstance(node.value, ast.Name)
+            and node.value.id == "select"
+        ]
         self.assertEqual(found, [])

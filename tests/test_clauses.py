@@ -8,7 +8,14 @@ from typing import Dict, Iterator, Set, Tuple
 
 from tests.support.output import InTemporary, write
 from tools.prove import contracts
-from tools.prove.clauses import CRATES, always_true, contract_of, crates_given, functions_in, without_clause
+from tools.prove.clauses import (
+    CRATES,
+    always_true,
+    contract_of,
+    crates_given,
+    functions_in,
+    without_clause,
+)
 
 TOP = pathlib.Path(__file__).resolve().parents[1]
 CODE = """\
@@ -52,8 +59,13 @@ def listed() -> Set[str]:
 def named_by_others() -> Dict[str, Set[str]]:
     """Of each crate what other crates and the library tests name behind its name."""
     found: Dict[str, Set[str]] = collections.defaultdict(set)
-    for path in (*CRATES.glob("*/src/**/*.rt"), *(TOP / "tests" / "library").rglob("*.rs")):
-        for crate, names in re.findall(r"\b(bhs_\w+)::(\{[^}]*\}|[\w:]+)", path.read_text(encoding="utf-8")):
+    for path in (
+        *CRATES.glob("*/src/**/*.rt"),
+        *(TOP / "tests" / "library").rglob("*.rs"),
+    ):
+        for crate, names in re.findall(
+            r"\b(bhs_\w+)::(\{[^}]*\}|[\w:]+)", path.read_text(encoding="utf-8")
+        ):
             if CRATES / crate not in path.parents:
                 found[crate].update(re.findall(r"\w+", names))
     return found
@@ -66,39 +78,84 @@ def calls_that_want_memory() -> Iterator[Tuple[str, str]]:
     for crate in crates_given([]):
         for path in sorted((CRATES / crate / "src").rglob("*.rt")):
             for one in contracts.contracts_in(path):
-                wants = types & set(re.findall(r"\w+", contracts.answer_of(one.signature)))
-                if (wants or "Global" in one.signature) and one.name.partition("::")[0] in named[crate]:
+                wants = types & set(
+                    re.findall(r"\w+", contracts.answer_of(one.signature))
+                )
+                if (wants or "Global" in one.signature) and one.name.partition("::")[
+                    0
+                ] in named[crate]:
                     yield crate, one.name
 
 
 class ClausesTest(unittest.TestCase):
     def test_the_table_has_each_function_without_a_clause(self) -> None:
-        table, found = listed(), {f"{one.crate} {one.name}" for one in without_clause(crates_given([]))}
-        self.assertEqual(sorted(found - table), [], "the table lacks functions without a clause")
-        self.assertEqual(sorted(table - found), [], "the table has functions that have a clause or are gone")
+        table, found = listed(), {
+            f"{one.crate} {one.name}" for one in without_clause(crates_given([]))
+        }
+        self.assertEqual(
+            sorted(found - table), [], "the table lacks functions without a clause"
+        )
+        self.assertEqual(
+            sorted(table - found),
+            [],
+            "the table has functions that have a clause or are gone",
+        )
 
     def test_a_contract_ends_at_the_body(self) -> None:
-        lines = ["fn one(", "    a: u8,", ") -> u8", "    ensures { result ≡ a }", "{", "    a", "}"]
+        lines = [
+            "fn one(",
+            "    a: u8,",
+            ") -> u8",
+            "    ensures { result ≡ a }",
+            "{",
+            "    a",
+            "}",
+        ]
         self.assertIn("ensures", contract_of(lines, 0))
-        self.assertNotIn("ensures", contract_of(["fn one() {", "}", "fn two()", "    ensures { x }", "{"], 0))
-        self.assertNotIn("two", contract_of(["fn one()", "    ensures { x }", "{}", "fn two()", "{}"], 0))
+        self.assertNotIn(
+            "ensures",
+            contract_of(["fn one() {", "}", "fn two()", "    ensures { x }", "{"], 0),
+        )
+        self.assertNotIn(
+            "two",
+            contract_of(["fn one()", "    ensures { x }", "{}", "fn two()", "{}"], 0),
+        )
 
     def test_what_is_always_true_is_no_clause(self) -> None:
-        lines = ["impl Team for Host {", "    ghost answers = { λ old exchange new. Unit {0} };",
-                 "    ghost all = { ⊤ };", "    ghost says = { λ old new. new ≡ old };", "}",
-                 "impl From<A> for B {", "    ghost last = { ⊤ };"]
+        lines = [
+            "impl Team for Host {",
+            "    ghost answers = { λ old exchange new. Unit {0} };",
+            "    ghost all = { ⊤ };",
+            "    ghost says = { λ old new. new ≡ old };",
+            "}",
+            "impl From<A> for B {",
+            "    ghost last = { ⊤ };",
+        ]
         self.assertEqual(always_true(lines, 0), {"answers", "all"})
 
     def test_methods_are_named_by_their_types(self) -> None:
-        names = {one.name for one in functions_in("bhs_server", TOP / "crates/bhs_server/src/connections.rt")}
-        self.assertLessEqual({"Connection::new", "Guest::let_in", "Incoming::read"}, names)
+        names = {
+            one.name
+            for one in functions_in(
+                "bhs_server", TOP / "crates/bhs_server/src/connections.rt"
+            )
+        }
+        self.assertLessEqual(
+            {"Connection::new", "Guest::let_in", "Incoming::read"}, names
+        )
 
 
 class ContractsTest(InTemporary):
     def test_functions_have_their_clauses_and_what_they_say(self) -> None:
         held, law, other = contracts.contracts_in(write(self.folder / "held.rt", CODE))
-        self.assertEqual((held.name, held.words), ("Held::count", "How many there are, with a second line."))
-        self.assertEqual([list(one.clauses) for one in (held, law, other)], [["kept", "-"], ["-"], ["named"]])
+        self.assertEqual(
+            (held.name, held.words),
+            ("Held::count", "How many there are, with a second line."),
+        )
+        self.assertEqual(
+            [list(one.clauses) for one in (held, law, other)],
+            [["kept", "-"], ["-"], ["named"]],
+        )
         self.assertEqual(contracts.answer_of(held.signature), "Result<u8, NetFault>")
         self.assertRegex(held.signature, contracts.WAITS)
         self.assertEqual(contracts.CHANGED.findall(held.signature), [("room", "")])
@@ -110,31 +167,71 @@ class ContractsTest(InTemporary):
         self.assertNotIn("Command", types)
 
     def test_each_call_that_can_want_memory_has_a_row(self) -> None:
-        rows = [re.findall("`(.*?)`", row)[:2] for row in contracts.memory_rows(crates_given([]))]
+        rows = [
+            re.findall("`(.*?)`", row)[:2]
+            for row in contracts.memory_rows(crates_given([]))
+        ]
         calls = list(calls_that_want_memory())
         self.assertGreater(len(calls), 100)
-        lacking = [call for call in calls if not any(
-            crate == call[0] and f"::{name}".endswith(f"::{call[1]}") for crate, name in rows)]
-        self.assertEqual(lacking, [], "calls that can want memory have no row in the page of contracts")
+        lacking = [
+            call
+            for call in calls
+            if not any(
+                crate == call[0] and f"::{name}".endswith(f"::{call[1]}")
+                for crate, name in rows
+            )
+        ]
+        self.assertEqual(
+            lacking,
+            [],
+            "calls that can want memory have no row in the page of contracts",
+        )
 
     def test_the_page_has_each_function_that_a_crate_passes_on(self) -> None:
         page = "\n".join(contracts.page(crates_given([])))
-        for head in ("`contests::equal_pasts_are_sent_equal_bytes` (-)", "`Net::try_new` (made, count, refused)",
-                     "| `bhs_lock` | `Hall::told` | yes | no | `self`, `pass` | memory, wanting, failed |",
-                     "| `bhs_rehearsal` | `Rehearsal::feed_copied` | yes |", "| `bhs_view` | `cut_and_looks` | yes |",
-                     "| `bhs_replay` | `read_part` | yes |", "| `bhs_replay` | `head_of` | yes |",
-                     "| `bhs_model` | `text_shared` | yes |", "| `bhs_text` | `Text::new` | yes |",
-                     "| `bhs_orders` | `print_verdict` | by its status | may |",
-                     "| `bhs_lineup` | `Keys::new` | no | no |"):
+        for head in (
+            "`contests::equal_pasts_are_sent_equal_bytes` (-)",
+            "`Net::try_new` (made, count, refused)",
+            "| `bhs_lock` | `Hall::told` | yes | no | `self`, `pass` | memory, wanting, failed |",
+            "| `bhs_rehearsal` | `Rehearsal::feed_copied` | yes |",
+            "| `bhs_view` | `cut_and_looks` | yes |",
+            "| `bhs_replay` | `read_part` | yes |",
+            "| `bhs_replay` | `head_of` | yes |",
+            "| `bhs_model` | `text_shared` | yes |",
+            "| `bhs_text` | `Text::new` | yes |",
+            "| `bhs_orders` | `print_verdict` | by its status | may |",
+            "| `bhs_lineup` | `Keys::new` | no | no |",
+        ):
             self.assertIn(head, page)
-        self.assertNotIn("`check_loops`", page.partition("## What want of memory leaves")[0])
+        self.assertNotIn(
+            "`check_loops`", page.partition("## What want of memory leaves")[0]
+        )
         self.assertIn("`walks_through_the_removed_node`", page)
 
     def test_crates_of_wrong_bodies_are_there(self) -> None:
-        rows = tomllib.loads(contracts.TESTED.read_text(encoding="utf-8"))["let_through"]
-        self.assertEqual([name for row in rows for name in row["crates"] if not (CRATES / name).is_dir()], [])
+        rows = tomllib.loads(contracts.TESTED.read_text(encoding="utf-8"))[
+            "let_through"
+        ]
+        self.assertEqual(
+            [
+                name
+                for row in rows
+                for name in row["crates"]
+                if not (CRATES / name).is_dir()
+            ],
+            [],
+        )
 
     def test_edits_that_a_form_refuses_are_there(self) -> None:
-        named = tomllib.loads(contracts.TESTED.read_text(encoding="utf-8"))["refused_by_form"]
-        self.assertEqual([(crate, name) for crate, names in named.items() for name in names
-                          if not list((CRATES / crate).glob(f"*/{name}.edit"))], [])
+        named = tomllib.loads(contracts.TESTED.read_text(encoding="utf-8"))[
+            "refused_by_form"
+        ]
+        self.assertEqual(
+            [
+                (crate, name)
+                for crate, names in named.items()
+                for name in names
+                if not list((CRATES / crate).glob(f"*/{name}.edit"))
+            ],
+            [],
+        )

@@ -23,12 +23,43 @@ SOON = 2
 class Served(InTemporary):
     """A server of one match, whose turns wait until an agent is on a link."""
 
-    def serve(self, network: str, holes: List[int], quota: int, sessions: int, turns: int = 300) -> int:
+    def serve(
+        self,
+        network: str,
+        holes: List[int],
+        quota: int,
+        sessions: int,
+        turns: int = 300,
+    ) -> int:
         """Starts a server, and answers its port. The match is closed after these turns, or when the test says so."""
-        cup = write_cup(self.folder, [match("red", networks.in_file(str(TOP / "examples" / network)), holes,
-                                            quota=quota, keys=["ka", "kb"])], seed="07" * 32)
-        words = [sys.executable, "-m", "tests.support.patient_server", "serve", cup, "--sessions", sessions, "--turns", turns,
-                 "--pause", 1, "--replay", self.folder / "match"]
+        cup = write_cup(
+            self.folder,
+            [
+                match(
+                    "red",
+                    networks.in_file(str(TOP / "examples" / network)),
+                    holes,
+                    quota=quota,
+                    keys=["ka", "kb"],
+                )
+            ],
+            seed="07" * 32,
+        )
+        words = [
+            sys.executable,
+            "-m",
+            "tests.support.patient_server",
+            "serve",
+            cup,
+            "--sessions",
+            sessions,
+            "--turns",
+            turns,
+            "--pause",
+            1,
+            "--replay",
+            self.folder / "match",
+        ]
         self.server = self.enterContext(Server(words, stdin=subprocess.PIPE))
         return self.server.port
 
@@ -69,7 +100,9 @@ class Crowded(unittest.TestCase):
 
     def test_an_agent_connects_again_while_there_is_no_room(self) -> None:
         refused = [b'{"no":"%b"}\n' % why for why in (b"full", b"late", b"memory")]
-        port = self.serve([*refused, b"", b'{"board":"","from":null,"ok":"here","ports":2}\n'])
+        port = self.serve(
+            [*refused, b"", b'{"board":"","from":null,"ok":"here","ports":2}\n']
+        )
         self.assertEqual(self.connect(port).enter("ka"), Here(2, None, ""))
 
     def test_a_key_that_is_used_up_is_not_tried_again(self) -> None:
@@ -112,14 +145,23 @@ class SearchInC(Served):
     def test_agents_in_c_solve_a_ring_by_themselves_and_with_python(self) -> None:
         program = str(self.folder / "ring")
         source = str(TOP / "examples/agents/ring.c")
-        subprocess.run(["cc", "-O2", "-Wall", "-Wextra", "-Werror", "-o", program, source], check=True)
+        subprocess.run(
+            ["cc", "-O2", "-Wall", "-Wextra", "-Werror", "-o", program, source],
+            check=True,
+        )
         python = [sys.executable, str(TOP / "examples/agents/ring.py"), "127.0.0.1"]
-        for hole, commands in ((1, [[program], [program]]), (4, [[program], python]), (7, [python, [program]])):
+        for hole, commands in (
+            (1, [[program], [program]]),
+            (4, [[program], python]),
+            (7, [python, [program]]),
+        ):
             with self.subTest(hole=hole):
                 port = str(self.serve("ring8.toml", [hole], 300, 2, turns=700))
                 quiet = {"stdout": subprocess.DEVNULL, "stderr": subprocess.DEVNULL}
-                agents = [subprocess.Popen([*command, port, key, "8"], **quiet)
-                          for command, key in zip(commands, ("ka", "kb"))]
+                agents = [
+                    subprocess.Popen([*command, port, key, "8"], **quiet)
+                    for command, key in zip(commands, ("ka", "kb"))
+                ]
                 # one of them accuses and ends; the other does so soon, or is lost and ends with the match
                 while all(agent.poll() is None for agent in agents):
                     time.sleep(0.01)

@@ -9,13 +9,17 @@ from tests.hostile.commands import COMMANDS, SERVED
 
 DECLARED = TOP / "crates" / "bhs_command_line" / "src"
 COMMAND = re.compile(r"^    (\w+)::COMMAND,$", re.MULTILINE)
-ROW = re.compile(r"^pub\(crate\) const \w+: Argument = Argument \{\n(.*?)^\};", re.MULTILINE | re.DOTALL)
+ROW = re.compile(
+    r"^pub\(crate\) const \w+: Argument = Argument \{\n(.*?)^\};",
+    re.MULTILINE | re.DOTALL,
+)
 OPTION = re.compile(r'option: Some\("([\w-]+)"\)')
 DEFAULT = re.compile(r'need: Need::Default\("([^"]*)"\)')
 
 
 class Option(NamedTuple):
     """An option of a command, and its word where none is given."""
+
     command: str
     name: str
     default: Optional[str]
@@ -29,7 +33,9 @@ def commands() -> List[str]:
 def options() -> Iterator[Option]:
     """The options that its commands declare."""
     for command in commands():
-        for row in ROW.findall((DECLARED / "commands" / f"{command}.rt").read_text(encoding="utf-8")):
+        for row in ROW.findall(
+            (DECLARED / "commands" / f"{command}.rt").read_text(encoding="utf-8")
+        ):
             for name in OPTION.findall(row):
                 default = DEFAULT.search(row)
                 yield Option(command, name, default.group(1) if default else None)
@@ -37,7 +43,9 @@ def options() -> Iterator[Option]:
 
 def rows() -> str:
     """The rows of the command line, which the gate plays on the program."""
-    return (TOP / "tests" / "program" / "command_lines.rows").read_text(encoding="utf-8")
+    return (TOP / "tests" / "program" / "command_lines.rows").read_text(
+        encoding="utf-8"
+    )
 
 
 def help_of(command: str) -> str:
@@ -47,29 +55,45 @@ def help_of(command: str) -> str:
 
 def formats() -> str:
     """What docs/FORMATS.md says of the program."""
-    return (TOP / "docs" / "FORMATS.md").read_text(encoding="utf-8").partition("\n## The program\n")[2]
+    return (
+        (TOP / "docs" / "FORMATS.md")
+        .read_text(encoding="utf-8")
+        .partition("\n## The program\n")[2]
+    )
 
 
 def tried(option: Option) -> bool:
     """Whether a hostile tool gives the option to its command."""
     if option.command == SERVED:
         tools = sorted((TOP / "tools" / "hostile").glob("*.py"))
-        return any(f'"--{option.name}"' in tool.read_text(encoding="utf-8") for tool in tools)
-    return any(command.words[0] == option.command and f"--{option.name}" in command.words for command in COMMANDS)
+        return any(
+            f'"--{option.name}"' in tool.read_text(encoding="utf-8") for tool in tools
+        )
+    return any(
+        command.words[0] == option.command and f"--{option.name}" in command.words
+        for command in COMMANDS
+    )
 
 
 class Orders(unittest.TestCase):
     def test_each_order_is_tried(self) -> None:
         found = commands()
         self.assertGreater(len(found), 8)
-        self.assertEqual(sorted({command.words[0] for command in COMMANDS} | {SERVED}), sorted(found))
+        self.assertEqual(
+            sorted({command.words[0] for command in COMMANDS} | {SERVED}), sorted(found)
+        )
 
     def test_the_help_lists_the_orders(self) -> None:
         listed = rows().partition("\n< Commands:\n")[2].partition("\n<\n")[0]
-        self.assertEqual(re.findall(r"^<   (\w+) ", listed, re.MULTILINE), [*commands(), "help"])
+        self.assertEqual(
+            re.findall(r"^<   (\w+) ", listed, re.MULTILINE), [*commands(), "help"]
+        )
 
     def test_the_page_of_formats_has_each_order_and_sends_to_its_help(self) -> None:
-        self.assertEqual(sorted(re.findall(r"^\*\*`arena (\w+)`", formats(), re.MULTILINE)), sorted(commands()))
+        self.assertEqual(
+            sorted(re.findall(r"^\*\*`arena (\w+)`", formats(), re.MULTILINE)),
+            sorted(commands()),
+        )
         self.assertIn("`arena COMMAND --help`", formats())
 
 
@@ -81,7 +105,11 @@ class Options(unittest.TestCase):
     def test_the_help_of_its_command_has_each_option_with_its_default(self) -> None:
         for option in self.declared:
             with self.subTest(option):
-                line = re.search(rf"^<       --{option.name}( .*)?$", help_of(option.command), re.MULTILINE)
+                line = re.search(
+                    rf"^<       --{option.name}( .*)?$",
+                    help_of(option.command),
+                    re.MULTILINE,
+                )
                 self.assertIsNotNone(line)
                 if option.default is not None and line:
                     self.assertIn(f"[default: {option.default}]", line.group())

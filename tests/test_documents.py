@@ -15,7 +15,9 @@ TRACES = ("## One line of a client", "## A tournament, from its file")
 ROW = re.compile(r"\| .*?\| (`[^|]+`) \| `(bhs_[\w/.]+)` \|")
 LINK = re.compile(r"\]\(([^)#\s]+)\)")
 # a path from the top of the repository that has an ending, or leads into tools/
-PATH = re.compile(r"(?<![\w./])((?:bench|docs|examples|experiments|arena_lab|tests)/[\w/.-]*\.\w+|tools/[\w/.-]*\w)")
+PATH = re.compile(
+    r"(?<![\w./])((?:bench|docs|examples|experiments|arena_lab|tests)/[\w/.-]*\.\w+|tools/[\w/.-]*\w)"
+)
 # what is made, not kept, and what the changelog says of the past
 MADE = ("tests/out/", "CHANGELOG.md")
 THEOREMS = "bhs_theorems"
@@ -24,7 +26,14 @@ KIT = re.compile(r"rattle-kit-\w+(?: logic \w+)?")
 
 
 def documents() -> Iterator[pathlib.Path]:
-    for pattern in ("*.md", "docs/*.md", "arena_lab/*.md", "examples/*.md", "bench/*.md", "tools/*.md"):
+    for pattern in (
+        "*.md",
+        "docs/*.md",
+        "arena_lab/*.md",
+        "examples/*.md",
+        "bench/*.md",
+        "tools/*.md",
+    ):
         yield from sorted(TOP.glob(pattern))
 
 
@@ -44,39 +53,65 @@ class Traces(unittest.TestCase):
         self.assertGreater(len(found), 40)
         for name, file in found:
             with self.subTest(name, file=file):
-                self.assertRegex((TOP / "crates" / file).read_text(encoding="utf-8"), rf"\bfn {name}\b")
+                self.assertRegex(
+                    (TOP / "crates" / file).read_text(encoding="utf-8"),
+                    rf"\bfn {name}\b",
+                )
 
 
 class Surface(unittest.TestCase):
     def test_what_became_of_a_name_is_there(self) -> None:
-        rows = ARCHITECTURE.read_text(encoding="utf-8").partition("\n## Names since the first surface\n")[2]
-        found = [name for row in re.findall(r"^\| .*? \| (.*?) \|", rows, re.MULTILINE)
-                 for name in re.findall(r"`(bhs_\w+)::(?:\w+::)?(\w+)`", row)]
+        rows = ARCHITECTURE.read_text(encoding="utf-8").partition(
+            "\n## Names since the first surface\n"
+        )[2]
+        found = [
+            name
+            for row in re.findall(r"^\| .*? \| (.*?) \|", rows, re.MULTILINE)
+            for name in re.findall(r"`(bhs_\w+)::(?:\w+::)?(\w+)`", row)
+        ]
         self.assertGreater(len(found), 12)
         for crate, name in found:
             with self.subTest(crate, name=name):
-                text = "".join(it.read_text(encoding="utf-8") for it in (TOP / "crates" / crate / "src").rglob("*.rt"))
-                self.assertRegex(text, rf"\b(fn|struct|enum|trait) {name}\b|pub use .*::{name};")
+                text = "".join(
+                    it.read_text(encoding="utf-8")
+                    for it in (TOP / "crates" / crate / "src").rglob("*.rt")
+                )
+                self.assertRegex(
+                    text, rf"\b(fn|struct|enum|trait) {name}\b|pub use .*::{name};"
+                )
 
 
 class Theorems(unittest.TestCase):
     def test_theorems_that_are_named_are_laws(self) -> None:
-        named = {found for path in documents() for found in NAMED.findall(path.read_text(encoding="utf-8"))}
+        named = {
+            found
+            for path in documents()
+            for found in NAMED.findall(path.read_text(encoding="utf-8"))
+        }
         self.assertGreater(len(named), 3)
         for module, name in sorted(named):
             with self.subTest(module, name=name):
-                text = (TOP / "crates" / THEOREMS / "src" / f"{module}.rt").read_text(encoding="utf-8")
+                text = (TOP / "crates" / THEOREMS / "src" / f"{module}.rt").read_text(
+                    encoding="utf-8"
+                )
                 self.assertRegex(text, rf"pub fn {name}\(\)\n(    ensures .*\n)+{{}}")
 
     def test_the_program_stands_on_them_and_no_other_crate_does(self) -> None:
         libraries = libraries_of()
-        self.assertEqual([name for name in libraries if THEOREMS in below(libraries, name)], ["bhs_main"])
+        self.assertEqual(
+            [name for name in libraries if THEOREMS in below(libraries, name)],
+            ["bhs_main"],
+        )
 
 
 class Crates(unittest.TestCase):
     def test_crates_that_are_named_are_there(self) -> None:
-        found = {(path.name, name) for path in documents() if path.name not in MADE
-                 for name in re.findall(r"\bbhs_\w+", path.read_text(encoding="utf-8"))}
+        found = {
+            (path.name, name)
+            for path in documents()
+            if path.name not in MADE
+            for name in re.findall(r"\bbhs_\w+", path.read_text(encoding="utf-8"))
+        }
         self.assertGreater(len(found), 50)
         self.assertEqual(sorted(it for it in found if it[1] not in libraries_of()), [])
 
@@ -101,8 +136,14 @@ class Links(unittest.TestCase):
 
 class Replays(unittest.TestCase):
     def test_the_replay_of_the_formats_is_spelled_as_one(self) -> None:
-        section = (TOP / "docs" / "FORMATS.md").read_text(encoding="utf-8").partition("\n## Replays\n")[2]
-        lines = re.findall(r"^    (.*\n)", section.partition("\nIn the head")[0], re.MULTILINE)
+        section = (
+            (TOP / "docs" / "FORMATS.md")
+            .read_text(encoding="utf-8")
+            .partition("\n## Replays\n")[2]
+        )
+        lines = re.findall(
+            r"^    (.*\n)", section.partition("\nIn the head")[0], re.MULTILINE
+        )
         self.assertEqual(len(lines), 5)
         self.assertEqual(played("".join(lines)).replay(), "".join(lines))
 
@@ -110,7 +151,9 @@ class Replays(unittest.TestCase):
 class Toolchain(unittest.TestCase):
     @unittest.skipUnless(shutil.which("rt"), "no rt")
     def test_a_kit_that_is_named_is_the_one_that_is_installed(self) -> None:
-        said = subprocess.run(["rt", "version"], stdout=subprocess.PIPE, text=True, check=True).stdout
+        said = subprocess.run(
+            ["rt", "version"], stdout=subprocess.PIPE, text=True, check=True
+        ).stdout
         for path in documents():
             for named in KIT.findall(path.read_text(encoding="utf-8")):
                 with self.subTest(path.name):

@@ -14,17 +14,29 @@ class Rehearsals(unittest.TestCase):
     """Rehearsals of the built-in tournament, and what the drawn ones have in them."""
 
     def rehearsal(self) -> Sessions:
-        return Sessions([Ready(Match(Setup(3, TRIANGLE, 0, [2], 2, 10, 8)), [], ["ka", "kb"])])
+        return Sessions(
+            [Ready(Match(Setup(3, TRIANGLE, 0, [2], 2, 10, 8)), [], ["ka", "kb"])]
+        )
 
     def test_a_queue_waits_for_its_agent(self) -> None:
         stage = self.rehearsal()
-        self.assertEqual(stage.bytes_of(7, b'{"do":"enter","key":"ka"}\n{"do":"depart","port":0}\n{"do":"look"}\n'), [
-            (7, {"ok": "here", "ports": 2, "from": None, "board": ""}), (7, {"ok": "gone"})])
+        self.assertEqual(
+            stage.bytes_of(
+                7,
+                b'{"do":"enter","key":"ka"}\n{"do":"depart","port":0}\n{"do":"look"}\n',
+            ),
+            [
+                (7, {"ok": "here", "ports": 2, "from": None, "board": ""}),
+                (7, {"ok": "gone"}),
+            ],
+        )
         self.assertEqual(stage.line(7, None), [])
         arrived = {"ok": "here", "ports": 2, "from": 0, "board": ""}
         self.assertEqual(stage.draw(0, 5), [(7, arrived), (7, arrived)])
-        self.assertEqual([event["do"] for event in stage.ready[0].match.log],
-                         ["enter", "depart", "deliver", "look", "leave"])
+        self.assertEqual(
+            [event["do"] for event in stage.ready[0].match.log],
+            ["enter", "depart", "deliver", "look", "leave"],
+        )
 
     def test_a_close_is_told_to_those_who_wait(self) -> None:
         stage = self.rehearsal()
@@ -34,14 +46,23 @@ class Rehearsals(unittest.TestCase):
         self.assertEqual(stage.draw(0, 0), [])
         self.assertEqual(stage.close(0), [(1, {"ok": "over"})])
         self.assertEqual(stage.bytes_of(0, b" \n{\n"), [(0, {"ok": "over"})])
-        self.assertEqual([stage.bytes_of(conn, b'{"do":"look"}\n') for conn in (0, 1)], [[], []])
+        self.assertEqual(
+            [stage.bytes_of(conn, b'{"do":"look"}\n') for conn in (0, 1)], [[], []]
+        )
 
     def test_denials(self) -> None:
         stage = self.rehearsal()
-        lines = [b'{"do":"look"}', b'{"do":"enter","key":"zz"}', b'{"do":"enter","key":"ka"}'] + [
-            b'{"do":"enter","key":"ka"}']
-        told = [stage.bytes_of(conn, line + b"\n")[0][1] for conn, line in enumerate(lines)]
-        self.assertEqual([reply.get("no") for reply in told], ["enter", "key", None, "taken"])
+        lines = [
+            b'{"do":"look"}',
+            b'{"do":"enter","key":"zz"}',
+            b'{"do":"enter","key":"ka"}',
+        ] + [b'{"do":"enter","key":"ka"}']
+        told = [
+            stage.bytes_of(conn, line + b"\n")[0][1] for conn, line in enumerate(lines)
+        ]
+        self.assertEqual(
+            [reply.get("no") for reply in told], ["enter", "key", None, "taken"]
+        )
 
     def test_drawn_rehearsals_have_each_kind_of_call(self) -> None:
         seen: Counter[str] = collections.Counter()
@@ -49,7 +70,31 @@ class Rehearsals(unittest.TestCase):
             rehearsal = drawn(agents)
             self.assertEqual(len(rehearsal.script), len(rehearsal.printed))
             seen += rehearsal.seen
-        wanted = [*(f"pool of {size}" for size in range(65)), "held", "arrival", "destroyed", "over", "bye", "noted",
-                  "here", "gone", "written", "changed", "end of an agent",
-                  *(f"no {why}" for why in ("enter", "key", "taken", "twice", "spent", "line", "port", "long"))]
+        wanted = [
+            *(f"pool of {size}" for size in range(65)),
+            "held",
+            "arrival",
+            "destroyed",
+            "over",
+            "bye",
+            "noted",
+            "here",
+            "gone",
+            "written",
+            "changed",
+            "end of an agent",
+            *(
+                f"no {why}"
+                for why in (
+                    "enter",
+                    "key",
+                    "taken",
+                    "twice",
+                    "spent",
+                    "line",
+                    "port",
+                    "long",
+                )
+            ),
+        ]
         self.assertEqual([kind for kind in wanted if not seen[kind]], [])

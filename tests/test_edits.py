@@ -10,7 +10,7 @@ from tests.support.output import InTemporary, ran, write
 from tools.prove import edits
 from tools.prove import prover
 
-CODE = '''use std::fmt;
+CODE = """use std::fmt;
 
 pub const MOST: u16 = 7;
 
@@ -32,7 +32,7 @@ impl<'a, R: Read> From<Broken<R>> for Fault {
         Fault::Broken
     }
 }
-'''
+"""
 # a prover that ends as its working folder's file says, once for --only and once without
 PROVER = "import sys; print(open('src/only' if '--only' in sys.argv else 'src/whole').read())"
 # a prover that can't read a text with MOST for a fault, and otherwise proves none of the functions that it is to check
@@ -50,7 +50,9 @@ class Functions(unittest.TestCase):
     def at(self, text: str, path: str = "src/halls/doors.rt", *others: str) -> str:
         """The function that a text of CODE stands in, if CODE is that file of a crate, beside files of other texts."""
         folder = pathlib.Path(self.enterContext(tempfile.TemporaryDirectory()))
-        for file, code in (path, CODE), *((f"src/other_{place}.rt", other) for place, other in enumerate(others)):
+        for file, code in (path, CODE), *(
+            (f"src/other_{place}.rt", other) for place, other in enumerate(others)
+        ):
             write(folder / file, code)
         return edits.function_at(folder, path, CODE.index(text)) or "none"
 
@@ -58,13 +60,26 @@ class Functions(unittest.TestCase):
         self.assertEqual(self.at("2 * number\n}"), "halls::doors::double")
         self.assertEqual(self.at("2 * number\n}", "src/lib.rt"), "double")
         self.assertEqual(self.at("self.count"), "halls::doors::Hall::told")
-        self.assertEqual(self.at("Fault::Broken"), "halls::doors::FaultFromBroken::from")
+        self.assertEqual(
+            self.at("Fault::Broken"), "halls::doors::FaultFromBroken::from"
+        )
 
     def test_a_method_stands_in_the_module_of_its_type(self) -> None:
-        others = "pub struct Halls;\n", "#[derive(Clone)]\npub(crate) struct Hall {\n", "pub enum Fault {\n"
-        self.assertEqual(self.at("self.count", "src/lib.rt", *others), "other_1::Hall::told")
-        self.assertEqual(self.at("Fault::Broken", "src/lib.rt", *others), "other_2::FaultFromBroken::from")
-        self.assertEqual(self.at("self.count", "src/lib.rt", *others, "struct Hall;"), "Hall::told")
+        others = (
+            "pub struct Halls;\n",
+            "#[derive(Clone)]\npub(crate) struct Hall {\n",
+            "pub enum Fault {\n",
+        )
+        self.assertEqual(
+            self.at("self.count", "src/lib.rt", *others), "other_1::Hall::told"
+        )
+        self.assertEqual(
+            self.at("Fault::Broken", "src/lib.rt", *others),
+            "other_2::FaultFromBroken::from",
+        )
+        self.assertEqual(
+            self.at("self.count", "src/lib.rt", *others, "struct Hall;"), "Hall::told"
+        )
 
     def test_an_impl_is_named_by_the_words_of_its_trait(self) -> None:
         for head, named in (
@@ -76,7 +91,9 @@ class Functions(unittest.TestCase):
             ("impl<R: Read> From<Broken<'a, R>> for Fault {", "FaultFromBroken"),
         ):
             with self.subTest(head=head):
-                self.assertEqual(edits.type_of(head), ("Hall" if named == "Hall" else "Fault", named))
+                self.assertEqual(
+                    edits.type_of(head), ("Hall" if named == "Hall" else "Fault", named)
+                )
 
     def test_a_constant_stands_in_no_function(self) -> None:
         self.assertEqual(self.at("MOST"), "none")
@@ -93,17 +110,29 @@ class Reading(InTemporary):
         return edits.read_edit(path, self.folder)
 
     def test_pairs_change_the_text_one_after_the_other(self) -> None:
-        edit = self.read("old:     2 * number", "new:     3 * number", "old: 3 * number", "new: 4 * number")
+        edit = self.read(
+            "old:     2 * number",
+            "new:     3 * number",
+            "old: 3 * number",
+            "new: 4 * number",
+        )
         texts = {}
         edit.change(self.folder, texts)
         self.assertIn("\n    4 * number\n", texts["src/lib.rt"])
         self.assertEqual(edit.function, "double")
 
     def test_an_edit_may_name_what_is_checked(self) -> None:
-        self.assertEqual(self.read("only: hosting", "old: = 7;", "new: = 8;").function, "hosting")
+        self.assertEqual(
+            self.read("only: hosting", "old: = 7;", "new: = 8;").function, "hosting"
+        )
 
     def test_edits_that_can_not_be_tried(self) -> None:
-        for lines in [], ["old: number", "new: 1"], ["old: nowhere", "new: 1"], ["new: 1"]:
+        for lines in (
+            [],
+            ["old: number", "new: 1"],
+            ["old: nowhere", "new: 1"],
+            ["new: 1"],
+        ):
             with self.subTest(lines=lines), self.assertRaises(edits.BadEdit):
                 self.read(*lines)
 
@@ -133,36 +162,70 @@ class Answers(unittest.TestCase):
         function = edits.function_at(folder / "low", "src/lib.rt", CODE.index(old))
         edit = edits.Edit("one", [("src/lib.rt", old, "")], function)
         self.enterContext(unittest.mock.patch.object(edits, "CRATES", folder))
-        self.enterContext(unittest.mock.patch.object(edits, "read_edit", lambda *_: edit))
-        self.enterContext(unittest.mock.patch.object(edits, "words_of", lambda *_: [sys.executable, "-c", PROVER]))
-        answers, printed, _ = ran(list, edits.tried({"low": []}, "low", [pathlib.Path("one.edit")]))
+        self.enterContext(
+            unittest.mock.patch.object(edits, "read_edit", lambda *_: edit)
+        )
+        self.enterContext(
+            unittest.mock.patch.object(
+                edits, "words_of", lambda *_: [sys.executable, "-c", PROVER]
+            )
+        )
+        answers, printed, _ = ran(
+            list, edits.tried({"low": []}, "low", [pathlib.Path("one.edit")])
+        )
         self.assertEqual(answers, ["refused: " in printed])
         return printed.strip()
 
     def test_the_function_is_refused(self) -> None:
-        self.assertEqual(self.told("./src/lib.rt:9:5: error: it is not proved\nonly=1 proved=0", "logic=proved"),
-                         "edit low/one: refused: double: ./src/lib.rt:9:5: error: it is not proved")
+        self.assertEqual(
+            self.told(
+                "./src/lib.rt:9:5: error: it is not proved\nonly=1 proved=0",
+                "logic=proved",
+            ),
+            "edit low/one: refused: double: ./src/lib.rt:9:5: error: it is not proved",
+        )
 
     def test_another_function_is_refused(self) -> None:
-        self.assertIn("refused: the whole crate", self.told("only=1 proved=1", "logic=not-proved functions=2"))
-        self.assertIn("refused: the whole crate", self.told("", "logic=not-proved functions=2", "MOST"))
+        self.assertIn(
+            "refused: the whole crate",
+            self.told("only=1 proved=1", "logic=not-proved functions=2"),
+        )
+        self.assertIn(
+            "refused: the whole crate",
+            self.told("", "logic=not-proved functions=2", "MOST"),
+        )
 
     def test_a_crate_that_is_still_proved_is_not_refused(self) -> None:
-        self.assertIn("NOT REFUSED", self.told("only=1 proved=1", "logic=proved functions=2"))
+        self.assertIn(
+            "NOT REFUSED", self.told("only=1 proved=1", "logic=proved functions=2")
+        )
 
     def test_a_function_that_the_crate_lacks_is_named_wrongly(self) -> None:
         lacks = "rattle: error: `low` has no function `double`: help: write the name that a check prints after `fn`"
-        self.assertIn("BAD EDIT: a line `only: PATH` must name", self.told(lacks, "logic=not-proved functions=2"))
+        self.assertIn(
+            "BAD EDIT: a line `only: PATH` must name",
+            self.told(lacks, "logic=not-proved functions=2"),
+        )
 
     def test_a_remark_is_no_reason(self) -> None:
         remark = "./proofs/Lemmas.antt:110:5: note: large solution"
         goal = "note: src/hall.rt:3:1: it is not proved that what the function ensures holds when it returns"
         self.assertEqual(edits.first_told([remark, goal]), goal)
-        self.assertEqual(edits.first_told([remark, "fn low::told: no proof"]), "fn low::told: no proof")
+        self.assertEqual(
+            edits.first_told([remark, "fn low::told: no proof"]),
+            "fn low::told: no proof",
+        )
 
     def test_what_is_not_read_is_not_tried(self) -> None:
-        self.assertIn("BAD EDIT", self.told("only=0 proved=0", "error: expected an expression"))
-        self.assertIn("BAD EDIT", self.told("src/lib.rt:3:1: error: `MOST`: it is not in scope\nonly=1 proved=0", ""))
+        self.assertIn(
+            "BAD EDIT", self.told("only=0 proved=0", "error: expected an expression")
+        )
+        self.assertIn(
+            "BAD EDIT",
+            self.told(
+                "src/lib.rt:3:1: error: `MOST`: it is not in scope\nonly=1 proved=0", ""
+            ),
+        )
 
 
 class Built(unittest.TestCase):
@@ -171,7 +234,10 @@ class Built(unittest.TestCase):
     def setUp(self) -> None:
         self.crates = pathlib.Path(self.enterContext(tempfile.TemporaryDirectory()))
         write(self.crates / "low" / "src" / "lib.rt", CODE)
-        os.utime(write(self.crates / "low" / "out" / "rlib" / "low.rlib" / "format", ""), (0, 0))
+        os.utime(
+            write(self.crates / "low" / "out" / "rlib" / "low.rlib" / "format", ""),
+            (0, 0),
+        )
         self.enterContext(unittest.mock.patch.object(prover, "BUILT", self.crates))
 
     def may_be_used(self, crates: pathlib.Path, name: str = "low") -> bool:
@@ -187,10 +253,18 @@ class Built(unittest.TestCase):
 
 
 class Together(unittest.TestCase):
-    DOUBLE = edits.Edit("triples", [("src/lib.rt", "    2 * number\n", "    3 * number\n")], "double")
-    OTHER = edits.Edit("halves", [("src/lib.rt", "    2 * number\n", "    number\n")], "double")
-    TOLD = edits.Edit("counts_no_more", [("src/lib.rt", "self.count + 1", "self.count")], "Hall::told")
-    IMPORT = edits.Edit("imports_another", [("src/lib.rt", "use std::fmt;\n", "use std::io;\n")], "fmt")
+    DOUBLE = edits.Edit(
+        "triples", [("src/lib.rt", "    2 * number\n", "    3 * number\n")], "double"
+    )
+    OTHER = edits.Edit(
+        "halves", [("src/lib.rt", "    2 * number\n", "    number\n")], "double"
+    )
+    TOLD = edits.Edit(
+        "counts_no_more", [("src/lib.rt", "self.count + 1", "self.count")], "Hall::told"
+    )
+    IMPORT = edits.Edit(
+        "imports_another", [("src/lib.rt", "use std::fmt;\n", "use std::io;\n")], "fmt"
+    )
     MOST = edits.Edit("has_less", [("src/lib.rt", "= 7;", "= 6;")], None)
 
     def setUp(self) -> None:
@@ -202,44 +276,102 @@ class Together(unittest.TestCase):
     def refused(self, *said: str):
         """What is refused of two edits that are made at once, by a prover that says this."""
         with tempfile.TemporaryDirectory() as kept:
-            words = [sys.executable, "-c", "import sys; print(sys.argv[1])", "\n".join(said)]
-            return edits.refused_together(edits.Prover("low", words, kept), [self.DOUBLE, self.TOLD])
+            words = [
+                sys.executable,
+                "-c",
+                "import sys; print(sys.argv[1])",
+                "\n".join(said),
+            ]
+            return edits.refused_together(
+                edits.Prover("low", words, kept), [self.DOUBLE, self.TOLD]
+            )
 
     def test_edits_of_different_functions_are_made_at_once(self) -> None:
-        chosen, left = edits.together([self.MOST, self.DOUBLE, self.OTHER, self.TOLD], self.folder)
+        chosen, left = edits.together(
+            [self.MOST, self.DOUBLE, self.OTHER, self.TOLD], self.folder
+        )
         self.assertEqual(chosen, [self.DOUBLE, self.TOLD])
         self.assertEqual(left, [self.MOST, self.OTHER])
 
     def test_each_is_refused_by_its_own_function(self) -> None:
-        told = self.refused("fn low::double: no proof: `search` did not prove `ensures`",
-                            "fn low::Hall::told: not proved", "only=2 proved=0")
-        self.assertEqual(told, {"triples": "double: no proof: `search` did not prove `ensures`",
-                                "counts_no_more": "Hall::told: not proved"})
+        told = self.refused(
+            "fn low::double: no proof: `search` did not prove `ensures`",
+            "fn low::Hall::told: not proved",
+            "only=2 proved=0",
+        )
+        self.assertEqual(
+            told,
+            {
+                "triples": "double: no proof: `search` did not prove `ensures`",
+                "counts_no_more": "Hall::told: not proved",
+            },
+        )
 
     def test_a_caller_is_not_refused_for_what_it_calls(self) -> None:
-        self.assertEqual(list(self.refused("fn low::double: no proof: `search` did not prove `ensures`",
-                                           "fn low::Hall::told: not proved; it calls `double`, which is not proved",
-                                           "only=2 proved=0")), ["triples"])
+        self.assertEqual(
+            list(
+                self.refused(
+                    "fn low::double: no proof: `search` did not prove `ensures`",
+                    "fn low::Hall::told: not proved; it calls `double`, which is not proved",
+                    "only=2 proved=0",
+                )
+            ),
+            ["triples"],
+        )
 
     def test_a_caller_is_refused_by_an_error_in_its_own_proof(self) -> None:
-        caller = "fn low::Hall::told: not proved; it calls `double`, which is not proved"
+        caller = (
+            "fn low::Hall::told: not proved; it calls `double`, which is not proved"
+        )
         error = "./proofs/Hall/told/Answers.antt:7:5: error: `returns`: the two types differ"
-        self.assertEqual(self.refused(error, caller, "only=2 proved=0"), {"counts_no_more": f"Hall::told: {error}"})
-        for other in ("./proofs/Hall/told/Answers.antt:7:5: error: `met` was not admitted",
-                      "./proofs/double/Answers.antt:7:5: error: `returns`: the two types differ",
-                      "./proofs/Hall/told/more/Answers.antt:7:5: error: `returns`: the two types differ"):
+        self.assertEqual(
+            self.refused(error, caller, "only=2 proved=0"),
+            {"counts_no_more": f"Hall::told: {error}"},
+        )
+        for other in (
+            "./proofs/Hall/told/Answers.antt:7:5: error: `met` was not admitted",
+            "./proofs/double/Answers.antt:7:5: error: `returns`: the two types differ",
+            "./proofs/Hall/told/more/Answers.antt:7:5: error: `returns`: the two types differ",
+        ):
             self.assertEqual(self.refused(other, caller, "only=2 proved=0"), {})
 
     def test_one_edit_that_is_not_tried_leaves_the_others_together(self) -> None:
-        bad = edits.Edit("has_no_name", [("src/lib.rt", "Fault::Broken\n", "MOST\n")], "FaultFromBroken::from")
+        bad = edits.Edit(
+            "has_no_name",
+            [("src/lib.rt", "Fault::Broken\n", "MOST\n")],
+            "FaultFromBroken::from",
+        )
         with tempfile.TemporaryDirectory() as kept:
-            prover_of_it = edits.Prover("low", [sys.executable, "-c", PROVER_OF_MANY], kept)
-            with unittest.mock.patch.object(edits.Prover, "lines", autospec=True,
-                                            side_effect=edits.Prover.lines) as lines:
-                told = edits.refused_together(prover_of_it, [self.DOUBLE, self.TOLD, self.IMPORT, bad])
-        self.assertEqual(told, {"triples": "double: not proved", "counts_no_more": "Hall::told: not proved"})
-        self.assertEqual([len(call.args[1]) for call in lines.call_args_list], [4, 2, 2])
+            prover_of_it = edits.Prover(
+                "low", [sys.executable, "-c", PROVER_OF_MANY], kept
+            )
+            with unittest.mock.patch.object(
+                edits.Prover, "lines", autospec=True, side_effect=edits.Prover.lines
+            ) as lines:
+                told = edits.refused_together(
+                    prover_of_it, [self.DOUBLE, self.TOLD, self.IMPORT, bad]
+                )
+        self.assertEqual(
+            told,
+            {
+                "triples": "double: not proved",
+                "counts_no_more": "Hall::told: not proved",
+            },
+        )
+        self.assertEqual(
+            [len(call.args[1]) for call in lines.call_args_list], [4, 2, 2]
+        )
 
     def test_a_check_that_does_not_end_refuses_nothing(self) -> None:
-        self.assertEqual(self.refused("fn low::double: no proof: `search` did not prove `ensures`", "killed"), {})
-        self.assertEqual(self.refused("src/lib.rt:3:1: error: `MOST`: it is not in scope", "only=2 proved=0"), {})
+        self.assertEqual(
+            self.refused(
+                "fn low::double: no proof: `search` did not prove `ensures`", "killed"
+            ),
+            {},
+        )
+        self.assertEqual(
+            self.refused(
+                "src/lib.rt:3:1: error: `MOST`: it is not in scope", "only=2 proved=0"
+            ),
+            {},
+        )

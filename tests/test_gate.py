@@ -20,7 +20,9 @@ from tools.prove import prover
 def module(path: pathlib.Path):
     """A program without the ending of a module."""
     loader = importlib.machinery.SourceFileLoader(path.name, str(path))
-    made = importlib.util.module_from_spec(importlib.util.spec_from_loader(path.name, loader))
+    made = importlib.util.module_from_spec(
+        importlib.util.spec_from_loader(path.name, loader)
+    )
     loader.exec_module(made)
     return made
 
@@ -29,7 +31,9 @@ gate = module(TOP / "tools" / "gate")
 
 
 def files_of(folder: pathlib.Path) -> List[str]:
-    return sorted(str(it.relative_to(folder)) for it in folder.rglob("*") if it.is_file())
+    return sorted(
+        str(it.relative_to(folder)) for it in folder.rglob("*") if it.is_file()
+    )
 
 
 class Gate(unittest.TestCase):
@@ -55,36 +59,66 @@ class Gate(unittest.TestCase):
             with unittest.mock.patch.object(gate.shutil, "which", return_value=None):
                 self.assertTrue(gate.lacks_compiler(["examples/contest.py"]))
                 self.assertFalse(gate.lacks_compiler(["-m", "tests.hostile.spoilers"]))
-            self.assertEqual(parts.skipped, ["one: no spin", "examples/contest.py: Debian's gcc is not installed"])
+            self.assertEqual(
+                parts.skipped,
+                ["one: no spin", "examples/contest.py: Debian's gcc is not installed"],
+            )
 
     def test_a_copy_is_proved_and_what_was_built_comes_back(self) -> None:
-        tree, room = (pathlib.Path(self.enterContext(tempfile.TemporaryDirectory())) for _ in range(2))
-        for path in ("crates.txt", "HANDLES", "crates/low/src/lib.rt", "crates/low/must-fail/one.edit",
-                     "crates/low/out/rlib/old", "crates/low/out/kept"):
+        tree, room = (
+            pathlib.Path(self.enterContext(tempfile.TemporaryDirectory()))
+            for _ in range(2)
+        )
+        for path in (
+            "crates.txt",
+            "HANDLES",
+            "crates/low/src/lib.rt",
+            "crates/low/must-fail/one.edit",
+            "crates/low/out/rlib/old",
+            "crates/low/out/kept",
+        ):
             write(tree / path, "")
         with unittest.mock.patch.multiple(gate, TOP=tree, CRATES=tree / "crates"):
             crates = gate.copy_to(room)
-            self.assertEqual(files_of(room), ["HANDLES", "crates.txt", "crates/low/src/lib.rt"])
+            self.assertEqual(
+                files_of(room), ["HANDLES", "crates.txt", "crates/low/src/lib.rt"]
+            )
             write(crates / "low" / "out" / "rlib" / "new", "")
             gate.take_from(crates)
-        self.assertEqual(files_of(tree / "crates" / "low" / "out"), ["kept", "rlib/new"])
+        self.assertEqual(
+            files_of(tree / "crates" / "low" / "out"), ["kept", "rlib/new"]
+        )
 
     def test_what_is_recorded_is_the_copy_that_was_proved(self) -> None:
-        tree, room = (pathlib.Path(self.enterContext(tempfile.TemporaryDirectory())) for _ in range(2))
+        tree, room = (
+            pathlib.Path(self.enterContext(tempfile.TemporaryDirectory()))
+            for _ in range(2)
+        )
         check = "tools/prove/is_current"
-        for path in ("crates.txt", "HANDLES", "crates/low/src/lib.rt", "crates/bhs_main/src/main.rt", check):
+        for path in (
+            "crates.txt",
+            "HANDLES",
+            "crates/low/src/lib.rt",
+            "crates/bhs_main/src/main.rt",
+            check,
+        ):
             write(tree / path, (TOP / path).read_text() if path == check else "")
         (tree / check).chmod(0o755)
-        with unittest.mock.patch.multiple(gate, TOP=tree, CRATES=tree / "crates"), \
-                unittest.mock.patch.object(prover, "TOP", tree):
+        with unittest.mock.patch.multiple(
+            gate, TOP=tree, CRATES=tree / "crates"
+        ), unittest.mock.patch.object(prover, "TOP", tree):
             crates = gate.copy_to(room)
             for path in ("low/out/rlib/low.rlib/format", "bhs_main/out/bhs_main"):
                 write(crates / path, "")
             gate.record_all(room, {"low": [], "bhs_main": ["low"]}, ["bhs_main"])
             gate.take_from(crates)
-            records = [prover.record_of(tree / "crates", name) for name in ("low", "bhs_main")]
+            records = [
+                prover.record_of(tree / "crates", name) for name in ("low", "bhs_main")
+            ]
             self.assertEqual([prover.is_current(it) for it in records], [True, True])
-            (tree / "crates" / "low" / "src" / "lib.rt").write_text("changed while the copy was proved\n")
+            (tree / "crates" / "low" / "src" / "lib.rt").write_text(
+                "changed while the copy was proved\n"
+            )
             self.assertEqual([prover.is_current(it) for it in records], [False, False])
 
     def edits_after(self, *lines: str):
@@ -96,11 +130,18 @@ class Gate(unittest.TestCase):
 
         def tries(words, **_):
             tried.append(words[-1])
-            return subprocess.CompletedProcess(words, 0, f"edit {words[-1]}/one: refused\n1 passed, 0 failed\n")
+            return subprocess.CompletedProcess(
+                words, 0, f"edit {words[-1]}/one: refused\n1 passed, 0 failed\n"
+            )
+
         libraries = {"low": [], "high": ["low"]}
-        with unittest.mock.patch.multiple(gate, CRATES=crates, libraries_of=lambda: libraries), \
-                unittest.mock.patch.object(gate.subprocess, "run", tries), \
-                contextlib.redirect_stdout(io.StringIO()) as printed:
+        with unittest.mock.patch.multiple(
+            gate, CRATES=crates, libraries_of=lambda: libraries
+        ), unittest.mock.patch.object(
+            gate.subprocess, "run", tries
+        ), contextlib.redirect_stdout(
+            io.StringIO()
+        ) as printed:
             background = gate.Background()
             edits = gate.Edits(background, crates)
             for line in lines:
@@ -110,15 +151,21 @@ class Gate(unittest.TestCase):
         return sorted(tried), counts, printed.getvalue()
 
     def test_edits_are_tried_once_what_their_crate_stands_on_is_proved(self) -> None:
-        self.assertEqual(self.edits_after("rt: low proved")[:2], (["high", "low"], (2, 0)))
-        tried, counts, printed = self.edits_after("rt: low NOT PROVED", "rt: low: its tests are proved")
+        self.assertEqual(
+            self.edits_after("rt: low proved")[:2], (["high", "low"], (2, 0))
+        )
+        tried, counts, printed = self.edits_after(
+            "rt: low NOT PROVED", "rt: low: its tests are proved"
+        )
         self.assertEqual((tried, counts), (["low"], (1, 1)))
         self.assertIn("edit low/one: refused\n", printed)
         self.assertIn("the edits of high are not tried", printed)
 
     def test_what_an_earlier_run_proved_is_proved(self) -> None:
         kept = "is kept: an earlier run on this machine proved the same files over the same libraries"
-        self.assertEqual(self.edits_after(f"rt: low {kept}")[:2], (["high", "low"], (2, 0)))
+        self.assertEqual(
+            self.edits_after(f"rt: low {kept}")[:2], (["high", "low"], (2, 0))
+        )
 
     def test_all_is_proved_anew_where_something_is_kept(self) -> None:
         for kept, last in ((gate.TOP, "--anew"), (gate.TOP / "nowhere", "ci")):

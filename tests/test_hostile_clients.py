@@ -11,12 +11,34 @@ from unittest import mock
 from arena_lab.rules.model import Match, Setup
 from tests.support.output import InTemporary, ran
 from tests.hostile import hostile_clients
-from tests.hostile.hostile_attacks import ATTACKS, Sizes, Wrong, has_heard, hear, hear_end, wait_for_lines
-from tests.hostile.hostile_clients import (LEAST_SESSIONS, Ending, check_end, check_memory, check_replays,
-                                           check_table, match_of)
+from tests.hostile.hostile_attacks import (
+    ATTACKS,
+    Sizes,
+    Wrong,
+    has_heard,
+    hear,
+    hear_end,
+    wait_for_lines,
+)
+from tests.hostile.hostile_clients import (
+    LEAST_SESSIONS,
+    Ending,
+    check_end,
+    check_memory,
+    check_replays,
+    check_table,
+    match_of,
+)
 
 STAND_IN = f"{sys.executable} -m arena_lab"
-SMALL = Sizes(LEAST_SESSIONS, turns=180, between_bytes=0.02, between_steps=0.02, still=0.1, flood=2**17)
+SMALL = Sizes(
+    LEAST_SESSIONS,
+    turns=180,
+    between_bytes=0.02,
+    between_steps=0.02,
+    still=0.1,
+    flood=2**17,
+)
 CHECKS = 7
 
 
@@ -25,8 +47,12 @@ class Attacks(unittest.TestCase):
     def test_the_stand_in_stands_them(self) -> None:
         for attacks in ATTACKS.values():
             printed = io.StringIO()
-            with tempfile.TemporaryDirectory() as name, mock.patch.dict(os.environ, ARENA=STAND_IN):
-                results, printed, _ = ran(hostile_clients.besiege, SMALL, attacks, pathlib.Path(name))
+            with tempfile.TemporaryDirectory() as name, mock.patch.dict(
+                os.environ, ARENA=STAND_IN
+            ):
+                results, printed, _ = ran(
+                    hostile_clients.besiege, SMALL, attacks, pathlib.Path(name)
+                )
             self.assertEqual(results.failed, 0, printed)
             self.assertEqual(results.count, len(attacks) + CHECKS)
             self.assertEqual(printed.count("\n"), results.count)
@@ -71,13 +97,19 @@ class Checks(InTemporary):
         bound = 64 * 1024 + 96 * 100
         sizes = Sizes(sessions=100)
         check_memory(self.ENDING._replace(peak=bound), sizes)
-        self.assertRaises(Wrong, check_memory, self.ENDING._replace(peak=bound + 1), sizes)
+        self.assertRaises(
+            Wrong, check_memory, self.ENDING._replace(peak=bound + 1), sizes
+        )
 
     def test_replays_and_the_table(self) -> None:
-        match = Match(Setup(3, [(0, 0, 1, 0), (1, 1, 2, 0), (2, 1, 0, 1)], 0, [2], 2, 10, 8))
+        match = Match(
+            Setup(3, [(0, 0, 1, 0), (1, 1, 2, 0), (2, 1, 0, 1)], 0, [2], 2, 10, 8)
+        )
         match.tell(0, {"do": "enter"})
         match.close()
-        for number, text in enumerate((match.replay(), match.replay().replace('"ports":2', '"ports":3'), "{}\n")):
+        for number, text in enumerate(
+            (match.replay(), match.replay().replace('"ports":2', '"ports":3'), "{}\n")
+        ):
             (self.folder / f"match{number}.jsonl").write_text(text)
         found = [match_of(self.folder, 0)]
         for number in (1, 2, 3):

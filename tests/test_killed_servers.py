@@ -3,7 +3,14 @@ import unittest
 
 from tests import TOP
 from tests.program import killed_servers
-from tests.program.killed_servers import LONG, LONG_TURNS, SHORT, SHORT_TURNS, kills, told_events
+from tests.program.killed_servers import (
+    LONG,
+    LONG_TURNS,
+    SHORT,
+    SHORT_TURNS,
+    kills,
+    told_events,
+)
 
 
 class Kills(unittest.TestCase):
@@ -15,14 +22,18 @@ class Kills(unittest.TestCase):
         drawn = kills(6, 1)
         self.assertEqual([kill.turns for kill in drawn], [SHORT_TURNS, LONG_TURNS] * 3)
         for kill in drawn:
-            self.assertLessEqual(kill.after, SHORT if kill.turns == SHORT_TURNS else LONG)
+            self.assertLessEqual(
+                kill.after, SHORT if kill.turns == SHORT_TURNS else LONG
+            )
 
 
 class Replays(unittest.TestCase):
     def test_commands_are_counted_and_nothing_else(self) -> None:
         replay = (TOP / "examples" / "first0.jsonl").read_text()
         lines = replay.splitlines()[1:]
-        commands = [line for line in lines if '"agent"' in line and '"do":"deliver"' not in line]
+        commands = [
+            line for line in lines if '"agent"' in line and '"do":"deliver"' not in line
+        ]
         self.assertTrue(0 < len(commands) < len(lines) - 2)
         self.assertEqual(told_events(replay), len(commands))
 

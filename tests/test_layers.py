@@ -11,8 +11,21 @@ from typing import Dict, Iterator, List, Set, Tuple
 from arena_lab.support.built import LAB, TOP
 
 # from the ground up: a room imports from itself and from rooms below it; so do the modules that stand in no room
-ROOMS = ("support", "rules", "pages", "play", "search", "sweep", "sandbox", "course", "hall", "api", "commands",
-         "__main__", "start")
+ROOMS = (
+    "support",
+    "rules",
+    "pages",
+    "play",
+    "search",
+    "sweep",
+    "sandbox",
+    "course",
+    "hall",
+    "api",
+    "commands",
+    "__main__",
+    "start",
+)
 TESTS = ("tests", "mutants")
 # these modules need Django and a hall, which no unit test has: they are read and not imported
 HALL = ("arena_lab.hall.", "tests.integration.hall.hall_pages")
@@ -21,8 +34,11 @@ HALL = ("arena_lab.hall.", "tests.integration.hall.hall_pages")
 def modules() -> Dict[str, pathlib.Path]:
     """The lab's modules by their names behind `lab.`, without tests and mutants."""
     paths = [path.relative_to(LAB).with_suffix("") for path in LAB.rglob("*.py")]
-    return {".".join(path.parts).removesuffix(".__init__"): LAB / path.with_suffix(".py") for path in paths
-            if path.parts[0] not in TESTS and path.parts != ("__init__",)}
+    return {
+        ".".join(path.parts).removesuffix(".__init__"): LAB / path.with_suffix(".py")
+        for path in paths
+        if path.parts[0] not in TESTS and path.parts != ("__init__",)
+    }
 
 
 def imported(text: str, names: Set[str]) -> Iterator[str]:
@@ -33,29 +49,44 @@ def imported(text: str, names: Set[str]) -> Iterator[str]:
             found = [it.name for it in node.names]
         elif isinstance(node, ast.ImportFrom) and node.module:
             found = [node.module, *(f"{node.module}.{it.name}" for it in node.names)]
-        yield from names.intersection(name.removeprefix("arena_lab.") for name in found
-                                      if name.startswith("arena_lab."))
+        yield from names.intersection(
+            name.removeprefix("arena_lab.")
+            for name in found
+            if name.startswith("arena_lab.")
+        )
 
 
 def others() -> Iterator[pathlib.Path]:
     """Programs in Python beside the lab, which no type checker reads."""
     for folder in ("bench", "examples", "experiments", "tests", "tools"):
         for path in (TOP / folder).rglob("*"):
-            if path.suffix == ".py" or path.is_file() and path.read_bytes().startswith(b"#!/usr/bin/env python3"):
+            if (
+                path.suffix == ".py"
+                or path.is_file()
+                and path.read_bytes().startswith(b"#!/usr/bin/env python3")
+            ):
                 yield path
 
 
 def taken(text: str) -> Iterator[Tuple[str, str]]:
     """What a file takes out of the lab: modules, and names in them."""
     for node in ast.walk(ast.parse(text)):
-        if isinstance(node, ast.ImportFrom) and node.module and node.module.partition(".")[0] == "arena_lab":
+        if (
+            isinstance(node, ast.ImportFrom)
+            and node.module
+            and node.module.partition(".")[0] == "arena_lab"
+        ):
             yield from ((node.module, it.name) for it in node.names)
 
 
 def defined(module: str) -> Set[str]:
     """The names that a module defines or imports, by its text."""
     spec = importlib.util.find_spec(module)
-    text = pathlib.Path(spec.origin).read_text(encoding="utf-8") if spec and spec.origin else ""
+    text = (
+        pathlib.Path(spec.origin).read_text(encoding="utf-8")
+        if spec and spec.origin
+        else ""
+    )
     found: Set[str] = set()
     for node in ast.parse(text).body:
         if isinstance(node, (ast.FunctionDef, ast.ClassDef)):
@@ -63,13 +94,22 @@ def defined(module: str) -> Set[str]:
         elif isinstance(node, (ast.Import, ast.ImportFrom)):
             found.update(it.asname or it.name for it in node.names)
         else:
-            found.update(it.id for it in ast.walk(node) if isinstance(it, ast.Name) and isinstance(it.ctx, ast.Store))
+            found.update(
+                it.id
+                for it in ast.walk(node)
+                if isinstance(it, ast.Name) and isinstance(it.ctx, ast.Store)
+            )
     return found
 
 
 def listed() -> List[str]:
     """The rooms in the table of the lab's page."""
-    table = (LAB / "README.md").read_text(encoding="utf-8").partition("| room | what it has |")[2].partition("\n\n")[0]
+    table = (
+        (LAB / "README.md")
+        .read_text(encoding="utf-8")
+        .partition("| room | what it has |")[2]
+        .partition("\n\n")[0]
+    )
     return re.findall(r"^\| `(\w+)` \|", table, re.MULTILINE)
 
 
@@ -77,8 +117,11 @@ class Rooms(unittest.TestCase):
     def setUp(self) -> None:
         paths = modules()
         # a room's own file says what it is for, and imports nothing
-        self.graph = {name: set(imported(path.read_text(encoding="utf-8"), set(paths))) - set(ROOMS[:8])
-                      for name, path in paths.items()}
+        self.graph = {
+            name: set(imported(path.read_text(encoding="utf-8"), set(paths)))
+            - set(ROOMS[:8])
+            for name, path in paths.items()
+        }
 
     def test_each_module_stands_in_a_room(self) -> None:
         self.assertEqual({name.partition(".")[0] for name in self.graph}, set(ROOMS))
@@ -96,11 +139,15 @@ class Rooms(unittest.TestCase):
         self.assertEqual(set(order), set(self.graph))
 
     def test_the_page_of_the_lab_lists_the_rooms_in_order(self) -> None:
-        self.assertEqual(listed(), list(ROOMS[:ROOMS.index("commands") + 1]))
+        self.assertEqual(listed(), list(ROOMS[: ROOMS.index("commands") + 1]))
 
     def test_the_head_of_each_module_says_what_it_has(self) -> None:
-        silent = [name for name, path in modules().items() if "migrations" not in path.parts
-                  and not ast.get_docstring(ast.parse(path.read_text(encoding="utf-8")))]
+        silent = [
+            name
+            for name, path in modules().items()
+            if "migrations" not in path.parts
+            and not ast.get_docstring(ast.parse(path.read_text(encoding="utf-8")))
+        ]
         self.assertEqual(silent, [])
 
     def test_what_others_take_out_of_the_lab_is_there(self) -> None:
@@ -109,13 +156,24 @@ class Rooms(unittest.TestCase):
             for module, name in taken(path.read_text(encoding="utf-8")):
                 count += 1
                 with self.subTest(str(path.relative_to(TOP)), module=module, name=name):
-                    is_there = name in defined(module) if module.startswith(HALL) else hasattr(
-                        importlib.import_module(module), name)
-                    self.assertTrue(is_there or importlib.util.find_spec(f"{module}.{name}"))
+                    is_there = (
+                        name in defined(module)
+                        if module.startswith(HALL)
+                        else hasattr(importlib.import_module(module), name)
+                    )
+                    self.assertTrue(
+                        is_there or importlib.util.find_spec(f"{module}.{name}")
+                    )
         self.assertGreater(count, 50)
 
     def test_a_cycle_and_a_room_above_are_told(self) -> None:
         names = {"rules.model", "commands.run", "api"}
-        self.assertEqual(list(imported("def late():\n    from arena_lab.commands import run\n", names)),
-                         ["commands.run"])
-        self.assertEqual(list(imported("import arena_lab.api as lab\n", names)), ["api"])
+        self.assertEqual(
+            list(
+                imported("def late():\n    from arena_lab.commands import run\n", names)
+            ),
+            ["commands.run"],
+        )
+        self.assertEqual(
+            list(imported("import arena_lab.api as lab\n", names)), ["api"]
+        )

@@ -13,9 +13,14 @@ LINES = "print('test a ... ok'); print('test result: ok. {passed} passed; {faile
 class LibraryTests(InTemporary):
     def test_a_crate_is_made_of_the_files(self) -> None:
         libraries = library_tests.make(self.folder)
-        places = {path.relative_to(self.folder).as_posix() for path in self.folder.rglob("*.rt")}
+        places = {
+            path.relative_to(self.folder).as_posix()
+            for path in self.folder.rglob("*.rt")
+        }
         self.assertIn("src/lib.rt", places)
-        self.assertEqual(len(places), len(list((TOP / "tests" / "library").rglob("*.rs"))))
+        self.assertEqual(
+            len(places), len(list((TOP / "tests" / "library").rglob("*.rs")))
+        )
         self.assertIn("bhs_net", libraries["library_tests"])
         self.assertNotIn("bhs_main", libraries["library_tests"])
         self.assertLess(set(libraries["library_tests"]), set(libraries))
@@ -25,35 +30,67 @@ class LibraryTests(InTemporary):
         last = (self.folder / "crates.txt").read_text().splitlines()[-1]
         self.assertRegex(last, "^library_tests: (bhs_[a-z_]+ ?)+$")
         self.assertTrue((folder / "src" / "lib.rt").exists())
-        self.assertTrue((self.folder / "crates" / "bhs_net" / "src" / "lib.rt").exists())
+        self.assertTrue(
+            (self.folder / "crates" / "bhs_net" / "src" / "lib.rt").exists()
+        )
         self.assertFalse((self.folder / "crates" / "bhs_net" / "out").exists())
 
     def test_every_file_is_a_module(self) -> None:
         tests = TOP / "tests" / "library"
         for path in tests.rglob("*.rs"):
-            above = path.parent.with_suffix(".rs") if path.parent != tests else tests / "lib.rs"
-            self.assertTrue(path.stem == "lib" or f"\nmod {path.stem};" in above.read_text(), path.name)
+            above = (
+                path.parent.with_suffix(".rs")
+                if path.parent != tests
+                else tests / "lib.rs"
+            )
+            self.assertTrue(
+                path.stem == "lib" or f"\nmod {path.stem};" in above.read_text(),
+                path.name,
+            )
 
     def test_all_is_passed_as_source_with_what_it_stands_on(self) -> None:
-        words = library_tests.words_to_try({"low": ["hex"], "high": ["low", "toml"]}, "high", 9, [self.folder / "a.o"])
-        sources = dict(word.partition(":")[::2] for before, word in zip(words, words[1:]) if before == "--lib")
+        words = library_tests.words_to_try(
+            {"low": ["hex"], "high": ["low", "toml"]}, "high", 9, [self.folder / "a.o"]
+        )
+        sources = dict(
+            word.partition(":")[::2]
+            for before, word in zip(words, words[1:])
+            if before == "--lib"
+        )
         self.assertTrue(sources["low"].startswith("core,std,hex="))
         self.assertTrue(sources["low"].endswith("/crates/low/src/lib.rt"))
-        self.assertLessEqual({"std", "core", "std_alloc", "hex", "toml", "toml_parser"}, set(sources))
+        self.assertLessEqual(
+            {"std", "core", "std_alloc", "hex", "toml", "toml_parser"}, set(sources)
+        )
         self.assertNotIn("high", sources)
         linked = [word for before, word in zip(words, words[1:]) if before == "--link"]
-        self.assertEqual([pathlib.Path(it).name for it in linked], ["a.o", "libos_c.a", "liblibc_c.a"])
+        self.assertEqual(
+            [pathlib.Path(it).name for it in linked],
+            ["a.o", "libos_c.a", "liblibc_c.a"],
+        )
 
     @needs("gcc", "gcc")
     def test_the_program_that_refuses_wraps_requests_alone(self) -> None:
         made = library_tests.refusing(self.folder, self.folder / "kept")
-        names = subprocess.run(["nm", made], stdout=subprocess.PIPE, text=True, check=True).stdout
-        for name in ("T __wrap_malloc", "T __wrap_realloc", "T rattle_alloc", "U malloc", "U free"):
+        names = subprocess.run(
+            ["nm", made], stdout=subprocess.PIPE, text=True, check=True
+        ).stdout
+        for name in (
+            "T __wrap_malloc",
+            "T __wrap_realloc",
+            "T rattle_alloc",
+            "U malloc",
+            "U free",
+        ):
             self.assertIn(f" {name}\n", names)
         self.assertNotRegex(names, r" T (read|write|calloc)\n")
 
     def counted(self, passed: int, failed: int, status: int):
-        words = [sys.executable, "-c", LINES.format(passed=passed, failed=failed, status=status)]
+        words = [
+            sys.executable,
+            "-c",
+            LINES.format(passed=passed, failed=failed, status=status),
+        ]
         counts, said, _ = ran(library_tests.run, words, self.folder)
         self.assertIn("test a ... ok\n", said)
         return counts

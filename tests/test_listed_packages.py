@@ -19,22 +19,43 @@ UNTESTED = {"jupyter-notebook", "libc6"}
 
 class Listed(unittest.TestCase):
     def test_each_package_that_is_named_is_listed(self) -> None:
-        depends = re.findall(r"^(?:Depends|Recommends|Suggests):((?:.|\n )*)", CONTROL, re.M)
-        named = {word.split()[0] for words in depends for word in re.sub(r"\(.*?\)", "", words).split(",")}
+        depends = re.findall(
+            r"^(?:Depends|Recommends|Suggests):((?:.|\n )*)", CONTROL, re.M
+        )
+        named = {
+            word.split()[0]
+            for words in depends
+            for word in re.sub(r"\(.*?\)", "", words).split(",")
+        }
         named |= {*PACKAGES.values(), *cells.PACKAGES.split()[2:]}
         named |= {package for kit in KITS.values() for package in kit.packages}
         readme = (TOP / "arena_lab" / "README.md").read_text().replace("\\\n", "")
-        named |= {word for line in re.findall(r"apt-get install (.*)", readme) for word in line.split()}
-        self.assertEqual(named - {*packages.listed("gate", "nightly")} - UNTESTED, set())
+        named |= {
+            word
+            for line in re.findall(r"apt-get install (.*)", readme)
+            for word in line.split()
+        }
+        self.assertEqual(
+            named - {*packages.listed("gate", "nightly")} - UNTESTED, set()
+        )
 
     def test_nothing_is_listed_twice(self) -> None:
         listed = packages.listed("gate", "nightly")
         self.assertEqual(len(listed), len({*listed}))
 
     def test_nothing_else_of_the_tests_installs(self) -> None:
-        found = [str(path.relative_to(TOP)) for top in ("tools", "tests", "bench", ".ci")
-                 for path in (TOP / top).rglob("*") if path.is_file() and path.suffix not in (".pyc", ".md")
-                 and re.search(r"""["']apt-get["']|^ *apt-get """, path.read_text(errors="replace"), re.M)]
+        found = [
+            str(path.relative_to(TOP))
+            for top in ("tools", "tests", "bench", ".ci")
+            for path in (TOP / top).rglob("*")
+            if path.is_file()
+            and path.suffix not in (".pyc", ".md")
+            and re.search(
+                r"""["']apt-get["']|^ *apt-get """,
+                path.read_text(errors="replace"),
+                re.M,
+            )
+        ]
         self.assertEqual(sorted(found), INSTALL)
 
 
@@ -51,8 +72,10 @@ class Installing(unittest.TestCase):
 
         def missing(names: List[str]) -> List[str]:
             return [name for name in names if name not in there]
-        with unittest.mock.patch.multiple(packages, apt=apt, missing=missing), \
-                unittest.mock.patch.object(packages.os, "geteuid", return_value=user):
+
+        with unittest.mock.patch.multiple(
+            packages, apt=apt, missing=missing
+        ), unittest.mock.patch.object(packages.os, "geteuid", return_value=user):
             return packages.install(["strace", "spin"])
 
     def test_what_is_missing_is_installed(self) -> None:
@@ -67,5 +90,7 @@ class Installing(unittest.TestCase):
 
     def test_what_dpkg_does_not_know_is_missing(self) -> None:
         self.assertEqual(packages.missing(["no-such-package"]), ["no-such-package"])
-        with unittest.mock.patch.object(packages.subprocess, "run", side_effect=FileNotFoundError):
+        with unittest.mock.patch.object(
+            packages.subprocess, "run", side_effect=FileNotFoundError
+        ):
             self.assertEqual(packages.missing(["bash"]), ["bash"])

@@ -15,18 +15,31 @@ ROWS = ("tests/program/*.rows",)
 
 class Example(NamedTuple):
     """What is looked for, and in which files; the tests of the lab are left out."""
+
     pattern: str
     globs: List[str]
 
 
 # by the second column of the table
 EXAMPLES = {
-    "`recover`": Example(r"\b[Rr]ecover(ed)?\b|print_recovered", [*CRATES, *ROWS, "tests/hostile/commands.py"]),
+    "`recover`": Example(
+        r"\b[Rr]ecover(ed)?\b|print_recovered",
+        [*CRATES, *ROWS, "tests/hostile/commands.py"],
+    ),
     "`--gather`": Example(r"\bgather\b", [*CRATES, *ROWS, "arena_lab/commands/*.py"]),
-    "`lost`": Example(r"\blost\b", ["crates/bhs_standings/s*/**/*.*t", "arena_lab/play/server.py",
-                                    "arena_lab/pages/[st]*.py"]),
+    "`lost`": Example(
+        r"\blost\b",
+        [
+            "crates/bhs_standings/s*/**/*.*t",
+            "arena_lab/play/server.py",
+            "arena_lab/pages/[st]*.py",
+        ],
+    ),
     "`events`": Example(r'"events"', ["arena_lab/play/*.py", "arena_lab/sweep/*.py"]),
-    "`serve`": Example(r"commands\.serve|arena-lab serve", [*OWN, "*.md", "docs/*.md", "arena_lab/*.md"]),
+    "`serve`": Example(
+        r"commands\.serve|arena-lab serve",
+        [*OWN, "*.md", "docs/*.md", "arena_lab/*.md"],
+    ),
     "`slow-links`": Example(r"slow-links|SlowLinks", [*CRATES, *ROWS, *OWN]),
 }
 
@@ -48,7 +61,9 @@ def files_with(pattern: str, globs: List[str]) -> Iterator[str]:
 
 def files_in(text: str) -> Set[str]:
     """The files that a text names."""
-    return {name for name in PATH.findall(text) if "/" in name and name.startswith(KEPT)}
+    return {
+        name for name in PATH.findall(text) if "/" in name and name.startswith(KEPT)
+    }
 
 
 class Map(unittest.TestCase):
@@ -59,7 +74,11 @@ class Map(unittest.TestCase):
         self.assertEqual([file for file in found if file not in named], [])
 
     def test_each_file_that_names_an_example_is_in_its_row(self) -> None:
-        rows = [row.split(" | ") for row in section("To add something else").splitlines() if row.startswith("| ")][1:]
+        rows = [
+            row.split(" | ")
+            for row in section("To add something else").splitlines()
+            if row.startswith("| ")
+        ][1:]
         self.assertEqual([row[1] for row in rows], list(EXAMPLES))
         for _, like, files in rows:
             with self.subTest(like):

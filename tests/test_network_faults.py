@@ -30,6 +30,8 @@ class Faults(unittest.TestCase):
                 self.assertEqual(fault_of(nodes, links), fault)
 
     def test_lists_by_chance_have_each_fault(self) -> None:
-        found = collections.Counter(fault_of(*drawn(number)).rstrip("0123456789 ") for number in range(600))
+        found = collections.Counter(
+            fault_of(*drawn(number)).rstrip("0123456789 ") for number in range(600)
+        )
         self.assertEqual(len(found), 9)
         self.assertGreaterEqual(found["none"], 300)

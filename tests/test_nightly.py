@@ -21,7 +21,9 @@ BY_HAND = {"bent_inputs", "bench_counts", "hall_in_browser"}
 class Nightly(unittest.TestCase):
     def told(self, part: "nightly.Part") -> Tuple[object, str]:
         printed = io.StringIO()
-        with contextlib.redirect_stdout(printed), unittest.mock.patch.multiple(parts, skipped=[], failures=[]):
+        with contextlib.redirect_stdout(printed), unittest.mock.patch.multiple(
+            parts, skipped=[], failures=[]
+        ):
             counts = nightly.counts_of(part, pathlib.Path("/bin/true"))
             nightly.conclude([counts], "")
         return counts, printed.getvalue()
@@ -29,39 +31,86 @@ class Nightly(unittest.TestCase):
     def test_each_tool_is_run_by_the_gate_or_by_night(self) -> None:
         text = (TOP / "tools" / "gate").read_text()
         run = {word.rpartition(".")[2] for part in nightly.PARTS for word in part.words}
-        tools = [path for folder in ("hostile", "play") for path in (TOP / "tools" / folder).glob("*.py")]
-        commands = [path for path in tools if '__name__ == "__main__"' in path.read_text()]
-        left = {it.stem for it in commands if it.stem not in run and f"tools.{it.parent.name}.{it.stem}" not in text}
+        tools = [
+            path
+            for folder in ("hostile", "play")
+            for path in (TOP / "tools" / folder).glob("*.py")
+        ]
+        commands = [
+            path for path in tools if '__name__ == "__main__"' in path.read_text()
+        ]
+        left = {
+            it.stem
+            for it in commands
+            if it.stem not in run and f"tools.{it.parent.name}.{it.stem}" not in text
+        }
         self.assertEqual(left, BY_HAND)
 
     def test_what_a_part_counts(self) -> None:
-        counts, said = self.told(nightly.Part("one", ("-c", "print('so'); print('2 passed, 1 failed'); exit(1)")))
+        counts, said = self.told(
+            nightly.Part(
+                "one", ("-c", "print('so'); print('2 passed, 1 failed'); exit(1)")
+            )
+        )
         self.assertEqual(counts, (2, 1))
         line = r"--- one, \d+ s: 2 passed, 1 failed\n"
-        self.assertRegex(said, rf"--- one\nso\n{line}failed:\n{line}2 passed, 1 failed\n")
+        self.assertRegex(
+            said, rf"--- one\nso\n{line}failed:\n{line}2 passed, 1 failed\n"
+        )
 
     def test_the_last_lines_name_what_failed(self) -> None:
-        said = ("FAIL: test_it (a.b.C.test_it)", "ERROR: it is no test", "FAILED (failures=1)", "FAILED a row", "ok: b")
-        _, told = self.told(nightly.Part("one", ("-c", f"print({chr(10).join(said)!r}); exit(1)")))
+        said = (
+            "FAIL: test_it (a.b.C.test_it)",
+            "ERROR: it is no test",
+            "FAILED (failures=1)",
+            "FAILED a row",
+            "ok: b",
+        )
+        _, told = self.told(
+            nightly.Part("one", ("-c", f"print({chr(10).join(said)!r}); exit(1)"))
+        )
         last = told.partition("failed:\n")[2].splitlines()
-        self.assertEqual((last[:2], last[3:]), ([said[0], said[3]], ["0 passed, 1 failed"]))
-        self.assertEqual(self.told(nightly.Part("one", ("-c", "")))[1].splitlines()[-1], "1 passed, 0 failed")
+        self.assertEqual(
+            (last[:2], last[3:]), ([said[0], said[3]], ["0 passed, 1 failed"])
+        )
+        self.assertEqual(
+            self.told(nightly.Part("one", ("-c", "")))[1].splitlines()[-1],
+            "1 passed, 0 failed",
+        )
 
     def test_a_part_that_lacks_something_is_skipped_and_named(self) -> None:
-        with unittest.mock.patch.object(nightly.packages, "missing", lambda names: [*names][:1]):
+        with unittest.mock.patch.object(
+            nightly.packages, "missing", lambda names: [*names][:1]
+        ):
             counts, said = self.told(nightly.Part("one", ("-c", "exit(1)"), ("kits",)))
-        self.assertEqual((counts, said), ((0, 0), "1 skipped:\none: Debian's openjdk-17-jdk-headless is not installed\n"
-                                          "0 passed, 0 failed\n"))
+        self.assertEqual(
+            (counts, said),
+            (
+                (0, 0),
+                "1 skipped:\none: Debian's openjdk-17-jdk-headless is not installed\n"
+                "0 passed, 0 failed\n",
+            ),
+        )
 
 
 class Bare(unittest.TestCase):
     def test_what_failed_is_printed_though_many_lines_follow(self) -> None:
         top = pathlib.Path(self.enterContext(tempfile.TemporaryDirectory()))
         printed = io.StringIO()
-        with contextlib.redirect_stdout(printed), unittest.mock.patch.multiple(bare, TOP=top, LOGS=top / "logs"):
+        with contextlib.redirect_stdout(printed), unittest.mock.patch.multiple(
+            bare, TOP=top, LOGS=top / "logs"
+        ):
             text = "print('FAILED a row', *range(99), sep='\\n'); exit(1)"
             passes = bare.passes("a gate", [sys.executable, "-c", text])
         lines = printed.getvalue().splitlines()
-        self.assertEqual((passes, lines[:2], lines[-3:]), (False, ["FAILED a row", str(99 - bare.LINES)], [
-            "98", "all lines are in logs/a-gate.log", "FAILED: a gate"]))
-        self.assertEqual(len((top / "logs" / "a-gate.log").read_text().splitlines()), 100)
+        self.assertEqual(
+            (passes, lines[:2], lines[-3:]),
+            (
+                False,
+                ["FAILED a row", str(99 - bare.LINES)],
+                ["98", "all lines are in logs/a-gate.log", "FAILED: a gate"],
+            ),
+        )
+        self.assertEqual(
+            len((top / "logs" / "a-gate.log").read_text().splitlines()), 100
+        )

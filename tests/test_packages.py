@@ -27,11 +27,17 @@ PROJECT = (TOP / "pyproject.toml").read_bytes()
 READABLE, RUNNABLE = wheel.READABLE, wheel.RUNNABLE
 PROGRAMS = ("arena", "bhs_player")
 RELEASED = {
-    "README.md": "read\n", "CHANGELOG.md": "changes\n", "docs/THEOREMS.md": "claims\n",
-    "arena_lab/support/built.py": "built = 1\n", "arena_lab/README.md": "# The lab\n",
+    "README.md": "read\n",
+    "CHANGELOG.md": "changes\n",
+    "docs/THEOREMS.md": "claims\n",
+    "arena_lab/support/built.py": "built = 1\n",
+    "arena_lab/README.md": "# The lab\n",
     "examples/agents/ring.py": "agent\n",
     "examples/contest.py": "contest\n",
-    "BUILD": "arena 1.2.3, proved\n", "PROVED.txt": "proved\n", "VERSION": "1.2.3\n", "tools/prove/version.py": "",
+    "BUILD": "arena 1.2.3, proved\n",
+    "PROVED.txt": "proved\n",
+    "VERSION": "1.2.3\n",
+    "tools/prove/version.py": "",
     "SHA256SUMS": "sums\n",
 }
 # as `arena --help` and `arena serve --help` lay out theirs
@@ -71,58 +77,90 @@ Exit status:
 
 
 def files() -> Dict[str, object]:
-    found = {path: wheel.File(text.encode(), READABLE) for path, text in RELEASED.items()}
+    found = {
+        path: wheel.File(text.encode(), READABLE) for path, text in RELEASED.items()
+    }
     programs = {f"bin/{name}": wheel.File(b"\x7fELF", RUNNABLE) for name in PROGRAMS}
     return {**found, **programs, "arena": wheel.File(b"#!/bin/sh\n", RUNNABLE)}
 
 
 def helps() -> List[object]:
-    return [manual.Help("arena", "a server", FIRST), manual.Help("arena serve", "Serves a tournament.", SERVE)]
+    return [
+        manual.Help("arena", "a server", FIRST),
+        manual.Help("arena serve", "Serves a tournament.", SERVE),
+    ]
 
 
 class Manuals(InTemporary):
     def test_options_are_those_of_the_help_text(self) -> None:
-        self.assertEqual([it.options() for it in helps()], [["--help", "--version"], ["--port", "--help"]])
+        self.assertEqual(
+            [it.options() for it in helps()],
+            [["--help", "--version"], ["--port", "--help"]],
+        )
 
     def test_the_commands_of_a_program_are_found(self) -> None:
         text = f"#!/bin/sh\n[ $1 = --help ] && cat <<'E' || cat <<'F'\n{FIRST}E\n{SERVE}F\n"
         found = manual.of_program(str(write(self.folder / "arena", text, 0o755)))
-        self.assertEqual([(it.words, it.about) for it in found[1:]],
-                         [("arena serve", "Serves a tournament"), ("arena check", "Reads a tournament")])
+        self.assertEqual(
+            [(it.words, it.about) for it in found[1:]],
+            [
+                ("arena serve", "Serves a tournament"),
+                ("arena check", "Reads a tournament"),
+            ],
+        )
 
     def test_a_page_has_the_whole_help_text(self) -> None:
         found = manual.pages(helps(), "1.2.3", "2026-11-26")
         self.assertEqual(sorted(found), ["arena-serve.1", "arena.1"])
         page = found["arena-serve.1"]
         self.assertIn('.TH ARENA\\-SERVE 1 "2026-11-26" "arena 1.2.3"', page)
-        for line in ("arena\\-serve \\- Serves a tournament\n", "\\&.first\n", "\\&'second \\e third\n",
-                     ".SH OPTIONS\n",
-                     "      \\-\\-port <PORT>\n", ".SH EXIT STATUS\n", ".SH SEE ALSO\n.BR arena (1)\n"):
+        for line in (
+            "arena\\-serve \\- Serves a tournament\n",
+            "\\&.first\n",
+            "\\&'second \\e third\n",
+            ".SH OPTIONS\n",
+            "      \\-\\-port <PORT>\n",
+            ".SH EXIT STATUS\n",
+            ".SH SEE ALSO\n.BR arena (1)\n",
+        ):
             self.assertIn(line, page)
         self.assertIn(".BR arena-serve (1)", found["arena.1"])
 
     @needs("groff", "groff-base")
     def test_a_page_is_laid_out_without_a_warning(self) -> None:
-        for text in manual.pages([*helps(), *manual.of_lab()], "1.2.3", "2026-11-26").values():
-            ran = subprocess.run(["groff", "-man", "-Tutf8", "-ww", "-rLL=120n"], input=text.encode(),
-                                 capture_output=True)
+        for text in manual.pages(
+            [*helps(), *manual.of_lab()], "1.2.3", "2026-11-26"
+        ).values():
+            ran = subprocess.run(
+                ["groff", "-man", "-Tutf8", "-ww", "-rLL=120n"],
+                input=text.encode(),
+                capture_output=True,
+            )
             self.assertEqual((ran.returncode, ran.stderr), (0, b""), text[:40])
 
     def test_each_option_of_the_lab_has_its_place(self) -> None:
         found = {it.words: it for it in manual.of_lab()}
-        self.assertEqual(set(found), {INSTALLED, *(f"{INSTALLED} {name}" for name in COMMANDS)})
+        self.assertEqual(
+            set(found), {INSTALLED, *(f"{INSTALLED} {name}" for name in COMMANDS)}
+        )
         commands = next(it for it in parser()._actions if it.dest == "command").choices
         pages = manual.pages(list(found.values()), "1", "d")
         completion = manual.completion(list(found.values()))
         for name, command in commands.items():
             one = found[f"{INSTALLED} {name}"]
-            options = {option for action in command._actions for option in action.option_strings
-                       if option[1] == "-" and option not in SPELLINGS}
+            options = {
+                option
+                for action in command._actions
+                for option in action.option_strings
+                if option[1] == "-" and option not in SPELLINGS
+            }
             self.assertEqual(set(one.options()), options, name)
             case = re.search(rf'^        {name}\) options="(.*)" ;;$', completion, re.M)
             self.assertEqual(set(case[1].split()), options, name)
             for option in options:
-                self.assertIn(option.replace("-", "\\-"), pages[f"{INSTALLED}-{name}.1"])
+                self.assertIn(
+                    option.replace("-", "\\-"), pages[f"{INSTALLED}-{name}.1"]
+                )
             self.assertNotIn("./arena\\-lab", pages[f"{INSTALLED}-{name}.1"])
 
     def test_bash_completes(self) -> None:
@@ -130,10 +168,19 @@ class Manuals(InTemporary):
         script.write_text(manual.completion([*helps(), *manual.of_lab()]))
 
         def completed(command: str, *words: str) -> List[str]:
-            ask = (f'. {script}; COMP_WORDS=({command} {" ".join(map(repr, words))}); '
-                   f'COMP_CWORD={len(words)}; _{command.replace("-", "_")}; echo "${{COMPREPLY[@]}}"')
-            ran = subprocess.run(["bash", "-c", ask], cwd=self.folder, capture_output=True, text=True, check=True)
+            ask = (
+                f'. {script}; COMP_WORDS=({command} {" ".join(map(repr, words))}); '
+                f'COMP_CWORD={len(words)}; _{command.replace("-", "_")}; echo "${{COMPREPLY[@]}}"'
+            )
+            ran = subprocess.run(
+                ["bash", "-c", ask],
+                cwd=self.folder,
+                capture_output=True,
+                text=True,
+                check=True,
+            )
             return ran.stdout.split()
+
         self.assertEqual(completed("arena", "se"), ["serve"])
         self.assertEqual(completed("arena", "serve", "--p"), ["--port"])
         self.assertEqual(completed("arena", "serve", "are"), ["arena"])
@@ -143,31 +190,67 @@ class Manuals(InTemporary):
 
 class Wheels(unittest.TestCase):
     def packed(self) -> bytes:
-        extra = {wheel.data("1.2.3", "share/man/man1/arena.1"): wheel.File(b"page", READABLE)}
-        made: bytes = wheel.packed(wheel.files_of(files(), extra), PROJECT, "1.2.3", "2.34", 1_700_000_000)
+        extra = {
+            wheel.data("1.2.3", "share/man/man1/arena.1"): wheel.File(b"page", READABLE)
+        }
+        made: bytes = wheel.packed(
+            wheel.files_of(files(), extra), PROJECT, "1.2.3", "2.34", 1_700_000_000
+        )
         return made
 
     def test_it_has_the_lab_and_the_program(self) -> None:
-        self.assertEqual(wheel.name_of("1.2.3", "2.34"), "arena_lab-1.2.3-py3-none-manylinux_2_34_x86_64.whl")
+        self.assertEqual(
+            wheel.name_of("1.2.3", "2.34"),
+            "arena_lab-1.2.3-py3-none-manylinux_2_34_x86_64.whl",
+        )
         with zipfile.ZipFile(io.BytesIO(self.packed())) as archive:
-            self.assertEqual(archive.namelist(), [
-                "arena_lab-1.2.3.data/data/share/man/man1/arena.1", "arena_lab-1.2.3.dist-info/METADATA",
-                "arena_lab-1.2.3.dist-info/WHEEL", "arena_lab-1.2.3.dist-info/entry_points.txt", "arena_lab/README.md",
-                "arena_lab/docs/THEOREMS.md", "arena_lab/examples/agents/ring.py", "arena_lab/examples/contest.py",
-                "arena_lab/program/BUILD", "arena_lab/program/PROVED.txt", "arena_lab/program/arena",
-                "arena_lab/program/bhs_player", "arena_lab/support/built.py",
-                "arena_lab-1.2.3.dist-info/RECORD"])
+            self.assertEqual(
+                archive.namelist(),
+                [
+                    "arena_lab-1.2.3.data/data/share/man/man1/arena.1",
+                    "arena_lab-1.2.3.dist-info/METADATA",
+                    "arena_lab-1.2.3.dist-info/WHEEL",
+                    "arena_lab-1.2.3.dist-info/entry_points.txt",
+                    "arena_lab/README.md",
+                    "arena_lab/docs/THEOREMS.md",
+                    "arena_lab/examples/agents/ring.py",
+                    "arena_lab/examples/contest.py",
+                    "arena_lab/program/BUILD",
+                    "arena_lab/program/PROVED.txt",
+                    "arena_lab/program/arena",
+                    "arena_lab/program/bhs_player",
+                    "arena_lab/support/built.py",
+                    "arena_lab-1.2.3.dist-info/RECORD",
+                ],
+            )
             for name in PROGRAMS:
-                self.assertEqual(archive.getinfo(f"arena_lab/program/{name}").external_attr >> 16, 0o100755)
+                self.assertEqual(
+                    archive.getinfo(f"arena_lab/program/{name}").external_attr >> 16,
+                    0o100755,
+                )
             told = archive.read("arena_lab-1.2.3.dist-info/METADATA").decode()
-            for line in ("Name: arena-lab", "Version: 1.2.3", "Requires-Python: >=3.11", "Requires-Dist: greenlet",
-                         'Requires-Dist: hypothesis; extra == "hunt"', "Provides-Extra: sweep"):
+            for line in (
+                "Name: arena-lab",
+                "Version: 1.2.3",
+                "Requires-Python: >=3.11",
+                "Requires-Dist: greenlet",
+                'Requires-Dist: hypothesis; extra == "hunt"',
+                "Provides-Extra: sweep",
+            ):
                 self.assertIn(line, told.split("\n"))
-            for path, digest, size in csv.reader(archive.read("arena_lab-1.2.3.dist-info/RECORD").decode().split()):
+            for path, digest, size in csv.reader(
+                archive.read("arena_lab-1.2.3.dist-info/RECORD").decode().split()
+            ):
                 if not path.endswith("RECORD"):
                     text = archive.read(path)
-                    found = base64.urlsafe_b64encode(hashlib.sha256(text).digest()).rstrip(b"=").decode()
-                    self.assertEqual((f"sha256={found}", str(len(text))), (digest, size))
+                    found = (
+                        base64.urlsafe_b64encode(hashlib.sha256(text).digest())
+                        .rstrip(b"=")
+                        .decode()
+                    )
+                    self.assertEqual(
+                        (f"sha256={found}", str(len(text))), (digest, size)
+                    )
 
     def test_two_are_alike(self) -> None:
         self.assertEqual(self.packed(), self.packed())
@@ -190,18 +273,35 @@ class DebianPackages(InTemporary):
         top = self.unpacked(self.packed())
         self.assertEqual((top / "usr/bin/arena").resolve(), top / "usr/lib/arena/arena")
         for name in PROGRAMS:
-            self.assertEqual((top / "usr/lib/arena/bin" / name).stat().st_mode & 0o777, 0o755)
+            self.assertEqual(
+                (top / "usr/lib/arena/bin" / name).stat().st_mode & 0o777, 0o755
+            )
         self.assertEqual((top / "usr/bin/arena-lab").stat().st_mode & 0o777, 0o755)
-        self.assertEqual((top / "usr/share/doc/arena/PROVED.txt").read_text(), "proved\n")
+        self.assertEqual(
+            (top / "usr/share/doc/arena/PROVED.txt").read_text(), "proved\n"
+        )
         self.assertEqual((top / "usr/lib/arena/PROVED.txt").read_text(), "proved\n")
-        self.assertEqual((top / "usr/share/doc/arena/docs/THEOREMS.md").read_text(), "claims\n")
-        self.assertEqual((top / "usr/share/doc/arena/examples/contest.py").read_text(), "contest\n")
-        self.assertEqual(gzip.decompress((top / "usr/share/man/man1/arena.1.gz").read_bytes()), b"page\n")
+        self.assertEqual(
+            (top / "usr/share/doc/arena/docs/THEOREMS.md").read_text(), "claims\n"
+        )
+        self.assertEqual(
+            (top / "usr/share/doc/arena/examples/contest.py").read_text(), "contest\n"
+        )
+        self.assertEqual(
+            gzip.decompress((top / "usr/share/man/man1/arena.1.gz").read_bytes()),
+            b"page\n",
+        )
         told = (top / "DEBIAN/control").read_text()
-        for line in ("Package: arena\n", "Version: 1.2.3\n", "Depends: libc6 (>= 2.34), python3 (>= 3.11),",
-                     "is proved: /usr/share/doc/arena/PROVED.txt says by what"):
+        for line in (
+            "Package: arena\n",
+            "Version: 1.2.3\n",
+            "Depends: libc6 (>= 2.34), python3 (>= 3.11),",
+            "is proved: /usr/share/doc/arena/PROVED.txt says by what",
+        ):
             self.assertIn(line, told)
-        subprocess.run(["md5sum", "--quiet", "-c", "DEBIAN/md5sums"], cwd=top, check=True)
+        subprocess.run(
+            ["md5sum", "--quiet", "-c", "DEBIAN/md5sums"], cwd=top, check=True
+        )
 
     def test_one_without_a_proof_says_so(self) -> None:
         told = (self.unpacked(self.packed(False)) / "DEBIAN/control").read_text()

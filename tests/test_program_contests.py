@@ -5,10 +5,22 @@ from typing import List, Sequence, Set
 
 from arena_lab.rules.model import PRESENT, Match, Place, Setup
 from tests.program import program_contests
-from tests.program.program_contests import ADAPTIVE, OBLIVIOUS, SIDES, Rule, Side, made_by, words_of
+from tests.program.program_contests import (
+    ADAPTIVE,
+    OBLIVIOUS,
+    SIDES,
+    Rule,
+    Side,
+    made_by,
+    words_of,
+)
 
-COMMANDS = {"0": {"do": "depart", "port": 0}, "1": {"do": "depart", "port": 1}, "a": {"do": "accuse", "port": 0},
-            "l": {"do": "leave"}}
+COMMANDS = {
+    "0": {"do": "depart", "port": 0},
+    "1": {"do": "depart", "port": 1},
+    "a": {"do": "accuse", "port": 0},
+    "l": {"do": "leave"},
+}
 
 
 def match_of(side: Side) -> Match:
@@ -28,12 +40,21 @@ def turn(match: Match, held: Set[Place], word: int, rule: Rule) -> None:
     among = match.pool if rule is ADAPTIVE else range(len(match.agents))
     if among:
         agent = among[word % len(among)]
-        if agent in match.pool and (match.agents[agent].node, match.agents[agent].port) not in held:
+        if (
+            agent in match.pool
+            and (match.agents[agent].node, match.agents[agent].port) not in held
+        ):
             match.deliver(agent)
 
 
-def replay(side: Side, words: Sequence[int], held: Set[Place], seed: int, idle: int = 7,
-           rule: Rule = ADAPTIVE) -> str:
+def replay(
+    side: Side,
+    words: Sequence[int],
+    held: Set[Place],
+    seed: int,
+    idle: int = 7,
+    rule: Rule = ADAPTIVE,
+) -> str:
     """The replay of a match whose agents come after some turns, with these words."""
     chance, match, left = random.Random(seed), match_of(side), list(side.agents)
     for word in words[:idle]:
@@ -52,10 +73,16 @@ class Words(unittest.TestCase):
     def test_they_make_the_deliveries_whenever_agents_come(self) -> None:
         for number, side in enumerate(SIDES):
             for seed in range(3):
-                text = replay(side, words_of(number), {side.held}, seed, idle=seed * 100)
+                text = replay(
+                    side, words_of(number), {side.held}, seed, idle=seed * 100
+                )
                 self.assertTrue(made_by(ADAPTIVE, text, {side.held}, words_of(number)))
-                self.assertFalse(made_by(ADAPTIVE, text, {side.held}, words_of(1 - number)))
-                self.assertFalse(made_by(ADAPTIVE, text, {side.held}, [0] * program_contests.TURNS))
+                self.assertFalse(
+                    made_by(ADAPTIVE, text, {side.held}, words_of(1 - number))
+                )
+                self.assertFalse(
+                    made_by(ADAPTIVE, text, {side.held}, [0] * program_contests.TURNS)
+                )
 
     def test_each_schedule_makes_its_own(self) -> None:
         for number, side in enumerate(SIDES):
@@ -67,10 +94,16 @@ class Words(unittest.TestCase):
     def test_wrong_bodies_make_others(self) -> None:
         for number, side in enumerate(SIDES):
             words = words_of(number)
-            for name, used, held in (("one word for all", [0] * len(words), {side.held}),
-                                     ("another stream", words_of(1 - number), {side.held}),
-                                     ("backwards", words[::-1], {side.held}),
-                                     ("no link is held", words, set()),
-                                     ("the other match's link is held", words, {SIDES[1 - number].held})):
+            for name, used, held in (
+                ("one word for all", [0] * len(words), {side.held}),
+                ("another stream", words_of(1 - number), {side.held}),
+                ("backwards", words[::-1], {side.held}),
+                ("no link is held", words, set()),
+                ("the other match's link is held", words, {SIDES[1 - number].held}),
+            ):
                 with self.subTest(body=name, team=side.team):
-                    self.assertFalse(made_by(ADAPTIVE, replay(side, used, held, 1), {side.held}, words))
+                    self.assertFalse(
+                        made_by(
+                            ADAPTIVE, replay(side, used, held, 1), {side.held}, words
+                        )
+                    )

@@ -136,7 +136,9 @@ def built(folder, name, source, *options):
     """The program that gcc makes of a source."""
     (folder / f"{name}.c").write_text(source)
     program = str(folder / name)
-    subprocess.run(["gcc", *options, "-o", program, str(folder / f"{name}.c")], check=True)
+    subprocess.run(
+        ["gcc", *options, "-o", program, str(folder / f"{name}.c")], check=True
+    )
     return program
 
 
@@ -151,18 +153,27 @@ class ShimTest(InTemporary):
         """The status, what is printed, and the numbers of calls."""
         numbers = {}
         with self.shim.counting(numbers, mode, place) as variables:
-            ran = subprocess.run([self.program, *words], input=b"abc", env=variables, stdout=subprocess.PIPE)
+            ran = subprocess.run(
+                [self.program, *words],
+                input=b"abc",
+                env=variables,
+                stdout=subprocess.PIPE,
+            )
         return ran.returncode, ran.stdout, numbers
 
     def test_calls_are_counted(self):
         for words in ([], ["parts"]):
-            self.assertEqual(self.run_with(words=words),
-                             (0, b"nabc", {"memory": 5, "read": 1, "write": 2, "refused": 0}))
+            self.assertEqual(
+                self.run_with(words=words),
+                (0, b"nabc", {"memory": 5, "read": 1, "write": 2, "refused": 0}),
+            )
 
     def test_one_request_is_refused(self):
         for place in (1, 2, 3, 4, 5):
             status, printed, numbers = self.run_with("memory", place)
-            self.assertEqual((status, printed, numbers["refused"]), (0, b"%dabc" % place, 1))
+            self.assertEqual(
+                (status, printed, numbers["refused"]), (0, b"%dabc" % place, 1)
+            )
         status, printed, numbers = self.run_with("memory", 6)
         self.assertEqual((status, printed, numbers["refused"]), (0, b"nabc", 0))
 
@@ -191,17 +202,29 @@ class CommandTest(InTemporary):
 
     def test_a_program_that_tells_its_faults(self):
         self.assertEqual(self.faults_of(), [])
-        self.assertEqual(self.said.splitlines(), [
-            "check, memory of 1: 1 memory", "check, read of 2: 2 read", "check, short-read of 2: 2 as ever",
-            "check, write of 1: 1 write", "check, short-write of 1: 1 as ever"])
+        self.assertEqual(
+            self.said.splitlines(),
+            [
+                "check, memory of 1: 1 memory",
+                "check, read of 2: 2 read",
+                "check, short-read of 2: 2 as ever",
+                "check, write of 1: 1 write",
+                "check, short-write of 1: 1 as ever",
+            ],
+        )
 
     def test_a_crash_is_otherwise(self):
-        self.assertEqual(self.faults_of("-DCRASHES"), ["check, memory 1: status -11, ``"])
+        self.assertEqual(
+            self.faults_of("-DCRASHES"), ["check, memory 1: status -11, ``"]
+        )
         self.assertIn("check, memory of 1: 1 otherwise", self.said)
 
     def test_a_hang_is_otherwise(self):
         with unittest.mock.patch.object(commands, "PATIENCE", 5):
-            self.assertEqual(self.faults_of("-DHANGS"), ["check, memory 1: status -1, `it did not end`"])
+            self.assertEqual(
+                self.faults_of("-DHANGS"),
+                ["check, memory 1: status -1, `it did not end`"],
+            )
 
     def test_what_is_lost_is_otherwise(self):
         self.assertEqual(self.faults_of("-DSWALLOWS"), ["check, write 1: status 0, ``"])
@@ -212,7 +235,9 @@ class CommandTest(InTemporary):
 
     def test_a_program_without_the_library_is_not_tried(self):
         faults = self.faults_of("-static")
-        self.assertEqual(faults, ["check: no call was counted; is the program linked dynamically?"])
+        self.assertEqual(
+            faults, ["check: no call was counted; is the program linked dynamically?"]
+        )
 
 
 @needs("gcc", "gcc")
@@ -225,16 +250,23 @@ class TestsTest(InTemporary):
         place.mkdir(exist_ok=True)
         lab = Lab(built(place, "prints", PRINTS), place)
         self.kept = place / "kept"
-        tests = built(place, "tests", TESTS, f'-DKEPT="{self.kept}"', *self.LINKED, *options)
-        said = ran(refusals.refuse_tests, refusals.Trials(lab, refusals.Shim(), 0, 0, 2), tests).said
+        tests = built(
+            place, "tests", TESTS, f'-DKEPT="{self.kept}"', *self.LINKED, *options
+        )
+        said = ran(
+            refusals.refuse_tests, refusals.Trials(lab, refusals.Shim(), 0, 0, 2), tests
+        ).said
         self.said = said
         return lab.faults
 
     def test_calls_that_are_made_again(self):
         self.assertEqual(self.faults_of(), [])
-        self.assertEqual(self.said, "memory::again::one, memory of 1 in its calls: 1 passed\n"
-                         "memory::again::one, memory of 1 beside them: 1 begins\n"
-                         f"{self.PLAY}, memory of 2: 1 none in the play\n")
+        self.assertEqual(
+            self.said,
+            "memory::again::one, memory of 1 in its calls: 1 passed\n"
+            "memory::again::one, memory of 1 beside them: 1 begins\n"
+            f"{self.PLAY}, memory of 2: 1 none in the play\n",
+        )
 
     def test_the_program_is_left_in_a_file(self):
         self.faults_of()
@@ -242,15 +274,23 @@ class TestsTest(InTemporary):
 
     def test_what_no_test_may_do(self):
         told = ", memory 2: in the call that is tested: status"
-        for option, fault in (("GIVES_UP", f"{told} -6, ``"), ("ENDS_OTHERWISE", f"{told} 1, `alloc`"),
-                              ("ANSWERS_MEMORY_AGAIN", f"{told} 101, `Memory`"),
-                              ("SETS_NO_MARK", ": no request is one of a call that is tested")):
+        for option, fault in (
+            ("GIVES_UP", f"{told} -6, ``"),
+            ("ENDS_OTHERWISE", f"{told} 1, `alloc`"),
+            ("ANSWERS_MEMORY_AGAIN", f"{told} 101, `Memory`"),
+            ("SETS_NO_MARK", ": no request is one of a call that is tested"),
+        ):
             with self.subTest(option):
-                self.assertEqual(self.faults_of(f"-D{option}"), [f"memory::again::one{fault}"])
+                self.assertEqual(
+                    self.faults_of(f"-D{option}"), [f"memory::again::one{fault}"]
+                )
 
     def test_a_play_that_asks_for_memory(self):
         [fault] = self.faults_of("-DASKS_IN_THE_PLAY")
-        self.assertEqual(fault, f"{self.PLAY}, memory 3: playing asks for memory: ['begins', 'passed', 'own']")
+        self.assertEqual(
+            fault,
+            f"{self.PLAY}, memory 3: playing asks for memory: ['begins', 'passed', 'own']",
+        )
 
     def test_the_play_must_be_there(self):
         tests = built(self.folder, "tests", "int main(void) { return 0; }")
@@ -260,42 +300,85 @@ class TestsTest(InTemporary):
 
 
 class OutcomeTest(unittest.TestCase):
-    WHOLE = refusals.Attempt(Run(0, b"two lines\nand one\n", ""), {"kept0.jsonl": b"head\nend\n"}, {"refused": 0})
+    WHOLE = refusals.Attempt(
+        Run(0, b"two lines\nand one\n", ""),
+        {"kept0.jsonl": b"head\nend\n"},
+        {"refused": 0},
+    )
     MAY_NAME = {"cup.toml", "output", "kept0.jsonl"}
 
     def outcome(self, mode, *found, whole=WHOLE, replays=None, refused=1):
-        attempt = refusals.Attempt(Run(*found), whole.replays if replays is None else replays, {"refused": refused})
-        return refusals.outcome(mode, self.MAY_NAME, whole, attempt, lambda text: text.endswith(b"end\n"))
+        attempt = refusals.Attempt(
+            Run(*found),
+            whole.replays if replays is None else replays,
+            {"refused": refused},
+        )
+        return refusals.outcome(
+            mode, self.MAY_NAME, whole, attempt, lambda text: text.endswith(b"end\n")
+        )
 
     def test_what_may_come(self):
         self.assertEqual(self.outcome("memory", *self.WHOLE.run), "as ever")
-        self.assertEqual(self.outcome("memory", 5, b"two", "cup.toml: memory\n"), "memory")
-        self.assertEqual(self.outcome("memory", 5, b"two", "cup.toml: memory\n", replays={}), "memory")
-        self.assertEqual(self.outcome("write", 6, self.WHOLE.run.printed, "kept0.jsonl: write\n",
-                                      replays={"kept0.jsonl": b"head\n"}), "write")
+        self.assertEqual(
+            self.outcome("memory", 5, b"two", "cup.toml: memory\n"), "memory"
+        )
+        self.assertEqual(
+            self.outcome("memory", 5, b"two", "cup.toml: memory\n", replays={}),
+            "memory",
+        )
+        self.assertEqual(
+            self.outcome(
+                "write",
+                6,
+                self.WHOLE.run.printed,
+                "kept0.jsonl: write\n",
+                replays={"kept0.jsonl": b"head\n"},
+            ),
+            "write",
+        )
 
     def test_a_fault_line_that_could_not_be_written(self):
         refused = self.WHOLE._replace(run=Run(3, b"two", "cup.toml: toml\n"))
         self.assertEqual(self.outcome("write", 3, b"two", "", whole=refused), "untold")
-        self.assertEqual(self.outcome("write", 3, b"two", "cup.toml: ", whole=refused), "untold")
-        for mode, *found in (("write", 3, b"tw", ""), ("write", 0, b"two", ""), ("read", 3, b"two", "")):
+        self.assertEqual(
+            self.outcome("write", 3, b"two", "cup.toml: ", whole=refused), "untold"
+        )
+        for mode, *found in (
+            ("write", 3, b"tw", ""),
+            ("write", 0, b"two", ""),
+            ("read", 3, b"two", ""),
+        ):
             with self.assertRaises(refusals.Wrong):
                 self.outcome(mode, *found, whole=refused)
 
     def test_what_must_not_come(self):
         printed = self.WHOLE.run.printed
-        for mode, *found in (("memory", 5, b"one", "cup.toml: memory\n"), ("memory", 6, b"two", "cup.toml: memory\n"),
-                             ("memory", -11, b"two", ""), ("memory", 5, b"", "ring.toml: memory\n"),
-                             ("memory", 5, b"", "output: memory\noutput: memory\n"),
-                             ("short-read", 6, b"", "script: read\n"), ("read", 6, b"", "script: write\n"),
-                             ("write", 0, b"", ""), ("write", 0, b"two lines\n", ""),
-                             ("write", 6, b"two", "kept0.jsonl: write\n")):
-            with self.subTest(mode=mode, found=found), self.assertRaises(refusals.Wrong):
+        for mode, *found in (
+            ("memory", 5, b"one", "cup.toml: memory\n"),
+            ("memory", 6, b"two", "cup.toml: memory\n"),
+            ("memory", -11, b"two", ""),
+            ("memory", 5, b"", "ring.toml: memory\n"),
+            ("memory", 5, b"", "output: memory\noutput: memory\n"),
+            ("short-read", 6, b"", "script: read\n"),
+            ("read", 6, b"", "script: write\n"),
+            ("write", 0, b"", ""),
+            ("write", 0, b"two lines\n", ""),
+            ("write", 6, b"two", "kept0.jsonl: write\n"),
+        ):
+            with self.subTest(mode=mode, found=found), self.assertRaises(
+                refusals.Wrong
+            ):
                 self.outcome(mode, *found)
         with self.assertRaises(refusals.Wrong):
             self.outcome("memory", 0, printed, "", refused=0)
         with self.assertRaises(refusals.Wrong):
-            self.outcome("memory", 5, printed, "kept0.jsonl: memory\n", replays={"kept0.jsonl": b"end\n"})
+            self.outcome(
+                "memory",
+                5,
+                printed,
+                "kept0.jsonl: memory\n",
+                replays={"kept0.jsonl": b"end\n"},
+            )
         with self.assertRaises(refusals.Wrong):
             self.outcome("memory", 0, printed, "", replays={})
 
@@ -307,36 +390,84 @@ class OutcomeTest(unittest.TestCase):
 
 class ServedTest(unittest.TestCase):
     TABLE = b"  # team             outcome     moves lost\n  1 red              silent          0    0\n"
-    REPLAY = b'{"replay":2}\n' + b"".join(
-        b'{"agent":0,"do":"%s","reply":{"board":"","from":null,"ok":"here","ports":2}}\n' % do
-        for do in (b"enter", b"look")) + b'{"do":"close","reply":null}\n{"end":3}\n'
+    REPLAY = (
+        b'{"replay":2}\n'
+        + b"".join(
+            b'{"agent":0,"do":"%s","reply":{"board":"","from":null,"ok":"here","ports":2}}\n'
+            % do
+            for do in (b"enter", b"look")
+        )
+        + b'{"do":"close","reply":null}\n{"end":3}\n'
+    )
     KEY = b'{"no":"key"}\n'
 
-    def outcome(self, mode, run=None, heard=(refusals.HERE + refusals.HERE, KEY), replay=REPLAY, seconds=1.0):
+    def outcome(
+        self,
+        mode,
+        run=None,
+        heard=(refusals.HERE + refusals.HERE, KEY),
+        replay=REPLAY,
+        seconds=1.0,
+    ):
         """What came of a contest whose replay is accepted if it has its end line."""
-        contest = refusals.Contest(run or Run(0, b"listening N\n" + self.TABLE, ""), list(heard),
-                                   {"kept0.jsonl": replay} if replay else {}, {"refused": 1}, seconds)
-        with unittest.mock.patch.object(refusals, "judged",
-                                        lambda lab, text, *words: self.TABLE if b'{"end":' in text else None):
+        contest = refusals.Contest(
+            run or Run(0, b"listening N\n" + self.TABLE, ""),
+            list(heard),
+            {"kept0.jsonl": replay} if replay else {},
+            {"refused": 1},
+            seconds,
+        )
+        with unittest.mock.patch.object(
+            refusals,
+            "judged",
+            lambda lab, text, *words: self.TABLE if b'{"end":' in text else None,
+        ):
             return refusals.served_outcome(mode, contest, None)
 
     def test_what_may_come(self):
         self.assertEqual(self.outcome("short-read"), "as ever")
-        self.assertEqual(self.outcome("memory", heard=[refusals.HERE + b'{"bo', self.KEY]), "a session cut")
-        self.assertEqual(self.outcome("memory", Run(5, b"", "cup.toml: memory\n"), [b"", b""], b""),
-                         "cup.toml: memory")
-        self.assertEqual(self.outcome("write", Run(6, b"listening N\n" + self.TABLE, "kept0.jsonl: write\n"),
-                                      replay=b'{"replay":2}\n'), "kept0.jsonl: write")
+        self.assertEqual(
+            self.outcome("memory", heard=[refusals.HERE + b'{"bo', self.KEY]),
+            "a session cut",
+        )
+        self.assertEqual(
+            self.outcome("memory", Run(5, b"", "cup.toml: memory\n"), [b"", b""], b""),
+            "cup.toml: memory",
+        )
+        self.assertEqual(
+            self.outcome(
+                "write",
+                Run(6, b"listening N\n" + self.TABLE, "kept0.jsonl: write\n"),
+                replay=b'{"replay":2}\n',
+            ),
+            "kept0.jsonl: write",
+        )
 
     def test_what_must_not_come(self):
         short = Run(0, b"listening N\n", "")
-        for mode, given in (("memory", {"seconds": refusals.SOON + 1.0}), ("memory", {"heard": [b"", b""]}),
-                            ("short-read", {"heard": [refusals.HERE, self.KEY]}),
-                            ("memory", {"heard": [b'{"ok":"gone"}\n', self.KEY]}), ("write", {"run": short}),
-                            ("memory", {"replay": b""}), ("memory", {"run": Run(6, b"", "serve: memory\n")}),
-                            ("memory", {"run": Run(6, b"", "serve: listen\n")}),
-                            ("memory", {"replay": b'{"replay":2}\n{"do":"close","reply":null}\n{"end":1}\n'}),
-                            ("write", {"run": Run(6, b"listening N\n", "kept0.jsonl: write\n"), "replay": b""}),
-                            ("memory", {"run": Run(-6, b"listening N\n", "")})):
-            with self.subTest(mode=mode, given=given), self.assertRaises(refusals.Wrong):
+        for mode, given in (
+            ("memory", {"seconds": refusals.SOON + 1.0}),
+            ("memory", {"heard": [b"", b""]}),
+            ("short-read", {"heard": [refusals.HERE, self.KEY]}),
+            ("memory", {"heard": [b'{"ok":"gone"}\n', self.KEY]}),
+            ("write", {"run": short}),
+            ("memory", {"replay": b""}),
+            ("memory", {"run": Run(6, b"", "serve: memory\n")}),
+            ("memory", {"run": Run(6, b"", "serve: listen\n")}),
+            (
+                "memory",
+                {"replay": b'{"replay":2}\n{"do":"close","reply":null}\n{"end":1}\n'},
+            ),
+            (
+                "write",
+                {
+                    "run": Run(6, b"listening N\n", "kept0.jsonl: write\n"),
+                    "replay": b"",
+                },
+            ),
+            ("memory", {"run": Run(-6, b"listening N\n", "")}),
+        ):
+            with self.subTest(mode=mode, given=given), self.assertRaises(
+                refusals.Wrong
+            ):
                 self.outcome(mode, **given)

@@ -8,7 +8,9 @@ import unittest
 import unittest.mock
 from typing import Dict, Tuple
 
-from arena_lab import api  # noqa: F401  the lab is loaded before tests say that it stands elsewhere
+from arena_lab import (
+    api,
+)  # noqa: F401  the lab is loaded before tests say that it stands elsewhere
 from arena_lab.support import built
 from tests import TOP, needs
 from tests.test_gate import module
@@ -20,12 +22,21 @@ release = module(TOP / "tools" / "release")
 PROVED_PROGRAM = release.proved_program
 NAME = "arena-1.2.3-x86_64-linux"
 FILES = {
-    "VERSION": "1.2.3\n", "README.md": "read\n", "CHANGELOG.md": "changes\n", "CONTRIBUTING.md": "how\n",
-    "arena": "#!/bin/sh\n", "docs/THEOREMS.md": "claims\n", "examples/contest.py": "print('played')\n",
-    "examples/agents/ring.c": "int main(void) { return 0; }\n", "arena_lab/support/built.py": "",
+    "VERSION": "1.2.3\n",
+    "README.md": "read\n",
+    "CHANGELOG.md": "changes\n",
+    "CONTRIBUTING.md": "how\n",
+    "arena": "#!/bin/sh\n",
+    "docs/THEOREMS.md": "claims\n",
+    "examples/contest.py": "print('played')\n",
+    "examples/agents/ring.c": "int main(void) { return 0; }\n",
+    "arena_lab/support/built.py": "",
     "tests/lab/test.py": "",
     "pyproject.toml": (TOP / "pyproject.toml").read_text(),
-    "tools/prove/version.py": "", "tools/build": "", "crates.txt": "bhs_main:\n", "crates/bhs_main/src/main.rt": "main\n",
+    "tools/prove/version.py": "",
+    "tools/build": "",
+    "crates.txt": "bhs_main:\n",
+    "crates/bhs_main/src/main.rt": "main\n",
     ".gitignore": "out/\n",
 }
 
@@ -34,7 +45,9 @@ class Repositories(unittest.TestCase):
     """Tests in a repository of its own, whose program is a copy of a small one of this machine."""
 
     def setUp(self) -> None:
-        self.top = pathlib.Path(self.enterContext(tempfile.TemporaryDirectory())).resolve()
+        self.top = pathlib.Path(
+            self.enterContext(tempfile.TemporaryDirectory())
+        ).resolve()
         for path, text in FILES.items():
             write(self.top / path, text, 0o755 if path == "arena" else 0o644)
         self.git("init", "-q")
@@ -44,16 +57,32 @@ class Repositories(unittest.TestCase):
         write(self.top / "kit" / "WHAT", "compiler 2\n")
         write(self.top / ".git" / "info" / "exclude", "kit/\n")
         program = self.top / "crates" / "bhs_main" / "out" / "bhs_main"
-        write(program.with_name(built.RECORD), "# arena 1.2.3, proved\n# commit 12\n# toolchain kit 1\n")
+        write(
+            program.with_name(built.RECORD),
+            "# arena 1.2.3, proved\n# commit 12\n# toolchain kit 1\n",
+        )
         self.proved = write(self.top / "out" / "proved", "", 0o755)
         self.proved.write_bytes(pathlib.Path("/bin/true").read_bytes())
         self.unproved = write(self.top / "out" / "unproved", "", 0o755)
         self.unproved.write_bytes(self.proved.read_bytes() + built.SAID.encode())
         crates, kit = self.top / "crates", self.top / "kit"
-        for owner, found in ((release, {"CRATES": crates, "KIT": kit, "proved_program": lambda _: self.proved}),
-                             (prover, {"CRATES": crates, "KIT": kit}), (version, {"KIT": kit}), (built, {})):
-            self.enterContext(unittest.mock.patch.multiple(owner, TOP=self.top, **found))
-        self.enterContext(unittest.mock.patch.object(release.unproved, "compiled", lambda _: self.unproved))
+        for owner, found in (
+            (
+                release,
+                {"CRATES": crates, "KIT": kit, "proved_program": lambda _: self.proved},
+            ),
+            (prover, {"CRATES": crates, "KIT": kit}),
+            (version, {"KIT": kit}),
+            (built, {}),
+        ):
+            self.enterContext(
+                unittest.mock.patch.multiple(owner, TOP=self.top, **found)
+            )
+        self.enterContext(
+            unittest.mock.patch.object(
+                release.unproved, "compiled", lambda _: self.unproved
+            )
+        )
 
     def git(self, *words: str) -> None:
         who = ["-c", "user.name=N", "-c", "user.email=n@example.org"]
@@ -64,7 +93,9 @@ class Repositories(unittest.TestCase):
 class Releases(Repositories):
     def made(self, *words: str, status: int = 0) -> Tuple[str, str]:
         """What making a release says on standard output and on standard error."""
-        found, said, errors = ran(release.main, [*words, "--out", str(self.top / "out" / "release")])
+        found, said, errors = ran(
+            release.main, [*words, "--out", str(self.top / "out" / "release")]
+        )
         self.assertEqual(found, status)
         return said, errors
 
@@ -74,26 +105,58 @@ class Releases(Repositories):
             self.assertEqual(archive.getnames(), sorted(archive.getnames()))
             found = {}
             for entry in archive.getmembers():
-                self.assertEqual((entry.uid, entry.gid, entry.uname, entry.gname), (0, 0, "root", "root"))
+                self.assertEqual(
+                    (entry.uid, entry.gid, entry.uname, entry.gname),
+                    (0, 0, "root", "root"),
+                )
                 folder, _, path = entry.name.partition("/")
                 self.assertEqual(folder, name)
-                found[path] = (archive.extractfile(entry).read().decode(errors="replace"), entry.mode)
+                found[path] = (
+                    archive.extractfile(entry).read().decode(errors="replace"),
+                    entry.mode,
+                )
         return found
 
     def test_it_has_what_plays_and_what_was_proved(self) -> None:
         self.assertIn(f"{NAME}.tar.gz: ", self.made()[0])
         found = self.unpacked(NAME)
-        self.assertEqual(sorted(found), sorted([
-            "BUILD", "CHANGELOG.md", "PROVED.txt", "README.md", "SHA256SUMS", "VERSION", "arena", "bin/arena",
-            "bin/bhs_player", "bin/ring", "docs/THEOREMS.md", "examples/agents/ring.c", "examples/contest.py",
-            "arena_lab/support/built.py", "tools/prove/version.py"]))
+        self.assertEqual(
+            sorted(found),
+            sorted(
+                [
+                    "BUILD",
+                    "CHANGELOG.md",
+                    "PROVED.txt",
+                    "README.md",
+                    "SHA256SUMS",
+                    "VERSION",
+                    "arena",
+                    "bin/arena",
+                    "bin/bhs_player",
+                    "bin/ring",
+                    "docs/THEOREMS.md",
+                    "examples/agents/ring.c",
+                    "examples/contest.py",
+                    "arena_lab/support/built.py",
+                    "tools/prove/version.py",
+                ]
+            ),
+        )
         runnable = {path for path, (_, mode) in found.items() if mode == 0o755}
         self.assertEqual(runnable, {"arena", "bin/arena", "bin/bhs_player", "bin/ring"})
         build, facts = found["BUILD"][0], found["PROVED.txt"][0]
-        self.assertRegex(build, r"^arena 1\.2\.3, proved\ncommit [0-9a-f]{40}, tree clean\ntoolchain kit 1\n"
-                         r"needs Linux on x86-64 with glibc 2\.\d+ or newer, and Python 3\.11 or newer\n$")
+        self.assertRegex(
+            build,
+            r"^arena 1\.2\.3, proved\ncommit [0-9a-f]{40}, tree clean\ntoolchain kit 1\n"
+            r"needs Linux on x86-64 with glibc 2\.\d+ or newer, and Python 3\.11 or newer\n$",
+        )
         self.assertTrue(facts.startswith(build))
-        for said in (release.digest_of(self.proved.read_bytes()), "compiler 2", "  bhs_main\n", "once each was proved"):
+        for said in (
+            release.digest_of(self.proved.read_bytes()),
+            "compiler 2",
+            "  bhs_main\n",
+            "once each was proved",
+        ):
             self.assertIn(said, facts)
 
     def test_what_it_takes_is_there(self) -> None:
@@ -103,9 +166,15 @@ class Releases(Repositories):
     def test_the_checksums_are_those_of_the_files(self) -> None:
         self.made()
         folder = self.top / "out" / "release"
-        subprocess.run(["sha256sum", "--quiet", "-c", f"{NAME}.tar.gz.sha256"], cwd=folder, check=True)
+        subprocess.run(
+            ["sha256sum", "--quiet", "-c", f"{NAME}.tar.gz.sha256"],
+            cwd=folder,
+            check=True,
+        )
         subprocess.run(["tar", "-xzf", f"{NAME}.tar.gz"], cwd=folder, check=True)
-        subprocess.run(["sha256sum", "--quiet", "-c", "SHA256SUMS"], cwd=folder / NAME, check=True)
+        subprocess.run(
+            ["sha256sum", "--quiet", "-c", "SHA256SUMS"], cwd=folder / NAME, check=True
+        )
         self.assertEqual((folder / NAME / "SHA256SUMS").read_text().count("\n"), 14)
 
     def test_two_archives_of_one_commit_are_alike(self) -> None:
@@ -124,7 +193,10 @@ class Releases(Repositories):
         self.assertIn(f"{name}.tar.gz: ", self.made("--unproved")[0])
         found = self.unpacked(name)
         self.assertNotIn("PROVED.txt", found)
-        self.assertRegex(found["BUILD"][0], r"^arena 1\.2\.3, unproved\ncommit [0-9a-f]{40}, tree changed\n")
+        self.assertRegex(
+            found["BUILD"][0],
+            r"^arena 1\.2\.3, unproved\ncommit [0-9a-f]{40}, tree changed\n",
+        )
         said = found["UNPROVED.txt"][0]
         self.assertIn("Nothing that this archive has was proved.", said)
         self.assertNotIn(", proved", said)
@@ -132,13 +204,20 @@ class Releases(Repositories):
 
     def test_a_tree_that_has_changed_is_refused(self) -> None:
         write(self.top / "README.md", "changed\n")
-        self.assertIn("release: the tree has changed since its commit", self.made(status=1)[1])
+        self.assertIn(
+            "release: the tree has changed since its commit", self.made(status=1)[1]
+        )
         self.git("checkout", "-q", ".")
         write(self.top / "new", "")
-        self.assertIn("release: the tree has changed since its commit", self.made(status=1)[1])
+        self.assertIn(
+            "release: the tree has changed since its commit", self.made(status=1)[1]
+        )
 
     def test_the_program_is_proved_first(self) -> None:
-        for status, said in ((0, "says that it is not proved"), (1, "the program was not proved")):
+        for status, said in (
+            (0, "says that it is not proved"),
+            (1, "the program was not proved"),
+        ):
             write(self.top / "tools" / "build", f"#!/bin/sh\nexit {status}\n", 0o755)
             self.git("add", ".")
             self.git("commit", "-q", "-m", "two")
@@ -147,33 +226,63 @@ class Releases(Repositories):
                 self.assertIn(said, self.made(status=1)[1])
 
     def test_the_other_program_is_refused(self) -> None:
-        with unittest.mock.patch.object(release, "proved_program", lambda _: self.unproved):
-            self.assertIn("this program says that it is not proved", self.made(status=1)[1])
-        with unittest.mock.patch.object(release.unproved, "compiled", lambda _: self.proved):
-            self.assertIn("this program does not say that it is not proved", self.made("--unproved", status=1)[1])
+        with unittest.mock.patch.object(
+            release, "proved_program", lambda _: self.unproved
+        ):
+            self.assertIn(
+                "this program says that it is not proved", self.made(status=1)[1]
+            )
+        with unittest.mock.patch.object(
+            release.unproved, "compiled", lambda _: self.proved
+        ):
+            self.assertIn(
+                "this program does not say that it is not proved",
+                self.made("--unproved", status=1)[1],
+            )
         self.assertFalse((self.top / "out" / "release").exists())
 
     def test_without_a_repository_it_says_what_to_do(self) -> None:
         (self.top / ".git").rename(self.top / "git")
-        self.assertIn("run it in a git repository", self.made("--unproved", status=1)[1])
+        self.assertIn(
+            "run it in a git repository", self.made("--unproved", status=1)[1]
+        )
 
 
 @needs("git", "git")
 class Versions(Repositories):
     def test_a_clone_says_whether_its_program_is_proved(self) -> None:
-        head = subprocess.run(["git", "rev-parse", "HEAD"], cwd=self.top, check=True, capture_output=True, text=True)
+        head = subprocess.run(
+            ["git", "rev-parse", "HEAD"],
+            cwd=self.top,
+            check=True,
+            capture_output=True,
+            text=True,
+        )
         commit = f"commit {head.stdout.strip()}, tree"
-        for is_proved, word, more in ((True, "proved", ""), (False, "unproved", f"{version.HOW_TO_PROVE}\n")):
-            with unittest.mock.patch.object(built.Binary, "is_proved", lambda _: is_proved):
-                self.assertEqual(version.text(), f"arena 1.2.3, {word}\n{commit} clean\ntoolchain kit 1\n{more}")
+        for is_proved, word, more in (
+            (True, "proved", ""),
+            (False, "unproved", f"{version.HOW_TO_PROVE}\n"),
+        ):
+            with unittest.mock.patch.object(
+                built.Binary, "is_proved", lambda _: is_proved
+            ):
+                self.assertEqual(
+                    version.text(),
+                    f"arena 1.2.3, {word}\n{commit} clean\ntoolchain kit 1\n{more}",
+                )
         write(self.top / "new", "")
         self.assertEqual(version.commit(), f"{commit} changed")
         (self.top / ".git").rename(self.top / "git")
-        self.assertEqual(version.commit(), "commit not known: this is no git repository")
+        self.assertEqual(
+            version.commit(), "commit not known: this is no git repository"
+        )
 
     def test_the_toolchain_is_the_one_that_built_the_program(self) -> None:
         write(self.top / "kit" / "KIT-ID", "kit 2\n")
-        self.assertEqual((version.recorded(), version.installed()), ("toolchain kit 1", "toolchain kit 2"))
+        self.assertEqual(
+            (version.recorded(), version.installed()),
+            ("toolchain kit 1", "toolchain kit 2"),
+        )
         built.ARENA.proved.with_name(built.RECORD).unlink()
         self.assertEqual(version.recorded(), "toolchain not known")
 

@@ -19,8 +19,13 @@ STAND_IN = f"{sys.executable} -m arena_lab"
 
 
 class Plans(unittest.TestCase):
-    LOADS = [load_of(kind, mode, active, part) for kind in serve.KINDS for mode in serve.TOTALS
-             for active in (1, 4, 16, 256) for part in (1, 10, 10_000)]
+    LOADS = [
+        load_of(kind, mode, active, part)
+        for kind in serve.KINDS
+        for mode in serve.TOTALS
+        for active in (1, 4, 16, 256)
+        for part in (1, 10, 10_000)
+    ]
 
     def test_loads_are_within_quotas_and_sessions(self) -> None:
         for load in self.LOADS:
@@ -38,30 +43,57 @@ class Plans(unittest.TestCase):
             owner = {}
             for session, (key, steps) in enumerate(lines):
                 board = key.partition("-")[0], steps
-                self.assertEqual(owner.setdefault(board, session % load.active), session % load.active, load)
+                self.assertEqual(
+                    owner.setdefault(board, session % load.active),
+                    session % load.active,
+                    load,
+                )
 
     def test_the_largest_tournament_has_the_keys(self) -> None:
-        matches = tomllib.loads(serve.tournament("n.toml", serve.MATCHES, serve.AGENTS, serve.BOARD))["match"]
-        keys = [line.split()[0] for line in serve.keys(Load("looks", "hold", 1, 1024, 1)).splitlines()]
-        self.assertEqual(sorted(keys), sorted(key for match in matches for key in match["keys"]))
+        matches = tomllib.loads(
+            serve.tournament("n.toml", serve.MATCHES, serve.AGENTS, serve.BOARD)
+        )["match"]
+        keys = [
+            line.split()[0]
+            for line in serve.keys(Load("looks", "hold", 1, 1024, 1)).splitlines()
+        ]
+        self.assertEqual(
+            sorted(keys), sorted(key for match in matches for key in match["keys"])
+        )
 
 
 class Rows(unittest.TestCase):
-    FOUND = {"arena": Figures(50.0, 2.0, 3.0), "all": Figures(100.0, 1.0, 2.0), "each": Figures(25.0, 0, 0)}
+    FOUND = {
+        "arena": Figures(50.0, 2.0, 3.0),
+        "all": Figures(100.0, 1.0, 2.0),
+        "each": Figures(25.0, 0, 0),
+    }
 
     def test_a_row_stands_under_its_head(self) -> None:
         for mode in ("one", "many"):
             load = Load("looks", mode, 1, 2, 10)
-            found = self.FOUND if mode == "many" else {name: self.FOUND[name] for name in ("arena", "all")}
+            found = (
+                self.FOUND
+                if mode == "many"
+                else {name: self.FOUND[name] for name in ("arena", "all")}
+            )
             line = serve.row(load, found)
-            self.assertEqual(line.split()[:7], ["looks", mode, "1", "20", "50", "100", "0.500"])
+            self.assertEqual(
+                line.split()[:7], ["looks", mode, "1", "20", "50", "100", "0.500"]
+            )
             self.assertLessEqual(len(line), len(serve.HEAD))
         self.assertEqual(line.split()[7:], ["25", "2.000"])
 
     def test_a_ratio_is_judged(self) -> None:
-        self.assertTrue(serve.judged(Load("looks", "one", 1, 1, 2), self.FOUND).endswith("wanted: holds"))
+        self.assertTrue(
+            serve.judged(Load("looks", "one", 1, 1, 2), self.FOUND).endswith(
+                "wanted: holds"
+            )
+        )
         slow = {**self.FOUND, "arena": Figures(19.0, 0, 0)}
-        self.assertTrue(serve.judged(Load("looks", "many", 1, 1, 2), slow).endswith("does not hold"))
+        self.assertTrue(
+            serve.judged(Load("looks", "many", 1, 1, 2), slow).endswith("does not hold")
+        )
         self.assertIsNone(serve.judged(Load("moves", "one", 1, 1, 2), self.FOUND))
 
     def test_the_median_is_taken_of_each_figure(self) -> None:
@@ -83,17 +115,25 @@ class Programs(unittest.TestCase):
                 for kind in serve.KINDS:
                     for mode in serve.TOTALS:
                         with self.subTest(kind=kind, mode=mode, writes=writes):
-                            figures = self.bench.figures(server.port, Load(kind, mode, 4, 12, 10))
+                            figures = self.bench.figures(
+                                server.port, Load(kind, mode, 4, 12, 10)
+                            )
                             self.assertGreater(figures.rate, 0)
-                            self.assertEqual(0 < figures.p50 <= figures.p99, mode == "one")
+                            self.assertEqual(
+                                0 < figures.p50 <= figures.p99, mode == "one"
+                            )
 
     def test_a_load_on_the_stand_in(self) -> None:
         """Of the writers some walk first, so moves are tried as well."""
         with mock.patch.dict(os.environ, ARENA=STAND_IN):
-            self.assertGreater(self.bench.of_arena(Load("writes", "many", 2, 66, 4)).rate, 0)
+            self.assertGreater(
+                self.bench.of_arena(Load("writes", "many", 2, 66, 4)).rate, 0
+            )
 
     def test_memory_with_sessions_open(self) -> None:
-        before, peak = self.bench.peaks(self.bench.echo("all"), Load("looks", "hold", 1, 40, 1))
+        before, peak = self.bench.peaks(
+            self.bench.echo("all"), Load("looks", "hold", 1, 40, 1)
+        )
         self.assertTrue(100 < before < peak)
 
     def test_another_answer_ends_the_load(self) -> None:
@@ -101,7 +141,9 @@ class Programs(unittest.TestCase):
             thread = threading.Thread(target=self.deny, args=(listener,))
             thread.start()
             with self.assertRaisesRegex(Wrong, "another answer"):
-                self.bench.figures(listener.getsockname()[1], Load("looks", "one", 1, 1, 1))
+                self.bench.figures(
+                    listener.getsockname()[1], Load("looks", "one", 1, 1, 1)
+                )
             thread.join()
 
     def deny(self, listener: socket.socket) -> None:
@@ -111,5 +153,9 @@ class Programs(unittest.TestCase):
 
     def test_a_server_that_does_not_listen_has_failed(self) -> None:
         with self.assertRaisesRegex(Wrong, "no such words"):
-            with Server(["sh", "-c", "echo no such words >&2; exit 2"], port=1, errors=self.bench.folder / "errors"):
+            with Server(
+                ["sh", "-c", "echo no such words >&2; exit 2"],
+                port=1,
+                errors=self.bench.folder / "errors",
+            ):
                 self.fail("it did not start")

@@ -10,12 +10,19 @@ THEOREMS = TOP / "docs" / "THEOREMS.md"
 SPECS = "crates/{}/specs/{}.antt"
 # where functions, clauses and definitions are, and how they begin there
 NAMED_IN = ("crates/*/src/**/*.rt", "crates/*/specs/**/*.antt")
-NAMES = (r"\bfn (\w+)", r"\bensures (\w+) \{", r"^ *(?:abbrev )?pub (?:record |data )?(\w+)", r"^abbrev pub (\w+)",
-         r"\b(?:struct|enum|mod) (\w+)", r"^    (\w+) ?[({,]")
+NAMES = (
+    r"\bfn (\w+)",
+    r"\bensures (\w+) \{",
+    r"^ *(?:abbrev )?pub (?:record |data )?(\w+)",
+    r"^abbrev pub (\w+)",
+    r"\b(?:struct|enum|mod) (\w+)",
+    r"^    (\w+) ?[({,]",
+)
 
 
 class Theorem(NamedTuple):
     """A function whose contract is the theorem, and the definition that says it: its crate, its file, its name."""
+
     function: str
     crate: str
     file: str
@@ -24,23 +31,62 @@ class Theorem(NamedTuple):
 
 DISPLAYED = [
     Theorem("equal_pasts", "bhs_model", "Laws", "EqualPasts"),
-    Theorem("rehearsals::equal_pasts_are_answered_alike", "bhs_theorems", "Calls", "EqualPastsAreAnsweredAlike"),
-    Theorem("contests::equal_pasts_are_sent_equal_bytes", "bhs_theorems", "ContestMet", "EqualPastsAreSentEqualBytes"),
-    Theorem("every_arrival_in_contests", "bhs_theorems", "ContestTime", "EveryArrivalInContests"),
+    Theorem(
+        "rehearsals::equal_pasts_are_answered_alike",
+        "bhs_theorems",
+        "Calls",
+        "EqualPastsAreAnsweredAlike",
+    ),
+    Theorem(
+        "contests::equal_pasts_are_sent_equal_bytes",
+        "bhs_theorems",
+        "ContestMet",
+        "EqualPastsAreSentEqualBytes",
+    ),
+    Theorem(
+        "every_arrival_in_contests",
+        "bhs_theorems",
+        "ContestTime",
+        "EveryArrivalInContests",
+    ),
     Theorem("twins_look_alike", "bhs_model", "Laws", "TwinsLookAlike"),
     Theorem("hole_looks_slow", "bhs_model", "Laws", "HoleLooksSlow"),
     Theorem("cuts_suffice", "bhs_model", "Laws", "CutsSuffice"),
     Theorem("replies_are_of_pasts", "bhs_model", "Laws", "AmongMatches"),
-    Theorem("the_halves_solve_all_rings", "bhs_protocols", "HalvesLaws", "HalvesSolveAllRings"),
-    Theorem("the_halves_bound_is_attained", "bhs_protocols", "Attained", "HalvesAttainOnAllRings"),
-    Theorem("the_shuttle_solves_all_rings", "bhs_protocols", "AllRings", "ShuttleSolvesAllRings"),
-    Theorem("two_agents_with_a_map_solve", "bhs_mapped", "MapLaws", "TwoAgentsWithAMapSolve"),
+    Theorem(
+        "the_halves_solve_all_rings",
+        "bhs_protocols",
+        "HalvesLaws",
+        "HalvesSolveAllRings",
+    ),
+    Theorem(
+        "the_halves_bound_is_attained",
+        "bhs_protocols",
+        "Attained",
+        "HalvesAttainOnAllRings",
+    ),
+    Theorem(
+        "the_shuttle_solves_all_rings",
+        "bhs_protocols",
+        "AllRings",
+        "ShuttleSolvesAllRings",
+    ),
+    Theorem(
+        "two_agents_with_a_map_solve", "bhs_mapped", "MapLaws", "TwoAgentsWithAMapSolve"
+    ),
     Theorem("two_agents_with_a_map_solve", "bhs_mapped", "MapLaws", "IsSearchedFrom"),
     Theorem("tours_suffice", "bhs_mapped", "Tours", "HalvesSolveWithATour"),
-    Theorem("one_loss_is_needed_and_suffices", "bhs_mapped", "MapLaws", "OneLossIsNeededAndSuffices"),
+    Theorem(
+        "one_loss_is_needed_and_suffices",
+        "bhs_mapped",
+        "MapLaws",
+        "OneLossIsNeededAndSuffices",
+    ),
     Theorem("the_triangle_is_solved", "bhs_triangle", "Triangle", "TriangleIsSolved"),
     Theorem("one_alone_fails", "bhs_protocols", "Alone", "OneAloneFailsOnNetworks"),
-    Theorem("accusations_come_last", "bhs_protocols", "LastWord", "AccusationsComeLast"),
+    Theorem(
+        "accusations_come_last", "bhs_protocols", "LastWord", "AccusationsComeLast"
+    ),
     Theorem("a_loss_is_needed", "bhs_protocols", "Losses", "EachBlackHoleDestroys"),
     Theorem("solvers_find", "bhs_protocols", "LastWord", "SolversFind"),
     Theorem("two_must_move", "bhs_bounds", "Bound", "TwoMustMove"),
@@ -49,11 +95,24 @@ DISPLAYED = [
     Theorem("two_must_move", "bhs_bounds", "Bound", "TwoMustMoveAtRest"),
     Theorem("the_halves_are_within_two", "bhs_bounds", "Bound", "EveryTeamMoves"),
     Theorem("the_halves_are_within_two", "bhs_bounds", "Bound", "EveryTeamMovesMore"),
-    Theorem("the_halves_are_within_two", "bhs_bounds", "Bound", "HalvesSolveWithinTwice"),
-    Theorem("no_team_solves_two_sizes", "bhs_protocols", "Sizes", "NoTeamFindsOnTwoSizes"),
-    Theorem("no_team_solves_two_sizes", "bhs_protocols", "Sizes", "NoTeamSolvesTwoSizes"),
-    Theorem("many_agents_are_needed", "bhs_unmapped", "Unmapped", "ManyAgentsAreNeededToFind"),
-    Theorem("many_agents_are_needed", "bhs_unmapped", "Unmapped", "ManyAgentsAreNeeded"),
+    Theorem(
+        "the_halves_are_within_two", "bhs_bounds", "Bound", "HalvesSolveWithinTwice"
+    ),
+    Theorem(
+        "no_team_solves_two_sizes", "bhs_protocols", "Sizes", "NoTeamFindsOnTwoSizes"
+    ),
+    Theorem(
+        "no_team_solves_two_sizes", "bhs_protocols", "Sizes", "NoTeamSolvesTwoSizes"
+    ),
+    Theorem(
+        "many_agents_are_needed",
+        "bhs_unmapped",
+        "Unmapped",
+        "ManyAgentsAreNeededToFind",
+    ),
+    Theorem(
+        "many_agents_are_needed", "bhs_unmapped", "Unmapped", "ManyAgentsAreNeeded"
+    ),
     Theorem("no_team_passes_a_cut", "bhs_mapped", "Cuts", "NoTeamLooksBehindACut"),
     Theorem("no_team_passes_a_cut", "bhs_mapped", "Cuts", "NoTeamPassesACut"),
 ]
@@ -114,8 +173,11 @@ PREMISES: Dict[str, str] = {
 def definition(one: Theorem) -> str:
     """The text of a definition, on one line and without comments."""
     text = (TOP / SPECS.format(one.crate, one.file)).read_text(encoding="utf-8")
-    block = re.search(rf"^(?:abbrev )?pub (?:record )?{one.name}\b.*?(?=\n\n|\Z)|^abbrev pub {one.name} .*?(?=\n\n|\Z)",
-                      text, re.DOTALL | re.MULTILINE)
+    block = re.search(
+        rf"^(?:abbrev )?pub (?:record )?{one.name}\b.*?(?=\n\n|\Z)|^abbrev pub {one.name} .*?(?=\n\n|\Z)",
+        text,
+        re.DOTALL | re.MULTILINE,
+    )
     if block is None:
         raise ValueError(f"{one.name} is not in {one.file}")
     return re.sub(r"\s+", " ", re.sub(r"--.*", "", block[0]))
@@ -143,10 +205,18 @@ def premises(one: Theorem) -> List[str]:
     """The premises of a definition: what stands before its last arrow, of each field if it is a record."""
     text = definition(one)
     if " where " in text:
-        bodies = [field.partition(" : ")[2] for field in text.partition(" where ")[2].split(" pub ")]
+        bodies = [
+            field.partition(" : ")[2]
+            for field in text.partition(" where ")[2].split(" pub ")
+        ]
     else:
         bodies = [text.partition(" = ")[2]]
-    return [part for body in bodies for part in list(parts_of(body))[:-1] if not is_binder(part)]
+    return [
+        part
+        for body in bodies
+        for part in list(parts_of(body))[:-1]
+        if not is_binder(part)
+    ]
 
 
 def sentence(function: str) -> str:
@@ -155,7 +225,9 @@ def sentence(function: str) -> str:
     for section in sections:
         for row in section.split("\n"):
             if row.startswith("| ") and re.search(rf"\b{function}`", row):
-                head = " ".join(line for line in section.split("\n") if not line.startswith("|"))
+                head = " ".join(
+                    line for line in section.split("\n") if not line.startswith("|")
+                )
                 return re.sub(r"\s+", " ", f"{row} {head}")
     raise ValueError(f"no row names {function}")
 
@@ -177,20 +249,40 @@ class Theorems(unittest.TestCase):
             row = sentence(theorem.function)
             for premise in premises(theorem):
                 with self.subTest(theorem.function, premise=premise):
-                    words = [word for pattern, word in PREMISES.items() if re.fullmatch(pattern, premise)]
-                    self.assertTrue(words, f"a premise that the table of this test lacks: {premise}")
-                    self.assertTrue(any(word.lower() in row.lower() for word in words),
-                                    f"the sentence of {theorem.function} does not say: {' or '.join(words)}")
+                    words = [
+                        word
+                        for pattern, word in PREMISES.items()
+                        if re.fullmatch(pattern, premise)
+                    ]
+                    self.assertTrue(
+                        words, f"a premise that the table of this test lacks: {premise}"
+                    )
+                    self.assertTrue(
+                        any(word.lower() in row.lower() for word in words),
+                        f"the sentence of {theorem.function} does not say: {' or '.join(words)}",
+                    )
 
     def test_clauses_that_are_named_are_there(self) -> None:
-        text = "\n".join(path.read_text(encoding="utf-8") for pattern in NAMED_IN for path in sorted(TOP.glob(pattern)))
-        there = {name for pattern in NAMES for name in re.findall(pattern, text, re.MULTILINE)}
+        text = "\n".join(
+            path.read_text(encoding="utf-8")
+            for pattern in NAMED_IN
+            for path in sorted(TOP.glob(pattern))
+        )
+        there = {
+            name
+            for pattern in NAMES
+            for name in re.findall(pattern, text, re.MULTILINE)
+        }
         named = {name for name in clauses() if not re.fullmatch(r"bhs_\w+", name)}
         self.assertGreater(len(named), 80)
-        self.assertEqual(sorted(name for name in named if name.rpartition("::")[2] not in there), [])
+        self.assertEqual(
+            sorted(name for name in named if name.rpartition("::")[2] not in there), []
+        )
 
     def test_the_sizes_are_those_up_to_which_a_file_has_the_quota(self) -> None:
-        law = (TOP / SPECS.format("bhs_protocols", "Quotas")).read_text(encoding="utf-8")
+        law = (TOP / SPECS.format("bhs_protocols", "Quotas")).read_text(
+            encoding="utf-8"
+        )
         sizes = [f"{int(nodes):,} nodes" for nodes in re.findall(r"\(n ≤ (\d+) →", law)]
         self.assertEqual(len(sizes), 2)
         for page in ("README.md", "docs/THEOREMS.md", "docs/PROTOCOLS.md"):

@@ -10,8 +10,12 @@ VERSION = (TOP / "VERSION").read_text().strip()
 
 class Versions(unittest.TestCase):
     def test_the_program_has_it(self) -> None:
-        source = (TOP / "crates" / "bhs_command_line" / "src" / "declared.rt").read_text()
-        self.assertEqual(re.findall(r'const VERSION: &str = "(.*)";', source), [VERSION])
+        source = (
+            TOP / "crates" / "bhs_command_line" / "src" / "declared.rt"
+        ).read_text()
+        self.assertEqual(
+            re.findall(r'const VERSION: &str = "(.*)";', source), [VERSION]
+        )
 
     def test_the_newest_changes_have_it(self) -> None:
         headings = re.findall(r"^## (\S+)", (TOP / "CHANGELOG.md").read_text(), re.M)
@@ -20,7 +24,11 @@ class Versions(unittest.TestCase):
         self.assertEqual(version.version(), VERSION)
 
     def test_who_cites_it_names_it(self) -> None:
-        cited = re.findall(r"^version: (\S+)$", (TOP / "CITATION.cff").read_text(), re.M)
+        cited = re.findall(
+            r"^version: (\S+)$", (TOP / "CITATION.cff").read_text(), re.M
+        )
         self.assertEqual(cited, [VERSION])
-        noted = re.findall(r"Version (\S+)}", (TOP / "docs" / "PROTOCOLS.md").read_text())
+        noted = re.findall(
+            r"Version (\S+)}", (TOP / "docs" / "PROTOCOLS.md").read_text()
+        )
         self.assertEqual(noted, [VERSION])

@@ -46,7 +46,9 @@ PLAYED = """(module
 """
 
 
-def command(kind: str, field: str, *expected: Dict[str, str], **more: str) -> Dict[str, Any]:
+def command(
+    kind: str, field: str, *expected: Dict[str, str], **more: str
+) -> Dict[str, Any]:
     action = {"type": "invoke", "field": field, "args": [{"type": "i32", "value": "7"}]}
     return {"type": kind, "line": 1, "action": action, "expected": [*expected], **more}
 
@@ -55,18 +57,34 @@ class Texts(unittest.TestCase):
     def test_what_agents_do_without_is_replaced_or_traps(self) -> None:
         found = Module(TEXT)
         self.assertEqual(found.running(found.first), PLAYED)
-        self.assertEqual((found.stubs, found.exports), ([1], {"run": ("func", "1"), 'a"f32': ("func", "2")}))
+        self.assertEqual(
+            (found.stubs, found.exports),
+            ([1], {"run": ("func", "1"), 'a"f32': ("func", "2")}),
+        )
 
     def test_a_check_traps_if_a_result_is_another(self) -> None:
         found = Module(TEXT)
-        one, two = ({"type": kind, "value": value} for kind, value in (("i32", "1"), ("i64", "2")))
-        self.assertEqual(found.check(command("assert_return", "run", one, two)), "i32.const 7 call 1 i64.const 2 "
-                         "i64.ne if unreachable end i32.const 1 i32.ne if unreachable end")
-        self.assertEqual(found.check(command("assert_trap", "run", {"type": "i32"})), "i32.const 7 call 1 drop")
-        self.assertIsNone(found.check(command("assert_return", "run", {"type": "f32", "value": "0"})))
+        one, two = (
+            {"type": kind, "value": value}
+            for kind, value in (("i32", "1"), ("i64", "2"))
+        )
+        self.assertEqual(
+            found.check(command("assert_return", "run", one, two)),
+            "i32.const 7 call 1 i64.const 2 "
+            "i64.ne if unreachable end i32.const 1 i32.ne if unreachable end",
+        )
+        self.assertEqual(
+            found.check(command("assert_trap", "run", {"type": "i32"})),
+            "i32.const 7 call 1 drop",
+        )
+        self.assertIsNone(
+            found.check(command("assert_return", "run", {"type": "f32", "value": "0"}))
+        )
 
     def test_run_is_added_behind_all_others(self) -> None:
-        other, nothing = Function([0x7f], [], b"\x01", "other"), Function([], [], b"", "run")
+        other, nothing = Function([0x7F], [], b"\x01", "other"), Function(
+            [], [], b"", "run"
+        )
         self.assertEqual(with_run(module([other])), module([other, nothing]))
 
 
@@ -77,24 +95,43 @@ class Counted(unittest.TestCase):
         """The lines of what failed."""
         found = Module(TEXT)
         found.calls = [*calls]
-        scripts = Scripts(Stage("none", pathlib.Path(self.enterContext(tempfile.TemporaryDirectory()))))
+        scripts = Scripts(
+            Stage(
+                "none", pathlib.Path(self.enterContext(tempfile.TemporaryDirectory()))
+            )
+        )
         (scripts.stage.folder / "file").write_bytes(module([]))
         printed = io.StringIO()
-        with unittest.mock.patch.object(wasm_scripts, "wabt", lambda *_: False), \
-                unittest.mock.patch.multiple(Scripts, told=lambda *_: told, run=lambda *_: told), \
-                contextlib.redirect_stdout(printed):
+        with unittest.mock.patch.object(
+            wasm_scripts, "wabt", lambda *_: False
+        ), unittest.mock.patch.multiple(
+            Scripts, told=lambda *_: told, run=lambda *_: told
+        ), contextlib.redirect_stdout(
+            printed
+        ):
             scripts.call("one", found)
-            scripts.refuse(scripts.stage.folder / "file", "two", {"type": "assert_invalid"})
+            scripts.refuse(
+                scripts.stage.folder / "file", "two", {"type": "assert_invalid"}
+            )
         return [line.split()[1] for line in printed.getvalue().splitlines()]
 
     def test_a_program_that_takes_all_and_runs_nothing_fails(self) -> None:
-        self.assertEqual(self.failed(Told(), command("assert_trap", "run")), ["one:1", "two:"])
+        self.assertEqual(
+            self.failed(Told(), command("assert_trap", "run")), ["one:1", "two:"]
+        )
 
-    def test_a_trap_fails_a_call_that_returns_and_counts_only_in_the_module(self) -> None:
+    def test_a_trap_fails_a_call_that_returns_and_counts_only_in_the_module(
+        self,
+    ) -> None:
         calls = command("assert_return", "run"), command("assert_trap", "run")
         self.assertEqual(self.failed(Told("", "trap", 2), *calls), ["one:1", "two:"])
-        self.assertEqual(self.failed(Told("", "trap", 3), *calls), ["one:1", "one:1", "two:"])
+        self.assertEqual(
+            self.failed(Told("", "trap", 3), *calls), ["one:1", "one:1", "two:"]
+        )
         self.assertEqual(self.failed(Told("", "trap", 1), *calls), ["two:"])
 
     def test_a_fault_is_no_trap(self) -> None:
-        self.assertEqual(self.failed(Told("index at byte 9"), command("assert_trap", "run")), ["one:1"])
+        self.assertEqual(
+            self.failed(Told("index at byte 9"), command("assert_trap", "run")),
+            ["one:1"],
+        )

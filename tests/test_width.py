@@ -5,7 +5,16 @@ from typing import Iterator, List, Tuple
 
 TOP = pathlib.Path(__file__).resolve().parents[1]
 WIDTH = 120
-FOLDERS = ("bench", "crates", "docs", "examples", "experiments", "arena_lab", "tests", "tools")
+FOLDERS = (
+    "bench",
+    "crates",
+    "docs",
+    "examples",
+    "experiments",
+    "arena_lab",
+    "tests",
+    "tools",
+)
 CODE = {".rt", ".antt", ".rs", ".py"}
 # how lines of a document begin that cannot be broken
 WHOLE = ("|", "![", "    ")
@@ -13,8 +22,20 @@ WHOLE = ("|", "![", "    ")
 
 def files() -> List[pathlib.Path]:
     """The files of code and prose, but for what tools put into folders `out`."""
-    found = [*TOP.glob("*.md"), *(file for folder in FOLDERS for file in (TOP / folder).rglob("*") if file.is_file())]
-    return [file for file in found if file.suffix in CODE | {".md"} and "out" not in file.relative_to(TOP).parts]
+    found = [
+        *TOP.glob("*.md"),
+        *(
+            file
+            for folder in FOLDERS
+            for file in (TOP / folder).rglob("*")
+            if file.is_file()
+        ),
+    ]
+    return [
+        file
+        for file in found
+        if file.suffix in CODE | {".md"} and "out" not in file.relative_to(TOP).parts
+    ]
 
 
 def lines_of(file: pathlib.Path) -> Iterator[Tuple[int, str]]:
@@ -30,6 +51,10 @@ class Width(unittest.TestCase):
     def test_lines_are_not_too_wide(self) -> None:
         chosen = files()
         self.assertGreater(len(chosen), 1000)
-        found = [f"{file.relative_to(TOP)}:{number}" for file in chosen for number, line in lines_of(file)
-                 if len(line) > WIDTH]
+        found = [
+            f"{file.relative_to(TOP)}:{number}"
+            for file in chosen
+            for number, line in lines_of(file)
+            if len(line) > WIDTH
+        ]
         self.assertEqual(found, [])

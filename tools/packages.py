@@ -7,8 +7,17 @@ from typing import Dict, List, Optional, Sequence
 
 LIST = pathlib.Path(__file__).resolve().with_name("packages.toml")
 # does not wait for long where there is no network, but for another that installs
-APT = ["apt-get", "-q", "-y", "-o", "Acquire::Retries=0", "-o", "Acquire::http::Timeout=20", "-o",
-       "DPkg::Lock::Timeout=300"]
+APT = [
+    "apt-get",
+    "-q",
+    "-y",
+    "-o",
+    "Acquire::Retries=0",
+    "-o",
+    "Acquire::http::Timeout=20",
+    "-o",
+    "DPkg::Lock::Timeout=300",
+]
 
 
 def groups(table: str) -> Dict[str, List[str]]:
@@ -19,17 +28,29 @@ def groups(table: str) -> Dict[str, List[str]]:
 
 def listed(*tables: str) -> List[str]:
     """The packages of these tables."""
-    return [package for table in tables for group in groups(table).values() for package in group]
+    return [
+        package
+        for table in tables
+        for group in groups(table).values()
+        for package in group
+    ]
 
 
 def missing(packages: Sequence[str]) -> List[str]:
     """Which of these packages are not installed."""
     try:
-        ran = subprocess.run(["dpkg-query", "-W", "-f", "${Package} ${db:Status-Status}\n", *packages],
-                             capture_output=True, text=True)
+        ran = subprocess.run(
+            ["dpkg-query", "-W", "-f", "${Package} ${db:Status-Status}\n", *packages],
+            capture_output=True,
+            text=True,
+        )
     except FileNotFoundError:
         return list(packages)
-    there = {line.split()[0] for line in ran.stdout.splitlines() if line.endswith(" installed")}
+    there = {
+        line.split()[0]
+        for line in ran.stdout.splitlines()
+        if line.endswith(" installed")
+    }
     return [package for package in packages if package not in there]
 
 
@@ -41,8 +62,16 @@ def advice(packages: Sequence[str]) -> str:
 def apt(*words: str, folder: Optional[pathlib.Path] = None) -> bool:
     """Runs a command of apt-get in a folder, which tells on standard error what it does: whether it succeeded."""
     try:
-        return subprocess.run([*APT, *words], cwd=folder, stdin=subprocess.DEVNULL, stdout=2,
-                              env={**os.environ, "DEBIAN_FRONTEND": "noninteractive"}).returncode == 0
+        return (
+            subprocess.run(
+                [*APT, *words],
+                cwd=folder,
+                stdin=subprocess.DEVNULL,
+                stdout=2,
+                env={**os.environ, "DEBIAN_FRONTEND": "noninteractive"},
+            ).returncode
+            == 0
+        )
     except FileNotFoundError:
         return False
 
@@ -55,24 +84,46 @@ def install(packages: Sequence[str]) -> str:
         words = ["install", "--no-install-recommends", *absent]
         apt(*words) or apt("update") and apt(*words)
         absent = missing(packages)
-    return f"not installed, and tests that need it are skipped; as root: {advice(absent)}" if absent else ""
+    return (
+        f"not installed, and tests that need it are skipped; as root: {advice(absent)}"
+        if absent
+        else ""
+    )
 
 
 def fetched(package: str, folder: pathlib.Path) -> Optional[pathlib.Path]:
     """The archive of a package's sources, fetched into a folder from where this machine has its packages: nothing if it
     cannot be. No list of apt-get's own is changed."""
     written = folder / "sources.list"
-    places = {"Dir::State::Lists": folder / "lists", "Dir::Cache": folder / "cache", "Dir::Etc::SourceList": written,
-              "Dir::Etc::SourceParts": "/dev/null", "APT::Sandbox::User": "root"}
+    places = {
+        "Dir::State::Lists": folder / "lists",
+        "Dir::Cache": folder / "cache",
+        "Dir::Etc::SourceList": written,
+        "Dir::Etc::SourceParts": "/dev/null",
+        "APT::Sandbox::User": "root",
+    }
     for place in ("lists/partial", "cache/archives/partial"):
         (folder / place).mkdir(parents=True)
     try:
-        ran = subprocess.run([APT[0], "indextargets", "--format", "deb-src $(REPO_URI) $(RELEASE) main",
-                              "Created-By: Packages", "Component: main"], capture_output=True, text=True)
+        ran = subprocess.run(
+            [
+                APT[0],
+                "indextargets",
+                "--format",
+                "deb-src $(REPO_URI) $(RELEASE) main",
+                "Created-By: Packages",
+                "Component: main",
+            ],
+            capture_output=True,
+            text=True,
+        )
     except FileNotFoundError:
         return None
     written.write_text(ran.stdout.partition("\n")[0])
-    options = [word for name, value in places.items() for word in ("-o", f"{name}={value}")]
-    apt(*options, "update", folder=folder) and apt(*options, "source", "--download-only", "--tar-only", package,
-                                                   folder=folder)
+    options = [
+        word for name, value in places.items() for word in ("-o", f"{name}={value}")
+    ]
+    apt(*options, "update", folder=folder) and apt(
+        *options, "source", "--download-only", "--tar-only", package, folder=folder
+    )
     return next(folder.glob(f"{package}_*.orig.tar.*"), None)

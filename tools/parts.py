@@ -16,7 +16,9 @@ TOP = pathlib.Path(__file__).resolve().parents[1]
 PYTHON = DEBIANS_PYTHON if pathlib.Path(DEBIANS_PYTHON).exists() else sys.executable
 
 # begins the line of a test, edit or proof that failed
-FAILURE = re.compile(r"(?:FAIL|ERROR): \w+ \([\w.]+\)|FAILED:? [^(]|edit \S+: (?:NOT|BAD) |rt: \w+ NOT PROVED")
+FAILURE = re.compile(
+    r"(?:FAIL|ERROR): \w+ \([\w.]+\)|FAILED:? [^(]|edit \S+: (?:NOT|BAD) |rt: \w+ NOT PROVED"
+)
 PASSED, FAILED, NONE = (1, 0), (0, 1), (0, 0)
 # what was skipped, and why, and what failed
 skipped: List[str] = []
@@ -26,7 +28,7 @@ failures: List[str] = []
 def is_skipped(line: str) -> bool:
     """Whether a line says that something was skipped; it is kept for the end then."""
     if line.startswith(SKIPPED):
-        skipped.append(line[len(SKIPPED):])
+        skipped.append(line[len(SKIPPED) :])
     return line.startswith(SKIPPED)
 
 
@@ -36,13 +38,24 @@ def note(line: str) -> None:
         failures.append(line)
 
 
-def run(words: Sequence[str], hear: Callable[[str], None] = lambda line: None, folder: pathlib.Path = TOP,
-        **variables: str) -> Tuple[int, Optional[Counts]]:
+def run(
+    words: Sequence[str],
+    hear: Callable[[str], None] = lambda line: None,
+    folder: pathlib.Path = TOP,
+    **variables: str,
+) -> Tuple[int, Optional[Counts]]:
     """Runs a command, and gives its status and what its last line counts, if it does. All other lines are passed on but
     those that say what was skipped."""
     held = ""
-    with subprocess.Popen(words, cwd=folder, stdout=subprocess.PIPE, stderr=subprocess.STDOUT, text=True,
-                          errors="replace", env={**os.environ, **variables}) as child:
+    with subprocess.Popen(
+        words,
+        cwd=folder,
+        stdout=subprocess.PIPE,
+        stderr=subprocess.STDOUT,
+        text=True,
+        errors="replace",
+        env={**os.environ, **variables},
+    ) as child:
         assert child.stdout is not None
         for line in child.stdout:
             print(held, end="", flush=True)
@@ -70,8 +83,11 @@ def say(name: str, counts: Counts) -> None:
 
 def conclude(found: Iterable[Counts], lacking: str) -> int:
     """Prints what was skipped, which packages are lacking, what failed, and the sum: gives how many failed."""
-    for line in [*([f"{len(skipped)} skipped:", *skipped] if skipped else []), *([lacking] if lacking else []),
-                 *(["failed:", *failures] if failures else [])]:
+    for line in [
+        *([f"{len(skipped)} skipped:", *skipped] if skipped else []),
+        *([lacking] if lacking else []),
+        *(["failed:", *failures] if failures else []),
+    ]:
         print(line)
     passed, failed = map(sum, zip(*found))
     concluded(passed, failed)

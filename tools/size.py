@@ -21,9 +21,13 @@ from tools import prose
 TOP = pathlib.Path(__file__).resolve().parents[1]
 KEPT = TOP / "tests" / "size.toml"
 COMMANDS = ("Enter", "Look", "Write", "Depart", "Accuse", "Leave")
-TYPE = re.compile(r"^\s*(?:pub(?:\(\w+\))? )?(?:struct|enum|trait|record|data) (?:pub )?(\w+)", re.M)
-HELP = ("import sys; import arena_lab.__main__ as lab; lab.parser(called=()).format_help(); "
-        "print(sum(it.split('.')[0] == 'arena_lab' for it in sys.modules))")
+TYPE = re.compile(
+    r"^\s*(?:pub(?:\(\w+\))? )?(?:struct|enum|trait|record|data) (?:pub )?(\w+)", re.M
+)
+HELP = (
+    "import sys; import arena_lab.__main__ as lab; lab.parser(called=()).format_help(); "
+    "print(sum(it.split('.')[0] == 'arena_lab' for it in sys.modules))"
+)
 
 # words and lines are kept as the next multiple, so that mending a sentence takes no edit
 STEPS = {"words": 50, "lines": 100}
@@ -33,9 +37,27 @@ Figures = Dict[str, Dict[str, float]]
 
 def tracked(*patterns: str) -> List[pathlib.Path]:
     """The files of the repository that match one of these patterns of git; all that are there if this is no clone."""
-    ran = subprocess.run(["git", "-C", str(TOP), "ls-files", "--cached", "--others", "--exclude-standard", "--",
-                          *patterns], stdout=subprocess.PIPE, stderr=subprocess.DEVNULL, text=True)
-    return [TOP / it for it in sorted(set(ran.stdout.split("\n"))) if it and (TOP / it).is_file()]
+    ran = subprocess.run(
+        [
+            "git",
+            "-C",
+            str(TOP),
+            "ls-files",
+            "--cached",
+            "--others",
+            "--exclude-standard",
+            "--",
+            *patterns,
+        ],
+        stdout=subprocess.PIPE,
+        stderr=subprocess.DEVNULL,
+        text=True,
+    )
+    return [
+        TOP / it
+        for it in sorted(set(ran.stdout.split("\n")))
+        if it and (TOP / it).is_file()
+    ]
 
 
 def documents() -> List[pathlib.Path]:
@@ -84,7 +106,9 @@ def shared_classes() -> float:
 
 def modules_of_help() -> float:
     """How many modules of the lab the help of all commands imports."""
-    return float(subprocess.check_output([sys.executable, "-c", HELP], cwd=TOP, text=True))
+    return float(
+        subprocess.check_output([sys.executable, "-c", HELP], cwd=TOP, text=True)
+    )
 
 
 def lines(*patterns: str) -> float:
@@ -96,10 +120,16 @@ def figures() -> Figures:
     read = {str(path.relative_to(TOP)): text for path, text in texts(documents())}
     return {
         "files that name a command": files_that_name(COMMANDS),
-        "names": {"types of two crates": shared_types(), "classes of two modules": shared_classes()},
+        "names": {
+            "types of two crates": shared_types(),
+            "classes of two modules": shared_classes(),
+        },
         "imports": {"modules of arena-lab --help": modules_of_help()},
-        "lines": {"py": lines("*.py", "tools/gate", "tools/build", "tools/release"), "rt": lines("*.rt"),
-                  "antt": lines("*.antt")},
+        "lines": {
+            "py": lines("*.py", "tools/gate", "tools/build", "tools/release"),
+            "rt": lines("*.rt"),
+            "antt": lines("*.antt"),
+        },
         "words": {name: float(len(text.split())) for name, text in read.items()},
         "sentences": {name: prose.total(text) for name, text in read.items()},
     }
@@ -111,10 +141,14 @@ def kept() -> Figures:
 
 def risen(now: Figures, then: Figures) -> List[str]:
     """A line for each figure that is greater than the one that is kept, or that is kept nowhere."""
-    return [f"{table}, {name}: {value:g}, and {then[table][name]:g} is kept" if name in then.get(table, {})
-            else f"{table}, {name}: {value:g}, and none is kept"
-            for table, names in now.items() for name, value in names.items()
-            if value > then.get(table, {}).get(name, -1)]
+    return [
+        f"{table}, {name}: {value:g}, and {then[table][name]:g} is kept"
+        if name in then.get(table, {})
+        else f"{table}, {name}: {value:g}, and none is kept"
+        for table, names in now.items()
+        for name, value in names.items()
+        if value > then.get(table, {}).get(name, -1)
+    ]
 
 
 def rounded(table: str, value: float) -> float:
@@ -145,10 +179,14 @@ def main() -> int:
         return 0 if sys.argv[1:] in (["-h"], ["--help"]) else 2
     now, then = figures(), kept()
     if sys.argv[1:]:
-        KEPT.write_text(lowered(KEPT.read_text(encoding="utf-8"), now), encoding="utf-8")
+        KEPT.write_text(
+            lowered(KEPT.read_text(encoding="utf-8"), now), encoding="utf-8"
+        )
     for table, names in now.items():
         for name, value in names.items():
-            print(f"{table}, {name}: {value:g} ({then.get(table, {}).get(name, 'not kept')})")
+            print(
+                f"{table}, {name}: {value:g} ({then.get(table, {}).get(name, 'not kept')})"
+            )
     return 0
 
 

@@ -26,8 +26,13 @@ from arena_lab.search.ring_bounds import least_moves
 def add_words(parser: argparse.ArgumentParser) -> None:
     """The words of the command `adversary`."""
     add_match(parser)
-    parser.add_argument("--keep", metavar="FOLDER", type=pathlib.Path, default=kept_matches.FOLDER,
-                        help=f"write the schedule there ({kept_matches.FOLDER})")
+    parser.add_argument(
+        "--keep",
+        metavar="FOLDER",
+        type=pathlib.Path,
+        default=kept_matches.FOLDER,
+        help=f"write the schedule there ({kept_matches.FOLDER})",
+    )
     add_engine(parser)
 
 
@@ -60,20 +65,32 @@ def line_of(phase: Phase, before: Optional[Arcs]) -> str:
     return f"{said}: agent {phase.agent} came back over {phase.back} of {before.explored} explored nodes and went on"
 
 
-def report_failure(adversary: Adversary, fault: Beaten, keep: pathlib.Path, program: Optional[str]) -> int:
+def report_failure(
+    adversary: Adversary, fault: Beaten, keep: pathlib.Path, program: Optional[str]
+) -> int:
     """Says why the team fails, and keeps the schedule."""
     played, schedule = adversary.at_rest(fault.hole, fault.turns)
-    print(f"the team fails with the black hole at node {fault.hole}: {fault.why}; {played.verdict()}")
+    print(
+        f"the team fails with the black hole at node {fault.hole}: {fault.why}; {played.verdict()}"
+    )
     kept_matches.keep(keep, schedule, program)
     return 1
 
 
-def report_moves(adversary: Adversary, arcs: Arcs, keep: pathlib.Path, program: Optional[str]) -> int:
+def report_moves(
+    adversary: Adversary, arcs: Arcs, keep: pathlib.Path, program: Optional[str]
+) -> int:
     """Makes one of the last two nodes the black hole, with which the team moves more, and keeps the schedule."""
     ends = [adversary.at_rest(hole, arcs.turns) for hole in arcs.ends()]
-    played, schedule = max(ends, key=lambda it: (it[0].has_failed(), it[0].verdict().moves))
-    print(f"{arcs.moves} moves were forced, and every two agents that find the black hole must make "
-          f"{least_moves(adversary.nodes)} on this ring")
-    print(f"at rest with the black hole at node {schedule.fixture.setup.holes[0]}: {played.verdict()}")
+    played, schedule = max(
+        ends, key=lambda it: (it[0].has_failed(), it[0].verdict().moves)
+    )
+    print(
+        f"{arcs.moves} moves were forced, and every two agents that find the black hole must make "
+        f"{least_moves(adversary.nodes)} on this ring"
+    )
+    print(
+        f"at rest with the black hole at node {schedule.fixture.setup.holes[0]}: {played.verdict()}"
+    )
     kept_matches.keep(keep, schedule, program)
     return 1 if played.has_failed() else 0

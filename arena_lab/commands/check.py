@@ -36,7 +36,17 @@ from arena_lab.play.bounds import LIMIT
 from arena_lab.play.games import Asked, Record, Row, play_again, rows_of
 from arena_lab.play.late_arrivals import LATE, kept_waiting
 from arena_lab.play.schedules import Schedule
-from arena_lab.play.teams import INSIDE, NAPS, OUTSIDE, QUOTA, BOARD, AgentWords, Game, agent_named, filled
+from arena_lab.play.teams import (
+    INSIDE,
+    NAPS,
+    OUTSIDE,
+    QUOTA,
+    BOARD,
+    AgentWords,
+    Game,
+    agent_named,
+    filled,
+)
 from arena_lab.rules import networks
 from arena_lab.rules.engines import MODEL
 from arena_lab.search.hunt import Hunt, Hunter
@@ -82,56 +92,124 @@ class Checked(NamedTuple):
     repeats: bool
 
     def game(self, name: str) -> Game:
-        return Game(name, networks.named(name), filled([self.agent], self.agents), quota=QUOTA, board=BOARD, naps=NAPS,
-                    limit=self.limit)
+        return Game(
+            name,
+            networks.named(name),
+            filled([self.agent], self.agents),
+            quota=QUOTA,
+            board=BOARD,
+            naps=NAPS,
+            limit=self.limit,
+        )
 
     def smallest(self, usual: Sequence[str]) -> Sequence[str]:
         """The networks of a search: the smallest that were named, if other networks than the usual ones were."""
         if self.networks == NETWORKS:
             return usual
-        return sorted(self.networks, key=lambda name: networks.named(name).nodes)[:len(usual)]
+        return sorted(self.networks, key=lambda name: networks.named(name).nodes)[
+            : len(usual)
+        ]
 
 
 def add_words(parser: argparse.ArgumentParser) -> None:
     """The words of the command `check`."""
-    parser.add_argument("agent", metavar="AGENT", help="the words that start an agent's program, with {host}, {port}, "
-                        "{key}, and {nodes}, {links} and {home} if it is to know them; or FILE.py, or FILE.wasm[:N,..]")
-    parser.add_argument("--network", metavar="NAME", action="append", help=f"a network ({', '.join(NETWORKS)})")
-    parser.add_argument("--agents", metavar="N", type=at_least_one, default=2, help="how many agents there are (2)")
-    parser.add_argument("--timeout", dest="limit", metavar="SECONDS", type=float, default=LIMIT,
-                        help=f"how long an agent may take to send or to wait ({LIMIT})")
-    parser.add_argument("--seconds", metavar="S", type=at_least_one, default=SECONDS, help="how long the hunt may "
-                        f"take; the search of all schedules may take {LONGER} times as long ({SECONDS})")
-    parser.add_argument("--no-repeat", action="store_true", help="do not repeat agents alone")
-    parser.add_argument("--keep", metavar="FOLDER", type=pathlib.Path, default=FOLDER, help="write what shows the "
-                        f"first thing to mend there ({FOLDER})")
-    parser.add_argument("--json", action="store_true", help="print an object of JSON, with `right`, what is `said` and "
-                        "the folder that is `kept`, and what is done meanwhile on standard error")
+    parser.add_argument(
+        "agent",
+        metavar="AGENT",
+        help="the words that start an agent's program, with {host}, {port}, "
+        "{key}, and {nodes}, {links} and {home} if it is to know them; or FILE.py, or FILE.wasm[:N,..]",
+    )
+    parser.add_argument(
+        "--network",
+        metavar="NAME",
+        action="append",
+        help=f"a network ({', '.join(NETWORKS)})",
+    )
+    parser.add_argument(
+        "--agents",
+        metavar="N",
+        type=at_least_one,
+        default=2,
+        help="how many agents there are (2)",
+    )
+    parser.add_argument(
+        "--timeout",
+        dest="limit",
+        metavar="SECONDS",
+        type=float,
+        default=LIMIT,
+        help=f"how long an agent may take to send or to wait ({LIMIT})",
+    )
+    parser.add_argument(
+        "--seconds",
+        metavar="S",
+        type=at_least_one,
+        default=SECONDS,
+        help="how long the hunt may "
+        f"take; the search of all schedules may take {LONGER} times as long ({SECONDS})",
+    )
+    parser.add_argument(
+        "--no-repeat", action="store_true", help="do not repeat agents alone"
+    )
+    parser.add_argument(
+        "--keep",
+        metavar="FOLDER",
+        type=pathlib.Path,
+        default=FOLDER,
+        help="write what shows the " f"first thing to mend there ({FOLDER})",
+    )
+    parser.add_argument(
+        "--json",
+        action="store_true",
+        help="print an object of JSON, with `right`, what is `said` and "
+        "the folder that is `kept`, and what is done meanwhile on standard error",
+    )
     add_engine(parser)
 
 
 def run(words: argparse.Namespace) -> int:
     if words.agent.endswith(".toml"):
-        raise NoAgent(f"{words.agent}: that is no agent; of a tournament it is `arena check {words.agent}`")
+        raise NoAgent(
+            f"{words.agent}: that is no agent; of a tournament it is `arena check {words.agent}`"
+        )
     agent = agent_named(OUTSIDE if "{port}" in words.agent else INSIDE, words.agent)
     names = tuple(words.network or NETWORKS)
-    asked = Checked(agent, words.agents, names, words.limit, program_of(words), words.seconds,
-                    not words.no_repeat)
-    with contextlib.redirect_stdout(sys.stderr) if words.json else contextlib.nullcontext():
+    asked = Checked(
+        agent,
+        words.agents,
+        names,
+        words.limit,
+        program_of(words),
+        words.seconds,
+        not words.no_repeat,
+    )
+    with contextlib.redirect_stdout(
+        sys.stderr
+    ) if words.json else contextlib.nullcontext():
         right, wrong = checked(asked)
         if wrong is not None:
             print(wrong.record.keep(words.keep)[-1])
     if words.json:
-        print(json.dumps({"right": wrong is None, "said": [right] if wrong is None else wrong.said,
-                          "kept": None if wrong is None else str(words.keep)}))
+        print(
+            json.dumps(
+                {
+                    "right": wrong is None,
+                    "said": [right] if wrong is None else wrong.said,
+                    "kept": None if wrong is None else str(words.keep),
+                }
+            )
+        )
         return int(wrong is not None)
     if wrong is None:
         print(right)
         return 0
     again = f"{arena_lab.called()} replay {words.keep}{'' if asked.program else f' --engine {MODEL}'}"
     print("\n  ".join([f"To mend first: {wrong.said[0]}", *wrong.said[1:]]))
-    print(f"See it again by `{again}`, and try a mended agent by `{again} --follow`" if wrong.is_repeatable else
-          "A replay has no clock and does not show it: check again once it is mended")
+    print(
+        f"See it again by `{again}`, and try a mended agent by `{again} --follow`"
+        if wrong.is_repeatable
+        else "A replay has no clock and does not show it: check again once it is mended"
+    )
     return 1
 
 
@@ -155,23 +233,44 @@ def matches(asked: Checked) -> Step:
     """Plays the matches."""
     rows: List[Row] = []
     for number, name in enumerate(asked.networks):
-        each = [Asked(asked.game(name), scheduler, 3 * number + place, asked.program, asked.repeats)
-                for place, scheduler in enumerate(SCHEDULERS)]
+        each = [
+            Asked(
+                asked.game(name),
+                scheduler,
+                3 * number + place,
+                asked.program,
+                asked.repeats,
+            )
+            for place, scheduler in enumerate(SCHEDULERS)
+        ]
         rows += rows_of(each)
         wrong = next((row for row in rows if row["failed"]), None)
         if wrong is not None:
-            return "", ToMend(failure(wrong.match(), f"on {wrong['network']} under {wrong['scheduler']} "
-                                                     f"{wrong['seed']}"), wrong.match())
+            return "", ToMend(
+                failure(
+                    wrong.match(),
+                    f"on {wrong['network']} under {wrong['scheduler']} "
+                    f"{wrong['seed']}",
+                ),
+                wrong.match(),
+            )
     refused = next((row for row in rows if row["refused"]), None)
     print(f"{len(rows)} matches on {', '.join(asked.networks)}: all solved")
     if refused is None:
         return f"on all {len(rows)} matches", None
-    return "", ToMend(["lines are refused, which cost commands", *refused["refused"]], refused.match())
+    return "", ToMend(
+        ["lines are refused, which cost commands", *refused["refused"]], refused.match()
+    )
 
 
 def failure(record: Record, where: str) -> List[str]:
     """What is wrong with a match, fact by fact."""
-    return [f"{where} the match came to {record.verdict}", *record.told(), *record.faults(), *record.played.refused]
+    return [
+        f"{where} the match came to {record.verdict}",
+        *record.told(),
+        *record.faults(),
+        *record.played.refused,
+    ]
 
 
 def wait(asked: Checked) -> Step:
@@ -181,7 +280,9 @@ def wait(asked: Checked) -> Step:
     name = asked.smallest([EXPLORED])[0]
     record = kept_waiting(asked.game(name), asked.program)
     if record.has_failed:
-        return "", ToMend(failure(record, f"on {name} with arrivals {LATE} s late"), record, False)
+        return "", ToMend(
+            failure(record, f"on {name} with arrivals {LATE} s late"), record, False
+        )
     print(f"a match on {name} with arrivals {LATE} s late: solved")
     return f"with arrivals {LATE} s late", None
 
@@ -193,20 +294,32 @@ def search(asked: Checked) -> Step:
     tried, wrong = (0, wrong) if wrong else hunt(asked, names)
     if wrong is not None:
         return "", wrong
-    print(f"{drawn} schedules of {', '.join(names)} were drawn and {tried} were hunted: none fails")
-    return f"under {drawn} schedules that were drawn and {tried} that were hunted on {listed(names)}", None
+    print(
+        f"{drawn} schedules of {', '.join(names)} were drawn and {tried} were hunted: none fails"
+    )
+    return (
+        f"under {drawn} schedules that were drawn and {tried} that were hunted on {listed(names)}",
+        None,
+    )
 
 
 def draw(asked: Checked, names: Sequence[str]) -> Tuple[int, Optional[ToMend]]:
     """Draws schedules on each network in turn, for half of the time and the least number; gives how many."""
     until, number = time.monotonic() + asked.seconds / 2, 0
     with bar(None, "schedule") as shown:
-        while number < LEAST or number < DRAWS * len(names) and time.monotonic() < until:
-            name, scheduler = names[number % len(names)], DRAWN[number // len(names) % len(DRAWN)]
+        while (
+            number < LEAST or number < DRAWS * len(names) and time.monotonic() < until
+        ):
+            name, scheduler = (
+                names[number % len(names)],
+                DRAWN[number // len(names) % len(DRAWN)],
+            )
             record = Asked(asked.game(name), scheduler, number, None).play()
             if record.has_failed:
                 shown.clear()
-                return number, under(record.schedule, f"{scheduler} {number} on {name}", asked)
+                return number, under(
+                    record.schedule, f"{scheduler} {number} on {name}", asked
+                )
             number += 1
             shown.update()
         shown.clear()
@@ -220,7 +333,9 @@ def hunt(asked: Checked, names: Sequence[str]) -> Tuple[int, Optional[ToMend]]:
         hunter = hunted(asked, name, asked.seconds / 2 / len(names))
         tried += hunter.tried
         if hunter.best is not None and hunter.best.has_failed:
-            return tried, under(hunter.schedule(), f"a schedule of {name} that was hunted", asked)
+            return tried, under(
+                hunter.schedule(), f"a schedule of {name} that was hunted", asked
+            )
     return tried, None
 
 
@@ -249,8 +364,13 @@ def every(asked: Checked) -> Step:
     name, alarm = asked.smallest([EXPLORED])[0], Alarm(LONGER * asked.seconds)
     try:
         with alarm:
-            found: Any = api.explore(name, asked.game(name).agents, engine=asked.program or MODEL, limit=asked.limit,
-                                     states=MOST)
+            found: Any = api.explore(
+                name,
+                asked.game(name).agents,
+                engine=asked.program or MODEL,
+                limit=asked.limit,
+                states=MOST,
+            )
     except (NoAgent, NoFunction) as fault:
         print(f"not every schedule of {name} was tried: {fault}")
         return "", None
@@ -259,13 +379,20 @@ def every(asked: Checked) -> Step:
             raise
         found = None
     if found is not None and found.fails and found.worst is not None:
-        return "", ToMend(failure(found.worst, f"under a schedule of {name}"), found.worst)
+        return "", ToMend(
+            failure(found.worst, f"under a schedule of {name}"), found.worst
+        )
     if found is None or not found.solves:
-        print(f"not every schedule of {name} was tried: there are too many for {LONGER * asked.seconds} s")
+        print(
+            f"not every schedule of {name} was tried: there are too many for {LONGER * asked.seconds} s"
+        )
         return "", None
     print(f"every schedule of {name}: {found.states} states, all solve")
     ring = name.removeprefix("ring:")
-    return f"under every schedule of {f'a ring of {ring}' if ring != name else name}", None
+    return (
+        f"under every schedule of {f'a ring of {ring}' if ring != name else name}",
+        None,
+    )
 
 
 class TimedProgress:

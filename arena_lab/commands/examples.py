@@ -23,8 +23,13 @@ DOCUMENTS = pathlib.Path("/usr/share/doc/arena")
 
 def add_words(parser: argparse.ArgumentParser) -> None:
     """The words of the command `examples`."""
-    parser.add_argument("folder", metavar="FOLDER", nargs="?", type=pathlib.Path,
-                        help="copy them to this folder, which is not there yet")
+    parser.add_argument(
+        "folder",
+        metavar="FOLDER",
+        nargs="?",
+        type=pathlib.Path,
+        help="copy them to this folder, which is not there yet",
+    )
 
 
 def run(words: argparse.Namespace) -> int:
@@ -36,7 +41,11 @@ def run(words: argparse.Namespace) -> int:
     for name in COPIED:
         source = place_of(name)
         if source is not None:
-            shutil.copytree(source, words.folder / name, ignore=shutil.ignore_patterns("__pycache__", "out"))
+            shutil.copytree(
+                source,
+                words.folder / name,
+                ignore=shutil.ignore_patterns("__pycache__", "out"),
+            )
     (words.folder / LAB.name).symlink_to(LAB)
     print(words.folder)
     return 0
@@ -44,4 +53,11 @@ def run(words: argparse.Namespace) -> int:
 
 def place_of(name: str) -> Optional[pathlib.Path]:
     """Where a folder stands: in a clone or a package of Debian, or in a wheel."""
-    return next((it / name for it in (AGENTS.parents[1], TOP, LAB, DOCUMENTS) if (it / name).is_dir()), None)
+    return next(
+        (
+            it / name
+            for it in (AGENTS.parents[1], TOP, LAB, DOCUMENTS)
+            if (it / name).is_dir()
+        ),
+        None,
+    )

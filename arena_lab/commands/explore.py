@@ -80,7 +80,14 @@ import pathlib
 from typing import List, Optional
 
 from arena_lab.commands import explore_samples, explore_program
-from arena_lab.commands.words import add_engine, add_match, at_least_one, games_of, not_negative, program_of
+from arena_lab.commands.words import (
+    add_engine,
+    add_match,
+    at_least_one,
+    games_of,
+    not_negative,
+    program_of,
+)
 from arena_lab.play import kept_matches
 from arena_lab.play.parallel import Parallelism
 from arena_lab.play.teams import Game
@@ -98,37 +105,97 @@ from arena_lab.sweep.tables import alone_in
 
 FOLDER = kept_matches.FOLDER
 # whose turn it is in drawn schedules, and what is hunted for
-SCHEDULERS, HUNTS = ("fair", "last-departed", "starved", "slow-agents", "slow-links"), ("moves", "lost")
+SCHEDULERS, HUNTS = ("fair", "last-departed", "starved", "slow-agents", "slow-links"), (
+    "moves",
+    "lost",
+)
 
 
 def add_words(parser: argparse.ArgumentParser) -> None:
     """The words of the command `explore`."""
     add_match(parser, several=True)
-    parser.add_argument("--max-states", dest="states", metavar="N", type=at_least_one, help="the most states of a "
-                        "match to visit (as many as take half of the memory that is left). A million take 20 to 100 "
-                        "megabytes, and by the Python model half a gigabyte to one")
-    parser.add_argument("--draws", metavar="N", type=at_least_one, help="draw this many schedules of each match "
-                        "instead of trying all; for networks with too many states. --max-states then bounds the turns "
-                        "of each")
-    parser.add_argument("--seed", metavar="S", type=not_negative, help="draw them from this seed (0)")
-    parser.add_argument("--scheduler", dest="by", choices=SCHEDULERS, help="whose turn it is in them (fair)")
-    parser.add_argument("--objective", dest="hunt", choices=HUNTS, help="begin every second one as the worst so far "
-                        "began, to find more moves or more agents lost")
-    parser.add_argument("--keep", metavar="FOLDER", type=pathlib.Path, default=FOLDER, help="write the schedule that "
-                        f"is told there ({FOLDER})")
-    parser.add_argument("--search", choices=(PROGRAM, MODEL), help="who tries the schedules: the program, or the "
-                        "Python model (the engine)")
-    parser.add_argument("--check", metavar="N", type=not_negative, default=CHECKED, help="after the program's search, "
-                        "play this many drawn schedules by the agents, and compare what they do with what they "
-                        f"answered ({CHECKED}); with 0 nothing else is checked either")
-    parser.add_argument("--workers", metavar="N", type=at_least_one, default=1, help="how many matches of a network "
-                        "are tried at a time (1); each takes the memory of its own states")
-    parser.add_argument("--cluster", metavar="ADDRESS", help="let the workers of a Dask scheduler try them, such as "
-                        "tcp://192.0.2.7:8786; each needs this folder at the same path")
-    parser.add_argument("--out", metavar="FOLDER", type=pathlib.Path, help="write a row for each match that every "
-                        "schedule solves, and a plot, and go on there if there are rows")
-    parser.add_argument("--bound", choices=BOUNDS, action="append", help="moves that the plot shows beside, and more "
-                        "by more of these")
+    parser.add_argument(
+        "--max-states",
+        dest="states",
+        metavar="N",
+        type=at_least_one,
+        help="the most states of a "
+        "match to visit (as many as take half of the memory that is left). A million take 20 to 100 "
+        "megabytes, and by the Python model half a gigabyte to one",
+    )
+    parser.add_argument(
+        "--draws",
+        metavar="N",
+        type=at_least_one,
+        help="draw this many schedules of each match "
+        "instead of trying all; for networks with too many states. --max-states then bounds the turns "
+        "of each",
+    )
+    parser.add_argument(
+        "--seed", metavar="S", type=not_negative, help="draw them from this seed (0)"
+    )
+    parser.add_argument(
+        "--scheduler",
+        dest="by",
+        choices=SCHEDULERS,
+        help="whose turn it is in them (fair)",
+    )
+    parser.add_argument(
+        "--objective",
+        dest="hunt",
+        choices=HUNTS,
+        help="begin every second one as the worst so far "
+        "began, to find more moves or more agents lost",
+    )
+    parser.add_argument(
+        "--keep",
+        metavar="FOLDER",
+        type=pathlib.Path,
+        default=FOLDER,
+        help="write the schedule that " f"is told there ({FOLDER})",
+    )
+    parser.add_argument(
+        "--search",
+        choices=(PROGRAM, MODEL),
+        help="who tries the schedules: the program, or the "
+        "Python model (the engine)",
+    )
+    parser.add_argument(
+        "--check",
+        metavar="N",
+        type=not_negative,
+        default=CHECKED,
+        help="after the program's search, "
+        "play this many drawn schedules by the agents, and compare what they do with what they "
+        f"answered ({CHECKED}); with 0 nothing else is checked either",
+    )
+    parser.add_argument(
+        "--workers",
+        metavar="N",
+        type=at_least_one,
+        default=1,
+        help="how many matches of a network "
+        "are tried at a time (1); each takes the memory of its own states",
+    )
+    parser.add_argument(
+        "--cluster",
+        metavar="ADDRESS",
+        help="let the workers of a Dask scheduler try them, such as "
+        "tcp://192.0.2.7:8786; each needs this folder at the same path",
+    )
+    parser.add_argument(
+        "--out",
+        metavar="FOLDER",
+        type=pathlib.Path,
+        help="write a row for each match that every "
+        "schedule solves, and a plot, and go on there if there are rows",
+    )
+    parser.add_argument(
+        "--bound",
+        choices=BOUNDS,
+        action="append",
+        help="moves that the plot shows beside, and more " "by more of these",
+    )
     add_engine(parser)
 
 
@@ -137,15 +204,25 @@ def run(words: argparse.Namespace) -> int:
     draws = draws_of(words)
     check_way(words)
     if (words.search or words.engine) == PROGRAM:
-        program, way = engine or program_at(words.program, words.needs), Parallelism(words.workers, words.cluster)
+        program, way = engine or program_at(words.program, words.needs), Parallelism(
+            words.workers, words.cluster
+        )
         states = words.states or states_of(words)
-        wanted = [explore_program.ExploreRequest(game, program, engine, states, words.check, words.keep, way) for game
-                  in games]
+        wanted = [
+            explore_program.ExploreRequest(
+                game, program, engine, states, words.check, words.keep, way
+            )
+            for game in games
+        ]
         if words.out:
             return written(words, wanted)
-        return explore_samples.run(wanted, draws) if draws else explore_program.run(wanted)
+        return (
+            explore_samples.run(wanted, draws) if draws else explore_program.run(wanted)
+        )
     if draws:
-        raise Fault("--draws needs the program's search: give no --search model, or use `./arena-lab hunt`")
+        raise Fault(
+            "--draws needs the program's search: give no --search model, or use `./arena-lab hunt`"
+        )
     return max(searched(words, game) for game in games)
 
 
@@ -163,29 +240,49 @@ def check_way(words: argparse.Namespace) -> None:
     if words.out and words.draws is not None:
         raise Fault("--out is for all schedules: leave --draws out")
     if is_model and (words.out or words.cluster or words.workers > 1):
-        raise Fault("--workers, --cluster and --out need the program's search: give no --search model")
+        raise Fault(
+            "--workers, --cluster and --out need the program's search: give no --search model"
+        )
     if words.bound and not words.out:
         raise Fault("--bound is for the plot that --out writes: name a folder by --out")
 
 
-def written(words: argparse.Namespace, wanted: List[explore_program.ExploreRequest]) -> int:
+def written(
+    words: argparse.Namespace, wanted: List[explore_program.ExploreRequest]
+) -> int:
     """Tries the schedules of all matches that have no row yet, and writes rows and a plot."""
     check("matplotlib")
     games = [one.game for one in wanted]
     with alone_in(words.out):
         folder = Folder(words.out, games, wanted[0].program)
-        status = explore_program.run([one._replace(before=folder.of(games, place), write=folder.add)
-                             for place, one in enumerate(wanted)])
-        print(f"the rows are in {words.out / MATCHES}" + (f"; look at {folder.draw(words.bound or [])}" if not status
-                                                          else ": the same command goes on there"))
+        status = explore_program.run(
+            [
+                one._replace(before=folder.of(games, place), write=folder.add)
+                for place, one in enumerate(wanted)
+            ]
+        )
+        print(
+            f"the rows are in {words.out / MATCHES}"
+            + (
+                f"; look at {folder.draw(words.bound or [])}"
+                if not status
+                else ": the same command goes on there"
+            )
+        )
         return status
 
 
 def draws_of(words: argparse.Namespace) -> Optional[SampleRequest]:
     """The schedules that are to be drawn, if any."""
     if words.draws is not None:
-        return SampleRequest(words.draws, words.seed or 0, words.by or SCHEDULERS[0], words.hunt)
-    for option, given in (("seed", words.seed), ("scheduler", words.by), ("objective", words.hunt)):
+        return SampleRequest(
+            words.draws, words.seed or 0, words.by or SCHEDULERS[0], words.hunt
+        )
+    for option, given in (
+        ("seed", words.seed),
+        ("scheduler", words.by),
+        ("objective", words.hunt),
+    ):
         if given is not None:
             raise Fault(f"--{option} needs --draws")
     return None

@@ -55,19 +55,49 @@ def add_words(parser: argparse.ArgumentParser) -> None:
     group = parser.add_argument_group("the file", course.__doc__)
     parser.add_argument_group("points", points.__doc__)
     parser.add_argument_group("exports", export.__doc__)
-    group.add_argument("file", metavar="COURSE.toml", type=pathlib.Path, help="the course; or, with "
-                       "--repeat-only, the folder of its results")
-    parser.add_argument("--out", metavar="FOLDER", type=pathlib.Path, help="write everything there")
-    parser.add_argument("--repeat-only", action="store_true", help="repeat the solved matches of a graded course once "
-                        "more, also on another machine")
-    parser.add_argument("--secret", metavar="FILE", type=pathlib.Path, help="take the secret that this file has, such "
-                        "as the `secret.txt` of other results, to play the same matches")
-    parser.add_argument("--no-repeat", action="store_true", help="count all solved matches, also those whose agents "
-                        "would say something else when they are told the same again")
-    parser.add_argument("--export", metavar="KIND", action="extend", nargs="+", choices=export.KINDS,
-                        help="write points for a gradebook too: gradescope, moodle, junit, csv; several at once")
-    parser.add_argument("--students", metavar="FILE", type=pathlib.Path, help="for moodle: the students of teams "
-                        f"({export.STUDENTS} beside the course)")
+    group.add_argument(
+        "file",
+        metavar="COURSE.toml",
+        type=pathlib.Path,
+        help="the course; or, with " "--repeat-only, the folder of its results",
+    )
+    parser.add_argument(
+        "--out", metavar="FOLDER", type=pathlib.Path, help="write everything there"
+    )
+    parser.add_argument(
+        "--repeat-only",
+        action="store_true",
+        help="repeat the solved matches of a graded course once "
+        "more, also on another machine",
+    )
+    parser.add_argument(
+        "--secret",
+        metavar="FILE",
+        type=pathlib.Path,
+        help="take the secret that this file has, such "
+        "as the `secret.txt` of other results, to play the same matches",
+    )
+    parser.add_argument(
+        "--no-repeat",
+        action="store_true",
+        help="count all solved matches, also those whose agents "
+        "would say something else when they are told the same again",
+    )
+    parser.add_argument(
+        "--export",
+        metavar="KIND",
+        action="extend",
+        nargs="+",
+        choices=export.KINDS,
+        help="write points for a gradebook too: gradescope, moodle, junit, csv; several at once",
+    )
+    parser.add_argument(
+        "--students",
+        metavar="FILE",
+        type=pathlib.Path,
+        help="for moodle: the students of teams "
+        f"({export.STUDENTS} beside the course)",
+    )
     add_forget(parser)
     add_workers(parser)
     add_engine(parser)
@@ -88,12 +118,25 @@ def run(words: argparse.Namespace) -> int:
         read.maker(name)
     if strongest is not Isolation.ALL:
         print(f"arena-lab: {cells.weakness()}; {strongest.value}", file=sys.stderr)
-    wanted = export.export_of(words.export, words.students, path.parent, list(read.files))
+    wanted = export.export_of(
+        words.export, words.students, path.parent, list(read.files)
+    )
     program = program_of(words)
     with tables.alone_in(words.out):
         handed_in = hand_ins(words.out, read)
         secret = course.secret_in(words.out, words.secret, handed_in)
-        yard = Sandbox(strongest, read.terms.tools, read.terms.has_proc, calls=read.terms.calls)
-        graded = GradingRun(read.text, path.parent, secret, program, yard, words.out, not words.no_repeat,
-                        forgets=words.drop_caches, export=wanted)
+        yard = Sandbox(
+            strongest, read.terms.tools, read.terms.has_proc, calls=read.terms.calls
+        )
+        graded = GradingRun(
+            read.text,
+            path.parent,
+            secret,
+            program,
+            yard,
+            words.out,
+            not words.no_repeat,
+            forgets=words.drop_caches,
+            export=wanted,
+        )
         return graded_in(graded, words.workers, handed_in)

@@ -45,52 +45,121 @@ A_TERM = datetime.timedelta(weeks=16)
 
 def add_words(parser: argparse.ArgumentParser) -> None:
     """The words of the command `hall`."""
-    parser.add_argument("words", metavar="WORDS", nargs="+", help="what to do (serve), the file of the "
-                        "course, and for `backup` and `restore` the archive")
-    parser.add_argument("--folder", metavar="FOLDER", type=pathlib.Path, help="where the hall keeps everything (the "
-                        "file's name with .hall)")
-    parser.add_argument("--port", metavar="N", type=at_least_one, default=8000, help="the port of the pages (8000)")
-    parser.add_argument("--address", metavar="A", default="127.0.0.1", help="the address of the pages (127.0.0.1); "
-                        "others reach them by nginx or Caddy, which encrypt: docs/HALL.md has both files")
-    parser.add_argument("--workers", metavar="N", type=not_negative, default=2, help="how many processes play matches "
-                        "and grade programs (2; 0 if other machines do)")
-    parser.add_argument("--weak-walls", action="store_true", help="take hand-ins although this machine puts up no "
-                        "walls between programs: they can then read what this user can, also the hall")
-    parser.add_argument("--seconds", metavar="N", type=float, help="end after this number of seconds")
+    parser.add_argument(
+        "words",
+        metavar="WORDS",
+        nargs="+",
+        help="what to do (serve), the file of the "
+        "course, and for `backup` and `restore` the archive",
+    )
+    parser.add_argument(
+        "--folder",
+        metavar="FOLDER",
+        type=pathlib.Path,
+        help="where the hall keeps everything (the " "file's name with .hall)",
+    )
+    parser.add_argument(
+        "--port",
+        metavar="N",
+        type=at_least_one,
+        default=8000,
+        help="the port of the pages (8000)",
+    )
+    parser.add_argument(
+        "--address",
+        metavar="A",
+        default="127.0.0.1",
+        help="the address of the pages (127.0.0.1); "
+        "others reach them by nginx or Caddy, which encrypt: docs/HALL.md has both files",
+    )
+    parser.add_argument(
+        "--workers",
+        metavar="N",
+        type=not_negative,
+        default=2,
+        help="how many processes play matches "
+        "and grade programs (2; 0 if other machines do)",
+    )
+    parser.add_argument(
+        "--weak-walls",
+        action="store_true",
+        help="take hand-ins although this machine puts up no "
+        "walls between programs: they can then read what this user can, also the hall",
+    )
+    parser.add_argument(
+        "--seconds", metavar="N", type=float, help="end after this number of seconds"
+    )
     group = parser.add_argument_group("contest")
-    group.add_argument("--name", metavar="NAME", default="contest", help="what the contest is called (contest)")
-    group.add_argument("--networks", metavar="NAME", nargs="+", default=[], help="the networks of the contest, as the "
-                       "course names them")
-    group.add_argument("--start", metavar="HH:MM", help="when it begins today, or a whole time such as \"2026-12-18 "
-                       "18:00\" (now)")
-    group.add_argument("--minutes", metavar="N", type=at_least_one, default=45, help="how long it goes on (45)")
-    group.add_argument("--freeze", metavar="HH:MM", help="from when on its table does not change for teams (never)")
+    group.add_argument(
+        "--name",
+        metavar="NAME",
+        default="contest",
+        help="what the contest is called (contest)",
+    )
+    group.add_argument(
+        "--networks",
+        metavar="NAME",
+        nargs="+",
+        default=[],
+        help="the networks of the contest, as the " "course names them",
+    )
+    group.add_argument(
+        "--start",
+        metavar="HH:MM",
+        help='when it begins today, or a whole time such as "2026-12-18 '
+        '18:00" (now)',
+    )
+    group.add_argument(
+        "--minutes",
+        metavar="N",
+        type=at_least_one,
+        default=45,
+        help="how long it goes on (45)",
+    )
+    group.add_argument(
+        "--freeze",
+        metavar="HH:MM",
+        help="from when on its table does not change for teams (never)",
+    )
     add_program(parser)
 
 
 def run(words: argparse.Namespace) -> int:
-    action, *given = words.words if words.words[0] in ACTIONS else ["serve", *words.words]
+    action, *given = (
+        words.words if words.words[0] in ACTIONS else ["serve", *words.words]
+    )
     wanted = 2 if action in ("backup", "restore") else 1
     if len(given) != wanted:
-        raise NoHall(f"`hall {action}` takes {'COURSE.toml and the archive' if wanted == 2 else 'COURSE.toml'}")
+        raise NoHall(
+            f"`hall {action}` takes {'COURSE.toml and the archive' if wanted == 2 else 'COURSE.toml'}"
+        )
     course = pathlib.Path(given[0])
     if action == "new":
         return write_new(course)
     check(*NEEDED)
     folder = (words.folder or folder_of(course)).resolve()
     if action == "serve":
-        return serve(words, HallFolder(folder, course.resolve(), program_at(words.program, words.needs)))
+        return serve(
+            words,
+            HallFolder(
+                folder, course.resolve(), program_at(words.program, words.needs)
+            ),
+        )
     if action == "restore":
         backup.take_course(pathlib.Path(given[1]), course)
     hall = read(course)
     if action == "worker":
         return work(words, hall, folder)
     if action == "restore":
-        return restore(HallFolder(folder, course.resolve(), None), pathlib.Path(given[1]))
+        return restore(
+            HallFolder(folder, course.resolve(), None), pathlib.Path(given[1])
+        )
     begin(place.at(folder))
     try:
         if action == "backup":
-            return report(f"wrote {backup.write(place.at(folder), pathlib.Path(given[1]))}")
+            return report(
+                f"wrote {backup.write(place.at(folder), pathlib.Path(given[1]))}"
+            )
         return DONE[action](words, hall, folder)
     finally:
         place.leave(folder, folder.stat())
@@ -105,11 +174,15 @@ def write_new(course: pathlib.Path) -> int:
     """Writes the file of a course."""
     if course.exists():
         raise NoHall(f"{course}: there is such a file already")
-    text = (pathlib.Path(place.__file__).parent / "new.toml").read_text(encoding="utf-8")
+    text = (pathlib.Path(place.__file__).parent / "new.toml").read_text(
+        encoding="utf-8"
+    )
     deadline = datetime.date.today() + A_TERM
     text = text.replace("2099-12-31", str(deadline)).replace('"UTC"', f'"{own_zone()}"')
     course.write_text(text, encoding="utf-8")
-    return report(f"wrote {course}: change it, and serve it by `arena-lab hall {course}`")
+    return report(
+        f"wrote {course}: change it, and serve it by `arena-lab hall {course}`"
+    )
 
 
 def own_zone() -> str:
@@ -121,6 +194,7 @@ def own_zone() -> str:
 def begin(of: HallFolder) -> None:
     """Makes this process one of the hall."""
     from django.core.management import call_command
+
     entry.begin(str(of.folder))
     call_command("migrate", verbosity=0, interactive=False)
     # sessions whose time is up
@@ -131,8 +205,10 @@ def check_walls(words: argparse.Namespace, hall: Hall) -> None:
     """Refuses to take programs of strangers where nothing keeps them from the hall."""
     if hall.hand_ins is not None and cells.strongest() is not Isolation.ALL:
         if not words.weak_walls:
-            raise NoHall(f"{cells.weakness()}: programs that are handed in could read the hall. Remove [hand_ins], "
-                         "or say --weak-walls if you trust all teams")
+            raise NoHall(
+                f"{cells.weakness()}: programs that are handed in could read the hall. Remove [hand_ins], "
+                "or say --weak-walls if you trust all teams"
+            )
         print(f"hall: {cells.weakness()}; {cells.strongest().value}", file=sys.stderr)
 
 
@@ -146,7 +222,9 @@ def restore(of: HallFolder, archive: pathlib.Path) -> int:
         begin(of)
     place.leave(of.folder, owner)
     said = f"; what was there before is in {aside}" if aside else ""
-    return report(f"{of.folder} is as it stood in {archive}{said}: serve it by `arena-lab hall {of.course}`")
+    return report(
+        f"{of.folder} is as it stood in {archive}{said}: serve it by `arena-lab hall {of.course}`"
+    )
 
 
 def serve(words: argparse.Namespace, of: HallFolder) -> int:
@@ -161,15 +239,24 @@ def serve(words: argparse.Namespace, of: HallFolder) -> int:
             place.tell(line)
         begin(of)
         prepare(hall, of)
-        print(f"hall http://{words.address}:{words.port}/ (the teacher's pages: /teacher/)", flush=True)
-        serving.serve(of, serving.Options([words.address, words.port], words.workers), words.seconds)
+        print(
+            f"hall http://{words.address}:{words.port}/ (the teacher's pages: /teacher/)",
+            flush=True,
+        )
+        serving.serve(
+            of,
+            serving.Options([words.address, words.port], words.workers),
+            words.seconds,
+        )
     return 0
 
 
 def work(words: argparse.Namespace, hall: Hall, folder: pathlib.Path) -> int:
     """Workers on another machine than the pages, or besides those that they have."""
     if hall.database == "sqlite":
-        raise NoHall("workers on other machines need PostgreSQL: `database` in the course's file, and the same folder")
+        raise NoHall(
+            "workers on other machines need PostgreSQL: `database` in the course's file, and the same folder"
+        )
     check_walls(words, hall)
     os.umask(0o077)
     serving.serve(place.at(folder), serving.Options(None, words.workers), words.seconds)
@@ -179,17 +266,21 @@ def work(words: argparse.Namespace, hall: Hall, folder: pathlib.Path) -> int:
 def prepare(hall: Hall, of: HallFolder) -> None:
     """Makes teams, tokens and the teacher's password, where they are not there yet."""
     from arena_lab.hall import keys
+
     keys.sync(hall)
     if keys.draw_missing(of.folder / SHEET):
         print(f"hall: give each team its token out of {of.folder / SHEET}", flush=True)
     if not keys.has_password():
         place.write_whole(of.folder / place.PASSWORD, keys.set_password() + "\n")
-        print(f"hall: log in as teacher by the password in {of.folder / place.PASSWORD}; `hall password` sets another",
-              flush=True)
+        print(
+            f"hall: log in as teacher by the password in {of.folder / place.PASSWORD}; `hall password` sets another",
+            flush=True,
+        )
 
 
 def draw_keys(words: argparse.Namespace, hall: Hall, folder: pathlib.Path) -> int:
     from arena_lab.hall import keys
+
     keys.sync(hall)
     count = keys.draw_missing(folder / SHEET)
     return report(f"{count} tokens were drawn; the sheets are in {folder / SHEET}")
@@ -197,7 +288,12 @@ def draw_keys(words: argparse.Namespace, hall: Hall, folder: pathlib.Path) -> in
 
 def set_password(words: argparse.Namespace, hall: Hall, folder: pathlib.Path) -> int:
     from arena_lab.hall import keys
-    given = getpass.getpass("the teacher's new password (empty: draw one): ") if sys.stdin.isatty() else ""
+
+    given = (
+        getpass.getpass("the teacher's new password (empty: draw one): ")
+        if sys.stdin.isatty()
+        else ""
+    )
     if given and len(given) < 10:
         raise NoHall("a password has at least 10 characters")
     drawn = keys.set_password(given)
@@ -211,13 +307,18 @@ def set_password(words: argparse.Namespace, hall: Hall, folder: pathlib.Path) ->
 def moment_of(word: str) -> Any:
     """A time that is named, of today or whole."""
     from django.utils import timezone
+
     try:
         if len(word) <= 5:
             hours, minutes = map(int, word.split(":"))
-            return timezone.localtime().replace(hour=hours, minute=minutes, second=0, microsecond=0)
+            return timezone.localtime().replace(
+                hour=hours, minute=minutes, second=0, microsecond=0
+            )
         return timezone.make_aware(datetime.datetime.fromisoformat(word))
     except ValueError:
-        raise NoHall(f"{word}: write a time as 18:00, or as \"2026-12-18 18:00\"") from None
+        raise NoHall(
+            f'{word}: write a time as 18:00, or as "2026-12-18 18:00"'
+        ) from None
 
 
 def plan_contest(words: argparse.Namespace, hall: Hall, folder: pathlib.Path) -> int:
@@ -225,21 +326,33 @@ def plan_contest(words: argparse.Namespace, hall: Hall, folder: pathlib.Path) ->
     from django.utils import timezone
 
     from arena_lab.hall.handins.models import Contest
+
     if hall.hand_ins is None:
-        raise NoHall("a contest is of programs that are handed in: write [hand_ins] into the course's file")
+        raise NoHall(
+            "a contest is of programs that are handed in: write [hand_ins] into the course's file"
+        )
     start = moment_of(words.start) if words.start else timezone.localtime()
-    made = Contest(name=words.name, networks=words.networks, start=start, end=start + datetime.timedelta(
-        minutes=words.minutes), freeze=moment_of(words.freeze) if words.freeze else None)
+    made = Contest(
+        name=words.name,
+        networks=words.networks,
+        start=start,
+        end=start + datetime.timedelta(minutes=words.minutes),
+        freeze=moment_of(words.freeze) if words.freeze else None,
+    )
     try:
         made.full_clean()
     except ValidationError as fault:
         raise NoHall("; ".join(fault.messages)) from None
     made.save()
     frozen = f", frozen from {made.freeze:%H:%M}" if made.freeze else ""
-    return report(f"contest {made.pk}, {made}: from {made.start:%Y-%m-%d %H:%M} to {made.end:%H:%M}{frozen}, by the "
-                  f"clock of {hall.zone}")
+    return report(
+        f"contest {made.pk}, {made}: from {made.start:%Y-%m-%d %H:%M} to {made.end:%H:%M}{frozen}, by the "
+        f"clock of {hall.zone}"
+    )
 
 
 DONE: Dict[str, Callable[[argparse.Namespace, Hall, pathlib.Path], int]] = {
-    "keys": draw_keys, "password": set_password, "contest": plan_contest,
+    "keys": draw_keys,
+    "password": set_password,
+    "contest": plan_contest,
 }

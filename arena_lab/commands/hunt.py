@@ -18,10 +18,26 @@ import argparse
 import pathlib
 from typing import Optional
 
-from arena_lab.commands.words import add_engine, add_match, add_repeat, at_least_one, game_of, program_of
+from arena_lab.commands.words import (
+    add_engine,
+    add_match,
+    add_repeat,
+    at_least_one,
+    game_of,
+    program_of,
+)
 from arena_lab.play import kept_matches
 from arena_lab.play.repeating import SAYS_OTHERWISE
-from arena_lab.search.hunt import FAILURE, LOST, MOVES, RUNS, Hunt, Hunter, Trial, hunted
+from arena_lab.search.hunt import (
+    FAILURE,
+    LOST,
+    MOVES,
+    RUNS,
+    Hunt,
+    Hunter,
+    Trial,
+    hunted,
+)
 from arena_lab.support.progress import bar
 
 FOLDER = kept_matches.FOLDER
@@ -31,24 +47,55 @@ DATABASE = pathlib.Path("out/hunted")
 def add_words(parser: argparse.ArgumentParser) -> None:
     """The words of the command `hunt`."""
     add_match(parser)
-    parser.add_argument("--objective", dest="looked_for", choices=(FAILURE, MOVES, LOST), default=FAILURE,
-                        help="look for a team that fails, or for the most moves or lost agents (failure)")
-    parser.add_argument("--any-home", action="store_true", help="draw the home base too")
-    parser.add_argument("--runs", metavar="N", type=at_least_one, default=RUNS,
-                        help=f"how many schedules to try ({RUNS})")
-    parser.add_argument("--seed", metavar="S", type=int, default=0, help="the search's seed (0)")
-    parser.add_argument("--database", metavar="FOLDER", type=pathlib.Path, default=DATABASE, help="where earlier finds "
-                        f"are kept, which are tried first ({DATABASE})")
+    parser.add_argument(
+        "--objective",
+        dest="looked_for",
+        choices=(FAILURE, MOVES, LOST),
+        default=FAILURE,
+        help="look for a team that fails, or for the most moves or lost agents (failure)",
+    )
+    parser.add_argument(
+        "--any-home", action="store_true", help="draw the home base too"
+    )
+    parser.add_argument(
+        "--runs",
+        metavar="N",
+        type=at_least_one,
+        default=RUNS,
+        help=f"how many schedules to try ({RUNS})",
+    )
+    parser.add_argument(
+        "--seed", metavar="S", type=int, default=0, help="the search's seed (0)"
+    )
+    parser.add_argument(
+        "--database",
+        metavar="FOLDER",
+        type=pathlib.Path,
+        default=DATABASE,
+        help="where earlier finds " f"are kept, which are tried first ({DATABASE})",
+    )
     add_repeat(parser)
-    parser.add_argument("--keep", metavar="FOLDER", type=pathlib.Path, default=FOLDER, help="write what is found there "
-                        f"({FOLDER})")
+    parser.add_argument(
+        "--keep",
+        metavar="FOLDER",
+        type=pathlib.Path,
+        default=FOLDER,
+        help="write what is found there " f"({FOLDER})",
+    )
     add_engine(parser)
 
 
 def run(words: argparse.Namespace) -> int:
     program = program_of(words)
-    asked = Hunt(game_of(words), words.looked_for, words.any_home, words.runs, words.seed, words.database,
-                 words.repeat)
+    asked = Hunt(
+        game_of(words),
+        words.looked_for,
+        words.any_home,
+        words.runs,
+        words.seed,
+        words.database,
+        words.repeat,
+    )
     with bar(words.runs, "schedule") as shown:
         hunter = Hunter(asked, shown)
         hunted(hunter)
@@ -60,15 +107,22 @@ def run(words: argparse.Namespace) -> int:
     return report_hunt(hunter, hunter.best, words.keep, program)
 
 
-def report_hunt(hunter: Hunter, best: Trial, keep: pathlib.Path, program: Optional[str]) -> int:
+def report_hunt(
+    hunter: Hunter, best: Trial, keep: pathlib.Path, program: Optional[str]
+) -> int:
     """Says what was found, and keeps it."""
     looked_for, setup = hunter.asked.looked_for, best.fixture.setup
-    said = (f"the team fails, first under number {hunter.failed_at}" if best.has_failed else
-            "the team solved its network under each")
+    said = (
+        f"the team fails, first under number {hunter.failed_at}"
+        if best.has_failed
+        else "the team solved its network under each"
+    )
     print(f"{hunter.tried} schedules were tried: {said}")
     if best.has_failed or looked_for != FAILURE:
-        print(f"{'it comes to' if best.has_failed else 'the most ' + looked_for}: home {setup.home} holes "
-              f"{setup.holes}, {best.played.verdict()}")
+        print(
+            f"{'it comes to' if best.has_failed else 'the most ' + looked_for}: home {setup.home} holes "
+            f"{setup.holes}, {best.played.verdict()}"
+        )
         for fault in best.played.faults:
             if SAYS_OTHERWISE in fault:
                 print(fault)

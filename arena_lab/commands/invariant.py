@@ -49,13 +49,26 @@ REACHED_ALONE = "pictures that no schedule reaches were not tried"
 
 def add_words(parser: argparse.ArgumentParser) -> None:
     """The words of the command `invariant`."""
-    parser.add_argument("candidate", metavar="CANDIDATE.py", help="the file with the candidate")
+    parser.add_argument(
+        "candidate", metavar="CANDIDATE.py", help="the file with the candidate"
+    )
     add_match(parser, several=True)
-    parser.add_argument("--max-states", dest="states", metavar="N", type=at_least_one, default=MOST_STATES,
-                        help=f"the most pictures of a match to try ({MOST_STATES})")
-    parser.add_argument("--keep", metavar="FOLDER", type=pathlib.Path, default=kept_matches.FOLDER,
-                        help="write the schedule to the first picture at which the candidate is wrong there "
-                        f"({kept_matches.FOLDER})")
+    parser.add_argument(
+        "--max-states",
+        dest="states",
+        metavar="N",
+        type=at_least_one,
+        default=MOST_STATES,
+        help=f"the most pictures of a match to try ({MOST_STATES})",
+    )
+    parser.add_argument(
+        "--keep",
+        metavar="FOLDER",
+        type=pathlib.Path,
+        default=kept_matches.FOLDER,
+        help="write the schedule to the first picture at which the candidate is wrong there "
+        f"({kept_matches.FOLDER})",
+    )
 
 
 def run(words: argparse.Namespace) -> int:
@@ -69,10 +82,14 @@ def run(words: argparse.Namespace) -> int:
                 report_breach(game, found, found.walk.breach, words.keep)
                 return 1
             if not found.is_whole:
-                print("stopped before all pictures were tried; the candidate held at those that were")
+                print(
+                    "stopped before all pictures were tried; the candidate held at those that were"
+                )
                 return 130
             count, matches = count + found.walk.states(), matches + 1
-    print(f"the candidate holds at all {count} pictures of {counted(matches, 'match', 'matches')}; {REACHED_ALONE}")
+    print(
+        f"the candidate holds at all {count} pictures of {counted(matches, 'match', 'matches')}; {REACHED_ALONE}"
+    )
     return 0
 
 
@@ -93,7 +110,9 @@ def line_of(game: Game, found: Walked) -> str:
     said = f"holds, most moves {walk.most_moves}"
     if walk.breach is not None:
         turns = len(walk.breach.choices)
-        said = (f"after {counted(turns, 'turn', 'turns')}: " if turns else "at the start: ") + walk.breach.why
+        said = (
+            f"after {counted(turns, 'turn', 'turns')}: " if turns else "at the start: "
+        ) + walk.breach.why
     elif not found.is_whole:
         said = "stopped"
     pictures = counted(walk.states(), "picture", "pictures")
@@ -104,7 +123,9 @@ def counted(count: int, one: str, more: str) -> str:
     return f"{count} {one if count == 1 else more}"
 
 
-def report_breach(game: Game, found: Walked, breach: Breach, keep: pathlib.Path) -> None:
+def report_breach(
+    game: Game, found: Walked, breach: Breach, keep: pathlib.Path
+) -> None:
     """Prints the schedule to a picture at which a candidate is wrong, and the picture; keeps the schedule."""
     for choice in breach.choices:
         print(f"{choice.do} {choice.agent}")
@@ -115,10 +136,20 @@ def report_breach(game: Game, found: Walked, breach: Breach, keep: pathlib.Path)
 def configuration_text(breach: Breach) -> List[str]:
     """A picture in words: a line for each agent, for each whiteboard that shows something, and for the rest."""
     picture = breach.picture
-    lines = [f"agent {agent} {place_in_words(picture, agent)}, {it}" for agent, it in enumerate(breach.next)]
-    lines += [f"the whiteboard of node {node} shows {text!r}" for node, text in enumerate(picture.shown) if text]
+    lines = [
+        f"agent {agent} {place_in_words(picture, agent)}, {it}"
+        for agent, it in enumerate(breach.next)
+    ]
+    lines += [
+        f"the whiteboard of node {node} shows {text!r}"
+        for node, text in enumerate(picture.shown)
+        if text
+    ]
     reached = ", ".join(map(str, sorted(picture.reached))) or "none"
-    return [*lines, f"nodes at which an agent has arrived: {reached}; moves {picture.moves}"]
+    return [
+        *lines,
+        f"nodes at which an agent has arrived: {reached}; moves {picture.moves}",
+    ]
 
 
 def place_in_words(picture: Configuration, agent: int) -> str:
@@ -128,7 +159,11 @@ def place_in_words(picture: Configuration, agent: int) -> str:
         return "has not entered"
     used = f"has used {counted(picture.used[agent], 'command', 'commands')}"
     if isinstance(position, After):
-        return f"has left, {used}" if accused is None else f"has accused port {accused[1]} of node {accused[0]}, {used}"
+        return (
+            f"has left, {used}"
+            if accused is None
+            else f"has accused port {accused[1]} of node {accused[0]}, {used}"
+        )
     if isinstance(position, At):
         came = "" if position.came is None else f", came by port {position.came}"
         return f"is at node {position.node}{came}, {used}"

@@ -18,8 +18,12 @@ from arena_lab.rules.networks import Network, NoNetwork
 
 def add_ports(parser: argparse.ArgumentParser) -> None:
     """The option that numbers ports."""
-    parser.add_argument("--ports", metavar="shuffled:SEED", type=ports_seed, help="number the ports of each node anew, "
-                        "by this seed")
+    parser.add_argument(
+        "--ports",
+        metavar="shuffled:SEED",
+        type=ports_seed,
+        help="number the ports of each node anew, " "by this seed",
+    )
 
 
 def ports_seed(word: str) -> int:
@@ -41,15 +45,27 @@ def add_words(parser: argparse.ArgumentParser) -> None:
     group = parser.add_argument_group("the network", networks.__doc__)
     group.add_argument("network", metavar="NAME", help="the network")
     add_ports(parser)
-    parser.add_argument("--out", metavar="FILE", type=pathlib.Path, help="write it there, and not to standard output")
-    parser.add_argument("--page", metavar="FILE", type=pathlib.Path, help="write a page there on which one sees nodes "
-                        "and ports, and no network file but by --out")
+    parser.add_argument(
+        "--out",
+        metavar="FILE",
+        type=pathlib.Path,
+        help="write it there, and not to standard output",
+    )
+    parser.add_argument(
+        "--page",
+        metavar="FILE",
+        type=pathlib.Path,
+        help="write a page there on which one sees nodes "
+        "and ports, and no network file but by --out",
+    )
 
 
 def run(words: argparse.Namespace) -> int:
     network = network_for(words.network, words)
     if words.page is not None:
-        words.page.write_text(network_page.page_of(network, words.network), encoding="utf-8")
+        words.page.write_text(
+            network_page.page_of(network, words.network), encoding="utf-8"
+        )
         print(f"see it: {words.page}")
     if words.page is None or words.out is not None:
         return write_file(network, words)
@@ -63,8 +79,12 @@ def write_file(network: Network, words: argparse.Namespace) -> int:
         sys.stdout.write(text)
         return 0
     if words.out.exists():
-        raise NoNetwork(f"{words.out}: there is such a file; remove it, or name another by --out")
+        raise NoNetwork(
+            f"{words.out}: there is such a file; remove it, or name another by --out"
+        )
     words.out.write_text(text, encoding="utf-8")
     degrees = network.degrees()
-    print(f"{words.out}: {network.nodes} nodes, {len(network.links)} links, degrees {min(degrees)} to {max(degrees)}")
+    print(
+        f"{words.out}: {network.nodes} nodes, {len(network.links)} links, degrees {min(degrees)} to {max(degrees)}"
+    )
     return 0

@@ -21,9 +21,19 @@ from arena_lab.support.built import TOP
 
 def add_words(parser: argparse.ArgumentParser) -> None:
     """The words of the command `new`."""
-    languages = ", ".join(f"{it} ({kit.name})" if it != kit.name.lower() else it for it, kit in KITS.items())
-    parser.add_argument("language", metavar="LANGUAGE", choices=KITS, help=f"one of {languages}")
-    parser.add_argument("folder", metavar="FOLDER", type=pathlib.Path, help="a folder that is not there yet")
+    languages = ", ".join(
+        f"{it} ({kit.name})" if it != kit.name.lower() else it
+        for it, kit in KITS.items()
+    )
+    parser.add_argument(
+        "language", metavar="LANGUAGE", choices=KITS, help=f"one of {languages}"
+    )
+    parser.add_argument(
+        "folder",
+        metavar="FOLDER",
+        type=pathlib.Path,
+        help="a folder that is not there yet",
+    )
 
 
 def run(words: argparse.Namespace) -> int:
@@ -36,7 +46,15 @@ def run(words: argparse.Namespace) -> int:
 
 def next_commands(kit: Kit) -> List[str]:
     """The commands by which a kit is built, tested and played on a ring of eight nodes, in its folder."""
-    called = shlex.quote(str(TOP / "arena-lab")) if arena_lab.called() == arena_lab.IN_CLONE else arena_lab.INSTALLED
+    called = (
+        shlex.quote(str(TOP / "arena-lab"))
+        if arena_lab.called() == arena_lab.IN_CLONE
+        else arena_lab.INSTALLED
+    )
     words = f'--network ring:8 --command "{played(kit)}"'
-    explore = f"{called} explore {words}".replace("--command", "--agent") if kit.is_module else ""
+    explore = (
+        f"{called} explore {words}".replace("--command", "--agent")
+        if kit.is_module
+        else ""
+    )
     return list(filter(None, (kit.build, kit.test, f"{called} run {words}", explore)))

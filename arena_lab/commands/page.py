@@ -27,27 +27,67 @@ from arena_lab.pages.page import write_page
 
 def add_words(parser: argparse.ArgumentParser) -> None:
     """The words of the command `page`."""
-    parser.add_argument("file", metavar="REPLAY", type=pathlib.Path, help="a replay, as the arena writes it; or, "
-                        "before a PREFIX, the tournament's file that was served")
-    parser.add_argument("prefix", metavar="PREFIX", nargs="?", help="what --replay of the server named: the replay of "
-                        "match M is PREFIXM.jsonl")
-    parser.add_argument("--out", metavar="PAGE", type=pathlib.Path, help="write the page there, or the pages of a "
-                        "contest into this folder")
-    parser.add_argument("--twin", metavar="V", type=int, help="show the twin whose black hole is node V beside it")
-    parser.add_argument("--again", metavar="FOLDER", type=pathlib.Path, action="append", default=[], help="another try "
-                        "of a match, and more by more of these, in the order in which they were played")
-    parser.add_argument("--take", choices=(BETTER, LAST), default=BETTER, help="which of the tries counts (better)")
+    parser.add_argument(
+        "file",
+        metavar="REPLAY",
+        type=pathlib.Path,
+        help="a replay, as the arena writes it; or, "
+        "before a PREFIX, the tournament's file that was served",
+    )
+    parser.add_argument(
+        "prefix",
+        metavar="PREFIX",
+        nargs="?",
+        help="what --replay of the server named: the replay of "
+        "match M is PREFIXM.jsonl",
+    )
+    parser.add_argument(
+        "--out",
+        metavar="PAGE",
+        type=pathlib.Path,
+        help="write the page there, or the pages of a " "contest into this folder",
+    )
+    parser.add_argument(
+        "--twin",
+        metavar="V",
+        type=int,
+        help="show the twin whose black hole is node V beside it",
+    )
+    parser.add_argument(
+        "--again",
+        metavar="FOLDER",
+        type=pathlib.Path,
+        action="append",
+        default=[],
+        help="another try "
+        "of a match, and more by more of these, in the order in which they were played",
+    )
+    parser.add_argument(
+        "--take",
+        choices=(BETTER, LAST),
+        default=BETTER,
+        help="which of the tries counts (better)",
+    )
     add_engine(parser)
 
 
 def run(words: argparse.Namespace) -> int:
     if words.prefix is None:
         if words.again:
-            words.refuse("--again is for a contest: name its TOURNAMENT and the PREFIX of its replays")
-        write_page(program_of(words), words.file, words.out or words.file.with_suffix(".html"), words.twin)
+            words.refuse(
+                "--again is for a contest: name its TOURNAMENT and the PREFIX of its replays"
+            )
+        write_page(
+            program_of(words),
+            words.file,
+            words.out or words.file.with_suffix(".html"),
+            words.twin,
+        )
         return 0
     if not words.out or words.twin is not None:
-        words.refuse("the pages of a contest need a folder, by --out FOLDER, and have no --twin")
+        words.refuse(
+            "the pages of a contest need a folder, by --out FOLDER, and have no --twin"
+        )
     tries = Tries(words.again, words.take)
     print(write_pages(program_of(words), words.file, words.prefix, words.out, tries))
     return 0

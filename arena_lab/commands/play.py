@@ -26,7 +26,15 @@ from typing import Callable, Dict, List, Optional, Sequence
 from arena_lab.commands.words import at_least_one, not_negative
 from arena_lab.pages.page import write_page
 from arena_lab.pages.person import serve
-from arena_lab.play.human import AT_A_NODE, ENDED, MATCH_OVER, ON_A_LINK, OUTSIDE, HumanMatch, trails
+from arena_lab.play.human import (
+    AT_A_NODE,
+    ENDED,
+    MATCH_OVER,
+    ON_A_LINK,
+    OUTSIDE,
+    HumanMatch,
+    trails,
+)
 from arena_lab.rules import networks
 from arena_lab.rules.fixtures import fixture_of
 from arena_lab.rules.model import Object, Setup
@@ -42,28 +50,69 @@ HELP = """  enter             enter the match at the home base
   wait              let time pass: somebody on a link may arrive
   end               end the match, and show all of it"""
 ARRIVE = "  arrive N          for the second person: let agent N arrive"
-PLACES = {OUTSIDE: "has not entered yet", ON_A_LINK: "is on a link; nothing is heard of it", ENDED: "has ended",
-          MATCH_OVER: "was told that the match is over"}
+PLACES = {
+    OUTSIDE: "has not entered yet",
+    ON_A_LINK: "is on a link; nothing is heard of it",
+    ENDED: "has ended",
+    MATCH_OVER: "was told that the match is over",
+}
 
 
 def add_words(parser: argparse.ArgumentParser) -> None:
     """The words of the command `play`."""
-    parser.add_argument("--network", default="ring:6",
-                        help="the network (ring:6); `./arena-lab network --help` names them")
-    parser.add_argument("--agents", metavar="N", type=at_least_one, default=2, help="how many agents (2)")
-    parser.add_argument("--hole", metavar="V", type=not_negative, help="the black hole; by default it is drawn")
-    parser.add_argument("--seed", metavar="S", type=not_negative, help="draw by this seed, to play the same again")
-    parser.add_argument("--riddle", action="store_true", help="draw whether there is a black hole, or a node at which "
-                        "nobody arrives")
-    parser.add_argument("--second-person", action="store_true", help="another person says who arrives")
+    parser.add_argument(
+        "--network",
+        default="ring:6",
+        help="the network (ring:6); `./arena-lab network --help` names them",
+    )
+    parser.add_argument(
+        "--agents",
+        metavar="N",
+        type=at_least_one,
+        default=2,
+        help="how many agents (2)",
+    )
+    parser.add_argument(
+        "--hole",
+        metavar="V",
+        type=not_negative,
+        help="the black hole; by default it is drawn",
+    )
+    parser.add_argument(
+        "--seed",
+        metavar="S",
+        type=not_negative,
+        help="draw by this seed, to play the same again",
+    )
+    parser.add_argument(
+        "--riddle",
+        action="store_true",
+        help="draw whether there is a black hole, or a node at which " "nobody arrives",
+    )
+    parser.add_argument(
+        "--second-person", action="store_true", help="another person says who arrives"
+    )
     parser.add_argument("--page", action="store_true", help="play in a browser")
-    parser.add_argument("--port", metavar="N", type=at_least_one, default=8081, help="the port of the page (8081)")
-    parser.add_argument("--keep", metavar="FOLDER", type=pathlib.Path, help="write the replay and a page there")
+    parser.add_argument(
+        "--port",
+        metavar="N",
+        type=at_least_one,
+        default=8081,
+        help="the port of the page (8081)",
+    )
+    parser.add_argument(
+        "--keep",
+        metavar="FOLDER",
+        type=pathlib.Path,
+        help="write the replay and a page there",
+    )
 
 
 def run(words: argparse.Namespace) -> int:
     if words.page and words.second_person:
-        raise Fault("a second person plays in the terminal: leave out --page or --second-person")
+        raise Fault(
+            "a second person plays in the terminal: leave out --page or --second-person"
+        )
     match = match_of(words)
     if words.page:
         serve(match, words.network, words.port)
@@ -82,7 +131,15 @@ def match_of(words: argparse.Namespace) -> HumanMatch:
     network = networks.biconnected(words.network)
     hole = words.hole if words.hole is not None else chance.randrange(1, network.nodes)
     is_slow = words.riddle and chance.random() < 0.5
-    setup = Setup(network.nodes, network.links, 0, [] if is_slow else [hole], words.agents, 1000, 64)
+    setup = Setup(
+        network.nodes,
+        network.links,
+        0,
+        [] if is_slow else [hole],
+        words.agents,
+        1000,
+        64,
+    )
     fixture = fixture_of(setup)
     if is_slow:
         fixture = fixture._replace(held=networks.places_into(network.links, [hole]))
@@ -141,7 +198,9 @@ def command_in(match: HumanMatch, now: int, line: List[str]) -> Optional[Object]
     if word.isdecimal():
         return {"do": "depart", "port": int(word)}
     plain: Dict[str, Callable[[], Object]] = {
-        "enter": lambda: {"do": "enter"}, "look": lambda: {"do": "look"}, "leave": lambda: {"do": "leave"},
+        "enter": lambda: {"do": "enter"},
+        "look": lambda: {"do": "look"},
+        "leave": lambda: {"do": "leave"},
         "write": lambda: {"do": "write", "expect": match.seen[now].board, "put": rest},
     }
     if word == "accuse" and rest.isdecimal():
@@ -155,25 +214,35 @@ def sight(match: HumanMatch, now: int) -> str:
     if seen.standing != AT_A_NODE:
         return f"\nAgent {now} {PLACES[seen.standing]}."
     came = "it came by none" if seen.came is None else f"it came by port {seen.came}"
-    board = f"the whiteboard says: {seen.board}" if seen.board else "the whiteboard is empty"
-    return f"\nAgent {now} is at a node with ports 0 to {seen.ports - 1}; {came}; {board}"
+    board = (
+        f"the whiteboard says: {seen.board}"
+        if seen.board
+        else "the whiteboard is empty"
+    )
+    return (
+        f"\nAgent {now} is at a node with ports 0 to {seen.ports - 1}; {came}; {board}"
+    )
 
 
 def end_of(match: HumanMatch) -> List[str]:
     """Ends the match, and says all of it."""
     found, setup, far = match.end(), match.fixture.setup, match.match.far
-    lines = ["", f"The match is over: {found}",
-             f"The home base is node {setup.home}."]
+    lines = ["", f"The match is over: {found}", f"The home base is node {setup.home}."]
     if setup.holes:
         lines.append(f"The black hole is node {setup.holes[0]}.")
     for node in sorted({far[node][port][0] for node, port in match.fixture.held}):
         lines.append(f"There is no black hole: nobody arrives at node {node}.")
     for node in range(setup.nodes):
-        ends = ", ".join(f"{port} to node {end}" for port, (end, _) in sorted(far[node].items()))
+        ends = ", ".join(
+            f"{port} to node {end}" for port, (end, _) in sorted(far[node].items())
+        )
         lines.append(f"  node {node}: ports {ends}")
     for agent, (trail, is_lost) in enumerate(trails(match.match)):
         went = ", ".join(map(str, trail)) or "nowhere"
-        lines.append(f"  agent {agent} was at nodes {went}" + (", and was destroyed" if is_lost else ""))
+        lines.append(
+            f"  agent {agent} was at nodes {went}"
+            + (", and was destroyed" if is_lost else "")
+        )
     return lines
 
 

@@ -35,7 +35,14 @@ import re
 import sys
 from typing import Counter, Iterable, List, Optional, TextIO, Tuple
 
-from arena_lab.commands.words import add_engine, add_match, add_repeat, at_least_one, game_of, program_of
+from arena_lab.commands.words import (
+    add_engine,
+    add_match,
+    add_repeat,
+    at_least_one,
+    game_of,
+    program_of,
+)
 from arena_lab.play import games
 from arena_lab.play.games import Asked, Row
 
@@ -69,23 +76,53 @@ def seeds(word: str) -> range:
     """Seeds in words: `A:B` for those from A up to B, without B."""
     found = re.fullmatch(r"(-?\d+):(-?\d+)", word)
     if not found or int(found[1]) >= int(found[2]):
-        raise argparse.ArgumentTypeError(f"{word} names no seeds: write A:B for those from A up to B, without B")
+        raise argparse.ArgumentTypeError(
+            f"{word} names no seeds: write A:B for those from A up to B, without B"
+        )
     return range(int(found[1]), int(found[2]))
 
 
 def add_words(parser: argparse.ArgumentParser) -> None:
     """The words of the command `run`."""
     add_match(parser)
-    parser.add_argument("--scheduler", metavar="NAME", default="fair", help="who chooses what happens next (fair)")
-    parser.add_argument("--seed", metavar="S", type=int, default=0, help="the first seed (0)")
-    parser.add_argument("--runs", metavar="N", type=at_least_one, default=1, help="how many seeds (1)")
-    parser.add_argument("--seeds", metavar="A:B", type=seeds, help="the seeds from A up to B, without B, instead of "
-                        "--seed and --runs")
-    parser.add_argument("--workers", metavar="N", type=at_least_one, default=1, help="how many processes play (1)")
-    parser.add_argument("--json", action="store_true", help="print each match as a line of JSON, and what they came to "
-                        "on standard error")
+    parser.add_argument(
+        "--scheduler",
+        metavar="NAME",
+        default="fair",
+        help="who chooses what happens next (fair)",
+    )
+    parser.add_argument(
+        "--seed", metavar="S", type=int, default=0, help="the first seed (0)"
+    )
+    parser.add_argument(
+        "--runs", metavar="N", type=at_least_one, default=1, help="how many seeds (1)"
+    )
+    parser.add_argument(
+        "--seeds",
+        metavar="A:B",
+        type=seeds,
+        help="the seeds from A up to B, without B, instead of " "--seed and --runs",
+    )
+    parser.add_argument(
+        "--workers",
+        metavar="N",
+        type=at_least_one,
+        default=1,
+        help="how many processes play (1)",
+    )
+    parser.add_argument(
+        "--json",
+        action="store_true",
+        help="print each match as a line of JSON, and what they came to "
+        "on standard error",
+    )
     add_repeat(parser)
-    parser.add_argument("--keep", metavar="FOLDER", type=pathlib.Path, help="write the match that is told there")
+    parser.add_argument(
+        "--keep",
+        metavar="FOLDER",
+        type=pathlib.Path,
+        help="write the match that is told there",
+    )
     add_engine(parser)
 
 
@@ -93,12 +130,23 @@ def run(words: argparse.Namespace) -> int:
     program, game = program_of(words), game_of(words)
     games.maker_of(words.scheduler)
     numbers = words.seeds or range(words.seed, words.seed + words.runs)
-    asked = [Asked(game, words.scheduler, seed, program, words.repeat) for seed in numbers]
-    tally, was_stopped, out, printed = Tally(), False, sys.stderr if words.json else sys.stdout, sys.stdout
+    asked = [
+        Asked(game, words.scheduler, seed, program, words.repeat) for seed in numbers
+    ]
+    tally, was_stopped, out, printed = (
+        Tally(),
+        False,
+        sys.stderr if words.json else sys.stdout,
+        sys.stdout,
+    )
     try:
         # what agents print is no row
         with contextlib.redirect_stdout(out):
-            count(games.rows_of(asked, words.workers), tally, printed if words.json else None)
+            count(
+                games.rows_of(asked, words.workers),
+                tally,
+                printed if words.json else None,
+            )
     except KeyboardInterrupt:
         was_stopped = True
         print("interrupted; this was played:", file=out)
@@ -118,14 +166,23 @@ def count(rows: Iterable[Row], tally: Tally, printed: Optional[TextIO]) -> None:
 
 def report(tally: Tally, best: Row, keep: Optional[pathlib.Path], out: TextIO) -> None:
     """Prints the outcomes of the matches, and the match that is worth most."""
-    counts = ", ".join(f"{outcome} {count}" for outcome, count in tally.outcomes.most_common())
+    counts = ", ".join(
+        f"{outcome} {count}" for outcome, count in tally.outcomes.most_common()
+    )
     played = sum(tally.outcomes.values())
     told = "the shortest that failed" if tally.failed else "the most moves"
     record = best.match()
-    beside = f", of which {tally.beside} solved, but an agent failed" if tally.beside else ""
-    lines: List[str] = [f"{played} schedule{'' if played == 1 else 's'}: {counts}; failed {tally.failed}{beside}",
-                        f"{told}: seed {best['seed']}, home {best['home']}, holes {best['holes']}, "
-                        f"{record.verdict}", *record.told(), *record.faults(), *record.played.refused]
+    beside = (
+        f", of which {tally.beside} solved, but an agent failed" if tally.beside else ""
+    )
+    lines: List[str] = [
+        f"{played} schedule{'' if played == 1 else 's'}: {counts}; failed {tally.failed}{beside}",
+        f"{told}: seed {best['seed']}, home {best['home']}, holes {best['holes']}, "
+        f"{record.verdict}",
+        *record.told(),
+        *record.faults(),
+        *record.played.refused,
+    ]
     print("\n".join(lines), file=out)
     if keep:
         print("\n".join(record.keep(keep)), file=out)

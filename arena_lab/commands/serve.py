@@ -21,24 +21,60 @@ GATHER = 60_000
 def add_words(parser: argparse.ArgumentParser) -> None:
     """The words of the command `serve`."""
     parser.add_argument("tournament", metavar="T", help="the tournament's file")
-    for option, most, about in (("port", 4000, "listen on this port of 127.0.0.1"),
-                                ("sessions", 1024, "serve this many connections"),
-                                ("turns", 100_000, "close each match after this many turns"),
-                                ("pause", round(1000 * PAUSE), "wait this many milliseconds before each turn")):
-        parser.add_argument(f"--{option}", type=int, default=most, help=f"{about} ({most:,})")
-    parser.add_argument("--replay", metavar="P", help="write the replay of each match M to PM.jsonl; by default P is "
-                        "the tournament's name, and the matches gather for 60,000 milliseconds and end early")
-    parser.add_argument("--grace", type=int, default=10_000, metavar="MS",
-                        help="end the sessions at the latest this many milliseconds after the last close (10,000)")
-    parser.add_argument("--gather", type=int, metavar="MS",
-                        help="wait this many milliseconds at most until all agents of a match have entered")
-    parser.add_argument("--early", action="store_true", help="close a match once each agent has ended or is lost")
+    for option, most, about in (
+        ("port", 4000, "listen on this port of 127.0.0.1"),
+        ("sessions", 1024, "serve this many connections"),
+        ("turns", 100_000, "close each match after this many turns"),
+        ("pause", round(1000 * PAUSE), "wait this many milliseconds before each turn"),
+    ):
+        parser.add_argument(
+            f"--{option}", type=int, default=most, help=f"{about} ({most:,})"
+        )
+    parser.add_argument(
+        "--replay",
+        metavar="P",
+        help="write the replay of each match M to PM.jsonl; by default P is "
+        "the tournament's name, and the matches gather for 60,000 milliseconds and end early",
+    )
+    parser.add_argument(
+        "--grace",
+        type=int,
+        default=10_000,
+        metavar="MS",
+        help="end the sessions at the latest this many milliseconds after the last close (10,000)",
+    )
+    parser.add_argument(
+        "--gather",
+        type=int,
+        metavar="MS",
+        help="wait this many milliseconds at most until all agents of a match have entered",
+    )
+    parser.add_argument(
+        "--early",
+        action="store_true",
+        help="close a match once each agent has ended or is lost",
+    )
 
 
 def run(words: argparse.Namespace) -> int:
     is_plain = words.replay is None
     gather = GATHER if is_plain and words.gather is None else words.gather or 0
-    prefix = str(pathlib.Path(words.tournament).with_suffix("").name) if is_plain else words.replay
-    served(words.tournament, words.port, words.sessions, prefix,
-           ServeOptions(words.turns, words.pause / 1000, gather / 1000, words.early or is_plain, words.grace / 1000))
+    prefix = (
+        str(pathlib.Path(words.tournament).with_suffix("").name)
+        if is_plain
+        else words.replay
+    )
+    served(
+        words.tournament,
+        words.port,
+        words.sessions,
+        prefix,
+        ServeOptions(
+            words.turns,
+            words.pause / 1000,
+            gather / 1000,
+            words.early or is_plain,
+            words.grace / 1000,
+        ),
+    )
     return 0

@@ -3,19 +3,36 @@ import argparse
 import sys
 from typing import Any, List
 
-SPELLINGS = {"--by": "--scheduler", "--for": "--objective", "--hunt": "--objective", "--limit": "--timeout",
-             "--naps": "--spurious-wakeups", "--states": "--max-states"}
-COMMANDS = {"pages": ["page"], "again": ["tournament", "--again"], "repeat": ["grade", "--repeat-only"]}
+SPELLINGS = {
+    "--by": "--scheduler",
+    "--for": "--objective",
+    "--hunt": "--objective",
+    "--limit": "--timeout",
+    "--naps": "--spurious-wakeups",
+    "--states": "--max-states",
+}
+COMMANDS = {
+    "pages": ["page"],
+    "again": ["tournament", "--again"],
+    "repeat": ["grade", "--repeat-only"],
+}
 # commands of old that are modules of a clone
-MODULES = {"compare": "tests.integration.compare", "endure": "tests.integration.endure", "mutants": "tests.support.mutants",
-           "speed": "bench.speed"}
+MODULES = {
+    "compare": "tests.integration.compare",
+    "endure": "tests.integration.endure",
+    "mutants": "tests.support.mutants",
+    "speed": "bench.speed",
+}
 
 
 def command_of_today(lab: str, line: List[str]) -> List[str]:
     """A command line with the command of today. If it has an old one, the new one is named on standard error."""
     old = line[0] if line else ""
     if old in MODULES:
-        print(f"{lab}: in a clone, {old} is called /usr/bin/python3 -m {MODULES[old]} now", file=sys.stderr)
+        print(
+            f"{lab}: in a clone, {old} is called /usr/bin/python3 -m {MODULES[old]} now",
+            file=sys.stderr,
+        )
         sys.exit(2)
     if old in COMMANDS:
         print(f"{lab}: {old} is called {' '.join(COMMANDS[old])} now", file=sys.stderr)
@@ -25,9 +42,17 @@ def command_of_today(lab: str, line: List[str]) -> List[str]:
 class OldSpelling(argparse.Action):
     """Does what the option of the new spelling does, and names it on standard error."""
 
-    def __call__(self, parser: argparse.ArgumentParser, namespace: argparse.Namespace, values: Any,
-                 option_string: str | None = None) -> None:
-        print(f"{parser.prog}: {option_string} is called {SPELLINGS[str(option_string)]} now", file=sys.stderr)
+    def __call__(
+        self,
+        parser: argparse.ArgumentParser,
+        namespace: argparse.Namespace,
+        values: Any,
+        option_string: str | None = None,
+    ) -> None:
+        print(
+            f"{parser.prog}: {option_string} is called {SPELLINGS[str(option_string)]} now",
+            file=sys.stderr,
+        )
         setattr(namespace, self.dest, values)
 
 
@@ -37,5 +62,12 @@ def take_old_spellings(parser: argparse.ArgumentParser) -> None:
     for old, new in SPELLINGS.items():
         if new in known and old not in known:
             option = known[new]
-            parser.add_argument(old, action=OldSpelling, dest=option.dest, type=option.type or str,
-                                choices=option.choices, default=argparse.SUPPRESS, help=argparse.SUPPRESS)
+            parser.add_argument(
+                old,
+                action=OldSpelling,
+                dest=option.dest,
+                type=option.type or str,
+                choices=option.choices,
+                default=argparse.SUPPRESS,
+                help=argparse.SUPPRESS,
+            )

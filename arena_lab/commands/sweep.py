@@ -49,14 +49,36 @@ def add_words(parser: argparse.ArgumentParser) -> None:
     """The words of the command `sweep`."""
     group = parser.add_argument_group("the file", grid.__doc__)
     group.add_argument("file", metavar="FILE", type=pathlib.Path, help="the sweep")
-    parser.add_argument("--out", metavar="FOLDER", type=pathlib.Path, required=True, help="write everything there")
-    parser.add_argument("--verify", metavar="N", type=at_least_one, nargs="?", const=verify.ALL, help="write nothing: "
-                        "play N drawn rows of the folder again, or all, and compare")
-    parser.add_argument("--explore", metavar="N", type=at_least_one, help="try every schedule of each match too, up to "
-                        "N states of each, such as 1000000")
+    parser.add_argument(
+        "--out",
+        metavar="FOLDER",
+        type=pathlib.Path,
+        required=True,
+        help="write everything there",
+    )
+    parser.add_argument(
+        "--verify",
+        metavar="N",
+        type=at_least_one,
+        nargs="?",
+        const=verify.ALL,
+        help="write nothing: "
+        "play N drawn rows of the folder again, or all, and compare",
+    )
+    parser.add_argument(
+        "--explore",
+        metavar="N",
+        type=at_least_one,
+        help="try every schedule of each match too, up to "
+        "N states of each, such as 1000000",
+    )
     add_workers(parser)
-    parser.add_argument("--cluster", metavar="ADDRESS", help="let the workers of a Dask scheduler play, such as "
-                        "tcp://192.0.2.7:8786; each needs this folder at the same path")
+    parser.add_argument(
+        "--cluster",
+        metavar="ADDRESS",
+        help="let the workers of a Dask scheduler play, such as "
+        "tcp://192.0.2.7:8786; each needs this folder at the same path",
+    )
     add_engine(parser)
 
 
@@ -68,12 +90,19 @@ def run(words: argparse.Namespace) -> int:
         maker_of(name)
     cases = list(spec.cases())
     made = made_of(spec, text, work.program)
-    wanted = SweepRequest(words.out, Parallelism(words.workers, words.cluster), words.explore)
+    wanted = SweepRequest(
+        words.out, Parallelism(words.workers, words.cluster), words.explore
+    )
     if words.explore and (work.program is None or words.verify is not None):
-        raise Fault("--explore needs the program as the engine: leave --engine model out" if work.program is None else
-                    "--verify plays runs again, and tries no schedules: leave --explore out")
+        raise Fault(
+            "--explore needs the program as the engine: leave --engine model out"
+            if work.program is None
+            else "--verify plays runs again, and tries no schedules: leave --explore out"
+        )
     if words.verify is not None:
         return verified(work, cases, made, wanted, words.verify)
-    keeper = work._replace(program=work.program or (program_at(words.program) if words.program else None))
+    keeper = work._replace(
+        program=work.program or (program_at(words.program) if words.program else None)
+    )
     with alone_in(words.out):
         return swept(work, keeper, cases, prepared(words.out, made), wanted)

@@ -65,36 +65,61 @@ def holes_of(words: argparse.Namespace, name: str, network: Network) -> List[int
     if words.holes == ALL:
         return others
     if words.holes > len(others):
-        raise NoNetwork(f"{name}: only {len(others)} nodes can be the black hole; ask for fewer by --holes")
+        raise NoNetwork(
+            f"{name}: only {len(others)} nodes can be the black hole; ask for fewer by --holes"
+        )
     return sorted(secrets.SystemRandom().sample(others, words.holes))
 
 
 def check_words(words: argparse.Namespace) -> None:
     """Refuses teams of one name, and delays that no tournament may have."""
     if len(set(words.team)) < len(words.team):
-        raise NoNetwork("two teams have the same name: name each by a --team of its own")
+        raise NoNetwork(
+            "two teams have the same name: name each by a --team of its own"
+        )
     if not 0 <= words.delay_scales <= MOST_SCALES:
-        raise NoNetwork(f"delays have 0 to {MOST_SCALES} scales, and not {words.delay_scales}: name another number by "
-                        "--delay-scales")
+        raise NoNetwork(
+            f"delays have 0 to {MOST_SCALES} scales, and not {words.delay_scales}: name another number by "
+            "--delay-scales"
+        )
     least = max(1, words.delay_scales)
     if not least <= words.delay_odds <= MOST_ODDS:
-        raise NoNetwork(f"with {words.delay_scales} scales --delay-odds is from {least} to {MOST_ODDS}, and not "
-                        f"{words.delay_odds}")
+        raise NoNetwork(
+            f"with {words.delay_scales} scales --delay-odds is from {least} to {MOST_ODDS}, and not "
+            f"{words.delay_odds}"
+        )
 
 
 def entries_of(words: argparse.Namespace) -> List[TournamentMatch]:
     """The matches, network by network, hole by hole and team by team; with traps among them, in an order that is
     drawn."""
-    places = [place for number, name in enumerate(words.network) for place in places_on(words, number, name)]
+    places = [
+        place
+        for number, name in enumerate(words.network)
+        for place in places_on(words, number, name)
+    ]
     if words.traps:
         chance = secrets.SystemRandom()
-        places += [trap_on(words, *chance.choice(list(enumerate(words.network)))) for _ in range(words.traps)]
+        places += [
+            trap_on(words, *chance.choice(list(enumerate(words.network))))
+            for _ in range(words.traps)
+        ]
         chance.shuffle(places)
-    found = [TournamentMatch(Fixture(team, it.setup, [key_of(team) for _ in range(it.setup.agents)], it.held), it.file)
-             for it in places for team in words.team]
+    found = [
+        TournamentMatch(
+            Fixture(
+                team, it.setup, [key_of(team) for _ in range(it.setup.agents)], it.held
+            ),
+            it.file,
+        )
+        for it in places
+        for team in words.team
+    ]
     if len(found) > MOST_MATCHES:
-        raise NoNetwork(f"a tournament has at most {MOST_MATCHES} matches, and this would have {len(found)}: name "
-                        "fewer teams, networks, black holes or traps")
+        raise NoNetwork(
+            f"a tournament has at most {MOST_MATCHES} matches, and this would have {len(found)}: name "
+            "fewer teams, networks, black holes or traps"
+        )
     return found
 
 
@@ -108,32 +133,56 @@ class Planned(NamedTuple):
 
 def trap_on(words: argparse.Namespace, number: int, name: str) -> Planned:
     """A match without a black hole. Nobody arrives at two nodes that are drawn: if it were one, it would be the last
-    that is left to a team which has visited all others, and every team would accuse it."""
+    that is left to a team which has visited all others, and every team would accuse it.
+    """
     place = places_on(words, number, name)[0]
     setup = place.setup
-    nodes = secrets.SystemRandom().sample([it for it in range(setup.nodes) if it != setup.home], 2)
-    return place._replace(setup=setup._replace(holes=[]), held=networks.places_into(setup.links, nodes))
+    nodes = secrets.SystemRandom().sample(
+        [it for it in range(setup.nodes) if it != setup.home], 2
+    )
+    return place._replace(
+        setup=setup._replace(holes=[]), held=networks.places_into(setup.links, nodes)
+    )
 
 
 def file_of(names: Sequence[str], number: int) -> str:
     """The file of a network, which is called by its name, as pages and tables call it."""
-    called = [re.sub(r"\W+", "-", pathlib.PurePath(name).name.removesuffix(".toml")).strip("-") for name in names]
+    called = [
+        re.sub(r"\W+", "-", pathlib.PurePath(name).name.removesuffix(".toml")).strip(
+            "-"
+        )
+        for name in names
+    ]
     are_names = len({*called, "", pathlib.PurePath(TOURNAMENT).stem}) == len(called) + 2
-    return f"{called[number]}.toml" if are_names else f"{called[number] or 'network'}-{number}.toml"
+    return (
+        f"{called[number]}.toml"
+        if are_names
+        else f"{called[number] or 'network'}-{number}.toml"
+    )
 
 
 def places_on(words: argparse.Namespace, number: int, name: str) -> List[Planned]:
     """The matches on a network, hole by hole."""
     network = network_for(name, words)
     if not 0 <= words.home < network.nodes:
-        raise NoNetwork(f"{name}: it has no node {words.home} for a home base; name another by --home")
+        raise NoNetwork(
+            f"{name}: it has no node {words.home} for a home base; name another by --home"
+        )
     agents = max(network.degrees()) + 1 if words.agents == DEGREE else words.agents
     if not 1 <= agents <= MOST_AGENTS:
-        raise NoNetwork(f"{name}: a match has 1 to {MOST_AGENTS} agents, and not {agents}; name another number by "
-                        "--agents")
-    setup = Setup(network.nodes, network.links, words.home, [], agents, words.quota, words.board)
-    return [Planned(checked(setup._replace(holes=[hole])), [], file_of(words.network, number))
-            for hole in holes_of(words, name, network)]
+        raise NoNetwork(
+            f"{name}: a match has 1 to {MOST_AGENTS} agents, and not {agents}; name another number by "
+            "--agents"
+        )
+    setup = Setup(
+        network.nodes, network.links, words.home, [], agents, words.quota, words.board
+    )
+    return [
+        Planned(
+            checked(setup._replace(holes=[hole])), [], file_of(words.network, number)
+        )
+        for hole in holes_of(words, name, network)
+    ]
 
 
 def key_of(team: str) -> str:
@@ -143,74 +192,168 @@ def key_of(team: str) -> str:
 
 def sheet_of(team: str, entries: Sequence[TournamentMatch]) -> str:
     """What a team is told of its matches."""
-    lines = [f"Keys of team {team}. Who knows a key can play its agent: show them to nobody.", ""]
+    lines = [
+        f"Keys of team {team}. Who knows a key can play its agent: show them to nobody.",
+        "",
+    ]
     for number, entry in enumerate(entries):
         setup = entry.fixture.setup
         if entry.fixture.team != team:
             continue
-        lines += [f"match {number}: {setup.nodes} nodes, {len(setup.links)} links, {setup.agents} agents, each with "
-                  f"{setup.quota} commands; whiteboards of {setup.board} bytes",
-                  f"    {entry.file}, home base {setup.home}",
-                  *(f"    {key}" for key in entry.fixture.keys), ""]
+        lines += [
+            f"match {number}: {setup.nodes} nodes, {len(setup.links)} links, {setup.agents} agents, each with "
+            f"{setup.quota} commands; whiteboards of {setup.board} bytes",
+            f"    {entry.file}, home base {setup.home}",
+            *(f"    {key}" for key in entry.fixture.keys),
+            "",
+        ]
     return "\n".join(lines)
 
 
 def team_name(word: str) -> str:
     """A team's name."""
     if not re.fullmatch("[a-z0-9-]{1,16}", word):
-        raise argparse.ArgumentTypeError(f"{word}: a team's name has 1 to 16 characters out of a to z, 0 to 9 and -")
+        raise argparse.ArgumentTypeError(
+            f"{word}: a team's name has 1 to 16 characters out of a to z, 0 to 9 and -"
+        )
     return word
 
 
 def number_or(*others: str) -> Callable[[str], Union[int, str]]:
     """Takes a whole number from 1, or one of these words."""
+
     def taken(word: str) -> Union[int, str]:
         if word in others:
             return word
         if not re.fullmatch("[1-9][0-9]*", word):
-            raise argparse.ArgumentTypeError(f"{word}: say a whole number from 1, or {' or '.join(others)}")
+            raise argparse.ArgumentTypeError(
+                f"{word}: say a whole number from 1, or {' or '.join(others)}"
+            )
         return int(word)
+
     return taken
 
 
 def add_words(parser: argparse.ArgumentParser) -> None:
     """The words of the command `tournament`."""
-    parser.add_argument("--team", metavar="NAME", type=team_name, action="append", default=[], help="a team, and "
-                        "more by more of these")
-    parser.add_argument("--network", metavar="NAME", action="append", default=[], help="a network, and more by more "
-                        "of these: see `./arena-lab network --help`")
+    parser.add_argument(
+        "--team",
+        metavar="NAME",
+        type=team_name,
+        action="append",
+        default=[],
+        help="a team, and " "more by more of these",
+    )
+    parser.add_argument(
+        "--network",
+        metavar="NAME",
+        action="append",
+        default=[],
+        help="a network, and more by more "
+        "of these: see `./arena-lab network --help`",
+    )
     add_ports(parser)
-    parser.add_argument("--home", metavar="V", type=int, default=0, help="the home base (0)")
-    parser.add_argument("--hole", metavar="V", type=int, action="append", help="a black hole, and more by more of "
-                        "these, each in matches of its own")
-    parser.add_argument("--holes", metavar="N|all", type=number_or(ALL), default=1, help="how many black holes to draw "
-                        "for each network, each for matches of its own; or all (1)")
-    parser.add_argument("--traps", metavar="N", type=not_negative, default=0, help="how many traps each team gets: "
-                        "matches without a black hole, in which nobody arrives at two of the nodes (0)")
-    parser.add_argument("--agents", metavar="N|degree", type=number_or(DEGREE), default=2, help="how many agents a "
-                        "team has; `degree` is one more than the network's greatest degree (2)")
-    parser.add_argument("--quota", metavar="N", type=int, default=QUOTA, help=f"commands that an agent has ({QUOTA})")
-    parser.add_argument("--board", metavar="N", type=int, default=BOARD, help=f"bytes of a whiteboard ({BOARD})")
-    parser.add_argument("--schedule", choices=(OBLIVIOUS, ADAPTIVE), default=OBLIVIOUS, help="how turns choose whom "
-                        "they deliver; by the oblivious schedule no agent learns by waiting what others do (oblivious)")
-    parser.add_argument("--delay-scales", metavar="N", type=int, default=SCALES, help="an agent is on a link for less "
-                        f"than 2^N turns and a few picks ({SCALES})")
-    parser.add_argument("--delay-odds", metavar="N", type=int, default=ODDS, help="of N moves one takes 1 turn more, "
-                        f"one 2 or 3, one 4 to 7, and so on ({ODDS})")
-    parser.add_argument("--again", metavar=("TOURNAMENT", "M"), nargs=2, help="write another try of match M of a "
-                        "tournament's file; its networks are named from this folder")
-    parser.add_argument("--out", metavar="FOLDER", type=pathlib.Path, required=True, help="write it there; the folder "
-                        "must not have a tournament")
+    parser.add_argument(
+        "--home", metavar="V", type=int, default=0, help="the home base (0)"
+    )
+    parser.add_argument(
+        "--hole",
+        metavar="V",
+        type=int,
+        action="append",
+        help="a black hole, and more by more of " "these, each in matches of its own",
+    )
+    parser.add_argument(
+        "--holes",
+        metavar="N|all",
+        type=number_or(ALL),
+        default=1,
+        help="how many black holes to draw "
+        "for each network, each for matches of its own; or all (1)",
+    )
+    parser.add_argument(
+        "--traps",
+        metavar="N",
+        type=not_negative,
+        default=0,
+        help="how many traps each team gets: "
+        "matches without a black hole, in which nobody arrives at two of the nodes (0)",
+    )
+    parser.add_argument(
+        "--agents",
+        metavar="N|degree",
+        type=number_or(DEGREE),
+        default=2,
+        help="how many agents a "
+        "team has; `degree` is one more than the network's greatest degree (2)",
+    )
+    parser.add_argument(
+        "--quota",
+        metavar="N",
+        type=int,
+        default=QUOTA,
+        help=f"commands that an agent has ({QUOTA})",
+    )
+    parser.add_argument(
+        "--board",
+        metavar="N",
+        type=int,
+        default=BOARD,
+        help=f"bytes of a whiteboard ({BOARD})",
+    )
+    parser.add_argument(
+        "--schedule",
+        choices=(OBLIVIOUS, ADAPTIVE),
+        default=OBLIVIOUS,
+        help="how turns choose whom "
+        "they deliver; by the oblivious schedule no agent learns by waiting what others do (oblivious)",
+    )
+    parser.add_argument(
+        "--delay-scales",
+        metavar="N",
+        type=int,
+        default=SCALES,
+        help="an agent is on a link for less "
+        f"than 2^N turns and a few picks ({SCALES})",
+    )
+    parser.add_argument(
+        "--delay-odds",
+        metavar="N",
+        type=int,
+        default=ODDS,
+        help="of N moves one takes 1 turn more, "
+        f"one 2 or 3, one 4 to 7, and so on ({ODDS})",
+    )
+    parser.add_argument(
+        "--again",
+        metavar=("TOURNAMENT", "M"),
+        nargs=2,
+        help="write another try of match M of a "
+        "tournament's file; its networks are named from this folder",
+    )
+    parser.add_argument(
+        "--out",
+        metavar="FOLDER",
+        type=pathlib.Path,
+        required=True,
+        help="write it there; the folder " "must not have a tournament",
+    )
 
 
 def run(words: argparse.Namespace) -> int:
     if not words.again and not (words.team and words.network):
-        words.refuse("name teams by --team and networks by --network, or a match by --again")
+        words.refuse(
+            "name teams by --team and networks by --network, or a match by --again"
+        )
     if words.again and (words.team or words.network):
-        words.refuse("--again takes the team and the network of its match: leave --team and --network out")
+        words.refuse(
+            "--again takes the team and the network of its match: leave --team and --network out"
+        )
     path = words.out / TOURNAMENT
     if path.exists():
-        raise NoNetwork(f"{path}: there is a tournament, whose keys teams may have: name another folder by --out")
+        raise NoNetwork(
+            f"{path}: there is a tournament, whose keys teams may have: name another folder by --out"
+        )
     return write_again(words.out, *words.again) if words.again else write_all(words)
 
 
@@ -223,19 +366,35 @@ def write_all(words: argparse.Namespace) -> int:
     for file in setups:
         # it may be the very file that --network names, with what its author wrote beside the links
         if file.exists():
-            raise NoNetwork(f"{file}: there is a file of this name: name another folder by --out")
+            raise NoNetwork(
+                f"{file}: there is a file of this name: name another folder by --out"
+            )
     words.out.mkdir(parents=True, exist_ok=True)
     for file, setup in setups.items():
-        file.write_text(networks.text_of(networks.Network(setup.nodes, setup.links)), encoding="utf-8")
-    delays = Delays(words.delay_scales, words.delay_odds) if words.schedule == OBLIVIOUS else None
+        file.write_text(
+            networks.text_of(networks.Network(setup.nodes, setup.links)),
+            encoding="utf-8",
+        )
+    delays = (
+        Delays(words.delay_scales, words.delay_odds)
+        if words.schedule == OBLIVIOUS
+        else None
+    )
     for file, text in secret_files(words.team, entries, delays).items():
         write_secret(words.out / file, text)
-    print(f"{path}: {len(entries)} matches of {len(words.team)} teams; try `arena check {TOURNAMENT}` in the folder")
-    print("give each team its sheet: " + ", ".join(str(words.out / sheet_name(team)) for team in words.team))
+    print(
+        f"{path}: {len(entries)} matches of {len(words.team)} teams; try `arena check {TOURNAMENT}` in the folder"
+    )
+    print(
+        "give each team its sheet: "
+        + ", ".join(str(words.out / sheet_name(team)) for team in words.team)
+    )
     return 0
 
 
-def secret_files(teams: Sequence[str], entries: Sequence[TournamentMatch], delays: Optional[Delays]) -> Dict[str, str]:
+def secret_files(
+    teams: Sequence[str], entries: Sequence[TournamentMatch], delays: Optional[Delays]
+) -> Dict[str, str]:
     """The files that have keys, by name."""
     rows: List[Tuple[Fixture, str]] = [(entry.fixture, entry.file) for entry in entries]
     sheets = {sheet_name(team): sheet_of(team, entries) for team in teams}
@@ -263,10 +422,14 @@ def write_again(out: pathlib.Path, file: str, match: str) -> int:
     network = Network(fixture.setup.nodes, fixture.setup.links)
     (out / NETWORK).write_text(networks.text_of(network), encoding="utf-8")
     (out / AGAIN).write_text(f"match = {match}\n", encoding="utf-8")
-    for name, text in secret_files([fixture.team], [TournamentMatch(fixture, NETWORK)], tournament.delays).items():
+    for name, text in secret_files(
+        [fixture.team], [TournamentMatch(fixture, NETWORK)], tournament.delays
+    ).items():
         write_secret(out / name, text)
-    print(f"{out / TOURNAMENT}: match {match} of team {fixture.team} again; serve it there by "
-          f"`arena serve {TOURNAMENT} --port N`")
+    print(
+        f"{out / TOURNAMENT}: match {match} of team {fixture.team} again; serve it there by "
+        f"`arena serve {TOURNAMENT} --port N`"
+    )
     print(f"give the team its sheet: {out / sheet_name(fixture.team)}")
     return 0
 
@@ -276,20 +439,32 @@ def drawn_anew(fixture: Fixture) -> Fixture:
     setup, chance = fixture.setup, secrets.SystemRandom()
     if setup.dark:
         raise NoNetwork("the match has dark links: write another try of it by hand")
-    network = networks.shuffled(Network(setup.nodes, setup.links), secrets.randbits(128))
+    network = networks.shuffled(
+        Network(setup.nodes, setup.links), secrets.randbits(128)
+    )
     closed = closed_nodes(fixture)
-    drawn = chance.sample([it for it in range(setup.nodes) if it != setup.home], len(setup.holes) + len(closed))
-    holes, others = sorted(drawn[:len(setup.holes)]), drawn[len(setup.holes):]
-    return fixture._replace(setup=setup._replace(links=network.links, holes=holes),
-                            keys=[key_of(fixture.team) for _ in fixture.keys],
-                            held=networks.places_into(network.links, others))
+    drawn = chance.sample(
+        [it for it in range(setup.nodes) if it != setup.home],
+        len(setup.holes) + len(closed),
+    )
+    holes, others = sorted(drawn[: len(setup.holes)]), drawn[len(setup.holes) :]
+    return fixture._replace(
+        setup=setup._replace(links=network.links, holes=holes),
+        keys=[key_of(fixture.team) for _ in fixture.keys],
+        held=networks.places_into(network.links, others),
+    )
 
 
 def closed_nodes(fixture: Fixture) -> List[int]:
     """The nodes at which nobody arrives, since all links into them are held."""
     links = fixture.setup.links
-    nodes = {node for node in range(fixture.setup.nodes)
-             if set(networks.places_into(links, [node])).issubset(fixture.held)}
+    nodes = {
+        node
+        for node in range(fixture.setup.nodes)
+        if set(networks.places_into(links, [node])).issubset(fixture.held)
+    }
     if networks.places_into(links, nodes) != sorted(fixture.held):
-        raise NoNetwork("some links into a node are held and others are not: write another try of the match by hand")
+        raise NoNetwork(
+            "some links into a node are held and others are not: write another try of the match by hand"
+        )
     return sorted(nodes)

@@ -27,28 +27,81 @@ from arena_lab.pages.projector import ContestView, show
 
 def add_words(parser: argparse.ArgumentParser) -> None:
     """The words of the command `watch`."""
-    parser.add_argument("tournament", metavar="TOURNAMENT", type=pathlib.Path, help="the file that is served")
-    parser.add_argument("prefix", metavar="PREFIX", help="what --replay names: the part of match M is "
-                        "PREFIXM.jsonl.part")
-    parser.add_argument("--port", metavar="N", type=int, default=8080, help="the port to listen on (8080)")
-    parser.add_argument("--address", metavar="A", default="127.0.0.1", help="the address to listen on (127.0.0.1); "
-                        "0.0.0.0 shows the page to every machine that reaches this one")
-    parser.add_argument("--host", metavar="NAME", action="append", default=[], type=str.lower, help="answer also who "
-                        "asks for this name, and more by more of these; whoever asks by an address, by localhost or by "
-                        "this machine's name is answered anyway")
-    parser.add_argument("--turns", metavar="K", type=int, help="how many turns a match has, as `serve` was told")
-    parser.add_argument("--pause", metavar="MS", type=int, help="the pause before each turn, as `serve` was told")
-    parser.add_argument("--gather", metavar="MS", type=int, help="for how long a match waits for its agents, as "
-                        "`serve` was told: by default until all have entered")
-    parser.add_argument("--open", action="store_true", help="show each match as it goes, with its black holes: for "
-                        "practice and talks")
+    parser.add_argument(
+        "tournament",
+        metavar="TOURNAMENT",
+        type=pathlib.Path,
+        help="the file that is served",
+    )
+    parser.add_argument(
+        "prefix",
+        metavar="PREFIX",
+        help="what --replay names: the part of match M is " "PREFIXM.jsonl.part",
+    )
+    parser.add_argument(
+        "--port",
+        metavar="N",
+        type=int,
+        default=8080,
+        help="the port to listen on (8080)",
+    )
+    parser.add_argument(
+        "--address",
+        metavar="A",
+        default="127.0.0.1",
+        help="the address to listen on (127.0.0.1); "
+        "0.0.0.0 shows the page to every machine that reaches this one",
+    )
+    parser.add_argument(
+        "--host",
+        metavar="NAME",
+        action="append",
+        default=[],
+        type=str.lower,
+        help="answer also who "
+        "asks for this name, and more by more of these; whoever asks by an address, by localhost or by "
+        "this machine's name is answered anyway",
+    )
+    parser.add_argument(
+        "--turns",
+        metavar="K",
+        type=int,
+        help="how many turns a match has, as `serve` was told",
+    )
+    parser.add_argument(
+        "--pause",
+        metavar="MS",
+        type=int,
+        help="the pause before each turn, as `serve` was told",
+    )
+    parser.add_argument(
+        "--gather",
+        metavar="MS",
+        type=int,
+        help="for how long a match waits for its agents, as "
+        "`serve` was told: by default until all have entered",
+    )
+    parser.add_argument(
+        "--open",
+        action="store_true",
+        help="show each match as it goes, with its black holes: for "
+        "practice and talks",
+    )
 
 
 def run(words: argparse.Namespace) -> int:
-    turns = {"turns": words.turns, "pause": words.pause} if words.turns and words.pause else {}
+    turns = (
+        {"turns": words.turns, "pause": words.pause}
+        if words.turns and words.pause
+        else {}
+    )
     matches = matches_of(words.tournament)
-    gather, pause = (None if it is None else it / 1000 for it in (words.gather, words.pause))
-    feeds = [Feed(words.prefix, number, gather, pause) for number in range(len(matches))]
+    gather, pause = (
+        None if it is None else it / 1000 for it in (words.gather, words.pause)
+    )
+    feeds = [
+        Feed(words.prefix, number, gather, pause) for number in range(len(matches))
+    ]
     contest = ContestView(matches, feeds, words.open)
     show(contest, words.tournament.stem, (words.address, words.port), turns, words.host)
     return 0

@@ -6,7 +6,16 @@ from typing import List, Optional, Set
 
 from arena_lab.play.agent_files import NoAgent
 from arena_lab.play.bounds import LIMIT
-from arena_lab.play.teams import BOARD, NAPS, NETWORK, QUOTA, AgentWords, Game, agent_named, filled
+from arena_lab.play.teams import (
+    BOARD,
+    NAPS,
+    NETWORK,
+    QUOTA,
+    AgentWords,
+    Game,
+    agent_named,
+    filled,
+)
 from arena_lab.rules import networks
 from arena_lab.rules.engines import MODEL, PROGRAM, program_at
 from arena_lab.rules.fixtures import Fixture, read_tournament
@@ -35,7 +44,9 @@ def place(word: str) -> Place:
     """A node and a port, as `3,1`."""
     found = re.fullmatch(r"(\d+),(\d+)", word)
     if not found:
-        raise argparse.ArgumentTypeError(f"{word} is not a node and a port: write them as in 3,1")
+        raise argparse.ArgumentTypeError(
+            f"{word} is not a node and a port: write them as in 3,1"
+        )
     return int(found[1]), int(found[2])
 
 
@@ -60,33 +71,111 @@ class Once(argparse.Action):
 def add_match(parser: argparse.ArgumentParser, several: bool = False) -> None:
     """The words that name a match and its team, or the matches on several networks."""
     match = parser.add_argument_group("the match", networks.__doc__)
-    match.add_argument("--tournament", metavar="T", help="take the match of a tournament's file")
-    match.add_argument("--match", metavar="M", type=int, default=0, help="which match of the tournament (0)")
+    match.add_argument(
+        "--tournament", metavar="T", help="take the match of a tournament's file"
+    )
+    match.add_argument(
+        "--match",
+        metavar="M",
+        type=int,
+        default=0,
+        help="which match of the tournament (0)",
+    )
     if several:
-        match.add_argument("--network", metavar="NAME", action="append", dest="networks", help=f"the network "
-                           f"({NETWORK}), and more by more of these; ring:3..8 names those of all sizes between")
+        match.add_argument(
+            "--network",
+            metavar="NAME",
+            action="append",
+            dest="networks",
+            help=f"the network "
+            f"({NETWORK}), and more by more of these; ring:3..8 names those of all sizes between",
+        )
     else:
-        match.add_argument("--network", metavar="NAME", action=Once, default=NETWORK, help=f"the network ({NETWORK})")
-    match.add_argument("--home", metavar="V", type=int, default=0, help="the home base (0)")
-    match.add_argument("--hole", metavar="V", type=int, action="append", help="a black hole, and more by more of "
-                       "these; if nothing that destroys is named, each seed has a black hole of its own")
-    match.add_argument("--dark", metavar="V,P", type=place, action="append", default=[], help="a dark link, by the "
-                       "node and the port of one of its ends, and more by more of these")
-    match.add_argument("--quota", metavar="N", type=int, default=QUOTA, help=f"commands that an agent has ({QUOTA})")
-    match.add_argument("--board", metavar="N", type=int, default=BOARD, help=f"bytes of a whiteboard ({BOARD})")
-    team = parser.add_argument_group("the team", "One of these for each agent, in the order of keys, or one for all.")
-    team.add_argument("--agent", metavar="WORDS", action=Kinds, dest="team", help="an agent in Python inside the lab: "
-                      "FILE.py[:FUNCTION] and whole numbers, {nodes} or {links}; or a WebAssembly module with its "
-                      "arguments: FILE.wasm[:N,..]")
-    team.add_argument("--command", metavar="WORDS", action=Kinds, dest="team", help="a program of its own, with "
-                      "{host}, {port} and {key} for where it connects and by which key it enters, {nodes}, {links} "
-                      "and {home}")
-    team.add_argument("--agents", metavar="N", type=int, help="how many agents there are (2, or as many as are named)")
-    team.add_argument("--timeout", dest="limit", metavar="SECONDS", type=float, default=LIMIT,
-                      help=f"how long an agent may take to send or to wait ({LIMIT})")
-    team.add_argument("--spurious-wakeups", dest="naps", metavar="N", type=not_negative, default=NAPS,
-                      help="how often an agent inside that sleeps may wake again though nothing has changed in front "
-                      f"of it ({NAPS})")
+        match.add_argument(
+            "--network",
+            metavar="NAME",
+            action=Once,
+            default=NETWORK,
+            help=f"the network ({NETWORK})",
+        )
+    match.add_argument(
+        "--home", metavar="V", type=int, default=0, help="the home base (0)"
+    )
+    match.add_argument(
+        "--hole",
+        metavar="V",
+        type=int,
+        action="append",
+        help="a black hole, and more by more of "
+        "these; if nothing that destroys is named, each seed has a black hole of its own",
+    )
+    match.add_argument(
+        "--dark",
+        metavar="V,P",
+        type=place,
+        action="append",
+        default=[],
+        help="a dark link, by the "
+        "node and the port of one of its ends, and more by more of these",
+    )
+    match.add_argument(
+        "--quota",
+        metavar="N",
+        type=int,
+        default=QUOTA,
+        help=f"commands that an agent has ({QUOTA})",
+    )
+    match.add_argument(
+        "--board",
+        metavar="N",
+        type=int,
+        default=BOARD,
+        help=f"bytes of a whiteboard ({BOARD})",
+    )
+    team = parser.add_argument_group(
+        "the team", "One of these for each agent, in the order of keys, or one for all."
+    )
+    team.add_argument(
+        "--agent",
+        metavar="WORDS",
+        action=Kinds,
+        dest="team",
+        help="an agent in Python inside the lab: "
+        "FILE.py[:FUNCTION] and whole numbers, {nodes} or {links}; or a WebAssembly module with its "
+        "arguments: FILE.wasm[:N,..]",
+    )
+    team.add_argument(
+        "--command",
+        metavar="WORDS",
+        action=Kinds,
+        dest="team",
+        help="a program of its own, with "
+        "{host}, {port} and {key} for where it connects and by which key it enters, {nodes}, {links} "
+        "and {home}",
+    )
+    team.add_argument(
+        "--agents",
+        metavar="N",
+        type=int,
+        help="how many agents there are (2, or as many as are named)",
+    )
+    team.add_argument(
+        "--timeout",
+        dest="limit",
+        metavar="SECONDS",
+        type=float,
+        default=LIMIT,
+        help=f"how long an agent may take to send or to wait ({LIMIT})",
+    )
+    team.add_argument(
+        "--spurious-wakeups",
+        dest="naps",
+        metavar="N",
+        type=not_negative,
+        default=NAPS,
+        help="how often an agent inside that sleeps may wake again though nothing has changed in front "
+        f"of it ({NAPS})",
+    )
 
 
 def team_of(words: argparse.Namespace) -> List[AgentWords]:
@@ -94,22 +183,46 @@ def team_of(words: argparse.Namespace) -> List[AgentWords]:
     named: List[AgentWords] = words.team
     if not named:
         raise NoAgent("name a team by --agent or --command: see --help")
-    return filled(named, len(read_fixture(words).keys) if words.tournament else words.agents)
+    return filled(
+        named, len(read_fixture(words).keys) if words.tournament else words.agents
+    )
 
 
 def game_of(words: argparse.Namespace) -> Game:
     """The game that the words of a command name."""
     match = read_fixture(words) if words.tournament else None
-    network = Network(match.setup.nodes, match.setup.links) if match else networks.named(words.network)
-    return Game(words.tournament or words.network, network, team_of(words), words.home, words.hole or [], words.dark,
-                words.quota, words.board, words.naps, words.limit, match,
-                f", match {words.match} of {words.tournament}" if match else "")
+    network = (
+        Network(match.setup.nodes, match.setup.links)
+        if match
+        else networks.named(words.network)
+    )
+    return Game(
+        words.tournament or words.network,
+        network,
+        team_of(words),
+        words.home,
+        words.hole or [],
+        words.dark,
+        words.quota,
+        words.board,
+        words.naps,
+        words.limit,
+        match,
+        f", match {words.match} of {words.tournament}" if match else "",
+    )
 
 
 def games_of(words: argparse.Namespace) -> List[Game]:
     """The games that the words of a command name, one for each network."""
-    names = [name for given in words.networks or [NETWORK] for name in networks.in_range(given)]
-    return [game_of(argparse.Namespace(**{**vars(words), "network": name})) for name in names]
+    names = [
+        name
+        for given in words.networks or [NETWORK]
+        for name in networks.in_range(given)
+    ]
+    return [
+        game_of(argparse.Namespace(**{**vars(words), "network": name}))
+        for name in names
+    ]
 
 
 def read_fixture(words: argparse.Namespace) -> Fixture:
@@ -122,14 +235,23 @@ def read_fixture(words: argparse.Namespace) -> Fixture:
 
 def add_program(parser: argparse.ArgumentParser) -> None:
     """The option that names the program."""
-    parser.add_argument("--program", metavar="PATH", help="the program; by default the proved one if tools/build has "
-                        "built it, else one without a proof, which is compiled in a minute or two and says so")
+    parser.add_argument(
+        "--program",
+        metavar="PATH",
+        help="the program; by default the proved one if tools/build has "
+        "built it, else one without a proof, which is compiled in a minute or two and says so",
+    )
 
 
 def add_engine(parser: argparse.ArgumentParser) -> None:
     """The options that choose the engine."""
-    parser.add_argument("--engine", choices=(PROGRAM, MODEL), default=PROGRAM, help="who plays: the program, or "
-                        "the Python model, which needs no build and proves nothing (program)")
+    parser.add_argument(
+        "--engine",
+        choices=(PROGRAM, MODEL),
+        default=PROGRAM,
+        help="who plays: the program, or "
+        "the Python model, which needs no build and proves nothing (program)",
+    )
     add_program(parser)
 
 
@@ -140,24 +262,39 @@ def program_of(words: argparse.Namespace) -> Optional[str]:
     try:
         return program_at(words.program, words.needs)
     except NoProgram as fault:
-        raise NoProgram(f"{fault}; or add `--engine model`: the Python model needs none, and nothing of it is "
-                        "proved") from None
+        raise NoProgram(
+            f"{fault}; or add `--engine model`: the Python model needs none, and nothing of it is "
+            "proved"
+        ) from None
 
 
 def add_workers(parser: argparse.ArgumentParser) -> None:
     """The option that says how many processes play."""
-    parser.add_argument("--workers", metavar="N", type=at_least_one, default=os.cpu_count() or 1,
-                        help="how many processes play (as many as there are processors)")
+    parser.add_argument(
+        "--workers",
+        metavar="N",
+        type=at_least_one,
+        default=os.cpu_count() or 1,
+        help="how many processes play (as many as there are processors)",
+    )
 
 
 def add_repeat(parser: argparse.ArgumentParser) -> None:
     """The option that has agents repeated alone."""
-    parser.add_argument("--repeat", action="store_true", help="start each agent of a match again, alone, and tell it "
-                        "what it was told: a team fails if one of its agents does not say the same, as in a course")
+    parser.add_argument(
+        "--repeat",
+        action="store_true",
+        help="start each agent of a match again, alone, and tell it "
+        "what it was told: a team fails if one of its agents does not say the same, as in a course",
+    )
 
 
 def add_forget(parser: argparse.ArgumentParser) -> None:
     """The option that has the machine forget before agents are repeated."""
-    parser.add_argument("--drop-caches", action="store_true", help="before each round of repetitions, have the whole "
-                        "machine forget what it keeps of files in memory, which makes all programs on it slower for a "
-                        "while; for root")
+    parser.add_argument(
+        "--drop-caches",
+        action="store_true",
+        help="before each round of repetitions, have the whole "
+        "machine forget what it keeps of files in memory, which makes all programs on it slower for a "
+        "while; for root",
+    )

@@ -61,7 +61,17 @@ import re
 import secrets
 import shlex
 import sys
-from typing import Any, Dict, FrozenSet, List, Mapping, NamedTuple, Optional, Sequence, Tuple
+from typing import (
+    Any,
+    Dict,
+    FrozenSet,
+    List,
+    Mapping,
+    NamedTuple,
+    Optional,
+    Sequence,
+    Tuple,
+)
 
 from arena_lab.course.points import Points, points_in
 from arena_lab.play.agent_files import digests
@@ -83,12 +93,19 @@ FILES = "files"
 # seconds and MB of a match, if that is more for all matches of a team
 FOR_A_MATCH, SPACE_FOR_A_MATCH = 5, 2
 FIELDS = {
-    "limit": fields.count(20, "seconds"), "match_limit": fields.count(60, "seconds"),
-    "team_limit": fields.count(600, "seconds"), "match_space": fields.count(8, "MB"),
-    "team_space": fields.count(256, "MB"), "tools": fields.MAYBE_NAMES._replace(wanted="a list of folders"),
-    "proc": fields.FLAG, "team": grid.FIELDS["team"], "packages": fields.MAYBE_NAMES, "calls": fields.MAYBE_NAMES,
+    "limit": fields.count(20, "seconds"),
+    "match_limit": fields.count(60, "seconds"),
+    "team_limit": fields.count(600, "seconds"),
+    "match_space": fields.count(8, "MB"),
+    "team_space": fields.count(256, "MB"),
+    "tools": fields.MAYBE_NAMES._replace(wanted="a list of folders"),
+    "proc": fields.FLAG,
+    "team": grid.FIELDS["team"],
+    "packages": fields.MAYBE_NAMES,
+    "calls": fields.MAYBE_NAMES,
     "tries": Field(fields.is_number, "a whole number", 100),
-    **{name: field for name, field in grid.FIELDS.items() if name != "bound"}, "points": fields.table("points", {}),
+    **{name: field for name, field in grid.FIELDS.items() if name != "bound"},
+    "points": fields.table("points", {}),
 }
 SECRET, GIVEN = "secret.txt", "given"
 WORDS = ("host", "port", "key", "nodes", "links", "home", "network")
@@ -102,7 +119,9 @@ class CourseDraws(NamedTuple):
 
     def drawn(self, *words: object) -> str:
         """Digits."""
-        return hashlib.sha256("\0".join(map(str, [self.secret, *words])).encode()).hexdigest()
+        return hashlib.sha256(
+            "\0".join(map(str, [self.secret, *words])).encode()
+        ).hexdigest()
 
     def keys(self, text: str, number: int, agents: int) -> List[str]:
         """The keys of a match of the course that has this text."""
@@ -127,21 +146,30 @@ class CourseFile(NamedTuple):
         """All matches, in the order in which they are played. Teams come in an order that is drawn; each plays the same
         matches, in an order of its own."""
         found = [self._placed(case) for case in self.grid.cases(self.draws.secret)]
-        found.sort(key=lambda case: (self.draws.drawn("order", case.team.name),
-                                     self.draws.drawn("order", case.team.name, case[1:3], case[4:])))
+        found.sort(
+            key=lambda case: (
+                self.draws.drawn("order", case.team.name),
+                self.draws.drawn("order", case.team.name, case[1:3], case[4:]),
+            )
+        )
         return [case._replace(number=number) for number, case in enumerate(found)]
 
     def _placed(self, case: Case) -> Case:
         """A match with black holes, a home base and ports of its own, as far as the file does not name them. They are
         the same for all teams."""
-        if not isinstance(self.grid.holes, int) and self.grid.holes not in (grid.BY_SEED, grid.DRAWN):
+        if not isinstance(self.grid.holes, int) and self.grid.holes not in (
+            grid.BY_SEED,
+            grid.DRAWN,
+        ):
             return case
         words = (case.network, case.scheduler, case.seed, *case.holes)
         chance = random.Random(self.draws.drawn("place", *words))
         nodes = range(self.grid.networks[case.network].nodes)
         home = self.grid.home if "home" in self.named else chance.choice(nodes)
         hole = chance.choice([node for node in nodes if node != home])
-        ports = None if "ports" in self.named or self.grid.dark else chance.getrandbits(64)
+        ports = (
+            None if "ports" in self.named or self.grid.dark else chance.getrandbits(64)
+        )
         return case._replace(holes=(hole,), home=home, ports=ports)
 
     def fixture(self, case: Case) -> Fixture:
@@ -162,8 +190,14 @@ class CourseFile(NamedTuple):
 
     def digests(self) -> Dict[str, str]:
         """The SHA-256 of each file on which the matches depend, and of the secret, but for what teams hand in."""
-        own = [self.folder / name.partition(":")[0] for name in [*self.grid.schedulers, *self.grid.names]]
-        return {**digests([str(path) for path in own]), SECRET: self.draws.drawn("digest")}
+        own = [
+            self.folder / name.partition(":")[0]
+            for name in [*self.grid.schedulers, *self.grid.names]
+        ]
+        return {
+            **digests([str(path) for path in own]),
+            SECRET: self.draws.drawn("digest"),
+        }
 
 
 class ProgramLimits(NamedTuple):
@@ -198,7 +232,9 @@ def read(path: pathlib.Path, secret: str) -> CourseFile:
         raise WrongFile(f"{path}: {fault}") from None
 
 
-def secret_in(out: pathlib.Path, given: Optional[pathlib.Path], handed_in: Mapping[str, str] = {}) -> str:
+def secret_in(
+    out: pathlib.Path, given: Optional[pathlib.Path], handed_in: Mapping[str, str] = {}
+) -> str:
     """The secret of a course with these results: one that a file gives, or that of the first run, or a new one. These
     are the digests of what was handed in."""
     path = out / SECRET
@@ -206,11 +242,17 @@ def secret_in(out: pathlib.Path, given: Optional[pathlib.Path], handed_in: Mappi
     if path.exists():
         kept = grid.text_in(path).strip()
         if said not in (None, kept):
-            raise WrongFile(f"{path} is another secret than {given}: name another folder by --out, or remove this one")
+            raise WrongFile(
+                f"{path} is another secret than {given}: name another folder by --out, or remove this one"
+            )
         return kept
     out.mkdir(parents=True, exist_ok=True)
     said = said or secrets.token_hex(32)
-    with open(os.open(path, os.O_WRONLY | os.O_CREAT | os.O_EXCL, 0o600), "w", encoding="utf-8") as file:
+    with open(
+        os.open(path, os.O_WRONLY | os.O_CREAT | os.O_EXCL, 0o600),
+        "w",
+        encoding="utf-8",
+    ) as file:
         file.write(said + "\n")
     return said
 
@@ -220,13 +262,23 @@ def secret_given(given: pathlib.Path, handed_in: Mapping[str, str]) -> str:
     another one: what the team was shown of its matches is not to help it."""
     said = grid.text_in(given).strip()
     if len(said) < 16:
-        raise WrongFile(f"{given}: a secret has at least 16 characters, or it could be guessed")
-    before = tables.record_in(given.parent).get("files", {}) if (given.parent / tables.MADE).exists() else {}
-    others = sorted(name for name, digest in handed_in.items() if before.get(name, digest) != digest)
+        raise WrongFile(
+            f"{given}: a secret has at least 16 characters, or it could be guessed"
+        )
+    before = (
+        tables.record_in(given.parent).get("files", {})
+        if (given.parent / tables.MADE).exists()
+        else {}
+    )
+    others = sorted(
+        name for name, digest in handed_in.items() if before.get(name, digest) != digest
+    )
     if not others:
         return said
-    print(f"arena-lab: {others[0]} has handed in something else than when {given} was drawn: all is drawn anew",
-          file=sys.stderr)
+    print(
+        f"arena-lab: {others[0]} has handed in something else than when {given} was drawn: all is drawn anew",
+        file=sys.stderr,
+    )
     return CourseDraws(said).drawn("anew", *sorted(handed_in.items()))
 
 
@@ -237,26 +289,63 @@ def course_of(text: str, folder: pathlib.Path, secret: str) -> CourseFile:
     said = fields.values_of(found, FIELDS, "a course")
     rows = fields.unlike(list(map(team_in, said["team"])), "team")
     files = {row["name"]: files_of(row[FILES], row["name"], folder) for row in rows}
-    teams = [TeamRow(row["name"], row["agents"], agent_named(OUTSIDE, row[OUTSIDE])) for row in rows]
-    played = grid.grid_in({**said, "ports": None if said["ports"] == GIVEN else said["ports"]}, teams, folder)
+    teams = [
+        TeamRow(row["name"], row["agents"], agent_named(OUTSIDE, row[OUTSIDE]))
+        for row in rows
+    ]
+    played = grid.grid_in(
+        {**said, "ports": None if said["ports"] == GIVEN else said["ports"]},
+        teams,
+        folder,
+    )
     terms = terms_in(said, rows)
-    limits = for_matches(terms.limits, sum(1 for _ in played.cases()) // len(teams), found)
-    return CourseFile(text, folder, CourseDraws(secret), played, files, terms._replace(limits=limits), said["tries"],
-                      frozenset({"home", "ports"} & set(found)), points_in(said["points"], played))
+    limits = for_matches(
+        terms.limits, sum(1 for _ in played.cases()) // len(teams), found
+    )
+    return CourseFile(
+        text,
+        folder,
+        CourseDraws(secret),
+        played,
+        files,
+        terms._replace(limits=limits),
+        said["tries"],
+        frozenset({"home", "ports"} & set(found)),
+        points_in(said["points"], played),
+    )
 
 
-def for_matches(limits: ProgramLimits, matches: int, found: Dict[str, Any]) -> ProgramLimits:
+def for_matches(
+    limits: ProgramLimits, matches: int, found: Dict[str, Any]
+) -> ProgramLimits:
     """The limits where each team has this number of matches, as far as the file does not say what these may take."""
-    time = limits.team if "team_limit" in found else max(limits.team, FOR_A_MATCH * matches)
-    space = limits.team_space if "team_space" in found else max(limits.team_space, SPACE_FOR_A_MATCH * matches)
+    time = (
+        limits.team
+        if "team_limit" in found
+        else max(limits.team, FOR_A_MATCH * matches)
+    )
+    space = (
+        limits.team_space
+        if "team_space" in found
+        else max(limits.team_space, SPACE_FOR_A_MATCH * matches)
+    )
     return limits._replace(team=time, team_space=space)
 
 
 def terms_in(said: Dict[str, Any], rows: Sequence[Dict[str, Any]]) -> Terms:
     """The terms that a file says, with these teams."""
-    limits = (said[name] for name in ("limit", "match_limit", "team_limit", "match_space", "team_space"))
-    return Terms(ProgramLimits(*limits), {row["name"]: row[OUTSIDE] for row in rows}, tools_of(said["tools"]),
-                 said["proc"], tuple(said["packages"]), calls_of(said["calls"]))
+    limits = (
+        said[name]
+        for name in ("limit", "match_limit", "team_limit", "match_space", "team_space")
+    )
+    return Terms(
+        ProgramLimits(*limits),
+        {row["name"]: row[OUTSIDE] for row in rows},
+        tools_of(said["tools"]),
+        said["proc"],
+        tuple(said["packages"]),
+        calls_of(said["calls"]),
+    )
 
 
 def calls_of(names: List[str]) -> Tuple[str, ...]:
@@ -280,21 +369,41 @@ def terms_of(text: str, matches: int) -> Terms:
 def tools_of(names: List[str]) -> Tuple[str, ...]:
     """Folders that programs see, besides the system's."""
     for name in names:
-        if not os.path.isabs(name) or not os.path.isdir(name) or len(pathlib.Path(name).parts) < 3:
-            raise WrongFile(f"tools has {name}, which is no folder that programs may see: write one like /opt/jdk-21")
+        if (
+            not os.path.isabs(name)
+            or not os.path.isdir(name)
+            or len(pathlib.Path(name).parts) < 3
+        ):
+            raise WrongFile(
+                f"tools has {name}, which is no folder that programs may see: write one like /opt/jdk-21"
+            )
     return tuple(names)
 
 
 def team_in(row: Dict[str, Any]) -> Dict[str, Any]:
     """What a team's table says."""
     of = f"given for team {row.get('name')}:"
-    said = fields.values_of(row, {
-        "name": Field(lambda it: isinstance(it, str) and bool(re.fullmatch("[a-z0-9-]{1,16}", it)),
-                      "given for each team, of 1 to 16 characters out of a to z, 0 to 9 and -"),
-        OUTSIDE: Field(is_text, f"{of} the words that start the program of one agent, such as "
-                       "\"python3 agent.py {host} {port} {key} {nodes}\""),
-        FILES: Field(is_texts, f"{of} a list of its files and folders, such as [\"teams/{row.get('name')}\"]"),
-        "agents": grid.AGENTS}, "a team of a course")
+    said = fields.values_of(
+        row,
+        {
+            "name": Field(
+                lambda it: isinstance(it, str)
+                and bool(re.fullmatch("[a-z0-9-]{1,16}", it)),
+                "given for each team, of 1 to 16 characters out of a to z, 0 to 9 and -",
+            ),
+            OUTSIDE: Field(
+                is_text,
+                f"{of} the words that start the program of one agent, such as "
+                '"python3 agent.py {host} {port} {key} {nodes}"',
+            ),
+            FILES: Field(
+                is_texts,
+                f"{of} a list of its files and folders, such as [\"teams/{row.get('name')}\"]",
+            ),
+            "agents": grid.AGENTS,
+        },
+        "a team of a course",
+    )
     check_command(said[OUTSIDE], said["name"])
     return said
 
@@ -305,14 +414,21 @@ def check_command(command: str, team: str) -> None:
         words = shlex.split(command)
         said = " ".join(words).format(**{name: f"<{name}>" for name in WORDS})
     except (KeyError, IndexError, ValueError) as fault:
-        why = f"has {fault}" if isinstance(fault, KeyError) else f"cannot be read: {fault}"
+        why = (
+            f"has {fault}"
+            if isinstance(fault, KeyError)
+            else f"cannot be read: {fault}"
+        )
         known = ", ".join(f"{{{name}}}" for name in WORDS)
-        raise WrongFile(f"the command of team {team} {why}; it may have {known}, and a brace is written twice"
-                        ) from None
+        raise WrongFile(
+            f"the command of team {team} {why}; it may have {known}, and a brace is written twice"
+        ) from None
     for name in NEEDED if not is_module(command) else ():
         if f"<{name}>" not in said:
-            raise WrongFile(f"the command of team {team} has no {{{name}}}: the program is to connect to {HOST} at "
-                          "{port}, and to enter with {key}")
+            raise WrongFile(
+                f"the command of team {team} has no {{{name}}}: the program is to connect to {HOST} at "
+                "{port}, and to enter with {key}"
+            )
 
 
 def files_of(names: List[str], team: str, folder: pathlib.Path) -> List[pathlib.Path]:
@@ -324,12 +440,16 @@ def files_of(names: List[str], team: str, folder: pathlib.Path) -> List[pathlib.
     return found
 
 
-def check_walls(strongest: Isolation, paths: Sequence[pathlib.Path], tools: Sequence[str]) -> None:
+def check_walls(
+    strongest: Isolation, paths: Sequence[pathlib.Path], tools: Sequence[str]
+) -> None:
     """Refuses a course and results that teams' programs could read in spite of the walls."""
     for path in paths:
         seen = isolation.seen_at(path, tools) if strongest is Isolation.ALL else None
         if seen:
-            raise WrongFile(f"{path}: teams' programs see {seen}, to find what they run by: name a folder elsewhere")
+            raise WrongFile(
+                f"{path}: teams' programs see {seen}, to find what they run by: name a folder elsewhere"
+            )
 
 
 def check_networks(course: CourseFile) -> None:
@@ -337,5 +457,7 @@ def check_networks(course: CourseFile) -> None:
     for name, network in course.grid.networks.items():
         cut = networks.cut_of(network)
         if cut:
-            raise WrongFile(f"networks has {name}, which is not biconnected: {cut}; take another, as no team can solve "
-                          "each match on it")
+            raise WrongFile(
+                f"networks has {name}, which is not biconnected: {cut}; take another, as no team can solve "
+                "each match on it"
+            )

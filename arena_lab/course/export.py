@@ -61,7 +61,9 @@ def in_all(marks: Sequence[Mark]) -> Tuple[int, int]:
 def summary(marks: Sequence[Mark]) -> str:
     """What a team has, in a line."""
     (score, most), solved = in_all(marks), sum(is_solved(it.row) for it in marks)
-    return f"{solved} of {len(marks)} matches solved, {text(score)} of {text(most)} points"
+    return (
+        f"{solved} of {len(marks)} matches solved, {text(score)} of {text(most)} points"
+    )
 
 
 def students_in(path: pathlib.Path, teams: Sequence[str]) -> List[Student]:
@@ -71,18 +73,27 @@ def students_in(path: pathlib.Path, teams: Sequence[str]) -> List[Student]:
             rows = list(csv.DictReader(file))
             heads = [name for name in IDENTITIES if rows and name in rows[0]]
     except FileNotFoundError:
-        raise WrongFile(f"{path}: there is no such file; write a table with the columns team and idnumber or email, or "
-                      "name one by --students") from None
+        raise WrongFile(
+            f"{path}: there is no such file; write a table with the columns team and idnumber or email, or "
+            "name one by --students"
+        ) from None
     except (UnicodeDecodeError, csv.Error) as fault:
         raise WrongFile(f"{path}: it is no CSV in UTF-8: {fault}") from None
     if not heads or "team" not in rows[0]:
-        raise WrongFile(f"{path}: its first line must have the columns team and idnumber or email, and a student "
-                        "follow")
-    found = [Student(heads[0], (row[heads[0]] or "").strip(), (row["team"] or "").strip()) for row in rows]
+        raise WrongFile(
+            f"{path}: its first line must have the columns team and idnumber or email, and a student "
+            "follow"
+        )
+    found = [
+        Student(heads[0], (row[heads[0]] or "").strip(), (row["team"] or "").strip())
+        for row in rows
+    ]
     names = [it.name for it in found]
     for line, it in enumerate(found, 2):
         if it.team not in teams:
-            raise WrongFile(f"{path}: line {line} has team {it.team}, which the course does not have")
+            raise WrongFile(
+                f"{path}: line {line} has team {it.team}, which the course does not have"
+            )
         if not it.name or names.count(it.name) > 1:
             raise WrongFile(f"{path}: line {line} has no {heads[0]} of its own")
     return found
@@ -92,23 +103,62 @@ def gradescope(marks: Marks, team: str) -> str:
     """The `results.json` of an autograder."""
     own = marks.teams[team]
     solved = [it for it in own if is_solved(it.row)]
-    tests = [{"name": it.name(), "number": str(it.number), "score": number(it.score), "max_score": number(it.most),
-              "status": "passed" if is_solved(it.row) else "failed", "output": marks.said(it), "output_format": "text",
-              "visibility": marks.points.visibility} for it in own]
-    board = [{"name": "points", "value": number(in_all(own)[0])}, {"name": "solved", "value": len(solved)},
-             {"name": "moves", "value": sum(int(it.row["moves"]) for it in solved), "order": "asc"},
-             {"name": "lost", "value": sum(int(it.row["lost"]) for it in solved), "order": "asc"}]
-    return json.dumps({"score": number(in_all(own)[0]), "output": summary(own), "output_format": "text",
-                       "visibility": marks.points.visibility, "stdout_visibility": "hidden", "tests": tests,
-                       "leaderboard": board}, indent=1) + "\n"
+    tests = [
+        {
+            "name": it.name(),
+            "number": str(it.number),
+            "score": number(it.score),
+            "max_score": number(it.most),
+            "status": "passed" if is_solved(it.row) else "failed",
+            "output": marks.said(it),
+            "output_format": "text",
+            "visibility": marks.points.visibility,
+        }
+        for it in own
+    ]
+    board = [
+        {"name": "points", "value": number(in_all(own)[0])},
+        {"name": "solved", "value": len(solved)},
+        {
+            "name": "moves",
+            "value": sum(int(it.row["moves"]) for it in solved),
+            "order": "asc",
+        },
+        {
+            "name": "lost",
+            "value": sum(int(it.row["lost"]) for it in solved),
+            "order": "asc",
+        },
+    ]
+    return (
+        json.dumps(
+            {
+                "score": number(in_all(own)[0]),
+                "output": summary(own),
+                "output_format": "text",
+                "visibility": marks.points.visibility,
+                "stdout_visibility": "hidden",
+                "tests": tests,
+                "leaderboard": board,
+            },
+            indent=1,
+        )
+        + "\n"
+    )
 
 
 def moodle(marks: Marks, students: Sequence[Student]) -> str:
     """The table that Moodle's import of grades reads."""
     item = " ".join(marks.title.split())
     head = [IDENTITIES[students[0].column], f"{item} (Real)", f"{item} (Feedback)"]
-    rows = [[it.name, text(in_all(marks.teams[it.team])[0]), f"team {it.team}: {summary(marks.teams[it.team])}"]
-            for it in students]
+    rows = [
+        [
+            it.name,
+            text(in_all(marks.teams[it.team])[0]),
+            f"team {it.team}: {summary(marks.teams[it.team])}",
+        ]
+        for it in students
+    ]
     return "".join(map(line_of, [head, *rows]))
 
 
@@ -118,20 +168,39 @@ def junit(marks: Marks) -> str:
     for team, own in marks.teams.items():
         unplayed = [it for it in own if it.row["outcome"] == league.UNPLAYED]
         failed = [it for it in own if not is_solved(it.row) and it not in unplayed]
-        suite = ElementTree.SubElement(root, "testsuite", name=team, tests=str(len(own)), failures=str(len(failed)),
-                                       errors=str(len(unplayed)), skipped="0")
+        suite = ElementTree.SubElement(
+            root,
+            "testsuite",
+            name=team,
+            tests=str(len(own)),
+            failures=str(len(failed)),
+            errors=str(len(unplayed)),
+            skipped="0",
+        )
         for it in own:
-            case = ElementTree.SubElement(suite, "testcase", classname=f"{team}.{it.row['network']}",
-                                          name=as_xml(it.name()))
+            case = ElementTree.SubElement(
+                suite,
+                "testcase",
+                classname=f"{team}.{it.row['network']}",
+                name=as_xml(it.name()),
+            )
             if not is_solved(it.row):
                 kind, said = league.kind_of(it.row), as_xml(marks.said(it))
-                node = ElementTree.SubElement(case, "error" if it in unplayed else "failure",
-                                              message=said.split("\n")[0], type=kind)
+                node = ElementTree.SubElement(
+                    case,
+                    "error" if it in unplayed else "failure",
+                    message=said.split("\n")[0],
+                    type=kind,
+                )
                 node.text = said
             elif marks.said(it):
                 ElementTree.SubElement(case, "system-out").text = as_xml(marks.said(it))
     ElementTree.indent(root, " ")
-    return "<?xml version=\"1.0\" encoding=\"UTF-8\"?>\n" + ElementTree.tostring(root, encoding="unicode") + "\n"
+    return (
+        '<?xml version="1.0" encoding="UTF-8"?>\n'
+        + ElementTree.tostring(root, encoding="unicode")
+        + "\n"
+    )
 
 
 def as_xml(said: str) -> str:
@@ -145,7 +214,10 @@ def table(marks: Marks) -> str:
     rows: List[Sequence[str]] = [["team", "points", "most", *names]]
     for team, own in marks.teams.items():
         score, most = in_all(own)
-        each = [text(sum(it.score for it in own if it.row["network"] == name)) for name in names]
+        each = [
+            text(sum(it.score for it in own if it.row["network"] == name))
+            for name in names
+        ]
         rows.append([team, text(score), text(most), *each])
     return "".join(map(line_of, rows))
 
@@ -160,7 +232,10 @@ class Export(NamedTuple):
         """The texts of the files, by their names."""
         found: Dict[str, str] = {}
         if GRADESCOPE in self.kinds:
-            found.update((f"gradescope-{team}.json", gradescope(marks, team)) for team in marks.teams)
+            found.update(
+                (f"gradescope-{team}.json", gradescope(marks, team))
+                for team in marks.teams
+            )
         if MOODLE in self.kinds:
             found["moodle.csv"] = moodle(marks, self.students)
         if JUNIT in self.kinds:
@@ -170,8 +245,12 @@ class Export(NamedTuple):
         return found
 
 
-def export_of(kinds: Optional[Sequence[str]], students: Optional[pathlib.Path], folder: pathlib.Path,
-              teams: Sequence[str]) -> Export:
+def export_of(
+    kinds: Optional[Sequence[str]],
+    students: Optional[pathlib.Path],
+    folder: pathlib.Path,
+    teams: Sequence[str],
+) -> Export:
     """What a command's words ask for."""
     wanted = tuple(dict.fromkeys(kinds or ()))
     if MOODLE not in wanted:

@@ -14,8 +14,9 @@ from arena_lab.sandbox.cells import ProgramFiles, Sandbox, cells_for
 
 
 @contextlib.contextmanager
-def grounds_of(yard: Sandbox, handed_in: HandIn, words: str, setup: Setup, count: int
-               ) -> Iterator[Sequence[programs.Ground]]:
+def grounds_of(
+    yard: Sandbox, handed_in: HandIn, words: str, setup: Setup, count: int
+) -> Iterator[Sequence[programs.Ground]]:
     """Where this number of a team's programs run, which these words start: each in a cell, unless their hand-in is
     refused. A module needs no cell for its player."""
     if handed_in.refusal:
@@ -30,6 +31,10 @@ def grounds_of(yard: Sandbox, handed_in: HandIn, words: str, setup: Setup, count
     network = networks.text_of(networks.Network(setup.nodes, setup.links)).encode()
     has_map = "{network}" in words
     files = handed_in.archive(**({NETWORK: network} if has_map else {}))
-    kept = ProgramFiles(files, {"network": NETWORK} if has_map else {}, calls.language_of(words, handed_in.content_of))
+    kept = ProgramFiles(
+        files,
+        {"network": NETWORK} if has_map else {},
+        calls.language_of(words, handed_in.content_of),
+    )
     with cells_for(yard, kept, count) as made:
         yield made

@@ -44,16 +44,27 @@ class HandIn(NamedTuple):
         """The SHA-256 of all of it."""
         found = hashlib.sha256(self.refusal.encode())
         for name, entry in self.entries.items():
-            for part in (os.fsencode(name), entry.kind, entry.content, b"x" if entry.is_program else b"-"):
+            for part in (
+                os.fsencode(name),
+                entry.kind,
+                entry.content,
+                b"x" if entry.is_program else b"-",
+            ):
                 found.update(b"%d:" % len(part) + part)
         return found.hexdigest()
 
     def digests(self, words: str) -> Dict[str, str]:
         """The SHA-256 of each of its files that these words of a command name, and of those that they import, by its
         name in the hand-in."""
-        names = {str(pathlib.PurePath(word.partition(":")[0])) for word in words.split()}
-        read = {name: entry.content for name, entry in self.entries.items() if entry.kind == tarfile.REGTYPE
-                and (name in names or name.endswith(SUFFIX))}
+        names = {
+            str(pathlib.PurePath(word.partition(":")[0])) for word in words.split()
+        }
+        read = {
+            name: entry.content
+            for name, entry in self.entries.items()
+            if entry.kind == tarfile.REGTYPE
+            and (name in names or name.endswith(SUFFIX))
+        }
         with tempfile.TemporaryDirectory() as place:
             folder = pathlib.Path(place).resolve()
             for name, content in read.items():
@@ -61,13 +72,25 @@ class HandIn(NamedTuple):
                 with contextlib.suppress(OSError):
                     (folder / name).parent.mkdir(parents=True, exist_ok=True)
                     (folder / name).write_bytes(content)
-            behind = [files_behind(folder / name) for name in names if (folder / name).is_file()]
-            return {os.path.relpath(name, folder): digest for found in behind for name, digest in found.items()}
+            behind = [
+                files_behind(folder / name)
+                for name in names
+                if (folder / name).is_file()
+            ]
+            return {
+                os.path.relpath(name, folder): digest
+                for found in behind
+                for name, digest in found.items()
+            }
 
     def content_of(self, name: str) -> Optional[bytes]:
         """The content of the file of a name, if it is one and no link."""
         entry = self.entries.get(os.path.normpath(name))
-        return entry.content if entry is not None and entry.kind == tarfile.REGTYPE else None
+        return (
+            entry.content
+            if entry is not None and entry.kind == tarfile.REGTYPE
+            else None
+        )
 
     def write_file(self, name: str, folder: pathlib.Path) -> None:
         """Writes the file of a name there, if it is one and no link."""
@@ -85,7 +108,10 @@ class HandIn(NamedTuple):
         with tarfile.open(fileobj=made, mode="w", format=tarfile.GNU_FORMAT) as tar:
             for name, entry in entries.items():
                 head = tarfile.TarInfo(name)
-                head.type, head.mode = entry.kind, 0o600 if entry.kind == tarfile.REGTYPE else 0o700
+                head.type, head.mode = (
+                    entry.kind,
+                    0o600 if entry.kind == tarfile.REGTYPE else 0o700,
+                )
                 head.mode |= 0o100 if entry.is_program else 0
                 if entry.kind == tarfile.SYMTYPE:
                     head.linkname = os.fsdecode(entry.content)
@@ -102,8 +128,16 @@ def unpacked(archive: bytes, refusal: str = "") -> HandIn:
     with tarfile.open(fileobj=io.BytesIO(archive)) as tar:
         for head in tar:
             file = tar.extractfile(head) if head.isreg() else None
-            content = file.read() if file else os.fsencode(head.linkname) if head.issym() else b""
-            entries[head.name] = HandInEntry(head.type, content, head.isreg() and bool(head.mode & 0o100))
+            content = (
+                file.read()
+                if file
+                else os.fsencode(head.linkname)
+                if head.issym()
+                else b""
+            )
+            entries[head.name] = HandInEntry(
+                head.type, content, head.isreg() and bool(head.mode & 0o100)
+            )
     return HandIn(entries, refusal)
 
 
@@ -170,7 +204,9 @@ def entry_at(path: str, most: int) -> Optional[HandInEntry]:
         content = file.read(most + 1)
         if len(content) > most:
             raise HandInRefused(f"its files have more than {MOST_BYTES >> 20} MB")
-        return HandInEntry(tarfile.REGTYPE, content, bool(os.fstat(opened).st_mode & 0o111))
+        return HandInEntry(
+            tarfile.REGTYPE, content, bool(os.fstat(opened).st_mode & 0o111)
+        )
 
 
 def put(entries: Dict[str, HandInEntry], name: str, entry: HandInEntry) -> None:

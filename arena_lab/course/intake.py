@@ -33,15 +33,26 @@ class HandInRecord(NamedTuple):
     files: Dict[str, str]
 
 
-def take(out: pathlib.Path, team: str, paths: List[pathlib.Path], folder: pathlib.Path, words: str) -> HandInRecord:
+def take(
+    out: pathlib.Path,
+    team: str,
+    paths: List[pathlib.Path],
+    folder: pathlib.Path,
+    words: str,
+) -> HandInRecord:
     """Reads what a team hands in, whose program is started by these words, and keeps it. A process of its own reads it,
     within bounds of memory and time, so whatever is in it stops nothing else."""
     archive, record = places(out, team)
     archive.parent.mkdir(parents=True, exist_ok=True)
     given = json.dumps([str(archive), str(folder), words, *map(str, paths)])
     try:
-        ran = subprocess.run([sys.executable, "-c", READ], input=given, capture_output=True, text=True,
-                             timeout=SECONDS)
+        ran = subprocess.run(
+            [sys.executable, "-c", READ],
+            input=given,
+            capture_output=True,
+            text=True,
+            timeout=SECONDS,
+        )
         found = HandInRecord(*json.loads(ran.stdout))
     except (subprocess.TimeoutExpired, TypeError, ValueError):
         archive.write_bytes(HandIn({}).archive())
@@ -66,7 +77,9 @@ def taken(out: pathlib.Path, team: str) -> HandInRecord:
         found = json.loads(record.read_text(encoding="utf-8"))
         return HandInRecord(found["digest"], found["refusal"], found["files"])
     except (KeyError, TypeError, ValueError):
-        raise NoTable(f"{record}: it is not as it was written: name another folder") from None
+        raise NoTable(
+            f"{record}: it is not as it was written: name another folder"
+        ) from None
 
 
 def hand_in_of(out: pathlib.Path, team: str) -> HandIn:
@@ -80,6 +93,8 @@ def unpacked(archive: str, digest: str, refusal: str) -> HandIn:
     """The hand-in in an archive, which has this digest."""
     found = hand_in.unpacked(pathlib.Path(archive).read_bytes(), refusal)
     if found.digest() != digest:
-        raise NoTable(f"{archive}: it is not what the team has handed in, as its digest is another: name another "
-                      "folder by --out, and start again")
+        raise NoTable(
+            f"{archive}: it is not what the team has handed in, as its digest is another: name another "
+            "folder by --out, and start again"
+        )
     return found

@@ -11,8 +11,21 @@ from arena_lab.sweep.report import FAULTS, Row, is_solved
 TABLE, PAGE, FAILED, SMALLEST = "league.csv", "league.html", "failed", "smallest"
 HEAD = ("place", "team", "matches", "solved", "moves", "lost")
 # what is kept of a match: its page, if there is one, its schedule and its replay
-FILES = {"watch": kept_matches.PAGE, "schedule": kept_matches.SCHEDULE, "replay": kept_matches.REPLAY}
-MATCH_HEAD = ("match", "network", "black hole", "scheduler", "seed", "came to", "moves", "lost")
+FILES = {
+    "watch": kept_matches.PAGE,
+    "schedule": kept_matches.SCHEDULE,
+    "replay": kept_matches.REPLAY,
+}
+MATCH_HEAD = (
+    "match",
+    "network",
+    "black hole",
+    "scheduler",
+    "seed",
+    "came to",
+    "moves",
+    "lost",
+)
 
 # how a match may fail besides by its verdict, each by what its first fault says
 UNPLAYED, LAB_FAILED = "not played", "not played, as the lab failed"
@@ -27,10 +40,16 @@ KINDS_OF_FAULTS = {
 }
 # of each kind of failure how its colour is called on pages, and what it means
 KINDS = {
-    CRASHED: ("crashed", "a program ended by a fault of its own, or took too much memory"),
+    CRASHED: (
+        "crashed",
+        "a program ended by a fault of its own, or took too much memory",
+    ),
     HUNG: ("hung", "a program let the lab wait too long"),
-    OTHERWISE: ("rude", "solved, but an agent says something else when it is alone and told the same again, or there "
-                "was no time to repeat it"),
+    OTHERWISE: (
+        "rude",
+        "solved, but an agent says something else when it is alone and told the same again, or there "
+        "was no time to repeat it",
+    ),
     RUDE: ("rude", "a program said what the rules do not allow"),
     "wrong": ("wrong", "an agent accused a link that leads to no black hole"),
     "guess": ("wrong", "the accusation was right, but could not be known to be"),
@@ -57,7 +76,7 @@ class LeagueRow(NamedTuple):
         return -self.solved, self.moves, self.lost
 
     def cells(self) -> List[str]:
-        return [str(value) for value in self[:len(HEAD)]]
+        return [str(value) for value in self[: len(HEAD)]]
 
     def page(self) -> str:
         """The file of the team's page."""
@@ -86,11 +105,23 @@ def standings_of(rows: Sequence[Row], teams: Sequence[str]) -> List[LeagueRow]:
     for team in teams:
         own = [row for row in rows if row["team"] == team]
         solved = [row for row in own if is_solved(row)]
-        found.append(LeagueRow(0, team, len(own), len(solved), sum(int(row["moves"]) for row in solved),
-                              sum(int(row["lost"]) for row in solved), by_network(own), by_kind(own)))
+        found.append(
+            LeagueRow(
+                0,
+                team,
+                len(own),
+                len(solved),
+                sum(int(row["moves"]) for row in solved),
+                sum(int(row["lost"]) for row in solved),
+                by_network(own),
+                by_kind(own),
+            )
+        )
     found.sort(key=LeagueRow.rank)
     ranks = [standing.rank() for standing in found]
-    return [standing._replace(place=1 + ranks.index(standing.rank())) for standing in found]
+    return [
+        standing._replace(place=1 + ranks.index(standing.rank())) for standing in found
+    ]
 
 
 def by_network(rows: Sequence[Row]) -> Dict[str, Tuple[int, int]]:
@@ -122,14 +153,28 @@ def is_of(kind: str, fault: str) -> bool:
 
 def table(standings: Sequence[LeagueRow]) -> List[Sequence[str]]:
     """The league table's rows, with their head."""
-    return [[*HEAD, *standings[0].networks],
-            *([*it.cells(), *(str(solved) for solved, _ in it.networks.values())] for it in standings)]
+    return [
+        [*HEAD, *standings[0].networks],
+        *(
+            [*it.cells(), *(str(solved) for solved, _ in it.networks.values())]
+            for it in standings
+        ),
+    ]
 
 
 def text_of(standings: Sequence[LeagueRow]) -> str:
     """The league table as lines of text."""
     lines = [("#", "team", "solved", "moves", "lost")]
-    lines += [(str(it.place), it.team, f"{it.solved} of {it.matches}", str(it.moves), str(it.lost)) for it in standings]
+    lines += [
+        (
+            str(it.place),
+            it.team,
+            f"{it.solved} of {it.matches}",
+            str(it.moves),
+            str(it.lost),
+        )
+        for it in standings
+    ]
     return "".join(f"{a:>3} {b:<16} {c:<10} {d:>6} {e:>4}\n" for a, b, c, d, e in lines)
 
 
@@ -146,29 +191,55 @@ def page_name(team: str) -> str:
 Refused = Mapping[int, Sequence[str]]
 
 
-def pages(grid: Grid, rows: Sequence[Row], failures: Dict[int, Failure], engine: str,
-          refused: Refused = {}) -> Dict[str, str]:
+def pages(
+    grid: Grid,
+    rows: Sequence[Row],
+    failures: Dict[int, Failure],
+    engine: str,
+    refused: Refused = {},
+) -> Dict[str, str]:
     """The league's page and a page for each team, by the names of their files."""
     standings = standings_of(rows, [team.name for team in grid.teams])
     found = {PAGE: league_page(grid, standings, engine)}
     for standing in standings:
         own = [row for row in rows if row["team"] == standing.team]
-        found[page_name(standing.team)] = team_page(grid, standing, own, failures, refused)
+        found[page_name(standing.team)] = team_page(
+            grid, standing, own, failures, refused
+        )
     return found
 
 
 def met_in(standings: Sequence[LeagueRow]) -> List[str]:
     """The kinds of failures that there are, in the order of the kinds."""
-    return [kind for kind in KINDS if any(kind in standing.kinds for standing in standings)]
+    return [
+        kind for kind in KINDS if any(kind in standing.kinds for standing in standings)
+    ]
 
 
 def league_page(grid: Grid, standings: Sequence[LeagueRow], engine: str) -> str:
     matches = standings[0].matches
-    about = (f"Each of {len(standings)} teams played the same {matches} matches on {', '.join(grid.names)}. Played and "
-             f"judged by {engine}.")
-    head = [HEAD[0], HEAD[1], "solved", *standings[0].networks, "moves", "lost", "failed"]
-    return filled("league.html", title=grid.title, about=about, head=head, standings=standings, kinds=KINDS,
-                  met=met_in(standings))
+    about = (
+        f"Each of {len(standings)} teams played the same {matches} matches on {', '.join(grid.names)}. Played and "
+        f"judged by {engine}."
+    )
+    head = [
+        HEAD[0],
+        HEAD[1],
+        "solved",
+        *standings[0].networks,
+        "moves",
+        "lost",
+        "failed",
+    ]
+    return filled(
+        "league.html",
+        title=grid.title,
+        about=about,
+        head=head,
+        standings=standings,
+        kinds=KINDS,
+        met=met_in(standings),
+    )
 
 
 def refused_in(rows: Sequence[Row], refused: Refused) -> List[Tuple[str, List[int]]]:
@@ -180,30 +251,61 @@ def refused_in(rows: Sequence[Row], refused: Refused) -> List[Tuple[str, List[in
     return list(found.items())
 
 
-def team_page(grid: Grid, standing: LeagueRow, rows: Sequence[Row], failures: Dict[int, Failure],
-              refused: Refused) -> str:
+def team_page(
+    grid: Grid,
+    standing: LeagueRow,
+    rows: Sequence[Row],
+    failures: Dict[int, Failure],
+    refused: Refused,
+) -> str:
     failed = [row for row in rows if not is_solved(row)]
-    about = (f"Place {standing.place} of {len(grid.teams)} in the league: solved {standing.solved} of "
-             f"{standing.matches} matches, with {standing.moves} moves and {standing.lost} lost agents in these.")
-    return filled("team.html", title=f"Team {standing.team}", course=grid.title, about=about, kinds=KINDS,
-                  met=met_in([standing]), head=MATCH_HEAD, files=FILES, refused=refused_in(rows, refused),
-                  cards=cards([failed_match(row, failures[int(row["run"])]) for row in failed]),
-                  rows=[(row, "" if is_solved(row) else kind_of(row)) for row in rows])
+    about = (
+        f"Place {standing.place} of {len(grid.teams)} in the league: solved {standing.solved} of "
+        f"{standing.matches} matches, with {standing.moves} moves and {standing.lost} lost agents in these."
+    )
+    return filled(
+        "team.html",
+        title=f"Team {standing.team}",
+        course=grid.title,
+        about=about,
+        kinds=KINDS,
+        met=met_in([standing]),
+        head=MATCH_HEAD,
+        files=FILES,
+        refused=refused_in(rows, refused),
+        cards=cards([failed_match(row, failures[int(row["run"])]) for row in failed]),
+        rows=[(row, "" if is_solved(row) else kind_of(row)) for row in rows],
+    )
 
 
 def failed_match(row: Row, failure: Failure) -> Dict[str, Any]:
     """What the page of a team says of a match that it failed."""
     folder = folder_of(row["team"], failure.number)
-    return {"row": row, "failure": failure, "kind": kind_of(row), "folder": folder, "smallest": f"{folder}/{SMALLEST}",
-            "came": came(row["outcome"], row["moves"], row["lost"])}
+    return {
+        "row": row,
+        "failure": failure,
+        "kind": kind_of(row),
+        "folder": folder,
+        "smallest": f"{folder}/{SMALLEST}",
+        "came": came(row["outcome"], row["moves"], row["lost"]),
+    }
 
 
-def cards(failed: Sequence[Dict[str, Any]]) -> List[Tuple[Dict[str, Any], List[Dict[str, Any]]]]:
+def cards(
+    failed: Sequence[Dict[str, Any]]
+) -> List[Tuple[Dict[str, Any], List[Dict[str, Any]]]]:
     """Failed matches as cards: the first of each network that failed in a way and with these faults, and the others."""
     found: Dict[Tuple[str, ...], List[Dict[str, Any]]] = {}
     for it in failed:
-        found.setdefault((it["row"]["network"], it["kind"], *map(alike, it["row"][FAULTS])), []).append(it)
-    return [(first, others) for first, *others in (sorted(equal, key=has_no_smallest) for equal in found.values())]
+        found.setdefault(
+            (it["row"]["network"], it["kind"], *map(alike, it["row"][FAULTS])), []
+        ).append(it)
+    return [
+        (first, others)
+        for first, *others in (
+            sorted(equal, key=has_no_smallest) for equal in found.values()
+        )
+    ]
 
 
 def alike(fault: str) -> str:

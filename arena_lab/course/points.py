@@ -45,7 +45,11 @@ class Points(NamedTuple):
 
     def most_moves(self, nodes: int) -> float:
         """The bound of moves on a network of this number of nodes."""
-        return BOUNDS[self.bound](nodes) if isinstance(self.bound, str) else self.bound or math.inf
+        return (
+            BOUNDS[self.bound](nodes)
+            if isinstance(self.bound, str)
+            else self.bound or math.inf
+        )
 
 
 class Mark(NamedTuple):
@@ -66,22 +70,41 @@ class Mark(NamedTuple):
 
 
 def is_amount(value: Any) -> bool:
-    return isinstance(value, (int, float)) and not isinstance(value, bool) and 0 <= value <= 1e6
+    return (
+        isinstance(value, (int, float))
+        and not isinstance(value, bool)
+        and 0 <= value <= 1e6
+    )
 
 
 def are_amounts(value: Any) -> bool:
-    return is_amount(value) or isinstance(value, dict) and all(map(is_amount, value.values()))
+    return (
+        is_amount(value)
+        or isinstance(value, dict)
+        and all(map(is_amount, value.values()))
+    )
 
 
 def is_bound(value: Any) -> bool:
-    return isinstance(value, str) and value in BOUNDS or is_amount(value) and value > 0 or value is None
+    return (
+        isinstance(value, str)
+        and value in BOUNDS
+        or is_amount(value)
+        and value > 0
+        or value is None
+    )
 
 
 FIELDS = {
-    "network": Field(are_amounts, 'a number of points from 0, or a table such as {"ring:8" = 5}', USUAL),
+    "network": Field(
+        are_amounts,
+        'a number of points from 0, or a table such as {"ring:8" = 5}',
+        USUAL,
+    ),
     "moves": Field(lambda it: is_amount(it) and it <= 1, "a part from 0 to 1", 0),
     "bound": Field(is_bound, f"a number of moves or one of {', '.join(BOUNDS)}", None),
-    "lost": Field(is_amount, "a number from 0", 0), "visibility": fields.one_of(VISIBLE, VISIBLE[0]),
+    "lost": Field(is_amount, "a number from 0", 0),
+    "visibility": fields.one_of(VISIBLE, VISIBLE[0]),
 }
 
 
@@ -89,9 +112,17 @@ def points_in(table: Dict[str, Any], played: Grid) -> Points:
     """The points that a table of a course's file gives."""
     said = fields.values_of(table, FIELDS, "[points]")
     if said["moves"] and said["bound"] is None:
-        raise WrongFile("[points] has moves, and no bound of which they are: write for example bound = \"2 n log2 n\"")
-    return Points(of_networks(said["network"], played), said["moves"], said["bound"], said["lost"], said["visibility"],
-                  len(played.dark))
+        raise WrongFile(
+            '[points] has moves, and no bound of which they are: write for example bound = "2 n log2 n"'
+        )
+    return Points(
+        of_networks(said["network"], played),
+        said["moves"],
+        said["bound"],
+        said["lost"],
+        said["visibility"],
+        len(played.dark),
+    )
 
 
 def of_networks(said: Any, played: Grid) -> Dict[str, int]:
@@ -99,8 +130,13 @@ def of_networks(said: Any, played: Grid) -> Dict[str, int]:
     if isinstance(said, dict):
         for name in said:
             if name not in played.names:
-                raise WrongFile(f"[points] has points for {name}, which is not in networks")
-    return {name: round(CENTS * (said.get(name, USUAL) if isinstance(said, dict) else said)) for name in played.names}
+                raise WrongFile(
+                    f"[points] has points for {name}, which is not in networks"
+                )
+    return {
+        name: round(CENTS * (said.get(name, USUAL) if isinstance(said, dict) else said))
+        for name in played.names
+    }
 
 
 def marks(points: Points, rows: Sequence[Row]) -> List[Mark]:
@@ -114,7 +150,13 @@ def marks(points: Points, rows: Sequence[Row]) -> List[Mark]:
         name = row["network"]
         whole, place = points.networks[name], met.get(name, 0)
         met[name] = place + 1
-        found.append(mark(points, row, whole * (place + 1) // count[name] - whole * place // count[name]))
+        found.append(
+            mark(
+                points,
+                row,
+                whole * (place + 1) // count[name] - whole * place // count[name],
+            )
+        )
     return found
 
 
@@ -127,9 +169,15 @@ def mark(points: Points, row: Row, most: int) -> Mark:
     extra = max(0, int(row["lost"]) - len(row["hole"].split()) - points.dark)
     for_moves = round(most * points.moves * over)
     for_lost = round(CENTS * points.lost * extra)
-    why = [f"{text(for_moves)} less for {moves} moves, where the bound is {bound:.1f}"] if for_moves else []
+    why = (
+        [f"{text(for_moves)} less for {moves} moves, where the bound is {bound:.1f}"]
+        if for_moves
+        else []
+    )
     if for_lost:
-        why.append(f"{text(for_lost)} less for {extra} more lost than there are black holes and dark links")
+        why.append(
+            f"{text(for_lost)} less for {extra} more lost than there are black holes and dark links"
+        )
     return Mark(row, max(0, most - for_moves - for_lost), most, why)
 
 

@@ -53,11 +53,15 @@ class Limited(NamedTuple):
     note: Optional[Callable[[Any, Any], None]] = None
 
 
-def in_time(job: Job, left: Sequence[Any], workers: int, limited: Limited) -> Iterator[Result]:
+def in_time(
+    job: Job, left: Sequence[Any], workers: int, limited: Limited
+) -> Iterator[Result]:
     """The results of matches, or of repetitions, in order, by this number of processes. Once a team's time is up,
     others come instead of its results."""
     over = multiprocessing.Event()
-    pool = concurrent.futures.ProcessPoolExecutor(workers, initializer=begin, initargs=(over, os.getpid()))
+    pool = concurrent.futures.ProcessPoolExecutor(
+        workers, initializer=begin, initargs=(over, os.getpid())
+    )
     try:
         yield from MatchQueue(job, left, limited).results(pool, workers)
     except BrokenProcessPool:
@@ -76,7 +80,9 @@ class MatchQueue:
         self._running: "Dict[Future[Result], int]" = {}
         self._done: Dict[int, Result] = {}
 
-    def results(self, pool: concurrent.futures.Executor, workers: int) -> Iterator[Result]:
+    def results(
+        self, pool: concurrent.futures.Executor, workers: int
+    ) -> Iterator[Result]:
         """The results in the order of the matches."""
         for number in range(len(self._left)):
             while number not in self._done:
@@ -105,7 +111,9 @@ class MatchQueue:
         for future in ended:
             number, result = self._running.pop(future), future.result()
             if not result.fault:
-                self._limited.budget.take(self._limited.team_of(self._left[number]), result.found)
+                self._limited.budget.take(
+                    self._limited.team_of(self._left[number]), result.found
+                )
                 result = Result(result.found.found, "")
                 if self._limited.note:
                     self._limited.note(self._left[number], result.found)

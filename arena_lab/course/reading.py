@@ -18,7 +18,11 @@ CANNOT = f"it cannot be read within {SECONDS} s and {MEMORY >> 30} GB of memory"
 
 
 def main() -> None:
-    for kind, most in ((resource.RLIMIT_AS, MEMORY), (resource.RLIMIT_CPU, SECONDS), (resource.RLIMIT_CORE, 0)):
+    for kind, most in (
+        (resource.RLIMIT_AS, MEMORY),
+        (resource.RLIMIT_CPU, SECONDS),
+        (resource.RLIMIT_CORE, 0),
+    ):
         resource.setrlimit(kind, (most, most))
     place, folder, words, *paths = json.load(sys.stdin)
     archive = pathlib.Path(place)
@@ -27,7 +31,10 @@ def main() -> None:
         files = found.digests(words)
         archive.write_bytes(found.archive())
     except (OSError, MemoryError, RecursionError, ValueError) as fault:
-        found, files = HandIn({}, f"its files cannot be read: {type(fault).__name__}"), {}
+        found, files = (
+            HandIn({}, f"its files cannot be read: {type(fault).__name__}"),
+            {},
+        )
         archive.write_bytes(found.archive())
     print(json.dumps([found.digest(), found.refusal, files]))
 

@@ -19,7 +19,10 @@ def repeat_graded(out: pathlib.Path, workers: int, forgets: bool) -> int:
         text = grid.text_in(out / intake.COURSE)
         rows = tables.rows_in(out / tables.RUNS)
         solved = rounds.solved_in(rows)
-        counts = [sum(row["team"] == team for row in rows) for team in {row["team"] for row in rows}]
+        counts = [
+            sum(row["team"] == team for row in rows)
+            for team in {row["team"] for row in rows}
+        ]
         terms = course.terms_of(text, max(counts, default=0))
         draws = course.CourseDraws(grid.text_in(out / course.SECRET).strip())
         if strongest is not Isolation.ALL:
@@ -31,11 +34,15 @@ def repeat_graded(out: pathlib.Path, workers: int, forgets: bool) -> int:
         return report_repetitions(solved, found, not_counted_in(out))
 
 
-def report_repetitions(solved: List[Solved], found: Dict[int, str], before: Set[int]) -> int:
+def report_repetitions(
+    solved: List[Solved], found: Dict[int, str], before: Set[int]
+) -> int:
     """Says which matches repeat; some did not count before."""
     for name in sorted({it.team for it in solved}):
         own = [it.number for it in solved if it.team == name]
-        print(f"{name}: {sum(number not in found for number in own)} of {len(own)} solved matches repeat")
+        print(
+            f"{name}: {sum(number not in found for number in own)} of {len(own)} solved matches repeat"
+        )
     for number, said in sorted(found.items()):
         also = " (as when the course was graded)" if number in before else ""
         print(f"match {number}{also}: {said}")

@@ -82,13 +82,28 @@ class Repeating(NamedTuple):
     def _repeat(self, it: Repetition) -> str:
         replay = replay_of(self.out, it.team, it.number).read_text(encoding="utf-8")
         setup = begun(objects_of(replay)[0]).setup
-        played = Fixture(it.team, setup, self.draws.keys(self.text, it.number, setup.agents))
-        again, words = repeating.with_new_keys(played), terms_of(self.text, 0).commands[it.team]
+        played = Fixture(
+            it.team, setup, self.draws.keys(self.text, it.number, setup.agents)
+        )
+        again, words = (
+            repeating.with_new_keys(played),
+            terms_of(self.text, 0).commands[it.team],
+        )
         handed_in = intake.hand_in_of(self.out, it.team)
         with grounds_of(self.yard, handed_in, words, setup, 1) as grounds:
-            team = programs.Team(again, {it.agent: words}, self.limits.line, {it.agent: grounds[0]}, self.limits.match,
-                                 programs.seeds_of(played), self.limits.match_space << 20)
-            return str(repeating.repeated(team, again, repeating.past_of(replay, it.agent)) or "")
+            team = programs.Team(
+                again,
+                {it.agent: words},
+                self.limits.line,
+                {it.agent: grounds[0]},
+                self.limits.match,
+                programs.seeds_of(played),
+                self.limits.match_space << 20,
+            )
+            return str(
+                repeating.repeated(team, again, repeating.past_of(replay, it.agent))
+                or ""
+            )
 
 
 def in_a_line(fault: Exception) -> str:
@@ -108,10 +123,16 @@ def refused_of(out: pathlib.Path, team: str, number: int) -> pathlib.Path:
 
 def solved_in(rows: Sequence[Row]) -> List[Solved]:
     """The solved matches of these rows."""
-    return [Solved(int(row["run"]), row["team"], int(row["agents"])) for row in rows if report.is_solved(row)]
+    return [
+        Solved(int(row["run"]), row["team"], int(row["agents"]))
+        for row in rows
+        if report.is_solved(row)
+    ]
 
 
-def repeated(job: Repeating, solved: Sequence[Solved], workers: int, chance: random.Random) -> Dict[int, str]:
+def repeated(
+    job: Repeating, solved: Sequence[Solved], workers: int, chance: random.Random
+) -> Dict[int, str]:
     """Repeats the agents of solved matches; gives what one of them says otherwise, by the numbers of matches. A team
     has as much time for its repetitions as for its matches."""
     budget = Budget(job.limits.team, {it.team: 0.0 for it in solved})
@@ -123,8 +144,11 @@ def repeated(job: Repeating, solved: Sequence[Solved], workers: int, chance: ran
             kernel_traces.stir()
             if job.forgets:
                 kernel_traces.forget()
-            due = [Repetition(it.number, it.team, orders[it.number][turn]) for it in solved
-                   if turn < it.agents and it.number not in found]
+            due = [
+                Repetition(it.number, it.team, orders[it.number][turn])
+                for it in solved
+                if turn < it.agents and it.number not in found
+            ]
             yield from one_round(job, chance.sample(due, len(due)), workers, budget)
 
     for result in along(results(), sum(it.agents for it in solved), "repetition"):
@@ -136,8 +160,17 @@ def repeated(job: Repeating, solved: Sequence[Solved], workers: int, chance: ran
     return found
 
 
-def one_round(job: Repeating, due: Sequence[Repetition], workers: int, budget: Budget) -> Iterator[Result]:
+def one_round(
+    job: Repeating, due: Sequence[Repetition], workers: int, budget: Budget
+) -> Iterator[Result]:
     """The results of a round."""
+
     def instead(it: Repetition) -> Tuple[int, str]:
-        return it.number, f"agent {it.agent}: {league.NOT_REPEATED}: {budget.says(it.team)}"
-    return in_time(job, due, workers, Limited(budget, operator.attrgetter("team"), instead))
+        return (
+            it.number,
+            f"agent {it.agent}: {league.NOT_REPEATED}: {budget.says(it.team)}",
+        )
+
+    return in_time(
+        job, due, workers, Limited(budget, operator.attrgetter("team"), instead)
+    )

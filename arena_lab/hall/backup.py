@@ -24,15 +24,21 @@ def write(place: HallFolder, archive: pathlib.Path) -> pathlib.Path:
     """Writes the archive, whole or not at all."""
     new = archive.with_name(f".{archive.name}.new")
     with tempfile.TemporaryDirectory() as apart:
-        with open(os.open(new, os.O_WRONLY | os.O_CREAT | os.O_TRUNC, 0o600), "wb") as file, \
-                tarfile.open(fileobj=file, mode="w:gz") as tar:
+        with open(
+            os.open(new, os.O_WRONLY | os.O_CREAT | os.O_TRUNC, 0o600), "wb"
+        ) as file, tarfile.open(fileobj=file, mode="w:gz") as tar:
             database = dumped(pathlib.Path(apart))
             tar.add(database, f"{place.folder.name}/{database.name}")
             tar.add(place.course, place.course.name)
             for folder, folders, names in os.walk(place.folder):
                 for path in (pathlib.Path(folder, name) for name in (*folders, *names)):
                     with contextlib.suppress(FileNotFoundError):
-                        tar.add(path, str(path.relative_to(place.folder.parent)), recursive=False, filter=kept)
+                        tar.add(
+                            path,
+                            str(path.relative_to(place.folder.parent)),
+                            recursive=False,
+                            filter=kept,
+                        )
     new.replace(archive)
     return archive
 
@@ -40,13 +46,18 @@ def write(place: HallFolder, archive: pathlib.Path) -> pathlib.Path:
 def kept(entry: tarfile.TarInfo) -> Optional[tarfile.TarInfo]:
     """An entry of the hall's folder, unless it is left out."""
     name = entry.name.partition("/")[2]
-    is_out = name.partition("/")[0] in LEFT_OUT or name.startswith(DATABASE) or name.endswith(".new")
+    is_out = (
+        name.partition("/")[0] in LEFT_OUT
+        or name.startswith(DATABASE)
+        or name.endswith(".new")
+    )
     return None if is_out else entry
 
 
 def dumped(folder: pathlib.Path) -> pathlib.Path:
     """A copy of the database as it stands now."""
     from django.db import connection
+
     if connection.vendor == "sqlite":
         path = folder / DATABASE
         with connection.cursor() as cursor:
@@ -60,14 +71,27 @@ def dumped(folder: pathlib.Path) -> pathlib.Path:
 def postgres(program: str, *words: str) -> None:
     """Runs a program of PostgreSQL on the hall's database."""
     from django.db import connection
+
     found = connection.get_connection_params()
-    names = {"PGUSER": "user", "PGPASSWORD": "password", "PGHOST": "host", "PGPORT": "port",
-             "PGDATABASE": "dbname" if "dbname" in found else "database"}
+    names = {
+        "PGUSER": "user",
+        "PGPASSWORD": "password",
+        "PGHOST": "host",
+        "PGPORT": "port",
+        "PGDATABASE": "dbname" if "dbname" in found else "database",
+    }
     variables = {name: str(found[key]) for name, key in names.items() if found.get(key)}
     try:
-        subprocess.run([program, *words], check=True, capture_output=True, env={**os.environ, **variables})
+        subprocess.run(
+            [program, *words],
+            check=True,
+            capture_output=True,
+            env={**os.environ, **variables},
+        )
     except (OSError, subprocess.CalledProcessError) as fault:
-        raise NoHall(f"{program} does not do its part: {getattr(fault, 'stderr', b'') or fault}") from None
+        raise NoHall(
+            f"{program} does not do its part: {getattr(fault, 'stderr', b'') or fault}"
+        ) from None
 
 
 def restore(place: HallFolder, archive: pathlib.Path) -> Optional[pathlib.Path]:
@@ -85,7 +109,9 @@ def restore(place: HallFolder, archive: pathlib.Path) -> Optional[pathlib.Path]:
     HallFolder(new, place.course, made.program).write()
     aside = None
     if place.folder.exists():
-        aside = place.folder.with_name(f"{place.folder.name}.{time.strftime('%Y-%m-%d-%H%M%S')}")
+        aside = place.folder.with_name(
+            f"{place.folder.name}.{time.strftime('%Y-%m-%d-%H%M%S')}"
+        )
         place.folder.rename(aside)
     new.rename(place.folder)
     return aside
@@ -99,10 +125,14 @@ def unpack(archive: pathlib.Path, folder: pathlib.Path) -> None:
             if ".." in parts or not (entry.isfile() and parts or entry.isdir()):
                 continue
             path = folder.joinpath(*parts)
-            (path if entry.isdir() else path.parent).mkdir(mode=0o700, parents=True, exist_ok=True)
+            (path if entry.isdir() else path.parent).mkdir(
+                mode=0o700, parents=True, exist_ok=True
+            )
             content = tar.extractfile(entry)
             if content is not None:
-                with content, open(os.open(path, os.O_WRONLY | os.O_CREAT, 0o600), "wb") as file:
+                with content, open(
+                    os.open(path, os.O_WRONLY | os.O_CREAT, 0o600), "wb"
+                ) as file:
                     shutil.copyfileobj(content, file)
 
 
@@ -142,7 +172,15 @@ def load(place: HallFolder, aside: Optional[pathlib.Path]) -> None:
         return
     if aside is not None:
         dumped(aside)
-    words: List[str] = ["-1", "-q", "-v", "ON_ERROR_STOP=1", "-c", "DROP SCHEMA public CASCADE; CREATE SCHEMA public",
-                        "-f", str(dump)]
+    words: List[str] = [
+        "-1",
+        "-q",
+        "-v",
+        "ON_ERROR_STOP=1",
+        "-c",
+        "DROP SCHEMA public CASCADE; CREATE SCHEMA public",
+        "-f",
+        str(dump),
+    ]
     postgres("psql", *words)
     dump.unlink()

@@ -76,7 +76,14 @@ from arena_lab.rules.limits import MOST_BOARD, MOST_QUOTA, SMALL_BOARD, SMALL_QU
 from arena_lab.rules.networks import Network, NoNetwork
 from arena_lab.support import fields
 from arena_lab.support.faults import Fault
-from arena_lab.support.fields import Field, WrongFile, is_count, is_number, is_text, is_texts
+from arena_lab.support.fields import (
+    Field,
+    WrongFile,
+    is_count,
+    is_number,
+    is_text,
+    is_texts,
+)
 from arena_lab.sweep.grid import AGENTS, DEGREE, MAY_BE_TEXT
 
 LANGUAGES = ("en", "de", "fr")
@@ -84,7 +91,7 @@ DRAWN, FIXED = "drawn", "fixed"
 # a table of earlier files, which is passed over
 RATED = "rated"
 TEAM = re.compile("[a-z0-9][a-z0-9-]{0,15}")
-TIMES = "a time such as \"2026-12-18 18:00\""
+TIMES = 'a time such as "2026-12-18 18:00"'
 
 
 def is_ports(value: Any) -> bool:
@@ -96,45 +103,83 @@ def is_zone(value: Any) -> bool:
     return isinstance(value, str) and value in zoneinfo.available_timezones() | {"UTC"}
 
 
-TIME = Field(lambda it: it is None or isinstance(it, (str, datetime.datetime)), TIMES, None)
+TIME = Field(
+    lambda it: it is None or isinstance(it, (str, datetime.datetime)), TIMES, None
+)
 # those that a hall has as they stand, and the others
 PLAIN = {
-    "title": fields.TEXT, "host": fields.TEXT._replace(usual="127.0.0.1"),
+    "title": fields.TEXT,
+    "host": fields.TEXT._replace(usual="127.0.0.1"),
     "address": fields.TEXT._replace(usual="127.0.0.1"),
-    "names": fields.MAYBE_NAMES, "https": fields.FLAG,
-    "zone": Field(is_zone, "a time zone such as \"Europe/Berlin\"", "UTC"), "language": fields.one_of(LANGUAGES, "en"),
-    "database": fields.TEXT._replace(usual="sqlite"), "minutes": fields.count(8), "gather": fields.count(60),
-    "pause": fields.count(5), "public": fields.FLAG,
+    "names": fields.MAYBE_NAMES,
+    "https": fields.FLAG,
+    "zone": Field(is_zone, 'a time zone such as "Europe/Berlin"', "UTC"),
+    "language": fields.one_of(LANGUAGES, "en"),
+    "database": fields.TEXT._replace(usual="sqlite"),
+    "minutes": fields.count(8),
+    "gather": fields.count(60),
+    "pause": fields.count(5),
+    "public": fields.FLAG,
 }
 FIELDS = {
-    **PLAIN, "ports": Field(is_ports, "a first and a last port, such as [4100, 4199]", [4100, 4199]), "freeze": TIME,
-    "team": fields.tables("team", []), "network": fields.tables("network"),
-    RATED: Field(lambda it: True, "", None), "limits": fields.table("limits", {}),
+    **PLAIN,
+    "ports": Field(
+        is_ports, "a first and a last port, such as [4100, 4199]", [4100, 4199]
+    ),
+    "freeze": TIME,
+    "team": fields.tables("team", []),
+    "network": fields.tables("network"),
+    RATED: Field(lambda it: True, "", None),
+    "limits": fields.table("limits", {}),
     "hand_ins": fields.table("hand_ins", None),
 }
-LIMITS = {"at_once": fields.count(2), "a_day": fields.count(300), "requests": fields.count(120),
-          "disk": fields.count(200), "matches": fields.count(64), "gradings": fields.count(2)}
+LIMITS = {
+    "at_once": fields.count(2),
+    "a_day": fields.count(300),
+    "requests": fields.count(120),
+    "disk": fields.count(200),
+    "matches": fields.count(64),
+    "gradings": fields.count(2),
+}
 MEMBER = {
-    "name": Field(lambda it: isinstance(it, str) and bool(TEAM.fullmatch(it)), "given for each team, of 1 to 16 "
-                  "characters out of a to z, 0 to 9 and -, which does not come first"),
+    "name": Field(
+        lambda it: isinstance(it, str) and bool(TEAM.fullmatch(it)),
+        "given for each team, of 1 to 16 "
+        "characters out of a to z, 0 to 9 and -, which does not come first",
+    ),
     "display": MAY_BE_TEXT,
 }
 HOLES = "a whole number less than the nodes"
 NET = {
-    "name": Field(lambda it: is_text(it) and len(it) <= 60, "given for each network: a text of at most 60 characters, "
-                  "such as \"ring of 16\""),
+    "name": Field(
+        lambda it: is_text(it) and len(it) <= 60,
+        "given for each network: a text of at most 60 characters, "
+        'such as "ring of 16"',
+    ),
     "agents": AGENTS,
-    "holes": Field(is_number, HOLES, 1), "quota": fields.up_to(MOST_QUOTA, SMALL_QUOTA),
+    "holes": Field(is_number, HOLES, 1),
+    "quota": fields.up_to(MOST_QUOTA, SMALL_QUOTA),
     "board": fields.up_to(MOST_BOARD, SMALL_BOARD, 0),
-    "labels": Field(lambda it: it in (DRAWN, FIXED), f'"{DRAWN}" or "{FIXED}"', DRAWN), "map": fields.FLAG,
+    "labels": Field(lambda it: it in (DRAWN, FIXED), f'"{DRAWN}" or "{FIXED}"', DRAWN),
+    "map": fields.FLAG,
 }
 HAND_INS = {
-    "command": Field(is_text, "given in [hand_ins]: the words that start the program of one agent"),
-    "file": Field(lambda it: is_text(it) and bool(re.fullmatch(r"\w[\w.-]{0,60}", it)), "the name of a file",
-                  "agent.py"),
-    "networks": Field(is_texts, "a list of names, such as [\"ring:8\"]"), "secret": fields.MAYBE_NAMES,
-    "deadline": TIME, "a_day": fields.count(10), "agents": fields.count(2), "holes": fields.count(2),
-    "schedulers": Field(is_texts, "a list of names", ["fair", "slow-agents"]), "seeds": fields.count(2),
+    "command": Field(
+        is_text, "given in [hand_ins]: the words that start the program of one agent"
+    ),
+    "file": Field(
+        lambda it: is_text(it) and bool(re.fullmatch(r"\w[\w.-]{0,60}", it)),
+        "the name of a file",
+        "agent.py",
+    ),
+    "networks": Field(is_texts, 'a list of names, such as ["ring:8"]'),
+    "secret": fields.MAYBE_NAMES,
+    "deadline": TIME,
+    "a_day": fields.count(10),
+    "agents": fields.count(2),
+    "holes": fields.count(2),
+    "schedulers": Field(is_texts, "a list of names", ["fair", "slow-agents"]),
+    "seeds": fields.count(2),
 }
 
 
@@ -225,7 +270,9 @@ def read(path: pathlib.Path, kept: Optional[pathlib.Path] = None) -> Hall:
     try:
         return hall_of((kept or path).read_text(encoding="utf-8"), path.resolve())
     except FileNotFoundError:
-        raise NoHall(f"{path}: there is no such file: `arena-lab hall new FILE` writes one") from None
+        raise NoHall(
+            f"{path}: there is no such file: `arena-lab hall new FILE` writes one"
+        ) from None
     except UnicodeDecodeError:
         raise NoHall(f"{path}: it is no text in UTF-8") from None
     except (WrongFile, NoNetwork) as fault:
@@ -241,19 +288,32 @@ def hall_of(text: str, path: pathlib.Path) -> Hall:
     limits = TeamLimits(**fields.values_of(said["limits"], LIMITS, "limits"))
     check_ports(said["ports"], limits)
     zone = said["zone"]
-    return Hall(**{name: said[name] for name in PLAIN}, path=path, ports=(said["ports"][0], said["ports"][1]),
-                freeze=time_of(said, "freeze", zone), teams=teams_of(said["team"]), nets=nets, limits=limits,
-                hand_ins=None if said["hand_ins"] is None else hand_ins_of(said["hand_ins"], zone),
-                notes=notes_of(found))
+    return Hall(
+        **{name: said[name] for name in PLAIN},
+        path=path,
+        ports=(said["ports"][0], said["ports"][1]),
+        freeze=time_of(said, "freeze", zone),
+        teams=teams_of(said["team"]),
+        nets=nets,
+        limits=limits,
+        hand_ins=None
+        if said["hand_ins"] is None
+        else hand_ins_of(said["hand_ins"], zone),
+        notes=notes_of(found),
+    )
 
 
 def notes_of(found: Dict[str, Any]) -> List[str]:
     """What a file says that comes to nothing."""
     notes = []
     if RATED in found:
-        notes.append(f"[{RATED}] is passed over: matches over sockets are practice, and only hand-ins are ranked")
+        notes.append(
+            f"[{RATED}] is passed over: matches over sockets are practice, and only hand-ins are ranked"
+        )
     if "hand_ins" in found and "deadline" not in found["hand_ins"]:
-        notes.append("[hand_ins] has no deadline: no hand-in is graded by the secret draw until you write one")
+        notes.append(
+            "[hand_ins] has no deadline: no hand-in is graded by the secret draw until you write one"
+        )
     return notes
 
 
@@ -261,22 +321,34 @@ def check_ports(ports: Sequence[int], limits: TeamLimits) -> None:
     """Refuses a hall that could play more matches than it has ports for."""
     count = ports[1] - ports[0] + 1
     if limits.matches > count:
-        raise WrongFile(f"[limits] has matches = {limits.matches}, and there are only {count} ports: name more by "
-                        "ports")
+        raise WrongFile(
+            f"[limits] has matches = {limits.matches}, and there are only {count} ports: name more by "
+            "ports"
+        )
 
 
 def time_of(said: Dict[str, Any], name: str, zone: str) -> Optional[datetime.datetime]:
     """A time of the zone."""
     try:
-        found = datetime.datetime.fromisoformat(said[name]) if isinstance(said[name], str) else said[name]
+        found = (
+            datetime.datetime.fromisoformat(said[name])
+            if isinstance(said[name], str)
+            else said[name]
+        )
     except ValueError:
         raise WrongFile(f"{name} must be {TIMES}") from None
-    return found if found is None or found.tzinfo is not None else found.replace(tzinfo=zoneinfo.ZoneInfo(zone))
+    return (
+        found
+        if found is None or found.tzinfo is not None
+        else found.replace(tzinfo=zoneinfo.ZoneInfo(zone))
+    )
 
 
 def teams_of(tables: List[Dict[str, Any]]) -> List[Member]:
     """The teams, which may be none: the teacher may add them later."""
-    rows = fields.unlike([fields.values_of(table, MEMBER, "a team") for table in tables], "team")
+    rows = fields.unlike(
+        [fields.values_of(table, MEMBER, "a team") for table in tables], "team"
+    )
     return [Member(row["name"], row["display"] or row["name"]) for row in rows]
 
 
@@ -296,8 +368,17 @@ def net_of(row: Dict[str, Any], folder: pathlib.Path) -> Net:
     network = networks.biconnected(word)
     if row["holes"] >= network.nodes:
         raise WrongFile(f"holes must be {HOLES}")
-    return Net(row["name"], word, network, max(network.degrees()) + 1 if agents == DEGREE else agents, row["holes"],
-               row["quota"], row["board"], row["labels"], row["map"])
+    return Net(
+        row["name"],
+        word,
+        network,
+        max(network.degrees()) + 1 if agents == DEGREE else agents,
+        row["holes"],
+        row["quota"],
+        row["board"],
+        row["labels"],
+        row["map"],
+    )
 
 
 def hand_ins_of(table: Dict[str, Any], zone: str) -> HandInRules:
@@ -308,5 +389,10 @@ def hand_ins_of(table: Dict[str, Any], zone: str) -> HandInRules:
     check_command(said["command"], "of the hall")
     for name in [*said["networks"], *said["secret"]]:
         networks.biconnected(name)
-    return HandInRules(**{**said, "secret": said["secret"] or said["networks"],
-                          "deadline": time_of(said, "deadline", zone)})
+    return HandInRules(
+        **{
+            **said,
+            "secret": said["secret"] or said["networks"],
+            "deadline": time_of(said, "deadline", zone),
+        }
+    )

@@ -14,6 +14,7 @@ def begin(folder: str) -> None:
     """Makes this process one of the hall of a folder."""
     import django
     from django.apps import apps
+
     os.environ[VARIABLE] = folder
     os.environ.setdefault("DJANGO_SETTINGS_MODULE", "arena_lab.hall.settings")
     if not apps.ready:

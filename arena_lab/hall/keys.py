@@ -19,7 +19,9 @@ Sheet = List[Tuple[str, ...]]
 def sync(hall: Hall) -> None:
     """Makes the teams and networks of the course's file that the database does not have yet."""
     for member in hall.teams:
-        Team.objects.get_or_create(name=member.name, defaults={"display": member.display})
+        Team.objects.get_or_create(
+            name=member.name, defaults={"display": member.display}
+        )
     for name in hall.nets:
         Switch.objects.get_or_create(network=name)
 
@@ -55,14 +57,22 @@ def write_sheet(path: pathlib.Path, sheet: Sheet) -> None:
 
 def safe(rows: Iterable[Iterable[Any]]) -> List[List[Any]]:
     """The rows of a table in which no program takes a text for a formula."""
-    return [[f"'{it}" if isinstance(it, str) and it[:1] in ("=", "+", "-", "@", "\t", "\r") else it for it in row]
-            for row in rows]
+    return [
+        [
+            f"'{it}"
+            if isinstance(it, str) and it[:1] in ("=", "+", "-", "@", "\t", "\r")
+            else it
+            for it in row
+        ]
+        for row in rows
+    ]
 
 
 def set_password(password: str = "") -> str:
     """Sets the teacher's password, or draws one; gives it."""
-    user, _ = get_user_model().objects.get_or_create(username=TEACHER, defaults={"is_staff": True,
-                                                                                 "is_superuser": True})
+    user, _ = get_user_model().objects.get_or_create(
+        username=TEACHER, defaults={"is_staff": True, "is_superuser": True}
+    )
     password = password or secrets.token_urlsafe(12)
     user.set_password(password)
     user.save()

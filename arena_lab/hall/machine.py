@@ -9,14 +9,29 @@ from typing import FrozenSet, List, NamedTuple, Optional, Tuple
 
 from arena_lab.support.faults import Fault
 
-WAITING, HELD, RUNNING, OVER, LOST, CANCELLED = "waiting", "held", "running", "over", "lost", "cancelled"
+WAITING, HELD, RUNNING, OVER, LOST, CANCELLED = (
+    "waiting",
+    "held",
+    "running",
+    "over",
+    "lost",
+    "cancelled",
+)
 # no step leads out of these
 ENDED: FrozenSet[str] = frozenset((OVER, LOST, CANCELLED))
 ACTIVE: FrozenSet[str] = frozenset((HELD, RUNNING))
 
 # a worker claims the work, begins, renews its lease, and ends it or fails; the worker gives it up, or its lease has run
 # out; a team or the teacher gives it up
-CLAIM, BEGIN, RENEW, FINISH, FAIL, LOSE, CANCEL = "claim", "begin", "renew", "finish", "fail", "lose", "cancel"
+CLAIM, BEGIN, RENEW, FINISH, FAIL, LOSE, CANCEL = (
+    "claim",
+    "begin",
+    "renew",
+    "finish",
+    "fail",
+    "lose",
+    "cancel",
+)
 # steps of a worker, which must hold the work
 BY_HOLDER: FrozenSet[str] = frozenset((BEGIN, RENEW, FINISH, FAIL))
 # a run that is lost is followed by one more

@@ -36,7 +36,9 @@ class HallFolder(NamedTuple):
         except NoHall as fault:
             if not (self.folder / KEPT).exists():
                 raise
-            tell(f"{fault}; until you mend it, the hall goes on by the file of its last start")
+            tell(
+                f"{fault}; until you mend it, the hall goes on by the file of its last start"
+            )
             return self.hall()
         write_whole(self.folder / KEPT, self.course.read_text(encoding="utf-8"))
         return found
@@ -52,7 +54,11 @@ class HallFolder(NamedTuple):
         """A secret of the hall, which is drawn when it is first asked for."""
         path = self.folder / name
         try:
-            with open(os.open(path, os.O_WRONLY | os.O_CREAT | os.O_EXCL, 0o600), "w", encoding="utf-8") as file:
+            with open(
+                os.open(path, os.O_WRONLY | os.O_CREAT | os.O_EXCL, 0o600),
+                "w",
+                encoding="utf-8",
+            ) as file:
                 file.write(secrets.token_hex(32) + "\n")
         except FileExistsError:
             pass
@@ -76,7 +82,9 @@ def at(folder: pathlib.Path) -> HallFolder:
     try:
         found = json.loads((folder / PLACE).read_text(encoding="utf-8"))
     except FileNotFoundError:
-        raise NoHall(f"{folder}: there is no hall: start one by `arena-lab hall COURSE.toml`") from None
+        raise NoHall(
+            f"{folder}: there is no hall: start one by `arena-lab hall COURSE.toml`"
+        ) from None
     return HallFolder(folder, pathlib.Path(found["course"]), found["program"])
 
 

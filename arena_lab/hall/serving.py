@@ -41,15 +41,26 @@ def alone(place: HallFolder) -> Iterator[None]:
 
 def commands(options: Options) -> Dict[str, List[object]]:
     """The commands of the hall's processes, by their names."""
-    found: Dict[str, List[object]] = {f"worker {number}": ["worker", number] for number in range(options.workers)}
+    found: Dict[str, List[object]] = {
+        f"worker {number}": ["worker", number] for number in range(options.workers)
+    }
     return found if options.pages is None else {**found, "web": ["web", *options.pages]}
 
 
 def started(place: HallFolder, words: List[object]) -> "subprocess.Popen[bytes]":
     # strangers choose the keys of forms: sets and dictionaries have an order of their own in each process
-    variables = {**os.environ, VARIABLE: str(place.folder), "PYTHONPATH": str(TOP), "PYTHONHASHSEED": "random"}
-    command = bound([sys.executable, "-m", "arena_lab.hall.entry", place.folder, *words])
-    return subprocess.Popen(command, stdin=subprocess.DEVNULL, env=variables, cwd=place.folder)
+    variables = {
+        **os.environ,
+        VARIABLE: str(place.folder),
+        "PYTHONPATH": str(TOP),
+        "PYTHONHASHSEED": "random",
+    }
+    command = bound(
+        [sys.executable, "-m", "arena_lab.hall.entry", place.folder, *words]
+    )
+    return subprocess.Popen(
+        command, stdin=subprocess.DEVNULL, env=variables, cwd=place.folder
+    )
 
 
 def end(children: Children) -> None:
@@ -73,10 +84,16 @@ def serve(place: HallFolder, options: Options, seconds: Optional[float] = None) 
         while time.monotonic() < limit:
             for name, words in commands(options).items():
                 child = children.get(name)
-                if child is not None and child.poll() is None or time.monotonic() - begun.get(name, -AGAIN) < AGAIN:
+                if (
+                    child is not None
+                    and child.poll() is None
+                    or time.monotonic() - begun.get(name, -AGAIN) < AGAIN
+                ):
                     continue
                 if child is not None:
-                    tell(f"{name} has ended with status {child.returncode} and is started again")
+                    tell(
+                        f"{name} has ended with status {child.returncode} and is started again"
+                    )
                 children[name], begun[name] = started(place, words), time.monotonic()
             time.sleep(LOOK)
     finally:

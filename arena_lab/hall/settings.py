@@ -14,13 +14,28 @@ HERE = pathlib.Path(__file__).resolve().parent
 
 SECRET_KEY = PLACE.secret(place.KEY)
 DEBUG = False
-ALLOWED_HOSTS = ["localhost", "127.0.0.1", "[::1]", socket.gethostname().lower(), HALL.host, *HALL.names]
+ALLOWED_HOSTS = [
+    "localhost",
+    "127.0.0.1",
+    "[::1]",
+    socket.gethostname().lower(),
+    HALL.host,
+    *HALL.names,
+]
 ROOT_URLCONF = "arena_lab.hall.urls"
 
 INSTALLED_APPS = [
-    *(f"arena_lab.hall.apps.{name}" for name in ("Teams", "Attempts", "HandIns", "Standings")),
-    "django.contrib.admin", "django.contrib.auth", "django.contrib.contenttypes", "django.contrib.sessions",
-    "django.contrib.messages", "django.contrib.staticfiles", "rest_framework",
+    *(
+        f"arena_lab.hall.apps.{name}"
+        for name in ("Teams", "Attempts", "HandIns", "Standings")
+    ),
+    "django.contrib.admin",
+    "django.contrib.auth",
+    "django.contrib.contenttypes",
+    "django.contrib.sessions",
+    "django.contrib.messages",
+    "django.contrib.staticfiles",
+    "rest_framework",
 ]
 MIDDLEWARE = [
     "arena_lab.hall.teams.guards.Guards",
@@ -35,39 +50,72 @@ MIDDLEWARE = [
     "django.middleware.clickjacking.XFrameOptionsMiddleware",
     "arena_lab.hall.teams.logins.Teams",
 ]
-TEMPLATES = [{
-    "BACKEND": "django.template.backends.django.DjangoTemplates",
-    "DIRS": [HERE / "templates"],
-    "APP_DIRS": True,
-    "OPTIONS": {"context_processors": [
-        "django.template.context_processors.request", "django.contrib.auth.context_processors.auth",
-        "django.contrib.messages.context_processors.messages", "arena_lab.hall.teams.logins.shown",
-    ]},
-}]
+TEMPLATES = [
+    {
+        "BACKEND": "django.template.backends.django.DjangoTemplates",
+        "DIRS": [HERE / "templates"],
+        "APP_DIRS": True,
+        "OPTIONS": {
+            "context_processors": [
+                "django.template.context_processors.request",
+                "django.contrib.auth.context_processors.auth",
+                "django.contrib.messages.context_processors.messages",
+                "arena_lab.hall.teams.logins.shown",
+            ]
+        },
+    }
+]
 
 
 def database_of(said: str) -> Dict[str, Any]:
     """The database: a file in the hall's folder, or the PostgreSQL of an address."""
     if said == "sqlite":
-        return {"ENGINE": "arena_lab.hall.sqlite", "NAME": str(PLACE.folder / "hall.sqlite3"),
-                "OPTIONS": {"timeout": 30}}
+        return {
+            "ENGINE": "arena_lab.hall.sqlite",
+            "NAME": str(PLACE.folder / "hall.sqlite3"),
+            "OPTIONS": {"timeout": 30},
+        }
     found = urllib.parse.urlsplit(said)
-    parts = {"USER": found.username, "PASSWORD": found.password, "HOST": found.hostname, "PORT": found.port}
-    return {"ENGINE": "django.db.backends.postgresql", "NAME": found.path.lstrip("/"), "CONN_MAX_AGE": 60,
-            # a worker whose machine has gone does not keep the others from the queue
-            "OPTIONS": {"options": "-c idle_in_transaction_session_timeout=10s"},
-            **{name: urllib.parse.unquote(str(value)) for name, value in parts.items() if value}}
+    parts = {
+        "USER": found.username,
+        "PASSWORD": found.password,
+        "HOST": found.hostname,
+        "PORT": found.port,
+    }
+    return {
+        "ENGINE": "django.db.backends.postgresql",
+        "NAME": found.path.lstrip("/"),
+        "CONN_MAX_AGE": 60,
+        # a worker whose machine has gone does not keep the others from the queue
+        "OPTIONS": {"options": "-c idle_in_transaction_session_timeout=10s"},
+        **{
+            name: urllib.parse.unquote(str(value))
+            for name, value in parts.items()
+            if value
+        },
+    }
 
 
 DATABASES = {"default": database_of(HALL.database)}
 DEFAULT_AUTO_FIELD = "django.db.models.BigAutoField"
 AUTHENTICATION_BACKENDS = ["arena_lab.hall.teams.logins.Teachers"]
-AUTH_PASSWORD_VALIDATORS = [{"NAME": "django.contrib.auth.password_validation.MinimumLengthValidator",
-                             "OPTIONS": {"min_length": 10}}]
+AUTH_PASSWORD_VALIDATORS = [
+    {
+        "NAME": "django.contrib.auth.password_validation.MinimumLengthValidator",
+        "OPTIONS": {"min_length": 10},
+    }
+]
 
 LOCAL = {"BACKEND": "django.core.cache.backends.locmem.LocMemCache"}
-CACHES = {"default": LOCAL,
-          "known": {**LOCAL, "LOCATION": "known", "TIMEOUT": None, "OPTIONS": {"MAX_ENTRIES": 20_000}}}
+CACHES = {
+    "default": LOCAL,
+    "known": {
+        **LOCAL,
+        "LOCATION": "known",
+        "TIMEOUT": None,
+        "OPTIONS": {"MAX_ENTRIES": 20_000},
+    },
+}
 
 LANGUAGE_CODE = HALL.language
 LANGUAGES = [("en", "English"), ("de", "Deutsch"), ("fr", "Français")]
@@ -93,7 +141,10 @@ SECURE_CONTENT_TYPE_NOSNIFF = True
 X_FRAME_OPTIONS = "DENY"
 if HALL.https:
     # later versions of Django want the scheme too
-    CSRF_TRUSTED_ORIGINS = [name if django.VERSION < (4,) else f"https://{name}" for name in (HALL.host, *HALL.names)]
+    CSRF_TRUSTED_ORIGINS = [
+        name if django.VERSION < (4,) else f"https://{name}"
+        for name in (HALL.host, *HALL.names)
+    ]
 
 # a form of the teacher has some fields for each team; strangers send 64 KB at most, and files go to the disk
 DATA_UPLOAD_MAX_MEMORY_SIZE = 256 << 10
@@ -101,19 +152,31 @@ DATA_UPLOAD_MAX_NUMBER_FIELDS = 5_000
 FILE_UPLOAD_MAX_MEMORY_SIZE = 64 << 10
 
 REST_FRAMEWORK = {
-    "DEFAULT_AUTHENTICATION_CLASSES": ["arena_lab.hall.teams.logins.ByToken", "arena_lab.hall.teams.logins.BySession"],
+    "DEFAULT_AUTHENTICATION_CLASSES": [
+        "arena_lab.hall.teams.logins.ByToken",
+        "arena_lab.hall.teams.logins.BySession",
+    ],
     "DEFAULT_PERMISSION_CLASSES": ["arena_lab.hall.teams.logins.IsTeam"],
     "DEFAULT_RENDERER_CLASSES": ["rest_framework.renderers.JSONRenderer"],
-    "DEFAULT_PARSER_CLASSES": ["rest_framework.parsers.JSONParser", "rest_framework.parsers.MultiPartParser"],
+    "DEFAULT_PARSER_CLASSES": [
+        "rest_framework.parsers.JSONParser",
+        "rest_framework.parsers.MultiPartParser",
+    ],
     "EXCEPTION_HANDLER": "arena_lab.hall.teams.faults.error_response",
     "UNAUTHENTICATED_USER": None,
 }
 
 # what went wrong stands in the log of the hall without what was sent: tokens and passwords are in no line
 LOGGING = {
-    "version": 1, "disable_existing_loggers": False,
-    "formatters": {"plain": {"format": "%(asctime)s %(levelname)s %(name)s: %(message)s"}},
+    "version": 1,
+    "disable_existing_loggers": False,
+    "formatters": {
+        "plain": {"format": "%(asctime)s %(levelname)s %(name)s: %(message)s"}
+    },
     "handlers": {"stderr": {"class": "logging.StreamHandler", "formatter": "plain"}},
     "root": {"handlers": ["stderr"], "level": "WARNING"},
-    "loggers": {"django.request": {"level": "ERROR"}, "django.security": {"level": "ERROR"}},
+    "loggers": {
+        "django.request": {"level": "ERROR"},
+        "django.security": {"level": "ERROR"},
+    },
 }

@@ -54,7 +54,13 @@ class Work(models.Model):
         return bool(self.state == machine.OVER)
 
 
-def step(work: Work, event: str, holder: str = "", only: Optional[models.Q] = None, **changes: Any) -> bool:
+def step(
+    work: Work,
+    event: str,
+    holder: str = "",
+    only: Optional[models.Q] = None,
+    **changes: Any,
+) -> bool:
     """Takes a step, whole or not at all; gives whether it was taken."""
     rows = type(work).objects.filter(only or models.Q(), pk=work.pk)
     if event in machine.BY_HOLDER:
@@ -62,8 +68,11 @@ def step(work: Work, event: str, holder: str = "", only: Optional[models.Q] = No
     for row in machine.steps_of(event):
         chosen = rows.filter(state=row.state)
         if row.again is not None:
-            chosen = chosen.filter(runs__lt=machine.MOST_RUNS) if row.again else chosen.filter(
-                runs__gte=machine.MOST_RUNS)
+            chosen = (
+                chosen.filter(runs__lt=machine.MOST_RUNS)
+                if row.again
+                else chosen.filter(runs__gte=machine.MOST_RUNS)
+            )
         if chosen.update(**changed(row, holder), **changes):
             work.refresh_from_db()
             # meanwhile the lease may have run out, and the row be another's
@@ -98,8 +107,11 @@ def lose_late(kind: Any) -> List[Work]:
     """Notes which work is lost to its worker, since its lease has run out; gives it."""
     now = timezone.now()
     late = models.Q(until__lt=now)
-    return [work for work in kind.objects.filter(late, state__in=machine.ACTIVE)
-            if step(work, machine.LOSE, "", late)]
+    return [
+        work
+        for work in kind.objects.filter(late, state__in=machine.ACTIVE)
+        if step(work, machine.LOSE, "", late)
+    ]
 
 
 class WorkerStopped(Exception):
@@ -152,7 +164,13 @@ def begun(kind: Any, number: int, holder: str, *related: str) -> Iterator[Any]:
     except WorkLost:
         pass
     except (WorkerStopped, machine.TryAgain) as fault:
-        step(work, machine.LOSE, "", models.Q(holder=holder), fault=(str(fault) or str(AGAIN))[:300])
+        step(
+            work,
+            machine.LOSE,
+            "",
+            models.Q(holder=holder),
+            fault=(str(fault) or str(AGAIN))[:300],
+        )
     except (Fault, OSError) as fault:
         step(work, machine.FAIL, holder, fault=told_of(fault, work))
 

@@ -48,15 +48,26 @@ def no_icon(request: Any) -> HttpResponse:
 def health(request: Any) -> JsonResponse:
     """For whoever watches the hall: how much waits, and how many matches run. How long a program is graded is nobody's
     business, as those that fail take long. Without its database it answers 503."""
-    waiting = sum(kind.objects.filter(state=WAITING).count() for kind in (Attempt, Grading))
-    return JsonResponse({"waiting": waiting, "running": Attempt.objects.filter(state__in=ACTIVE).count()})
+    waiting = sum(
+        kind.objects.filter(state=WAITING).count() for kind in (Attempt, Grading)
+    )
+    return JsonResponse(
+        {
+            "waiting": waiting,
+            "running": Attempt.objects.filter(state__in=ACTIVE).count(),
+        }
+    )
 
 
 def fault(request: Any) -> HttpResponse:
     """What is answered if something ends a request. On a full disk nothing can be written, and the hall goes on once
     there is room."""
     found = sys.exc_info()[1]
-    if isinstance(found, OperationalError) or isinstance(found, OSError) and found.errno == errno.ENOSPC:
+    if (
+        isinstance(found, OperationalError)
+        or isinstance(found, OSError)
+        and found.errno == errno.ENOSPC
+    ):
         return refusal(503, _("the hall cannot write this now: tell your teacher"))
     return server_error(request)
 
@@ -68,7 +79,10 @@ API = [
     path("matches", Attempts.as_view({"get": "list", "post": "create"})),
     path("matches/<number:number>", Attempts.as_view({"get": "retrieve"})),
     path("matches/<number:number>/close", Attempts.as_view({"post": "close"})),
-    path("matches/<number:number>/replays/<number:match>", Attempts.as_view({"get": "replay"})),
+    path(
+        "matches/<number:number>/replays/<number:match>",
+        Attempts.as_view({"get": "replay"}),
+    ),
     path("hand-ins", HandIns.as_view({"get": "list", "post": "create"})),
     path("hand-ins/<number:number>", HandIns.as_view({"get": "retrieve"})),
     path("standings", standings.Standings.as_view()),
@@ -94,7 +108,9 @@ urlpatterns = [
     path("hand-ins/take", handins.take),
     path("hand-ins/<number:number>", handins.one),
     path("messages", teams.messages),
-    re_path(r"^hand-ins/(?P<number>\d{1,9})/result/(?P<path>[\w./-]*)$", handins.result),
+    re_path(
+        r"^hand-ins/(?P<number>\d{1,9})/result/(?P<path>[\w./-]*)$", handins.result
+    ),
     path("teacher/standings.csv", standings.export),
     path("teacher/contests/<number:number>.csv", standings.export),
     path("teacher/", admin.site.urls),

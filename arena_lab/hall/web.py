@@ -15,15 +15,33 @@ FORWARDED = {"x-forwarded-for", "x-forwarded-proto"}
 def options(address: str, is_behind: bool) -> Dict[str, Any]:
     """How waitress serves. Who asks is said by the server before the hall, if there is one, and by nobody else."""
     found: Dict[str, Any] = {
-        "threads": THREADS, "connection_limit": CONNECTIONS, "channel_timeout": SILENT, "cleanup_interval": 5,
-        "asyncore_use_poll": True, "max_request_header_size": 16 << 10, "max_request_body_size": 9 << 20,
-        "ident": None, "clear_untrusted_proxy_headers": True}
+        "threads": THREADS,
+        "connection_limit": CONNECTIONS,
+        "channel_timeout": SILENT,
+        "cleanup_interval": 5,
+        "asyncore_use_poll": True,
+        "max_request_header_size": 16 << 10,
+        "max_request_body_size": 9 << 20,
+        "ident": None,
+        "clear_untrusted_proxy_headers": True,
+    }
     if is_behind:
-        found.update(trusted_proxy="127.0.0.1" if address in LOOPBACK else "*", trusted_proxy_headers=FORWARDED)
+        found.update(
+            trusted_proxy="127.0.0.1" if address in LOOPBACK else "*",
+            trusted_proxy_headers=FORWARDED,
+        )
     return found
 
 
 def main(address: str, port: str) -> None:
     _, most = resource.getrlimit(resource.RLIMIT_NOFILE)
-    resource.setrlimit(resource.RLIMIT_NOFILE, (min(most, 3 * CONNECTIONS) if most > 0 else 3 * CONNECTIONS, most))
-    waitress.serve(get_wsgi_application(), host=address, port=int(port), **options(address, settings.HALL.https))
+    resource.setrlimit(
+        resource.RLIMIT_NOFILE,
+        (min(most, 3 * CONNECTIONS) if most > 0 else 3 * CONNECTIONS, most),
+    )
+    waitress.serve(
+        get_wsgi_application(),
+        host=address,
+        port=int(port),
+        **options(address, settings.HALL.https),
+    )

@@ -31,10 +31,16 @@ def due() -> List[Job]:
     """What may begin now."""
     limits = settings.HALL.limits
     pages = Pages.objects.filter(state__in=machine.ACTIVE).count()
-    return [*((playing.play, it) for it in due_attempts(limits.matches)),
-            *((playing.make_pages, it) for it in Pages.objects.filter(state=machine.WAITING).order_by("pk")[
-                :max(0, 2 - pages)]),
-            *((grading.grade, it) for it in grading.due(limits.gradings))]
+    return [
+        *((playing.play, it) for it in due_attempts(limits.matches)),
+        *(
+            (playing.make_pages, it)
+            for it in Pages.objects.filter(state=machine.WAITING).order_by("pk")[
+                : max(0, 2 - pages)
+            ]
+        ),
+        *((grading.grade, it) for it in grading.due(limits.gradings)),
+    ]
 
 
 def due_attempts(most: int) -> List[Any]:
@@ -50,7 +56,8 @@ def due_attempts(most: int) -> List[Any]:
 
 def claim() -> List[Tuple[Job, str]]:
     """Claims what may begin now, with the holder of each piece. Workers take turns, so that no two of them count what
-    runs at the same time: a row that always is there stands for the queue, and SQLite lets one write at a time."""
+    runs at the same time: a row that always is there stands for the queue, and SQLite lets one write at a time.
+    """
     with transaction.atomic():
         queue = ContentType.objects.filter(app_label="attempts", model="attempt")
         if queue.select_for_update(skip_locked=True).first() is None:

@@ -14,7 +14,9 @@ class Decided(Map):
 
 
 class Hasty(Searcher):
-    def __init__(self, agent: Agent, here: Here, sleep: Callable[[float], None]) -> None:
+    def __init__(
+        self, agent: Agent, here: Here, sleep: Callable[[float], None]
+    ) -> None:
         super().__init__(agent, here, sleep)
         self.has_waited = False
 
@@ -31,7 +33,9 @@ class Hasty(Searcher):
         self.has_waited = True
 
 
-def search(agent: Agent, key: str, nodes: int, links: int, sleep: Callable[[float], None]) -> None:
+def search(
+    agent: Agent, key: str, nodes: int, links: int, sleep: Callable[[float], None]
+) -> None:
     try:
         Hasty(agent, agent.enter(key), sleep).run(nodes, links)
     except Spent:

@@ -16,7 +16,9 @@ class Quick(Searcher):
         return Short(self.text, self.degree)
 
 
-def search(agent: Agent, key: str, nodes: int, links: int, sleep: Callable[[float], None]) -> None:
+def search(
+    agent: Agent, key: str, nodes: int, links: int, sleep: Callable[[float], None]
+) -> None:
     try:
         Quick(agent, agent.enter(key), sleep).run(nodes, links)
     except Spent:

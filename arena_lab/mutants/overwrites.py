@@ -14,7 +14,9 @@ class Blunt(Searcher):
         return True
 
 
-def search(agent: Agent, key: str, nodes: int, links: int, sleep: Callable[[float], None]) -> None:
+def search(
+    agent: Agent, key: str, nodes: int, links: int, sleep: Callable[[float], None]
+) -> None:
     try:
         Blunt(agent, agent.enter(key), sleep).run(nodes, links)
     except Spent:

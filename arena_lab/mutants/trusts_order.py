@@ -20,7 +20,9 @@ class Trusting(Searcher):
         return Ordered(self.text, self.degree)
 
 
-def search(agent: Agent, key: str, nodes: int, links: int, sleep: Callable[[float], None]) -> None:
+def search(
+    agent: Agent, key: str, nodes: int, links: int, sleep: Callable[[float], None]
+) -> None:
     try:
         Trusting(agent, agent.enter(key), sleep).run(nodes, links)
     except Spent:

@@ -16,7 +16,9 @@ class Waiting(Searcher):
         return Patient(self.text, self.degree)
 
 
-def search(agent: Agent, key: str, nodes: int, links: int, sleep: Callable[[float], None]) -> None:
+def search(
+    agent: Agent, key: str, nodes: int, links: int, sleep: Callable[[float], None]
+) -> None:
     try:
         Waiting(agent, agent.enter(key), sleep).run(nodes, links)
     except Spent:

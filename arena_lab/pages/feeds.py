@@ -23,17 +23,31 @@ class Feed:
     """One match: what of it was read so far, and since when its turns go on. The seconds for which the server has it
     gather, and between two turns, are as `serve` was told, or None."""
 
-    def __init__(self, prefix: str, number: int, gather: Optional[float] = None, pause: Optional[float] = None) -> None:
+    def __init__(
+        self,
+        prefix: str,
+        number: int,
+        gather: Optional[float] = None,
+        pause: Optional[float] = None,
+    ) -> None:
         self.match: Optional[Match] = None
         self.since: Optional[float] = None
         self._gather, self._pause = gather, pause
         self._replay = pathlib.Path(f"{prefix}{number}.jsonl")
         self._part = pathlib.Path(f"{prefix}{number}.jsonl.part")
-        self._turns = [pathlib.Path(f"{prefix}{number}.turns{end}") for end in (".part", "")]
+        self._turns = [
+            pathlib.Path(f"{prefix}{number}.turns{end}") for end in (".part", "")
+        ]
         self._begin()
 
     def _begin(self) -> None:
-        self.match, self.since, self._file, self._read, self._rest = None, None, -1, 0, b""
+        self.match, self.since, self._file, self._read, self._rest = (
+            None,
+            None,
+            -1,
+            0,
+            b"",
+        )
         self._opened: Optional[float] = None
 
     def look(self) -> bool:
@@ -55,7 +69,11 @@ class Feed:
             return False
         now, said = time.time(), self._said()
         count = sum(agent.standing != OUTSIDE for agent in match.agents)
-        late = [turn for event, turn in zip(match.log, said) if event.get("do") == "enter" and turn]
+        late = [
+            turn
+            for event, turn in zip(match.log, said)
+            if event.get("do") == "enter" and turn
+        ]
         is_over = self._gather is not None and now >= self._opened + self._gather
         if count == match.setup.agents or late:
             self.since = now - (said or [0])[-1] * (self._pause or 0)
@@ -67,12 +85,20 @@ class Feed:
         """The turns of the events, if the server says them."""
         path = next((it for it in self._turns if it.exists()), None)
         with contextlib.suppress(OSError, ValueError):
-            return [int(line) for line in path.read_text().split("\n")[:-1]] if path else []
+            return (
+                [int(line) for line in path.read_text().split("\n")[:-1]]
+                if path
+                else []
+            )
         return []
 
     def _take(self, file: Any, is_replay: bool) -> bool:
         found = pathlib.Path(file.name).stat()
-        is_other = not is_replay and self._file not in (-1, found.st_ino) or found.st_size < self._read
+        is_other = (
+            not is_replay
+            and self._file not in (-1, found.st_ino)
+            or found.st_size < self._read
+        )
         if is_other:
             self._begin()
         self._file = found.st_ino if not is_replay else self._file

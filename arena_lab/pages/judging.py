@@ -27,11 +27,18 @@ def verdict_of(program: Optional[str], replay: pathlib.Path) -> Verdict:
     return judged(program, replay) if program else model.judge(match_in(replay))
 
 
-def pasts_of(program: Optional[str], replay: pathlib.Path, agents: Iterable[int]) -> Dict[int, Iterable[int]]:
+def pasts_of(
+    program: Optional[str], replay: pathlib.Path, agents: Iterable[int]
+) -> Dict[int, Iterable[int]]:
     """The places of the causal past of each of these agents."""
     if program:
-        return {agent: (int(line.partition(" ")[0]) for line in lines_of(program, "explain", str(replay), str(agent)))
-                for agent in agents}
+        return {
+            agent: (
+                int(line.partition(" ")[0])
+                for line in lines_of(program, "explain", str(replay), str(agent))
+            )
+            for agent in agents
+        }
     events = footprints(match_in(replay))
     return {agent: cut(agent, events) for agent in agents}
 
@@ -39,11 +46,15 @@ def pasts_of(program: Optional[str], replay: pathlib.Path, agents: Iterable[int]
 def lines_of(program: str, *words: str) -> Iterator[str]:
     """The lines that the program prints for these words, one by one."""
     with tempfile.TemporaryFile() as errors:
-        with subprocess.Popen([program, *words], stdout=subprocess.PIPE, stderr=errors) as ran:
+        with subprocess.Popen(
+            [program, *words], stdout=subprocess.PIPE, stderr=errors
+        ) as ran:
             yield from (line.decode() for line in ran.stdout or ())
         if ran.returncode != 0:
             errors.seek(0)
-            raise EngineRefused(errors.read().decode(errors="replace").strip(), ran.returncode)
+            raise EngineRefused(
+                errors.read().decode(errors="replace").strip(), ran.returncode
+            )
 
 
 def match_in(replay: pathlib.Path) -> Match:
@@ -54,8 +65,10 @@ def match_in(replay: pathlib.Path) -> Match:
     except (ArithmeticError, AttributeError, LookupError, TypeError, ValueError):
         match = None
     if match is None or match.replay() != text or not match.closed:
-        raise EngineRefused(f"{replay}: this is no replay of a match by the rules, as the Python model plays them",
-                            REFUSED)
+        raise EngineRefused(
+            f"{replay}: this is no replay of a match by the rules, as the Python model plays them",
+            REFUSED,
+        )
     return match
 
 
@@ -75,7 +88,13 @@ def footprint(match: Match, event: Object) -> Footprint:
     agent = match.agents[who]
     was_there = agent.standing == PRESENT
     match.play(event)
-    sees = do == "enter" or do == "deliver" and agent.standing != AWAY or was_there and do in ("look", "write")
+    sees = (
+        do == "enter"
+        or do == "deliver"
+        and agent.standing != AWAY
+        or was_there
+        and do in ("look", "write")
+    )
     writes = was_there and do == "write"
     return Footprint(who, agent.node if sees else None, agent.node if writes else None)
 

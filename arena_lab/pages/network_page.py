@@ -13,17 +13,31 @@ def page_of(network: Network, title: str) -> str:
     """The page: each node with its number, and the number of each port where it leaves its node."""
     spots = layout({"nodes": network.nodes, "links": network.links})
     degrees = network.degrees()
-    about = (f"{network.nodes} nodes, {len(network.links)} links, {min(degrees)} to {max(degrees)} ports a node. "
-             "Agents see no number of a node, and of ports only those of the node where they stand.")
-    return filled("network.html", title=title, about=about, nodes=spots, links=[drawn(spots, link) for link
-                  in network.links], radius=RADIUS, edge=2 * NEAR, size=SCALE + 4 * NEAR)
+    about = (
+        f"{network.nodes} nodes, {len(network.links)} links, {min(degrees)} to {max(degrees)} ports a node. "
+        "Agents see no number of a node, and of ports only those of the node where they stand."
+    )
+    return filled(
+        "network.html",
+        title=title,
+        about=about,
+        nodes=spots,
+        links=[drawn(spots, link) for link in network.links],
+        radius=RADIUS,
+        edge=2 * NEAR,
+        size=SCALE + 4 * NEAR,
+    )
 
 
 def drawn(spots: List[List[int]], link: Any) -> Dict[str, Any]:
     """A link as it is drawn: its two ends, and the number of its port at each."""
     v, p, w, q = link
     one, two = spots[v], spots[w]
-    return {"one": one, "two": two, "ports": [(p, *towards(one, two)), (q, *towards(two, one))]}
+    return {
+        "one": one,
+        "two": two,
+        "ports": [(p, *towards(one, two)), (q, *towards(two, one))],
+    }
 
 
 def towards(here: List[int], there: List[int]) -> List[int]:

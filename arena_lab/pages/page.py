@@ -21,7 +21,14 @@ SCALE = 1000
 MOST_BY_DISTANCES = 256
 SEED = 4
 LETTERS = {
-    "enter": "e", "look": "l", "leave": "q", "bad": "b", "write": "w", "depart": "d", "accuse": "a", "deliver": "v",
+    "enter": "e",
+    "look": "l",
+    "leave": "q",
+    "bad": "b",
+    "write": "w",
+    "depart": "d",
+    "accuse": "a",
+    "deliver": "v",
     "close": "c",
 }
 
@@ -39,7 +46,9 @@ class Texts:
 def code_of(event: Dict[str, Any], texts: Texts) -> str:
     """An event without its reply: a letter, the agent, and what the command names."""
     parts = [str(event[name]) for name in ("agent", "port") if name in event]
-    parts += [str(texts.number(event[name])) for name in ("expect", "put") if name in event]
+    parts += [
+        str(texts.number(event[name])) for name in ("expect", "put") if name in event
+    ]
     return LETTERS[event["do"]] + ":".join(parts)
 
 
@@ -56,7 +65,12 @@ def read(lines: Iterable[str]) -> Dict[str, Any]:
         if "do" in event:
             codes.append(code_of(event, texts))
     words = {letter: word for word, letter in LETTERS.items()}
-    return {"head": head, "texts": list(texts.numbers), "events": ",".join(codes), "words": words}
+    return {
+        "head": head,
+        "texts": list(texts.numbers),
+        "events": ",".join(codes),
+        "words": words,
+    }
 
 
 def runs(places: Iterable[int]) -> List[List[int]]:
@@ -122,9 +136,13 @@ def code_in(match: Dict[str, Any], code: Any) -> Any:
     return agent, match["texts"][int(expect)], match["texts"][int(put)]
 
 
-def with_twin(program: str, match: Dict[str, Any], replay: str, node: int) -> Dict[str, Any]:
+def with_twin(
+    program: str, match: Dict[str, Any], replay: str, node: int
+) -> Dict[str, Any]:
     """The twin whose black hole is this node, as the page keeps it."""
-    with tempfile.NamedTemporaryFile("w", encoding="utf-8", newline="\n", suffix=".jsonl") as file:
+    with tempfile.NamedTemporaryFile(
+        "w", encoding="utf-8", newline="\n", suffix=".jsonl"
+    ) as file:
         file.writelines(lines_of(program, "twin", replay, str(node)))
         file.flush()
         twin = read(open(file.name, encoding="utf-8", newline="\n"))
@@ -134,33 +152,54 @@ def with_twin(program: str, match: Dict[str, Any], replay: str, node: int) -> Di
     return twin
 
 
-def shown_of(name: str, verdict: str, match: Dict[str, Any], pasts: Mapping[int, Iterable[int]]) -> Dict[str, Any]:
+def shown_of(
+    name: str, verdict: str, match: Dict[str, Any], pasts: Mapping[int, Iterable[int]]
+) -> Dict[str, Any]:
     """What the page of a match shows that has no twin: its events as `read` gives them, and the places of the causal
     past of each agent."""
-    return {"name": name, "verdict": verdict, "spots": layout(match["head"]), "match": match, "twin": None,
-            "pasts": {str(agent): runs(past) for agent, past in pasts.items()}}
+    return {
+        "name": name,
+        "verdict": verdict,
+        "spots": layout(match["head"]),
+        "match": match,
+        "twin": None,
+        "pasts": {str(agent): runs(past) for agent, past in pasts.items()},
+    }
 
 
-def data_of(program: Optional[str], replay: pathlib.Path, twin: Optional[int], title: str = "") -> Dict[str, Any]:
+def data_of(
+    program: Optional[str], replay: pathlib.Path, twin: Optional[int], title: str = ""
+) -> Dict[str, Any]:
     """All that the page shows. Without a title it is called as the replay."""
     verdict = str(verdict_of(program, replay))
     with open(replay, encoding="utf-8", newline="\n") as lines:
         match = read(lines)
     met = {code[1:].partition(":")[0] for code in match["events"].split(",")} - {""}
-    data = shown_of(title or replay.name, verdict, match, pasts_of(program, replay, sorted(map(int, met))))
+    data = shown_of(
+        title or replay.name,
+        verdict,
+        match,
+        pasts_of(program, replay, sorted(map(int, met))),
+    )
     if twin is not None:
         if program is None:
-            raise NoProgram("only the program makes twins: leave out --twin, or --engine model")
+            raise NoProgram(
+                "only the program makes twins: leave out --twin, or --engine model"
+            )
         data["twin"] = with_twin(program, match, str(replay), twin)
     return data
 
 
 def page_of(data: Dict[str, Any], refused: Sequence[str] = ()) -> str:
     """The page, with what is said of lines that were refused."""
-    return filled("page.html", title=data["name"], scripts=SCRIPTS, shown=data, refused=refused)
+    return filled(
+        "page.html", title=data["name"], scripts=SCRIPTS, shown=data, refused=refused
+    )
 
 
-def page_of_replay(program: Optional[str], replay: bytes, title: str, refused: Sequence[str] = ()) -> str:
+def page_of_replay(
+    program: Optional[str], replay: bytes, title: str, refused: Sequence[str] = ()
+) -> str:
     """The page of a replay that stands in no file."""
     with tempfile.NamedTemporaryFile(suffix=".jsonl") as file:
         file.write(replay)
@@ -168,7 +207,15 @@ def page_of_replay(program: Optional[str], replay: bytes, title: str, refused: S
         return page_of(data_of(program, pathlib.Path(file.name), None, title), refused)
 
 
-def write_page(program: Optional[str], replay: pathlib.Path, page: pathlib.Path, twin: Optional[int] = None,
-               title: str = "", refused: Sequence[str] = ()) -> None:
+def write_page(
+    program: Optional[str],
+    replay: pathlib.Path,
+    page: pathlib.Path,
+    twin: Optional[int] = None,
+    title: str = "",
+    refused: Sequence[str] = (),
+) -> None:
     """Writes the page of a replay, with what is said of lines that were refused: a replay does not have these."""
-    page.write_text(page_of(data_of(program, replay, twin, title), refused), encoding="utf-8")
+    page.write_text(
+        page_of(data_of(program, replay, twin, title), refused), encoding="utf-8"
+    )

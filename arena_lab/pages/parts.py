@@ -19,8 +19,14 @@ def part(name: str) -> str:
 def environment() -> Any:
     """What makes pages of templates. A template that asks for what it is not given is a fault."""
     jinja2 = needed("jinja2")
-    made = jinja2.Environment(loader=jinja2.FileSystemLoader(TEMPLATES), autoescape=True, trim_blocks=True,
-                              lstrip_blocks=True, keep_trailing_newline=True, undefined=jinja2.StrictUndefined)
+    made = jinja2.Environment(
+        loader=jinja2.FileSystemLoader(TEMPLATES),
+        autoescape=True,
+        trim_blocks=True,
+        lstrip_blocks=True,
+        keep_trailing_newline=True,
+        undefined=jinja2.StrictUndefined,
+    )
     made.globals.update(part=lambda name: as_is(part(name)), data=as_data)
     return made
 

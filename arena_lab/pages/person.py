@@ -5,7 +5,15 @@ import json
 from typing import Any, Dict, List, Protocol
 
 from arena_lab.pages.page import page_of_replay
-from arena_lab.pages.web_pages import JSON, STRICT, WHOLE, Handlers, answering, headers, run
+from arena_lab.pages.web_pages import (
+    JSON,
+    STRICT,
+    WHOLE,
+    Handlers,
+    answering,
+    headers,
+    run,
+)
 
 # how long a request may be
 MOST_BYTES = 10_000
@@ -15,13 +23,26 @@ class PersonMatch(Protocol):
     """The match that is played: see arena_lab/play/human.py."""
 
     @property
-    def is_over(self) -> bool: ...
-    def may_say(self, agent: int) -> bool: ...
-    def say(self, agent: int, command: Dict[str, Any]) -> None: ...
-    def wait(self) -> None: ...
-    def end(self) -> Any: ...
-    def replay(self) -> bytes: ...
-    def shown(self) -> Dict[str, Any]: ...
+    def is_over(self) -> bool:
+        ...
+
+    def may_say(self, agent: int) -> bool:
+        ...
+
+    def say(self, agent: int, command: Dict[str, Any]) -> None:
+        ...
+
+    def wait(self) -> None:
+        ...
+
+    def end(self) -> Any:
+        ...
+
+    def replay(self) -> bytes:
+        ...
+
+    def shown(self) -> Dict[str, Any]:
+        ...
 
 
 class PersonHandlers(Handlers):
@@ -33,8 +54,14 @@ class PersonHandlers(Handlers):
 
     def routes(self) -> List[Any]:
         get, post = self.web.get, self.web.post
-        return [*super().routes(), get("/seen", self.seen), get("/match", self.whole), post("/say", self.say),
-                post("/wait", self.wait), post("/end", self.end)]
+        return [
+            *super().routes(),
+            get("/seen", self.seen),
+            get("/match", self.whole),
+            post("/say", self.say),
+            post("/wait", self.wait),
+            post("/end", self.end),
+        ]
 
     def _shown(self) -> Any:
         return self.said(json.dumps(self._match.shown()), JSON)
@@ -45,16 +72,26 @@ class PersonHandlers(Handlers):
     async def whole(self, _: Any) -> Any:
         """The page of the whole match, once it is over."""
         if not self._match.is_over:
-            raise self.web.HTTPNotFound(text="the match is not over\n", headers=headers(STRICT))
-        return self.said(page_of_replay(None, self._match.replay(), self._title), policy=WHOLE)
+            raise self.web.HTTPNotFound(
+                text="the match is not over\n", headers=headers(STRICT)
+            )
+        return self.said(
+            page_of_replay(None, self._match.replay(), self._title), policy=WHOLE
+        )
 
     async def say(self, request: Any) -> Any:
         found = await self._asked(request)
         agent, command = found.get("agent"), found.get("command")
-        if (not isinstance(agent, int) or isinstance(agent, bool)
-                or not 0 <= agent < len(self._match.shown()["agents"])
-                or not isinstance(command, dict) or not isinstance(command.get("do"), str)):
-            raise self.web.HTTPBadRequest(text="no agent says this\n", headers=headers(STRICT))
+        if (
+            not isinstance(agent, int)
+            or isinstance(agent, bool)
+            or not 0 <= agent < len(self._match.shown()["agents"])
+            or not isinstance(command, dict)
+            or not isinstance(command.get("do"), str)
+        ):
+            raise self.web.HTTPBadRequest(
+                text="no agent says this\n", headers=headers(STRICT)
+            )
         if self._match.may_say(agent):
             self._match.say(agent, command)
         return self._shown()
@@ -77,7 +114,9 @@ class PersonHandlers(Handlers):
             with contextlib.suppress(ValueError):
                 found = json.loads(await request.text())
         if not isinstance(found, dict):
-            raise self.web.HTTPBadRequest(text="no JSON object\n", headers=headers(STRICT))
+            raise self.web.HTTPBadRequest(
+                text="no JSON object\n", headers=headers(STRICT)
+            )
         return found
 
 

@@ -10,7 +10,15 @@ from arena_lab.pages.feeds import Feed
 from arena_lab.pages.judging import cut, footprints
 from arena_lab.pages.page import page_of, read, shown_of
 from arena_lab.pages.screen import WatchedMatch, standings, teams
-from arena_lab.pages.web_pages import JSON, STRICT, WHOLE, Handlers, answering, headers, run
+from arena_lab.pages.web_pages import (
+    JSON,
+    STRICT,
+    WHOLE,
+    Handlers,
+    answering,
+    headers,
+    run,
+)
 from arena_lab.rules.model import Match, judge
 
 # seconds between two looks at the files, and how many watchers there may be
@@ -34,8 +42,14 @@ class ContestView:
 
     def shown(self, number: int) -> Optional[Match]:
         """The match of a number, if its page may be shown."""
-        may_open = self.is_open or any(row["match"] == number and row["page"] for row in self.rows)
-        return self._feeds[number].match if may_open and number < len(self._feeds) else None
+        may_open = self.is_open or any(
+            row["match"] == number and row["page"] for row in self.rows
+        )
+        return (
+            self._feeds[number].match
+            if may_open and number < len(self._feeds)
+            else None
+        )
 
     def teams(self) -> Dict[str, Any]:
         """The standings of teams."""
@@ -61,8 +75,17 @@ class ContestView:
             await self._changed.wait_for(lambda: self.version != version)
 
     def _standings(self) -> List[Dict[str, Any]]:
-        return standings([WatchedMatch(match.team, feed.match, None if feed.since is None else int(feed.since),
-                                       match.name) for match, feed in zip(self._matches, self._feeds)])
+        return standings(
+            [
+                WatchedMatch(
+                    match.team,
+                    feed.match,
+                    None if feed.since is None else int(feed.since),
+                    match.name,
+                )
+                for match, feed in zip(self._matches, self._feeds)
+            ]
+        )
 
 
 def data_of(name: str, match: Match) -> Dict[str, Any]:
@@ -85,24 +108,42 @@ class ProjectorHandlers(Handlers):
 
     def routes(self) -> List[Any]:
         get = self.web.get
-        return [*super().routes(), get("/standings", self.standings), get(r"/match/{number:\d{1,2}}", self.match),
-                get(r"/match/{number:\d{1,2}}/data", self.data), get(r"/match/{number:\d{1,2}}/news", self.news)]
+        return [
+            *super().routes(),
+            get("/standings", self.standings),
+            get(r"/match/{number:\d{1,2}}", self.match),
+            get(r"/match/{number:\d{1,2}}/data", self.data),
+            get(r"/match/{number:\d{1,2}}/news", self.news),
+        ]
 
     async def standings(self, request: Any) -> Any:
         """Tells what may be shown, now and whenever it changes."""
-        return await self._events(request, lambda: {
-            "rows": self._contest.rows, "open": self._contest.is_open, "teams": self._contest.teams(), **self._turns})
+        return await self._events(
+            request,
+            lambda: {
+                "rows": self._contest.rows,
+                "open": self._contest.is_open,
+                "teams": self._contest.teams(),
+                **self._turns,
+            },
+        )
 
     async def news(self, request: Any) -> Any:
         """Tells whenever something has happened in a match."""
         number, _ = self._asked(request)
-        return await self._events(request, lambda: {"grown": self._contest.grown[number]})
+        return await self._events(
+            request, lambda: {"grown": self._contest.grown[number]}
+        )
 
     async def _events(self, request: Any, told: Callable[[], Dict[str, Any]]) -> Any:
         """A stream of what is told, which is sent when it has changed, with the time of this machine."""
         if self._watchers >= MOST_WATCHERS:
-            raise self.web.HTTPServiceUnavailable(text="too many watch this contest; try again later\n")
-        response = self.web.StreamResponse(headers={**headers(STRICT), "Content-Type": "text/event-stream"})
+            raise self.web.HTTPServiceUnavailable(
+                text="too many watch this contest; try again later\n"
+            )
+        response = self.web.StreamResponse(
+            headers={**headers(STRICT), "Content-Type": "text/event-stream"}
+        )
         self._watchers += 1
         try:
             await response.prepare(request)
@@ -110,7 +151,9 @@ class ProjectorHandlers(Handlers):
             while True:
                 version, now = self._contest.version, told()
                 text = json.dumps({"now": int(time.time()), **now})
-                await response.write(f"data: {text}\n\n".encode() if now != last else b": \n\n")
+                await response.write(
+                    f"data: {text}\n\n".encode() if now != last else b": \n\n"
+                )
                 last = now
                 with contextlib.suppress(asyncio.TimeoutError):
                     await asyncio.wait_for(self._contest.after(version), QUIET)
@@ -124,13 +167,18 @@ class ProjectorHandlers(Handlers):
         number = int(request.match_info["number"])
         match = self._contest.shown(number)
         if match is None:
-            raise self.web.HTTPNotFound(text="pages of matches come when all matches are closed\n",
-                                        headers=headers(STRICT))
+            raise self.web.HTTPNotFound(
+                text="pages of matches come when all matches are closed\n",
+                headers=headers(STRICT),
+            )
         return number, match
 
     def _data(self, request: Any) -> Dict[str, Any]:
         number, match = self._asked(request)
-        return {**data_of(f"match {number}", match), "news": None if match.closed else f"/match/{number}"}
+        return {
+            **data_of(f"match {number}", match),
+            "news": None if match.closed else f"/match/{number}",
+        }
 
     async def match(self, request: Any) -> Any:
         return self.said(page_of(self._data(request)), policy=WHOLE)
@@ -139,22 +187,33 @@ class ProjectorHandlers(Handlers):
         return self.said(json.dumps(self._data(request)), JSON)
 
 
-def application(contest: ContestView, title: str, turns: Dict[str, int], names: Collection[str] = ()) -> Any:
+def application(
+    contest: ContestView, title: str, turns: Dict[str, int], names: Collection[str] = ()
+) -> Any:
     """The web server's application, which looks at the files while it serves. It answers for this machine and for hosts
     of these names."""
+
     async def looking(_: Any) -> Any:
         task = asyncio.create_task(contest.watch())
         yield
         task.cancel()
+
     app = answering(ProjectorHandlers(contest, title, turns), names)
     app.cleanup_ctx.append(looking)
     return app
 
 
-def show(contest: ContestView, title: str, place: Tuple[str, int], turns: Dict[str, int],
-         names: Collection[str] = ()) -> None:
+def show(
+    contest: ContestView,
+    title: str,
+    place: Tuple[str, int],
+    turns: Dict[str, int],
+    names: Collection[str] = (),
+) -> None:
     """Shows a contest at an address and port until it is interrupted. Names of hosts are those by which it may be asked
     for, besides addresses and this machine's name."""
+
     async def made() -> Any:
         return application(contest, title, turns, names)
+
     run(made(), *place, "watch")

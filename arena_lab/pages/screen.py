@@ -12,7 +12,12 @@ from arena_lab.pages.teams import Came, networks_of, ranked
 from arena_lab.rules.model import OUTSIDE, RANKS, Match, Verdict, judge, rank
 
 Row = Dict[str, Any]
-NOT_BEGUN, WAITS, RUNS, OVER = "has not begun", "waits for its agents", "runs", "is over"
+NOT_BEGUN, WAITS, RUNS, OVER = (
+    "has not begun",
+    "waits for its agents",
+    "runs",
+    "is over",
+)
 
 
 class WatchedMatch(NamedTuple):
@@ -31,13 +36,25 @@ def shown(watched: WatchedMatch, all_closed: bool) -> Row:
         return {"team": team, "state": NOT_BEGUN}
     if not match.closed:
         entered = sum(agent.standing != OUTSIDE for agent in match.agents)
-        row = {"team": team, "state": WAITS if since is None else RUNS, "entered": entered,
-               "agents": match.setup.agents}
+        row = {
+            "team": team,
+            "state": WAITS if since is None else RUNS,
+            "entered": entered,
+            "agents": match.setup.agents,
+        }
         return row if since is None else {**row, "since": since}
-    verdict, has_come = judge(match), any(agent.standing != OUTSIDE for agent in match.agents)
+    verdict, has_come = judge(match), any(
+        agent.standing != OUTSIDE for agent in match.agents
+    )
     outcome = verdict.outcome if all_closed else verdict.kind
-    return {"team": team, "state": OVER, "outcome": outcome, "moves": verdict.moves, "lost": verdict.lost,
-            "came": has_come}
+    return {
+        "team": team,
+        "state": OVER,
+        "outcome": outcome,
+        "moves": verdict.moves,
+        "lost": verdict.lost,
+        "came": has_come,
+    }
 
 
 def place_of(row: Row) -> Any:
@@ -47,26 +64,52 @@ def place_of(row: Row) -> Any:
     return rank(Verdict(row["outcome"], row["moves"], row["lost"]), row["team"])
 
 
-def teams(rows: Sequence[Row], networks: Sequence[str], traps: Collection[int] = ()) -> Row:
+def teams(
+    rows: Sequence[Row], networks: Sequence[str], traps: Collection[int] = ()
+) -> Row:
     """The standings of teams by what may be shown of matches, whose networks these are: so they tell no more. Which
     matches are traps is told once all are closed."""
     known = traps if all(row["state"] == OVER for row in rows) else ()
-    found = [Came(row["team"], networks[row["match"]], verdict_in(row), row.get("came", bool(row.get("entered"))),
-                  row["match"] in known) for row in sorted(rows, key=lambda row: int(row["match"]))]
+    found = [
+        Came(
+            row["team"],
+            networks[row["match"]],
+            verdict_in(row),
+            row.get("came", bool(row.get("entered"))),
+            row["match"] in known,
+        )
+        for row in sorted(rows, key=lambda row: int(row["match"]))
+    ]
     names = networks_of(found)
-    return {"networks": names, "rows": [{**it._asdict(), "networks": [it.networks.get(name) for name in names]}
-                                        for it in ranked(found)]}
+    return {
+        "networks": names,
+        "rows": [
+            {**it._asdict(), "networks": [it.networks.get(name) for name in names]}
+            for it in ranked(found)
+        ],
+    }
 
 
 def verdict_in(row: Row) -> Optional[Verdict]:
-    return Verdict(row["outcome"], row["moves"], row["lost"]) if row["state"] == OVER else None
+    return (
+        Verdict(row["outcome"], row["moves"], row["lost"])
+        if row["state"] == OVER
+        else None
+    )
 
 
 def standings(all_watched: Sequence[WatchedMatch]) -> List[Row]:
     """What may be shown of all matches, network by network and best first; `page` says whether the match's page may be
     opened."""
     all_closed = all(one.match is not None and one.match.closed for one in all_watched)
-    rows = [{"match": number, "network": one.network, "page": all_closed, **shown(one, all_closed)}
-            for number, one in enumerate(all_watched)]
+    rows = [
+        {
+            "match": number,
+            "network": one.network,
+            "page": all_closed,
+            **shown(one, all_closed),
+        }
+        for number, one in enumerate(all_watched)
+    ]
     names = [one.network for one in all_watched]
     return sorted(rows, key=lambda row: (names.index(row["network"]), place_of(row)))

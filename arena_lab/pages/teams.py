@@ -43,7 +43,10 @@ class Ranked(NamedTuple):
 
 def ranked(found: Sequence[Came]) -> List[Ranked]:
     """The teams, best first; equal ones in the order of their matches."""
-    rows = [row_of(team, [it for it in found if it.team == team]) for team in dict.fromkeys(it.team for it in found)]
+    rows = [
+        row_of(team, [it for it in found if it.team == team])
+        for team in dict.fromkeys(it.team for it in found)
+    ]
     rows.sort(key=Ranked.rank)
     ranks = [row.rank() for row in rows]
     return [row._replace(place=1 + ranks.index(row.rank())) for row in rows]
@@ -58,10 +61,23 @@ def row_of(team: str, own: Sequence[Came]) -> Ranked:
         if not it.is_trap:
             done, count = networks.get(it.network, (0, 0))
             networks[it.network] = done + is_solved(it), count + 1
-    moves, lost = (sum(getattr(it.verdict, name) for it in solved) for name in ("moves", "lost"))
-    deceived = sum(it.verdict is not None and it.verdict.outcome == WRONG for it in traps)
-    return Ranked(0, team, len(solved), moves, lost, not any(it.has_entered for it in own), networks, len(traps),
-                  deceived)
+    moves, lost = (
+        sum(getattr(it.verdict, name) for it in solved) for name in ("moves", "lost")
+    )
+    deceived = sum(
+        it.verdict is not None and it.verdict.outcome == WRONG for it in traps
+    )
+    return Ranked(
+        0,
+        team,
+        len(solved),
+        moves,
+        lost,
+        not any(it.has_entered for it in own),
+        networks,
+        len(traps),
+        deceived,
+    )
 
 
 def is_solved(it: Came) -> bool:

@@ -9,11 +9,15 @@ from typing import Any, Collection, Dict, List, Mapping
 from arena_lab.pages.parts import filled, part
 from arena_lab.support.missing import needed
 
-STRICT = ("default-src 'none'; style-src 'self'; script-src 'self'; connect-src 'self'; base-uri 'none'; "
-          "form-action 'none'")
+STRICT = (
+    "default-src 'none'; style-src 'self'; script-src 'self'; connect-src 'self'; base-uri 'none'; "
+    "form-action 'none'"
+)
 # the page of a match has its style and its script in itself
-WHOLE = ("default-src 'none'; style-src 'unsafe-inline'; script-src 'unsafe-inline'; connect-src 'self'; "
-         "base-uri 'none'; form-action 'none'")
+WHOLE = (
+    "default-src 'none'; style-src 'unsafe-inline'; script-src 'unsafe-inline'; connect-src 'self'; "
+    "base-uri 'none'; form-action 'none'"
+)
 JSON = "application/json"
 
 
@@ -26,7 +30,11 @@ class Handlers:
 
     def routes(self) -> List[Any]:
         get = self.web.get
-        return [get("/", self.page), get(f"/{self._name}.js", self.script), get(f"/{self._name}.css", self.style)]
+        return [
+            get("/", self.page),
+            get(f"/{self._name}.js", self.script),
+            get(f"/{self._name}.css", self.style),
+        ]
 
     def said(self, text: str, kind: str = "text/html", policy: str = STRICT) -> Any:
         """An answer."""
@@ -44,8 +52,12 @@ class Handlers:
 
 def headers(policy: str) -> Dict[str, str]:
     """What each answer has: nothing is taken from elsewhere, framed or kept."""
-    return {"Content-Security-Policy": f"{policy}; frame-ancestors 'none'", "X-Content-Type-Options": "nosniff",
-            "Referrer-Policy": "no-referrer", "Cache-Control": "no-store"}
+    return {
+        "Content-Security-Policy": f"{policy}; frame-ancestors 'none'",
+        "X-Content-Type-Options": "nosniff",
+        "Referrer-Policy": "no-referrer",
+        "Cache-Control": "no-store",
+    }
 
 
 def is_own_name(host: str, names: Collection[str]) -> bool:
@@ -61,10 +73,16 @@ def is_own_name(host: str, names: Collection[str]) -> bool:
 def refusal(asked: Mapping[str, str], names: Collection[str]) -> str:
     """Why a request is refused, by its headers, or nothing. A page elsewhere may lead to these pages, and not read
     them."""
-    host, origin, site = (asked.get(name, "") for name in ("Host", "Origin", "Sec-Fetch-Site"))
+    host, origin, site = (
+        asked.get(name, "") for name in ("Host", "Origin", "Sec-Fetch-Site")
+    )
     if not is_own_name(host, names):
         return f"this is no page of {host}: ask by the address of this machine, or name {host} by --host\n"
-    is_other = origin not in ("", f"http://{host}") or site not in ("", "none", "same-origin")
+    is_other = origin not in ("", f"http://{host}") or site not in (
+        "",
+        "none",
+        "same-origin",
+    )
     if is_other and asked.get("Sec-Fetch-Mode") != "navigate":
         return "pages of other hosts may not read this one\n"
     return ""
@@ -79,6 +97,7 @@ def answering(handlers: Handlers, names: Collection[str] = (), **more: Any) -> A
         if said:
             return web.Response(status=403, text=said, headers=headers(STRICT))
         return await handler(request)
+
     app = web.Application(middlewares=[web.middleware(for_own_pages)], **more)
     app.add_routes(handlers.routes())
     return app
@@ -86,5 +105,11 @@ def answering(handlers: Handlers, names: Collection[str] = (), **more: Any) -> A
 
 def run(made: Any, address: str, port: int, said: str) -> None:
     """Serves an application until it is interrupted, and prints its address once it serves."""
-    needed("aiohttp.web").run_app(made, host=address, port=port, access_log=None, shutdown_timeout=1,
-                                  print=lambda *_: print(f"{said} http://{address}:{port}/", flush=True))
+    needed("aiohttp.web").run_app(
+        made,
+        host=address,
+        port=port,
+        access_log=None,
+        shutdown_timeout=1,
+        print=lambda *_: print(f"{said} http://{address}:{port}/", flush=True),
+    )

@@ -34,8 +34,14 @@ from arena_lab.support.built import LAB, TOP
 from arena_lab.support.faults import Fault
 
 # where the client is that sample agents share, for agents that have no copy beside them
-AGENTS = next((it for it in (TOP / "examples" / "agents", LAB / "examples" / "agents") if it.is_dir()),
-              TOP / "examples" / "agents")
+AGENTS = next(
+    (
+        it
+        for it in (TOP / "examples" / "agents", LAB / "examples" / "agents")
+        if it.is_dir()
+    ),
+    TOP / "examples" / "agents",
+)
 
 # the names that stand for numbers in words, and the parameters that get what is no number
 FACTS = ("nodes", "links", "home")
@@ -57,7 +63,11 @@ def file_of(name: str) -> pathlib.Path:
     path = pathlib.Path(name)
     places = [AGENTS.parents[1] / path, TOP / path]
     is_sample = path.parts[:1] in (("examples",), ("arena_lab",))
-    return next((it for it in places if it.is_file()), path) if is_sample and not path.exists() else path
+    return (
+        next((it for it in places if it.is_file()), path)
+        if is_sample and not path.exists()
+        else path
+    )
 
 
 @functools.lru_cache(maxsize=None)
@@ -111,8 +121,10 @@ def numbers_of(words: Sequence[str], setup: Setup) -> List[int]:
     try:
         return [int(word.format(**facts)) for word in words]
     except (KeyError, ValueError, IndexError):
-        raise NoAgent(f"{' '.join(words)}: the words behind an agent's file are whole numbers, {{nodes}}, {{links}} or "
-                      "{home}") from None
+        raise NoAgent(
+            f"{' '.join(words)}: the words behind an agent's file are whole numbers, {{nodes}}, {{links}} or "
+            "{home}"
+        ) from None
 
 
 # the client of the sample agents keeps nothing, so all share it
@@ -125,7 +137,9 @@ def folder_of(path: pathlib.Path, _here: str) -> str:
     return str(path.parent.resolve())
 
 
-def loaded_anew(path: pathlib.Path, modules: OwnModules) -> Tuple[ModuleType, ModuleType]:
+def loaded_anew(
+    path: pathlib.Path, modules: OwnModules
+) -> Tuple[ModuleType, ModuleType]:
     """The module in a file, and the client that it imports, among the modules of one agent."""
     modules.begin([folder_of(path, os.getcwd()), str(AGENTS)], [CLIENT])
     module, client = executed(path), importlib.import_module("client")
@@ -145,12 +159,21 @@ class Loader:
     def __init__(self, words: str, setup: Setup) -> None:
         file, *rest = words.split()
         self._path, function = file_of(file.partition(":")[0]), function_of(words)
-        self._name = file.partition(":")[2] or ("step" if steps.is_step(function) else "search")
+        self._name = file.partition(":")[2] or (
+            "step" if steps.is_step(function) else "search"
+        )
         self._numbers = numbers_of(rest, setup)
-        self._asked = asked_behind(words, inspect.signature(function), len(self._numbers))
-        self._facts: Dict[str, Any] = {"network": tuple(setup.links), "home": setup.home}
+        self._asked = asked_behind(
+            words, inspect.signature(function), len(self._numbers)
+        )
+        self._facts: Dict[str, Any] = {
+            "network": tuple(setup.links),
+            "home": setup.home,
+        }
 
-    def load(self, modules: OwnModules, **more: Any) -> Tuple[Callable[[Any, Any], Any], ModuleType]:
+    def load(
+        self, modules: OwnModules, **more: Any
+    ) -> Tuple[Callable[[Any, Any], Any], ModuleType]:
         """The function among the modules of one agent, and the client that its file imports."""
         values = {**more, **self._facts}
         given = {word: values[word] for word in self._asked if word in values}
@@ -166,15 +189,24 @@ def script_of(words: str, setup: Setup) -> Script:
     def play(lines: Any, key: str, sleep: Sleep) -> None:
         function, client = loader.load(lines.modules, sleep=sleep)
         play_by(function, is_step, client, lines, key, sleep)
+
     return play
 
 
-def play_by(function: Callable[[Any, Any], Any], is_step: bool, client: ModuleType, lines: Any, key: str,
-            sleep: Sleep) -> None:
+def play_by(
+    function: Callable[[Any, Any], Any],
+    is_step: bool,
+    client: ModuleType,
+    lines: Any,
+    key: str,
+    sleep: Sleep,
+) -> None:
     """Plays one agent by a function, which is a step or takes an agent and its key."""
     try:
         if is_step:
-            client_module().take_steps(client.Agent(lines), key, steps.fresh(function), sleep)
+            client_module().take_steps(
+                client.Agent(lines), key, steps.fresh(function), sleep
+            )
         else:
             function(client.Agent(lines), key)
     except (client.MatchOver, client_module().MatchOver):
@@ -190,12 +222,20 @@ def asked_behind(words: str, signature: inspect.Signature, count: int) -> List[s
     """The parameters behind the agent, its key and this many numbers, if the function takes these words."""
     parameters = list(signature.parameters.values())[2:]
     plain = [it.name for it in parameters if it.kind in PLAIN and it.name not in GIVEN]
-    needed = [it.name for it in parameters if it.name in plain and it.default is it.empty]
+    needed = [
+        it.name for it in parameters if it.name in plain and it.default is it.empty
+    ]
     if count < len(needed):
-        raise NoAgent(f"{words}: it wants {', '.join(needed)} behind the file, as `{words} "
-                      f"{' '.join('{' + name + '}' if name in FACTS else '1' for name in needed[count:])}`")
-    if count > len(plain) and all(it.kind is not it.VAR_POSITIONAL for it in parameters):
-        raise NoAgent(f"{words}: it takes {', '.join(plain) or 'no numbers'} behind the file, and {count} are named")
+        raise NoAgent(
+            f"{words}: it wants {', '.join(needed)} behind the file, as `{words} "
+            f"{' '.join('{' + name + '}' if name in FACTS else '1' for name in needed[count:])}`"
+        )
+    if count > len(plain) and all(
+        it.kind is not it.VAR_POSITIONAL for it in parameters
+    ):
+        raise NoAgent(
+            f"{words}: it takes {', '.join(plain) or 'no numbers'} behind the file, and {count} are named"
+        )
     return [it.name for it in parameters[count:]]
 
 
@@ -205,27 +245,38 @@ MAY_ASK = (*FACTS, "network", "sleep")
 
 def script_of_function(function: Callable[..., None], setup: Setup) -> Script:
     """An agent that is a function of this process, as it plays this match. Parameters behind the agent and its key get
-    by their names what FILE.py gets as words: `nodes`, `links`, `home`, `network`, and `sleep`."""
+    by their names what FILE.py gets as words: `nodes`, `links`, `home`, `network`, and `sleep`.
+    """
     asked = list(inspect.signature(function).parameters.values())[2:]
     for it in asked:
-        if it.name not in MAY_ASK and it.default is it.empty and it.kind in (*PLAIN, it.KEYWORD_ONLY):
-            raise NoAgent(f"{function.__name__}: it has a parameter {it.name}; behind the agent and its key stand "
-                          f"{', '.join(MAY_ASK)}, and what has a default")
+        if (
+            it.name not in MAY_ASK
+            and it.default is it.empty
+            and it.kind in (*PLAIN, it.KEYWORD_ONLY)
+        ):
+            raise NoAgent(
+                f"{function.__name__}: it has a parameter {it.name}; behind the agent and its key stand "
+                f"{', '.join(MAY_ASK)}, and what has a default"
+            )
 
     def play(lines: Any, key: str, sleep: Sleep) -> None:
         own = loaded_function(function, setup, lines.modules, sleep=sleep)
         play_by(own, steps.is_step(function), client_module(), lines, key, sleep)
+
     return play
 
 
-def loaded_function(function: Callable[..., Any], setup: Setup, modules: OwnModules,
-                    **more: Any) -> Callable[[Any, Any], Any]:
+def loaded_function(
+    function: Callable[..., Any], setup: Setup, modules: OwnModules, **more: Any
+) -> Callable[[Any, Any], Any]:
     """A function of this process with variables of its own, which is given by their names what its parameters ask for
     behind the first two."""
     values: Dict[str, Any] = {**more, **facts_of(setup), "network": tuple(setup.links)}
     asked = list(inspect.signature(function).parameters)[2:]
     modules.begin([])
-    own, given = with_own_variables(function, modules.random), {name: values[name] for name in asked if name in values}
+    own, given = with_own_variables(function, modules.random), {
+        name: values[name] for name in asked if name in values
+    }
     return lambda first, second: own(first, second, **given)
 
 
@@ -236,15 +287,21 @@ def client_module() -> ModuleType:
     return importlib.import_module("client")
 
 
-def with_own_variables(function: Callable[..., None], drawing: ModuleType) -> Callable[..., None]:
+def with_own_variables(
+    function: Callable[..., None], drawing: ModuleType
+) -> Callable[..., None]:
     """The function with copies of its variables: globals of its notebook or file, variables of functions around it, and
     those of the functions there that it calls. Nobody else sees what it assigns to them, but an object such as a list
     is shared. It draws by this module `random`."""
     if not isinstance(function, FunctionType):
         return function
     own = Own(function.__globals__)
-    own.variables.update({name: drawing if value is random else own.value(value)
-                          for name, value in function.__globals__.items()})
+    own.variables.update(
+        {
+            name: drawing if value is random else own.value(value)
+            for name, value in function.__globals__.items()
+        }
+    )
     found: Callable[..., None] = own.value(function)
     return found
 
@@ -264,7 +321,13 @@ class Own:
             return value
         if id(value) not in self._made:
             cells = tuple(self._cell(cell) for cell in value.__closure__ or ())
-            made = FunctionType(value.__code__, self.variables, value.__name__, value.__defaults__, cells)
+            made = FunctionType(
+                value.__code__,
+                self.variables,
+                value.__name__,
+                value.__defaults__,
+                cells,
+            )
             made.__kwdefaults__ = value.__kwdefaults__
             self._made[id(value)] = made
             self._fill(value)
@@ -294,12 +357,18 @@ def source_digest(function: Callable[..., None]) -> str:
     return hashlib.sha256(text).hexdigest()
 
 
-def digests(words: Sequence[str], is_inside: bool = True, more: Sequence[str] = ()) -> Dict[str, str]:
+def digests(
+    words: Sequence[str], is_inside: bool = True, more: Sequence[str] = ()
+) -> Dict[str, str]:
     """The SHA-256 of each file that the words name, and of all that these import, so that a schedule says for which
     agents it was made. An agent inside the lab may import what the lab can, and a program outside what lies beside it.
     `more` are names of modules that are imported too."""
     folders = [str(AGENTS)] if is_inside else []
     named = [word.partition(":")[0] for line in words for word in line.split()]
     files = map(file_of, named)
-    return {name: digest for file in files if file.is_file()
-            for name, digest in files_behind(file, folders, more).items()}
+    return {
+        name: digest
+        for file in files
+        if file.is_file()
+        for name, digest in files_behind(file, folders, more).items()
+    }

@@ -5,7 +5,10 @@ from typing import Optional, Sized
 # seconds that an agent may take to send or to wait, if nothing else is asked for
 LIMIT = 5
 # what is said of programs that let the lab wait: how their matches go on depends on the machine
-SENT_NOTHING, READ_NOTHING = "has sent no line for", "has not read what it was told within"
+SENT_NOTHING, READ_NOTHING = (
+    "has sent no line for",
+    "has not read what it was told within",
+)
 USED_UP = "has used up the time of its match,"
 
 
@@ -19,7 +22,9 @@ class Room:
         """Counts a line; ValueError says that there is no room for it."""
         self._left -= len(line) + 1
         if self._left < 0:
-            raise ValueError(f"has used up the {self._most / (1 << 20):g} MB of lines that a match has, sent and told")
+            raise ValueError(
+                f"has used up the {self._most / (1 << 20):g} MB of lines that a match has, sent and told"
+            )
 
 
 class TimeBound:

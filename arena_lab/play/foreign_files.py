@@ -21,29 +21,80 @@ from arena_lab.play.imports import PACKAGE, digest_named, named, package_digest
 from arena_lab.support.built import LAB
 from arena_lab.support.missing import needed
 
-REACHES = {"os.putenv": "sets a variable of the environment", "os.unsetenv": "sets a variable of the environment",
-           "os.remove": "removes a file", "os.rename": "renames a file", "os.mkdir": "makes a folder",
-           "os.rmdir": "removes a folder", "os.chdir": "changes its folder", "os.truncate": "changes a file",
-           "os.link": "links a file", "os.symlink": "links a file", "os.chmod": "changes a file",
-           "os.utime": "changes a file", "os.chown": "changes a file", "os.setxattr": "changes a file",
-           "_thread.start_new_thread": "starts a thread", "subprocess.Popen": "starts a program",
-           "os.system": "starts a program", "os.fork": "starts a program", "os.posix_spawn": "starts a program",
-           "os.kill": "sends a signal", "sqlite3.connect": "opens a database", "socket.__new__": "opens a socket",
-           "ctypes.dlopen": "loads a library", "mmap.__new__": "maps a file"}
+REACHES = {
+    "os.putenv": "sets a variable of the environment",
+    "os.unsetenv": "sets a variable of the environment",
+    "os.remove": "removes a file",
+    "os.rename": "renames a file",
+    "os.mkdir": "makes a folder",
+    "os.rmdir": "removes a folder",
+    "os.chdir": "changes its folder",
+    "os.truncate": "changes a file",
+    "os.link": "links a file",
+    "os.symlink": "links a file",
+    "os.chmod": "changes a file",
+    "os.utime": "changes a file",
+    "os.chown": "changes a file",
+    "os.setxattr": "changes a file",
+    "_thread.start_new_thread": "starts a thread",
+    "subprocess.Popen": "starts a program",
+    "os.system": "starts a program",
+    "os.fork": "starts a program",
+    "os.posix_spawn": "starts a program",
+    "os.kill": "sends a signal",
+    "sqlite3.connect": "opens a database",
+    "socket.__new__": "opens a socket",
+    "ctypes.dlopen": "loads a library",
+    "mmap.__new__": "maps a file",
+}
 # functions of the library that give something else another time
-CLOCKS = [f"{name}{unit}" for name in ("time", "monotonic", "perf_counter", "process_time", "thread_time",
-                                       "clock_gettime") for unit in ("", "_ns")]
-CHANCE, CLOCK, PROCESS, IDENTITY = "draw by chance", "read a clock", "know their process", "know where objects lie"
+CLOCKS = [
+    f"{name}{unit}"
+    for name in (
+        "time",
+        "monotonic",
+        "perf_counter",
+        "process_time",
+        "thread_time",
+        "clock_gettime",
+    )
+    for unit in ("", "_ns")
+]
+CHANCE, CLOCK, PROCESS, IDENTITY = (
+    "draw by chance",
+    "read a clock",
+    "know their process",
+    "know where objects lie",
+)
 READS: Dict[str, List[Tuple[ModuleType, str]]] = {
     CHANCE: [(os, "urandom"), (os, "getrandom"), (random, "_urandom")],
-    PROCESS: [(os, name) for name in ("getpid", "getppid", "getpgrp", "getpgid", "getsid")],
-    CLOCK: [(uuid, "uuid1"), (os, "times"), (resource, "getrusage"), *(
-        (time, name) for name in [*CLOCKS, "localtime", "gmtime", "ctime", "asctime", "strftime"])]}
+    PROCESS: [
+        (os, name) for name in ("getpid", "getppid", "getpgrp", "getpgid", "getsid")
+    ],
+    CLOCK: [
+        (uuid, "uuid1"),
+        (os, "times"),
+        (resource, "getrusage"),
+        *(
+            (time, name)
+            for name in [*CLOCKS, "localtime", "gmtime", "ctime", "asctime", "strftime"]
+        ),
+    ],
+}
 WRITES = os.O_WRONLY | os.O_RDWR | os.O_CREAT | os.O_APPEND | os.O_TRUNC
 # folders whose files are no part of an agent: those of Python, of the lab, and of Linux
 PYTHONS = ("stdlib", "platstdlib", "purelib", "platlib")
-NOT_READ = tuple(f"{it}{os.sep}" for it in (*map(sysconfig.get_path, PYTHONS), LAB, "/usr/lib/python3", "/proc", "/sys",
-                                            "/dev"))
+NOT_READ = tuple(
+    f"{it}{os.sep}"
+    for it in (
+        *map(sysconfig.get_path, PYTHONS),
+        LAB,
+        "/usr/lib/python3",
+        "/proc",
+        "/sys",
+        "/dev",
+    )
+)
 IS_WATCHED: List[bool] = []
 
 
@@ -89,7 +140,9 @@ def watch() -> None:
     for what, places in READS.items():
         for module, name in places:
             setattr(module, name, reading(getattr(module, name), what))
-    current, noted = needed("greenlet").getcurrent, frozenset(("open", "import", "builtins.id", *REACHES))
+    current, noted = needed("greenlet").getcurrent, frozenset(
+        ("open", "import", "builtins.id", *REACHES)
+    )
 
     def note(event: str, given: Any) -> None:
         if event not in noted:
@@ -100,6 +153,7 @@ def watch() -> None:
             note_of(notes_of(thread), event, given)
         elif LOADING:
             note_of(LOADING[-1], event, given)
+
     sys.addaudithook(note)
 
 
@@ -116,10 +170,12 @@ def note_read(what: str) -> None:
 
 def reading(function: Callable[..., Any], what: str) -> Callable[..., Any]:
     """A function of the library that notes who calls it."""
+
     @functools.wraps(function)
     def read(*given: Any, **more: Any) -> Any:
         note_read(what)
         return function(*given, **more)
+
     return read
 
 
@@ -147,8 +203,11 @@ def read_by(of_program: Notes) -> Dict[str, str]:
     found: Set[str] = set()
     for notes in (of_program, LOADED) if IS_WATCHED else ():
         files = (source_of(os.path.abspath(file)) for file in notes.files)
-        found.update(named(pathlib.Path(file)) for file in files
-                     if not file.startswith(NOT_READ) and os.path.isfile(file))
+        found.update(
+            named(pathlib.Path(file))
+            for file in files
+            if not file.startswith(NOT_READ) and os.path.isfile(file)
+        )
         found.update(f"{PACKAGE}{name}" for name in notes.modules if is_installed(name))
     return {name: digest_named(name) for name in sorted(found)}
 
@@ -156,8 +215,10 @@ def read_by(of_program: Notes) -> Dict[str, str]:
 def is_installed(name: str) -> bool:
     """Whether a module belongs to an installed package. One that stands beside an agent is a file that it has read."""
     spec = PathFinder.find_spec(name) if package_digest(name) else None
-    return spec is not None and any(place.startswith(NOT_READ) for place in (
-        spec.origin or "", *(spec.submodule_search_locations or ())))
+    return spec is not None and any(
+        place.startswith(NOT_READ)
+        for place in (spec.origin or "", *(spec.submodule_search_locations or ()))
+    )
 
 
 def source_of(file: str) -> str:
@@ -166,4 +227,3 @@ def source_of(file: str) -> str:
         return importlib.util.source_from_cache(file)
     except ValueError:
         return file
-

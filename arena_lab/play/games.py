@@ -35,21 +35,37 @@ def maker_of(scheduler: SchedulerName) -> schedulers.Maker:
     if scheduler in schedulers.NAMED:
         return schedulers.NAMED[scheduler]
     if ".py" not in scheduler:
-        raise NoAgent(f"{scheduler}: there is no such scheduler; there are {', '.join(schedulers.NAMED)} and "
-                      "FILE.py:NAME")
+        raise NoAgent(
+            f"{scheduler}: there is no such scheduler; there are {', '.join(schedulers.NAMED)} and "
+            "FILE.py:NAME"
+        )
     found: schedulers.Maker = member(scheduler, "scheduler")
     return found
 
 
 def name_of(scheduler: SchedulerName) -> str:
-    return scheduler if isinstance(scheduler, str) else getattr(scheduler, "__name__", "scheduler")
+    return (
+        scheduler
+        if isinstance(scheduler, str)
+        else getattr(scheduler, "__name__", "scheduler")
+    )
 
 
-def play_seed(game: Game, scheduler: SchedulerName, seed: int, program: Optional[str]) -> "Record":
+def play_seed(
+    game: Game, scheduler: SchedulerName, seed: int, program: Optional[str]
+) -> "Record":
     """Plays the match of a seed under the scheduler's choices for it."""
     fixture = game.fixture(seed)
-    empty = schedule_of(fixture, game.agents, f"{name_of(scheduler)} {seed}{game.where()}", [], game.limit)
-    return Record(*kept_matches.played_under(maker_of(scheduler)(seed), empty, program), program)
+    empty = schedule_of(
+        fixture,
+        game.agents,
+        f"{name_of(scheduler)} {seed}{game.where()}",
+        [],
+        game.limit,
+    )
+    return Record(
+        *kept_matches.played_under(maker_of(scheduler)(seed), empty, program), program
+    )
 
 
 def play_again(schedule: Schedule, program: Optional[str]) -> "Record":
@@ -80,21 +96,35 @@ class Record(NamedTuple):
 
     def page(self) -> str:
         """A page of HTML on which one watches it."""
-        return page_of_replay(self.program, self.played.replay, self.schedule.title(), self.played.refused)
+        return page_of_replay(
+            self.program, self.played.replay, self.schedule.title(), self.played.refused
+        )
 
     def keep(self, folder: Union[str, pathlib.Path]) -> List[str]:
         """Writes all that shows it to a folder, as `--keep` does; gives what is to be said of it."""
-        return kept_matches.write_find(pathlib.Path(folder), self.schedule, self.played, self.program)
+        return kept_matches.write_find(
+            pathlib.Path(folder), self.schedule, self.played, self.program
+        )
 
     def spent(self) -> List[int]:
         """The agents that have no commands left of their quota."""
         match = self.played.match
-        return [number for number, agent in enumerate(match.agents) if agent.used == match.setup.quota]
+        return [
+            number
+            for number, agent in enumerate(match.agents)
+            if agent.used == match.setup.quota
+        ]
 
     def faults(self) -> List[str]:
         """What is said of agents that have a fault, or have used all of their commands."""
         quota = self.schedule.fixture.setup.quota
-        return [*self.played.faults, *(f"agent {it}: has used all of its {quota} commands" for it in self.spent())]
+        return [
+            *self.played.faults,
+            *(
+                f"agent {it}: has used all of its {quota} commands"
+                for it in self.spent()
+            ),
+        ]
 
     def told(self) -> List[str]:
         """What came of a match that was not solved, from the referee's view."""
@@ -102,7 +132,11 @@ class Record(NamedTuple):
 
     def repeated(self, seconds: float) -> "Record":
         """The match with what its agents say otherwise when each is repeated alone, unless one of them has a fault."""
-        return self._replace(played=with_repeats(self.played, self.schedule.agents, self.schedule.fixture, seconds))
+        return self._replace(
+            played=with_repeats(
+                self.played, self.schedule.agents, self.schedule.fixture, seconds
+            )
+        )
 
     def judged(self) -> Verdict:
         """The verdict of the engine that played it."""
@@ -110,7 +144,9 @@ class Record(NamedTuple):
 
     def summary(self) -> Summary:
         """What came of it, with what is said of agents that have used all of their commands."""
-        return dataclasses.replace(summary_of(self.played, self.program), faults=self.faults())
+        return dataclasses.replace(
+            summary_of(self.played, self.program), faults=self.faults()
+        )
 
     def _repr_html_(self) -> str:
         return framed(self.page())
@@ -127,11 +163,22 @@ class Row(Dict[str, Any]):
     def __init__(self, asked: "Asked", record: Record) -> None:
         setup, summary = record.schedule.fixture.setup, record.summary()
         super().__init__(
-            network=asked.game.name, nodes=setup.nodes, links=len(setup.links), home=setup.home,
-            holes=list(setup.holes), dark=[list(place) for place in setup.dark], agents=setup.agents,
-            scheduler=name_of(asked.scheduler), seed=asked.seed, **summary.columns(),
-            choices=len(record.schedule.choices), failed=record.has_failed, replay=summary.replay,
-            faults=list(summary.faults), refused=record.played.refused)
+            network=asked.game.name,
+            nodes=setup.nodes,
+            links=len(setup.links),
+            home=setup.home,
+            holes=list(setup.holes),
+            dark=[list(place) for place in setup.dark],
+            agents=setup.agents,
+            scheduler=name_of(asked.scheduler),
+            seed=asked.seed,
+            **summary.columns(),
+            choices=len(record.schedule.choices),
+            failed=record.has_failed,
+            replay=summary.replay,
+            faults=list(summary.faults),
+            refused=record.played.refused,
+        )
         self._asked = asked
         self._record: Optional[Record] = record
 
@@ -141,8 +188,10 @@ class Row(Dict[str, Any]):
             return self._record
         record = self._asked.play()
         if hashlib.sha256(record.played.replay).hexdigest() != self["replay"]:
-            raise Differs("played again the match came to another replay: its agents do something else although they "
-                          "are told the same")
+            raise Differs(
+                "played again the match came to another replay: its agents do something else although they "
+                "are told the same"
+            )
         return record
 
     def forget(self) -> "Row":

@@ -7,7 +7,13 @@ from arena_lab.rules.fixtures import Fixture
 from arena_lab.rules.model import OVER, Match, Object, Verdict, judge, spelled
 from arena_lab.rules.rehearsal import Rehearsal, Said
 
-OUTSIDE, AT_A_NODE, ON_A_LINK, ENDED, MATCH_OVER = "outside", "at a node", "on a link", "ended", "the match is over"
+OUTSIDE, AT_A_NODE, ON_A_LINK, ENDED, MATCH_OVER = (
+    "outside",
+    "at a node",
+    "on a link",
+    "ended",
+    "the match is over",
+)
 # answers after which an agent can do nothing more
 LAST = ("noted", "bye")
 
@@ -39,7 +45,11 @@ class Seen:
         if answer == OVER:
             self.standing = MATCH_OVER
         elif found == "here":
-            self.standing, self.ports, self.came = AT_A_NODE, answer["ports"], answer["from"]
+            self.standing, self.ports, self.came = (
+                AT_A_NODE,
+                answer["ports"],
+                answer["from"],
+            )
             self.board = answer["board"]
         elif found == "gone":
             self.standing = ON_A_LINK
@@ -93,7 +103,9 @@ class HumanMatch:
     def end(self) -> Verdict:
         """Ends the match. Agents on links that were destroyed count as lost."""
         for agent in list(self.match.pool):
-            if self.match.doomed(self.match.agents[agent].node, self.match.agents[agent].port):
+            if self.match.doomed(
+                self.match.agents[agent].node, self.match.agents[agent].port
+            ):
                 self.deliver(agent)
         for number, text in self._engine.close():
             self.seen[number].told(text, OVER, None)
@@ -104,9 +116,19 @@ class HumanMatch:
 
     def shown(self) -> Dict[str, Any]:
         """What a page may show: of each agent what it has seen."""
-        return {"over": self.is_over, "agents": [
-            {"standing": it.standing, "ports": it.ports, "came": it.came, "board": it.board,
-             "lines": [list(line) for line in it.lines]} for it in self.seen]}
+        return {
+            "over": self.is_over,
+            "agents": [
+                {
+                    "standing": it.standing,
+                    "ports": it.ports,
+                    "came": it.came,
+                    "board": it.board,
+                    "lines": [list(line) for line in it.lines],
+                }
+                for it in self.seen
+            ],
+        }
 
     def _take(self, told: List[Said], command: Optional[Object] = None) -> None:
         for number, text in told:

@@ -44,7 +44,11 @@ class Reader:
                 continue
             self.files[path.resolve()] = path
             if path.suffix == SUFFIX:
-                named = [it for name in names_in(path.read_bytes()) for it in self._files_of(name, package)]
+                named = [
+                    it
+                    for name in names_in(path.read_bytes())
+                    for it in self._files_of(name, package)
+                ]
                 # the first is taken next
                 waiting += reversed(named)
 
@@ -76,11 +80,22 @@ def names_in(text: bytes) -> Tuple[str, ...]:
         elif isinstance(node, ast.ImportFrom):
             base = "." * node.level + (node.module or "")
             between = "" if base.endswith(".") else "."
-            found += [base, *(f"{base}{between}{it.name}" for it in node.names if it.name != "*")]
+            found += [
+                base,
+                *(f"{base}{between}{it.name}" for it in node.names if it.name != "*"),
+            ]
         elif isinstance(node, ast.Call) and node.args:
             called, first = node.func, node.args[0]
-            name = called.attr if isinstance(called, ast.Attribute) else getattr(called, "id", None)
-            if name in CALLS and isinstance(first, ast.Constant) and isinstance(first.value, str):
+            name = (
+                called.attr
+                if isinstance(called, ast.Attribute)
+                else getattr(called, "id", None)
+            )
+            if (
+                name in CALLS
+                and isinstance(first, ast.Constant)
+                and isinstance(first.value, str)
+            ):
                 found.append(first.value)
     return tuple(dict.fromkeys(found))
 
@@ -88,7 +103,9 @@ def names_in(text: bytes) -> Tuple[str, ...]:
 def modules_of(name: str, package: str, folders: Sequence[str]) -> List[Module]:
     """The modules that an import of this name executes, as far as they are found in the folders."""
     try:
-        full = importlib.util.resolve_name(name, package) if name.startswith(".") else name
+        full = (
+            importlib.util.resolve_name(name, package) if name.startswith(".") else name
+        )
     except ImportError:
         return []
     found: List[Module] = []
@@ -101,14 +118,22 @@ def modules_of(name: str, package: str, folders: Sequence[str]) -> List[Module]:
             break
         inside = spec.submodule_search_locations
         file = pathlib.Path(spec.origin) if spec.origin and spec.has_location else None
-        found.append(Module(file, path if inside is not None else path.rpartition(".")[0]))
+        found.append(
+            Module(file, path if inside is not None else path.rpartition(".")[0])
+        )
         if inside is None:
             break
-        where = [folder for folder in (os.path.join(it, part) for it in where) if os.path.isdir(folder)]
+        where = [
+            folder
+            for folder in (os.path.join(it, part) for it in where)
+            if os.path.isdir(folder)
+        ]
     return found
 
 
-def files_behind(path: pathlib.Path, folders: Sequence[str] = (), more: Iterable[str] = ()) -> Dict[str, str]:
+def files_behind(
+    path: pathlib.Path, folders: Sequence[str] = (), more: Iterable[str] = ()
+) -> Dict[str, str]:
     """The SHA-256 of a file, of each file that it imports from beside it or from these folders, and of each installed
     package that they import. `more` are names of modules that are imported too. Names of files are paths from the
     working folder. Without folders, what stands beside the file is looked at alone."""
@@ -117,7 +142,11 @@ def files_behind(path: pathlib.Path, folders: Sequence[str] = (), more: Iterable
     for name in more:
         reader.follow(name)
     found = {named(file): digest_of(file) for file in reader.files.values()}
-    packages = {f"{PACKAGE}{name}": package_digest(name) for name in sorted(reader.elsewhere)} if folders else {}
+    packages = (
+        {f"{PACKAGE}{name}": package_digest(name) for name in sorted(reader.elsewhere)}
+        if folders
+        else {}
+    )
     return {**found, **{name: digest for name, digest in packages.items() if digest}}
 
 
@@ -136,14 +165,22 @@ def digest_of(path: pathlib.Path) -> str:
 
 def digest_named(name: str) -> str:
     """The SHA-256 of the file or of the installed package that a name in `files_behind` means."""
-    return package_digest(name[len(PACKAGE):]) if name.startswith(PACKAGE) else digest_of(pathlib.Path(name))
+    return (
+        package_digest(name[len(PACKAGE) :])
+        if name.startswith(PACKAGE)
+        else digest_of(pathlib.Path(name))
+    )
 
 
 def digest_of_all(paths: Iterable[pathlib.Path], folder: pathlib.Path) -> str:
     """The SHA-256 of files in a folder with their names."""
     found = hashlib.sha256()
     for path in sorted(paths):
-        found.update(f"{path.relative_to(folder)} {digest_of(path)}\n".encode(errors="surrogateescape"))
+        found.update(
+            f"{path.relative_to(folder)} {digest_of(path)}\n".encode(
+                errors="surrogateescape"
+            )
+        )
     return found.hexdigest()
 
 
@@ -156,5 +193,7 @@ def package_digest(name: str) -> str:
     if spec.submodule_search_locations is None:
         return digest_of(pathlib.Path(spec.origin)) if spec.origin else ""
     folder = pathlib.Path(list(spec.submodule_search_locations)[0])
-    files = (it for it in folder.rglob("*") if it.is_file() and "__pycache__" not in it.parts)
+    files = (
+        it for it in folder.rglob("*") if it.is_file() and "__pycache__" not in it.parts
+    )
     return digest_of_all(files, folder)

@@ -10,7 +10,16 @@ from arena_lab.play.agent_files import AGENTS
 from arena_lab.support.faults import Fault
 
 # of each kit, what building leaves in its folder
-MADE = ("out", "target", "Cargo.lock", "__pycache__", ".mypy_cache", "careful", "careful.wasm", "test_client")
+MADE = (
+    "out",
+    "target",
+    "Cargo.lock",
+    "__pycache__",
+    ".mypy_cache",
+    "careful",
+    "careful.wasm",
+    "test_client",
+)
 
 
 class Kit(NamedTuple):
@@ -30,17 +39,48 @@ class Kit(NamedTuple):
 
 
 KITS: Dict[str, Kit] = {
-    "python": Kit("Python", "", "python3 -m unittest", "python3 careful.py", ("python3",), ("client.py",)),
+    "python": Kit(
+        "Python",
+        "",
+        "python3 -m unittest",
+        "python3 careful.py",
+        ("python3",),
+        ("client.py",),
+    ),
     "javascript": Kit("JavaScript", "", "node --test", "node careful.js", ("nodejs",)),
-    "java": Kit("Java", "make", "make test", "java -cp out:/usr/share/java/gson.jar Careful",
-                ("openjdk-17-jdk-headless", "libgoogle-gson-java", "make")),
+    "java": Kit(
+        "Java",
+        "make",
+        "make test",
+        "java -cp out:/usr/share/java/gson.jar Careful",
+        ("openjdk-17-jdk-headless", "libgoogle-gson-java", "make"),
+    ),
     "c": Kit("C", "make", "make test", "./careful", ("gcc", "libc6-dev", "make")),
-    "cpp": Kit("C++", "make", "make test", "./careful", ("g++", "nlohmann-json3-dev", "make")),
-    "rust": Kit("Rust", "cargo build --release", "cargo test", "target/release/careful", ("cargo",)),
+    "cpp": Kit(
+        "C++", "make", "make test", "./careful", ("g++", "nlohmann-json3-dev", "make")
+    ),
+    "rust": Kit(
+        "Rust",
+        "cargo build --release",
+        "cargo test",
+        "target/release/careful",
+        ("cargo",),
+    ),
     "go": Kit("Go", "go build", "go test", "./careful", ("golang-go",)),
-    "wasm": Kit("C as a WebAssembly module", "make", "", "careful.wasm", ("clang", "lld", "make")),
-    "wasm-rust": Kit("Rust as a WebAssembly module", "make", "", "careful.wasm",
-                     ("rustc", "libstd-rust-dev-wasm32", "lld", "make")),
+    "wasm": Kit(
+        "C as a WebAssembly module",
+        "make",
+        "",
+        "careful.wasm",
+        ("clang", "lld", "make"),
+    ),
+    "wasm-rust": Kit(
+        "Rust as a WebAssembly module",
+        "make",
+        "",
+        "careful.wasm",
+        ("rustc", "libstd-rust-dev-wasm32", "lld", "make"),
+    ),
 }
 
 
@@ -54,7 +94,9 @@ def write_kit(language: str, folder: pathlib.Path) -> Kit:
     kit, source = KITS[language], AGENTS / language
     if folder.exists() and (not folder.is_dir() or any(folder.iterdir())):
         raise Fault(f"{folder}: there is something already; name a new folder")
-    shutil.copytree(source, folder, ignore=shutil.ignore_patterns(*MADE), dirs_exist_ok=True)
+    shutil.copytree(
+        source, folder, ignore=shutil.ignore_patterns(*MADE), dirs_exist_ok=True
+    )
     for name in kit.shared:
         shutil.copy(AGENTS / name, folder / name)
     return kit

@@ -13,8 +13,10 @@ WIDEST = 1000
 NAMED = r"(?:[\w.]+\.)?\w*(?:Error|Exception|Interrupt|Warning|Rejection)\b"
 # a number of a process or a thread, which is another one on each run
 PROCESS = re.compile(r"(?<===)\d+(?===)|(?<=') \(\d+\)(?= panicked)")
-LOOKS = re.compile(r"\b(?:\w*error|\w*exception|panic\w*|fatal|abort\w*|assert\w*|cannot|denied|segmentation fault)\b",
-                   re.IGNORECASE)
+LOOKS = re.compile(
+    r"\b(?:\w*error|\w*exception|panic\w*|fatal|abort\w*|assert\w*|cannot|denied|segmentation fault)\b",
+    re.IGNORECASE,
+)
 
 
 # a frame of Python's traceback; how a program is called, behind "usage:"; and an argument in a line that shows a call
@@ -30,7 +32,11 @@ LACKS = re.compile(r"KeyError: '(ports|from|board)'")
 def asked_behind(error: str) -> str:
     """What may be behind an error that names a part of an answer."""
     found = LACKS.search(error)
-    return f"; an answer had no `{found[1]}`: a departure is answered twice, are both answers read?" if found else ""
+    return (
+        f"; an answer had no `{found[1]}`: a departure is answered twice, are both answers read?"
+        if found
+        else ""
+    )
 
 
 def usage_in(text: str) -> str:
@@ -51,7 +57,9 @@ def is_call(line: str) -> bool:
 
 def first(lines: Sequence[str], pattern: str) -> Optional[int]:
     """The place of the first line that begins so."""
-    return next((place for place, line in enumerate(lines) if re.match(pattern, line)), None)
+    return next(
+        (place for place, line in enumerate(lines) if re.match(pattern, line)), None
+    )
 
 
 def line_like(lines: Sequence[str], pattern: str) -> Optional[str]:
@@ -62,13 +70,31 @@ def line_like(lines: Sequence[str], pattern: str) -> Optional[str]:
 def of_python(lines: Sequence[str]) -> Optional[str]:
     """The line behind the frames of the last traceback, with the last frame of the agent's own file; or of a file that
     cannot be read."""
-    places = [place for place, line in enumerate(lines) if line.startswith("Traceback (most recent call last)")]
+    places = [
+        place
+        for place, line in enumerate(lines)
+        if line.startswith("Traceback (most recent call last)")
+    ]
     if places:
-        frames = [(pathlib.PurePath(it[1]), it[2]) for line in lines[places[-1]:] if (it := FRAME.match(line))]
-        own = [(path.name, line) for path, line in frames
-               if path.name != "client.py" and "/lib/python3" not in str(path)]
+        frames = [
+            (pathlib.PurePath(it[1]), it[2])
+            for line in lines[places[-1] :]
+            if (it := FRAME.match(line))
+        ]
+        own = [
+            (path.name, line)
+            for path, line in frames
+            if path.name != "client.py" and "/lib/python3" not in str(path)
+        ]
         where = " ({}, line {})".format(*own[-1]) if own else ""
-        said = next((line for line in lines[places[-1] + 1:] if line.strip() and not line.startswith(" ")), None)
+        said = next(
+            (
+                line
+                for line in lines[places[-1] + 1 :]
+                if line.strip() and not line.startswith(" ")
+            ),
+            None,
+        )
         return said and f"{said}{where}"
     start = first(lines, r'  File ".*", line \d+')
     return None if start is None else line_like(lines[start:], NAMED)
@@ -88,7 +114,7 @@ def of_rust(lines: Sequence[str]) -> Optional[str]:
     place = first(lines, r"thread '.*' (?:\(\d+\) )?panicked at ")
     if place is None:
         return None
-    behind = lines[place + 1:place + 2] if lines[place].endswith(":") else []
+    behind = lines[place + 1 : place + 2] if lines[place].endswith(":") else []
     return " ".join([lines[place], *behind])
 
 
@@ -96,31 +122,53 @@ def of_cpp(lines: Sequence[str]) -> Optional[str]:
     """An exception that nobody caught, with what it says; or what a sanitizer or an assertion tells."""
     place = first(lines, "terminate called ")
     if place is not None:
-        behind = [line.strip() for line in lines[place + 1:place + 2] if line.strip().startswith("what():")]
-        return ": ".join([lines[place], *(it.removeprefix("what():").strip() for it in behind)])
-    return line_like(lines, r"==\d+==ERROR: |.*: Assertion .* failed\.$|\S+:\d+(?::\d+)?: (?:fatal )?error: ")
+        behind = [
+            line.strip()
+            for line in lines[place + 1 : place + 2]
+            if line.strip().startswith("what():")
+        ]
+        return ": ".join(
+            [lines[place], *(it.removeprefix("what():").strip() for it in behind)]
+        )
+    return line_like(
+        lines,
+        r"==\d+==ERROR: |.*: Assertion .* failed\.$|\S+:\d+(?::\d+)?: (?:fatal )?error: ",
+    )
 
 
 def of_javascript(lines: Sequence[str]) -> Optional[str]:
     """The error, or what else was thrown, which stands behind the line that points to the source."""
-    if first(lines, r"Node\.js v\d") is None and first(lines, r"\s+at .*(?::\d+:\d+\)?|<anonymous>\)?)$") is None:
+    if (
+        first(lines, r"Node\.js v\d") is None
+        and first(lines, r"\s+at .*(?::\d+:\d+\)?|<anonymous>\)?)$") is None
+    ):
         return None
-    found, pointer = line_like(lines, rf"(?:Uncaught )?\[?{NAMED}"), first(lines, r"\s*\^+\s*$")
+    found, pointer = line_like(lines, rf"(?:Uncaught )?\[?{NAMED}"), first(
+        lines, r"\s*\^+\s*$"
+    )
     if found is not None or pointer is None:
         return found
-    return next((line for line in lines[pointer + 1:] if line.strip()), None)
+    return next((line for line in lines[pointer + 1 :] if line.strip()), None)
 
 
 # the first that fits is told; of Go and of .NET one line says all
 LANGUAGES: Tuple[Callable[[Sequence[str]], Optional[str]], ...] = (
-    of_python, of_java, of_rust, lambda lines: line_like(lines, r"(?:panic|fatal error): "), of_cpp,
-    lambda lines: line_like(lines, "Unhandled exception"), of_javascript)
+    of_python,
+    of_java,
+    of_rust,
+    lambda lines: line_like(lines, r"(?:panic|fatal error): "),
+    of_cpp,
+    lambda lines: line_like(lines, "Unhandled exception"),
+    of_javascript,
+)
 
 
 def error_in(text: str) -> str:
     """The line of what a program wrote to standard error that names its error: by language, else the first that looks
     like an error, else the last."""
-    lines: List[str] = [line[:WIDEST].rstrip() for line in text.split("\n") if line.strip()]
+    lines: List[str] = [
+        line[:WIDEST].rstrip() for line in text.split("\n") if line.strip()
+    ]
     found = next((said for said in (of(lines) for of in LANGUAGES) if said), None)
     if found is None:
         likely = [line for line in lines if LOOKS.search(line)]

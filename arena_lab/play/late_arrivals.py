@@ -20,13 +20,16 @@ from arena_lab.rules.delays import PAUSE, SCALES
 # seconds that no link takes in a contest whose delays and pause are the usual ones, with some turns for the picks
 LATE = math.ceil(((1 << SCALES) + 64) * PAUSE)
 SLICE = 0.02
-UNTOLD = ("{} within {:g} s of `gone`, and was told nothing meanwhile: a link may take that long, so wait for the "
-          "arrival without a timeout")
+UNTOLD = (
+    "{} within {:g} s of `gone`, and was told nothing meanwhile: a link may take that long, so wait for the "
+    "arrival without a timeout"
+)
 
 
 class LateArrivals:
     """A scheduler that holds the first arrival of each agent for some seconds of the clock; all else is fair. An agent
-    that is destroyed is not held. A program that ends or says something while it is held fails, and the match ends."""
+    that is destroyed is not held. A program that ends or says something while it is held fails, and the match ends.
+    """
 
     def __init__(self, players: Sequence[Player], seconds: float = LATE) -> None:
         self._players, self._seconds = players, seconds
@@ -47,7 +50,11 @@ class LateArrivals:
     def _is_held(self, choice: Choice, state: MatchView) -> bool:
         """Whether this is an arrival that does not come yet."""
         number, agent = choice.agent, state.match.agents[choice.agent]
-        if choice.do != ARRIVE or number in self._held or state.match.doomed(agent.node, agent.port):
+        if (
+            choice.do != ARRIVE
+            or number in self._held
+            or state.match.doomed(agent.node, agent.port)
+        ):
             return False
         if number not in self._until:
             self._until[number] = time.monotonic() + self._seconds
@@ -60,7 +67,9 @@ class LateArrivals:
     def _watch(self) -> None:
         """Ends the match if a program that is held has ended or said something."""
         for number, before in self._before.items():
-            done: Optional[str] = None if number in self._held else self._players[number].stirs(before)
+            done: Optional[str] = (
+                None if number in self._held else self._players[number].stirs(before)
+            )
             if done is not None:
                 self._players[number].stop(UNTOLD.format(done, self._seconds))
                 raise ScheduleEnded
@@ -70,7 +79,18 @@ def kept_waiting(game: Game, program: Optional[str]) -> Record:
     """A match of programs that are kept waiting. The black hole is far from the home base, so that no agent of a ring
     is destroyed on its first way."""
     fixture = game.fixture(game.network.nodes // 2 - 1)
-    team = Team(fixture, {number: agent.words for number, agent in enumerate(game.agents)}, game.limit)
-    schedule = schedule_of(fixture, game.agents, f"arrivals {LATE} s late{game.where()}", [], game.limit)
-    played = play(kept_matches.engine_of(schedule, program), team, LateArrivals(team.players), fixture)
+    team = Team(
+        fixture,
+        {number: agent.words for number, agent in enumerate(game.agents)},
+        game.limit,
+    )
+    schedule = schedule_of(
+        fixture, game.agents, f"arrivals {LATE} s late{game.where()}", [], game.limit
+    )
+    played = play(
+        kept_matches.engine_of(schedule, program),
+        team,
+        LateArrivals(team.players),
+        fixture,
+    )
     return Record(schedule._replace(choices=played.choices), played, program)

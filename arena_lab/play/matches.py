@@ -4,10 +4,28 @@ from typing import Dict, List, NamedTuple, Optional, Protocol, Sequence, Tuple
 
 from arena_lab.play.mistakes import PORT, UNENDED, Refusals
 from arena_lab.play.players import DONE, SLEEPS, TRAVELS, WAITS, faults_of
-from arena_lab.play.schedulers import ANSWER, ARRIVE, WAKE, Choice, ScheduleEnded, Impossible, Scheduler
+from arena_lab.play.schedulers import (
+    ANSWER,
+    ARRIVE,
+    WAKE,
+    Choice,
+    ScheduleEnded,
+    Impossible,
+    Scheduler,
+)
 from arena_lab.rules.engines import Engine
 from arena_lab.rules.fixtures import Fixture, enters_as_another
-from arena_lab.rules.model import AWAY, ENDED, OUTSIDE, Match, Object, Verdict, command_of, judge, text_of
+from arena_lab.rules.model import (
+    AWAY,
+    ENDED,
+    OUTSIDE,
+    Match,
+    Object,
+    Verdict,
+    command_of,
+    judge,
+    text_of,
+)
 from arena_lab.rules.rehearsal import Said
 
 # a session that was refused so often in a row is ended by the lab: no rule of the arena ends it
@@ -29,22 +47,37 @@ class Player(Protocol):
     # what a program outside wrote to standard error, once it has ended
     errors: str
 
-    def hear(self, line: str) -> None: ...
-    def go_on(self) -> None: ...
-    def read(self) -> Dict[str, str]: ...
-    def told(self, text: str) -> str: ...
-    def rest(self) -> bytes: ...
-    def stop(self, fault: Optional[str] = None) -> None: ...
+    def hear(self, line: str) -> None:
+        ...
+
+    def go_on(self) -> None:
+        ...
+
+    def read(self) -> Dict[str, str]:
+        ...
+
+    def told(self, text: str) -> str:
+        ...
+
+    def rest(self) -> bytes:
+        ...
+
+    def stop(self, fault: Optional[str] = None) -> None:
+        ...
 
 
 class Team(Protocol):
     """The programs of a match."""
 
     @property
-    def players(self) -> Sequence[Player]: ...
+    def players(self) -> Sequence[Player]:
+        ...
 
-    def start(self) -> None: ...
-    def stop(self) -> None: ...
+    def start(self) -> None:
+        ...
+
+    def stop(self) -> None:
+        ...
 
 
 class PlayedMatch(NamedTuple):
@@ -73,7 +106,11 @@ class PlayedMatch(NamedTuple):
 
 def changes_board(event: Object) -> bool:
     """Whether an event of a log changes a whiteboard: a write of the text that stands there does not."""
-    return bool(event["do"] == "write" and event["reply"] == {"ok": "written"} and event["put"] != event["expect"])
+    return bool(
+        event["do"] == "write"
+        and event["reply"] == {"ok": "written"}
+        and event["put"] != event["expect"]
+    )
 
 
 class MatchRun:
@@ -118,7 +155,10 @@ class MatchRun:
             self._woke.pop(choice.agent, None)
             self._tell(self.engine.draw(self.engine.match.pool.index(choice.agent)))
         elif choice.do == WAKE:
-            self._woke[choice.agent] = self._seen(choice.agent), self._wakings(choice.agent) + 1
+            self._woke[choice.agent] = (
+                self._seen(choice.agent),
+                self._wakings(choice.agent) + 1,
+            )
             player.go_on()
         else:
             self._answer(player)
@@ -136,7 +176,11 @@ class MatchRun:
         else:
             self._last[player.number] = line
             self._tell(self.engine.feed(player.number, line))
-            if player.state == WAITS and player.line is None and self.match.agents[player.number].standing == AWAY:
+            if (
+                player.state == WAITS
+                and player.line is None
+                and self.match.agents[player.number].standing == AWAY
+            ):
                 # a line that was sent before the arrival is answered after it
                 player.state = TRAVELS
 
@@ -160,7 +204,11 @@ class MatchRun:
 
     def _may_arrive(self, number: int) -> bool:
         agent = self.engine.match.agents[number]
-        return agent.standing == AWAY and not agent.lost and (agent.node, agent.port) not in self._held
+        return (
+            agent.standing == AWAY
+            and not agent.lost
+            and (agent.node, agent.port) not in self._held
+        )
 
     def _wakings(self, number: int) -> int:
         """How often an agent has woken since the whiteboard in front of it changed. It can see nothing else, so it
@@ -179,7 +227,7 @@ class MatchRun:
 
     def _note_writes(self) -> None:
         log = self.engine.match.log
-        for event in log[self._read:]:
+        for event in log[self._read :]:
             if changes_board(event):
                 node = self.engine.match.agents[event["agent"]].node
                 self._writes[node] = self._writes.get(node, 0) + 1
@@ -191,8 +239,18 @@ class MatchRun:
             agent = self.match.agents[player.number]
             ports, board = len(self.match.far[agent.node]), self.match.setup.board
             why = str(json.loads(reply)["no"])
-            fact = f"the node has the ports 0 to {ports - 1}" if why == PORT else f"a whiteboard holds {board} bytes"
-            self.refusals.note(player.number, why, self._last.get(player.number, b""), player.told, fact)
+            fact = (
+                f"the node has the ports 0 to {ports - 1}"
+                if why == PORT
+                else f"a whiteboard holds {board} bytes"
+            )
+            self.refusals.note(
+                player.number,
+                why,
+                self._last.get(player.number, b""),
+                player.told,
+                fact,
+            )
 
     def note_rests(self) -> None:
         """Notes what programs have sent behind their last line feed."""
@@ -207,13 +265,17 @@ class MatchRun:
                 continue
             self._note(player, line)
             player.hear(line)
-            self._refused[number] = self._refused.get(number, 0) + 1 if line.startswith(REFUSED) else 0
+            self._refused[number] = (
+                self._refused.get(number, 0) + 1 if line.startswith(REFUSED) else 0
+            )
             if self._refused[number] >= MOST_REFUSED:
                 player.stop(IS_REFUSED)
                 self.engine.end(number)
 
 
-def play(engine: Engine, team: Team, scheduler: Scheduler, fixture: Fixture) -> PlayedMatch:
+def play(
+    engine: Engine, team: Team, scheduler: Scheduler, fixture: Fixture
+) -> PlayedMatch:
     """Plays until nothing can happen any more, or a recorded schedule ends, and closes the match."""
     run = MatchRun(engine, team, fixture)
     try:
@@ -226,9 +288,13 @@ def play(engine: Engine, team: Team, scheduler: Scheduler, fixture: Fixture) -> 
             except Impossible:
                 raise
             except Exception as fault:
-                raise Impossible(f"the scheduler raises {type(fault).__name__}: {fault}") from fault
+                raise Impossible(
+                    f"the scheduler raises {type(fault).__name__}: {fault}"
+                ) from fault
             if choice not in choices:
-                raise Impossible(f"the scheduler chooses {choice!r}, which is not among the choices")
+                raise Impossible(
+                    f"the scheduler chooses {choice!r}, which is not among the choices"
+                )
             run.happen(choice)
         run.close()
         replay = engine.replay()
@@ -237,6 +303,18 @@ def play(engine: Engine, team: Team, scheduler: Scheduler, fixture: Fixture) -> 
         engine.stop()
     run.note_rests()
     errors = {player.number: player.errors for player in team.players if player.errors}
-    read = {name: digest for player in team.players for name, digest in player.read().items()}
-    return PlayedMatch(run.choices, engine.match, engine.script, replay, faults_of(team.players), errors, read,
-                  run.refusals.said())
+    read = {
+        name: digest
+        for player in team.players
+        for name, digest in player.read().items()
+    }
+    return PlayedMatch(
+        run.choices,
+        engine.match,
+        engine.script,
+        replay,
+        faults_of(team.players),
+        errors,
+        read,
+        run.refusals.said(),
+    )

@@ -15,7 +15,9 @@ MARK = b"\xef\xbb\xbf"
 HTTP = re.compile(r"[A-Z]+ \S+ HTTP/\d")
 # members of an object whose names have no quotes, as JavaScript, Java and Rust print them; and the middle of an object
 # that was printed over several lines
-UNQUOTED, MIDDLE = re.compile(r"[\w.$]*\s*\{\s*[A-Za-z_]\w*\s*[:=]"), re.compile(r'[{}]|"\w+"\s*:.*,?')
+UNQUOTED, MIDDLE = re.compile(r"[\w.$]*\s*\{\s*[A-Za-z_]\w*\s*[:=]"), re.compile(
+    r'[{}]|"\w+"\s*:.*,?'
+)
 NOTHING = object()
 DECODER = json.JSONDecoder()
 
@@ -49,7 +51,9 @@ class RefusedLine:
 
     def of(self, kind: type) -> List[str]:
         """The members of this kind that the command has."""
-        return [name for name, wanted in SHAPES.get(self.do, {}).items() if wanted is kind]
+        return [
+            name for name, wanted in SHAPES.get(self.do, {}).items() if wanted is kind
+        ]
 
     def port(self) -> Any:
         """The port that the line names, if its command has one and the line has that member."""
@@ -78,8 +82,12 @@ def unknown(line: RefusedLine) -> Optional[str]:
         return None
     said = line.members["do"]
     near = difflib.get_close_matches(str(said).lower()[:SHOWN], SHAPES, 1, 0.7)
-    known = f"did you mean {near[0]}?" if near else f"the commands are {', '.join(SHAPES)}"
-    return f"there is no command {json.dumps(said, ensure_ascii=False)[:SHOWN]}; {known}"
+    known = (
+        f"did you mean {near[0]}?" if near else f"the commands are {', '.join(SHAPES)}"
+    )
+    return (
+        f"there is no command {json.dumps(said, ensure_ascii=False)[:SHOWN]}; {known}"
+    )
 
 
 def port_as_text(line: RefusedLine) -> Optional[str]:
@@ -113,81 +121,146 @@ def bare_word(line: RefusedLine) -> Optional[str]:
 
 def broken(line: RefusedLine) -> Optional[str]:
     if line.text.startswith("{"):
-        behind = "something stands behind the object" if line.rest else "half a character, or a number such as NaN"
+        behind = (
+            "something stands behind the object"
+            if line.rest
+            else "half a character, or a number such as NaN"
+        )
         return f"it is no JSON: {line.fault or behind}"
     return None
 
 
 # by their names; the first that a line shows is told
 MISTAKES: Dict[str, Mistake] = {
-    "mark": when(lambda line: line.raw.startswith(MARK),
-                 "a byte order mark stands before the line: open the stream as UTF-8 without a mark"),
-    "utf16": when(lambda line: b"\0" in line.raw or line.raw[:2] in (b"\xff\xfe", b"\xfe\xff"),
-                  "it has bytes of zero, as UTF-16 has: send UTF-8"),
-    "too_long": when(lambda line: len(line.raw) > MAX_LINE, f"it is longer than {MAX_LINE:,} bytes: end each command "
-                     "with a line feed, and write shorter texts"),
-    "not_utf8": when(is_no_utf8, "it is not UTF-8: send texts in UTF-8, and no bytes of numbers or structures"),
-    "of_http": when(lambda line: HTTP.match(line.text), "it is a request of HTTP: open a socket of TCP and send the "
-                    "command as a line, without a web client"),
-    "two_objects": when(lambda line: isinstance(line.value, dict) and line.rest.lstrip(", ;").startswith("{"),
-                        "two commands stand in one line: end each with a line feed of its own"),
-    "encoded_twice": when(lambda line: isinstance(line.value, str) and line.value.lstrip().startswith("{"),
-                          "the whole command stands in quotes, as it was made JSON twice: make it JSON once"),
-    "single_quotes": when(lambda line: re.match(r"\{\s*'", line.text), "it has single quotes, as Python prints a dict: "
-                          "JSON has double quotes, which json.dumps, or in JavaScript JSON.stringify, writes"),
-    "names_without_quotes": when(lambda line: UNQUOTED.match(line.text), "the names of members have no double quotes, "
-                                 'as when an object is printed and not made JSON: write {"do":..}, in JavaScript by '
-                                 "JSON.stringify"),
+    "mark": when(
+        lambda line: line.raw.startswith(MARK),
+        "a byte order mark stands before the line: open the stream as UTF-8 without a mark",
+    ),
+    "utf16": when(
+        lambda line: b"\0" in line.raw or line.raw[:2] in (b"\xff\xfe", b"\xfe\xff"),
+        "it has bytes of zero, as UTF-16 has: send UTF-8",
+    ),
+    "too_long": when(
+        lambda line: len(line.raw) > MAX_LINE,
+        f"it is longer than {MAX_LINE:,} bytes: end each command "
+        "with a line feed, and write shorter texts",
+    ),
+    "not_utf8": when(
+        is_no_utf8,
+        "it is not UTF-8: send texts in UTF-8, and no bytes of numbers or structures",
+    ),
+    "of_http": when(
+        lambda line: HTTP.match(line.text),
+        "it is a request of HTTP: open a socket of TCP and send the "
+        "command as a line, without a web client",
+    ),
+    "two_objects": when(
+        lambda line: isinstance(line.value, dict)
+        and line.rest.lstrip(", ;").startswith("{"),
+        "two commands stand in one line: end each with a line feed of its own",
+    ),
+    "encoded_twice": when(
+        lambda line: isinstance(line.value, str)
+        and line.value.lstrip().startswith("{"),
+        "the whole command stands in quotes, as it was made JSON twice: make it JSON once",
+    ),
+    "single_quotes": when(
+        lambda line: re.match(r"\{\s*'", line.text),
+        "it has single quotes, as Python prints a dict: "
+        "JSON has double quotes, which json.dumps, or in JavaScript JSON.stringify, writes",
+    ),
+    "names_without_quotes": when(
+        lambda line: UNQUOTED.match(line.text),
+        "the names of members have no double quotes, "
+        'as when an object is printed and not made JSON: write {"do":..}, in JavaScript by '
+        "JSON.stringify",
+    ),
     "over_several_lines": when(
-        lambda line: MIDDLE.fullmatch(line.text) and (line.value is NOTHING or line.rest[:1] == ":"),
-        "it is a part of an object that stands over several lines: print each command in one line, not indented"),
-    "no_do": when(lambda line: isinstance(line.value, dict) and not line.rest and "do" not in line.value,
-                  f'it has no member "do", which names the command: {", ".join(SHAPES)}'),
+        lambda line: MIDDLE.fullmatch(line.text)
+        and (line.value is NOTHING or line.rest[:1] == ":"),
+        "it is a part of an object that stands over several lines: print each command in one line, not indented",
+    ),
+    "no_do": when(
+        lambda line: isinstance(line.value, dict)
+        and not line.rest
+        and "do" not in line.value,
+        f'it has no member "do", which names the command: {", ".join(SHAPES)}',
+    ),
     "unknown": unknown,
     "port_as_text": port_as_text,
-    "port_as_fraction": when(lambda line: isinstance(line.port(), float),
-                             "the port is a fraction: write it as a whole number, as 0 and not 0.0"),
-    "port_out_of_range": when(lambda line: type(line.port()) is int,
-                              "the port is no number from 0 to 65535: ports are 0 to `ports` - 1 of the node"),
+    "port_as_fraction": when(
+        lambda line: isinstance(line.port(), float),
+        "the port is a fraction: write it as a whole number, as 0 and not 0.0",
+    ),
+    "port_out_of_range": when(
+        lambda line: type(line.port()) is int,
+        "the port is no number from 0 to 65535: ports are 0 to `ports` - 1 of the node",
+    ),
     "missing": missing,
     "of_another_type": of_another_type,
     "bare_word": bare_word,
     "broken": broken,
-    "no_object": when(lambda line: line.value is not NOTHING and not line.rest and not isinstance(line.value, dict),
-                      "it is a JSON value and no object: a command is an object, one in a line"),
-    "debug": when(lambda line: True, "it is no JSON: print what is for you to standard error, and only commands where "
-                  "the server reads"),
+    "no_object": when(
+        lambda line: line.value is not NOTHING
+        and not line.rest
+        and not isinstance(line.value, dict),
+        "it is a JSON value and no object: a command is an object, one in a line",
+    ),
+    "debug": when(
+        lambda line: True,
+        "it is no JSON: print what is for you to standard error, and only commands where "
+        "the server reads",
+    ),
 }
 
 
 def likely(raw: bytes) -> str:
     """The likeliest mistake behind a line that is no command."""
     line = RefusedLine(raw)
-    return next(said for said in (mistake(line) for mistake in MISTAKES.values()) if said)
+    return next(
+        said for said in (mistake(line) for mistake in MISTAKES.values()) if said
+    )
 
 
 def plain(text: str) -> str:
     """A text without characters that are not seen but do something, such as those that colour a terminal, hide what
-    stands before them or turn the direction of writing: the code of each stands in its place."""
-    return "".join(char if char.isprintable() else char.encode("unicode_escape").decode() for char in text)
+    stands before them or turn the direction of writing: the code of each stands in its place.
+    """
+    return "".join(
+        char if char.isprintable() else char.encode("unicode_escape").decode()
+        for char in text
+    )
 
 
 def shown(raw: bytes, most: int = SHOWN) -> str:
     """A line of a stranger as it may be shown: escaped, and cut."""
-    text = raw[:4 * most + 4].decode("utf-8", "backslashreplace").strip()
+    text = raw[: 4 * most + 4].decode("utf-8", "backslashreplace").strip()
     text = "".join(f"\\u{ord(char):04x}" if char == "\ufeff" else char for char in text)
     said = plain(text)
-    return said if len(said) <= most and len(raw) <= 4 * most else f"{said[:most]}.. ({len(raw):,} bytes)"
+    return (
+        said
+        if len(said) <= most and len(raw) <= 4 * most
+        else f"{said[:most]}.. ({len(raw):,} bytes)"
+    )
 
 
 # of each refusal what one line, and what several lines have done
 LINE, PORT, LONG, ENTER, UNENDED = "line", "port", "long", "enter", "unended"
 KINDS: Dict[str, Tuple[str, str]] = {
     LINE: ("1 line was no command", "{} lines were no commands"),
-    PORT: ("1 line named a port that its node does not have", "{} lines named ports that their nodes do not have"),
-    LONG: ("1 text was longer than a whiteboard holds", "{} texts were longer than a whiteboard holds"),
+    PORT: (
+        "1 line named a port that its node does not have",
+        "{} lines named ports that their nodes do not have",
+    ),
+    LONG: (
+        "1 text was longer than a whiteboard holds",
+        "{} texts were longer than a whiteboard holds",
+    ),
     ENTER: ("its first line was no enter", "{} first lines were no enter"),
-    UNENDED: ("what it sent last was not taken, as no line feed stands behind it", "{} lines have no line feed"),
+    UNENDED: (
+        "what it sent last was not taken, as no line feed stands behind it",
+        "{} lines have no line feed",
+    ),
 }
 # what the first line of a connection has to be
 FIRST = 'the first line is {"do":"enter","key":KEY}'
@@ -208,7 +281,14 @@ class Refusals:
         self._count: Dict[Tuple[int, str], int] = {}
         self._first: Dict[Tuple[int, str], First] = {}
 
-    def note(self, agent: int, why: str, raw: bytes, told: Callable[[str], str], fact: str = "") -> None:
+    def note(
+        self,
+        agent: int,
+        why: str,
+        raw: bytes,
+        told: Callable[[str], str],
+        fact: str = "",
+    ) -> None:
         """Notes a line that was refused. A fact says of the node what the line missed. What is another on each run is
         taken away, and so are keys."""
         if why not in KINDS:
@@ -222,8 +302,10 @@ class Refusals:
 
     def said(self) -> List[str]:
         """A line for each agent and kind."""
-        return [f"agent {agent}: {counted(why, self._count[agent, why])}: `{first.line}`: {first.cause}"
-                for (agent, why), first in sorted(self._first.items())]
+        return [
+            f"agent {agent}: {counted(why, self._count[agent, why])}: `{first.line}`: {first.cause}"
+            for (agent, why), first in sorted(self._first.items())
+        ]
 
 
 def counted(why: str, count: int) -> str:

@@ -20,7 +20,11 @@ LOADING = threading.RLock()
 FOLDERS: Set[str] = set()
 RANDOM, DATETIME = "random", "datetime"
 # what of the module `random` belongs to one generator
-OF_ONE = [name for name, value in vars(random).items() if getattr(value, "__self__", None) is random._inst]
+OF_ONE = [
+    name
+    for name, value in vars(random).items()
+    if getattr(value, "__self__", None) is random._inst
+]
 # an object's identity as a number. Python tells the audit hook of each `id`, which costs more than to ask for this
 IDENTITY = object.__hash__
 # for each set of files that all agents share: the modules that no agent owns, by their identities
@@ -29,7 +33,9 @@ FOREIGN_TO: Set[str] = set()
 # for each set of such files: all modules, when none of them was an agent's last
 ALL_FOREIGN: Dict[Tuple[str, ...], Sequence[object]] = {}
 # of each module the folders that it stands in, as long as there is the module: it is asked at each turn of an agent
-STANDS_IN: "weakref.WeakKeyDictionary[ModuleType, FrozenSet[str]]" = weakref.WeakKeyDictionary()
+STANDS_IN: "weakref.WeakKeyDictionary[ModuleType, FrozenSet[str]]" = (
+    weakref.WeakKeyDictionary()
+)
 
 
 def folders_of(module: ModuleType) -> FrozenSet[str]:
@@ -37,8 +43,13 @@ def folders_of(module: ModuleType) -> FrozenSet[str]:
     # what stands among the modules may be another object
     found = STANDS_IN.get(module) if isinstance(module, ModuleType) else frozenset()
     if found is None:
-        places: Sequence[str] = list(getattr(module, "__path__", None) or [getattr(module, "__file__", None) or ""])
-        found = STANDS_IN[module] = frozenset(os.path.dirname(place) for place in places)
+        places: Sequence[str] = list(
+            getattr(module, "__path__", None)
+            or [getattr(module, "__file__", None) or ""]
+        )
+        found = STANDS_IN[module] = frozenset(
+            os.path.dirname(place) for place in places
+        )
     return found
 
 
@@ -49,7 +60,10 @@ def is_beside(module: ModuleType, folders: Collection[str]) -> bool:
 
 def is_elsewhere(module: ModuleType) -> bool:
     """Whether a module is a file that is neither Python's, nor installed, nor the lab's."""
-    return any(folder and not f"{folder}{os.sep}".startswith(NOT_READ) for folder in folders_of(module))
+    return any(
+        folder and not f"{folder}{os.sep}".startswith(NOT_READ)
+        for folder in folders_of(module)
+    )
 
 
 def own_names(folders: Collection[str], shared: Collection[str]) -> List[str]:
@@ -69,18 +83,27 @@ def own_names(folders: Collection[str], shared: Collection[str]) -> List[str]:
         ALL_FOREIGN[tuple(shared)] = loaded
         return []
     tops, others = set(), {}
-    for name, module in [(name, it) for name, it in list(sys.modules.items()) if IDENTITY(it) in unknown]:
+    for name, module in [
+        (name, it) for name, it in list(sys.modules.items()) if IDENTITY(it) in unknown
+    ]:
         if "." in name or name == "arena_lab":
             others[IDENTITY(module)] = module
         elif getattr(module, "__file__", None) not in shared and (
-                is_beside(module, folders) or folders is not FOLDERS and is_elsewhere(module)):
+            is_beside(module, folders)
+            or folders is not FOLDERS
+            and is_elsewhere(module)
+        ):
             tops.add(name)
-        elif FOREIGN_TO.issuperset(folders) and (not is_beside(module, FOREIGN_TO) or folders is FOLDERS):
+        elif FOREIGN_TO.issuperset(folders) and (
+            not is_beside(module, FOREIGN_TO) or folders is FOLDERS
+        ):
             foreign[IDENTITY(module)] = module
     if not tops and folders is FOLDERS:
         # what is in a package that stands in none of the folders
         foreign.update(others)
-    return [name for name in sys.modules if name.partition(".")[0] in tops] if tops else []
+    return (
+        [name for name in sys.modules if name.partition(".")[0] in tops] if tops else []
+    )
 
 
 class NotedRandom(random.Random):
@@ -107,6 +130,7 @@ class NotedRandom(random.Random):
 
 def datetime_of_its_own() -> ModuleType:
     """A module `datetime` that notes who asks it what time it is."""
+
     class NotedDate(datetime.date):
         @classmethod
         def today(cls) -> Any:
@@ -128,6 +152,7 @@ def datetime_of_its_own() -> ModuleType:
         def today(cls) -> Any:
             note_read(CLOCK)
             return super().today()
+
     made = ModuleType(DATETIME, datetime.__doc__)
     vars(made).update(vars(datetime))
     vars(made).update(date=NotedDate, datetime=NotedTime)
@@ -166,7 +191,9 @@ class OwnModules:
         """From now on modules in these folders are the agent's own, but for these files, which all agents share."""
         self._folders, self._files, self._seen = list(folders), files, ([], -1)
         FOLDERS.update(folders)
-        self._shared.update({name: sys.modules.pop(name) for name in own_names(FOLDERS, files)})
+        self._shared.update(
+            {name: sys.modules.pop(name) for name in own_names(FOLDERS, files)}
+        )
         self._own = dict(self._given)
         self._put(self._own)
 
@@ -203,6 +230,9 @@ class OwnModules:
             loaded[name] = module
         seen = sys.path[:], len(FOLDERS)
         if seen != self._seen:
-            self._seen, self._ahead = seen, [*self._folders, *(it for it in sys.path if it not in FOLDERS)]
+            self._seen, self._ahead = seen, [
+                *self._folders,
+                *(it for it in sys.path if it not in FOLDERS),
+            ]
         sys.path[:] = self._ahead
         self._count = len(loaded)

@@ -30,19 +30,24 @@ SECONDS_TO_END = 3.0
 # of Linux: asks for a signal when the parent ends
 PR_SET_PDEATHSIG = 1
 # what a Dask worker runs: the lab, in a process of its own
-PLAY = (f"import sys; sys.path.insert(0, {str(TOP)!r}); import arena_lab; arena_lab.with_one_order(); "
-        "from arena_lab.play.parallel import serve; serve()")
+PLAY = (
+    f"import sys; sys.path.insert(0, {str(TOP)!r}); import arena_lab; arena_lab.with_one_order(); "
+    "from arena_lab.play.parallel import serve; serve()"
+)
 
 
-KILLED = ("a process that plays was killed, as where memory is short: start the same command again, by fewer --workers "
-          "than {workers}")
+KILLED = (
+    "a process that plays was killed, as where memory is short: start the same command again, by fewer --workers "
+    "than {workers}"
+)
 
 
 class NumberedTask(Protocol):
     """A match that has a number."""
 
     @property
-    def number(self) -> int: ...
+    def number(self) -> int:
+        ...
 
 
 class Job(Protocol):
@@ -72,11 +77,16 @@ class Parallelism(NamedTuple):
     workers: int = 1
     cluster: Optional[str] = None
 
-    def results(self, job: Job, cases: Sequence[NumberedTask], is_long: bool = False) -> Generator[Result, None, None]:
+    def results(
+        self, job: Job, cases: Sequence[NumberedTask], is_long: bool = False
+    ) -> Generator[Result, None, None]:
         """The results of all matches, in order."""
         if cases:
-            yield from (over_cluster(job, cases, self.cluster, is_long) if self.cluster else
-                        over_processes(job, cases, self.workers, is_long))
+            yield from (
+                over_cluster(job, cases, self.cluster, is_long)
+                if self.cluster
+                else over_processes(job, cases, self.workers, is_long)
+            )
 
 
 def result_of(job: Job, case: NumberedTask) -> Result:
@@ -109,15 +119,20 @@ def end_with(parent: int) -> None:
         os._exit(1)
 
 
-def over_processes(job: Job, cases: Sequence[NumberedTask], workers: int, is_long: bool = False
-                   ) -> Generator[Result, None, None]:
+def over_processes(
+    job: Job, cases: Sequence[NumberedTask], workers: int, is_long: bool = False
+) -> Generator[Result, None, None]:
     """The results of all matches, in order, by this number of processes, each of which takes some at a time. If they
     are long, what is played when no more results are taken is not waited for."""
     is_cut_short = is_long
     over = multiprocessing.Event()
-    pool = concurrent.futures.ProcessPoolExecutor(workers, initializer=begin, initargs=(over, os.getpid()))
+    pool = concurrent.futures.ProcessPoolExecutor(
+        workers, initializer=begin, initargs=(over, os.getpid())
+    )
     try:
-        yield from pool.map(functools.partial(result_of, job), cases, chunksize=AT_A_TIME[is_long])
+        yield from pool.map(
+            functools.partial(result_of, job), cases, chunksize=AT_A_TIME[is_long]
+        )
         is_cut_short = False
     except BrokenProcessPool:
         yield Result(None, KILLED.format(workers=workers))
@@ -140,18 +155,28 @@ def end_all(processes: Sequence[Any]) -> None:
         process.kill()
 
 
-def over_cluster(job: Job, cases: Sequence[NumberedTask], address: str, is_long: bool
-                 ) -> Generator[Result, None, None]:
+def over_cluster(
+    job: Job, cases: Sequence[NumberedTask], address: str, is_long: bool
+) -> Generator[Result, None, None]:
     """The results of all matches, in order, by the workers of a Dask scheduler.
 
     A worker plays a batch in a process of its own, as agents inside the lab need a main thread. So a worker needs
     nothing of the lab but its folder, at the same path, and the same Python.
     """
     client, size = client_at(address), BATCH[is_long]
-    batches = [cases[at:at + size] for at in range(0, len(cases), size)]
+    batches = [cases[at : at + size] for at in range(0, len(cases), size)]
     files = {**job.digests(), **own_digests()}
-    futures = [client.submit(subprocess.run, [sys.executable, "-c", PLAY], input=pickle.dumps((job, batch, files)),
-                             cwd=os.getcwd(), capture_output=True, pure=False) for batch in batches]
+    futures = [
+        client.submit(
+            subprocess.run,
+            [sys.executable, "-c", PLAY],
+            input=pickle.dumps((job, batch, files)),
+            cwd=os.getcwd(),
+            capture_output=True,
+            pure=False,
+        )
+        for batch in batches
+    ]
     try:
         for future in futures:
             yield from results_in(future)
@@ -164,13 +189,19 @@ def client_at(address: str) -> Any:
     """The client of a Dask scheduler that has workers."""
     distributed = needed("distributed")
     try:
-        client = distributed.Client(address, timeout=SECONDS_TO_ANSWER, set_as_default=False)
+        client = distributed.Client(
+            address, timeout=SECONDS_TO_ANSWER, set_as_default=False
+        )
     except (OSError, ValueError) as fault:
-        raise NoCluster(f"no Dask scheduler answers at {address} ({fault}): start one by `dask-scheduler`, and workers "
-                        "by `dask-worker ADDRESS`") from None
+        raise NoCluster(
+            f"no Dask scheduler answers at {address} ({fault}): start one by `dask-scheduler`, and workers "
+            "by `dask-worker ADDRESS`"
+        ) from None
     if not client.scheduler_info()["workers"]:
         client.close()
-        raise NoCluster(f"the Dask scheduler at {address} has no workers: start some by `dask-worker {address}`")
+        raise NoCluster(
+            f"the Dask scheduler at {address} has no workers: start some by `dask-worker {address}`"
+        )
     return client
 
 
@@ -179,19 +210,26 @@ def results_in(future: Any) -> List[Result]:
     try:
         ran = future.result()
     except Exception as fault:
-        raise NoCluster(f"a Dask worker cannot play: {fault}; a worker needs the folder {TOP} and the program "
-                        f"{sys.executable}, as this machine has them") from None
+        raise NoCluster(
+            f"a Dask worker cannot play: {fault}; a worker needs the folder {TOP} and the program "
+            f"{sys.executable}, as this machine has them"
+        ) from None
     if ran.returncode != 0:
         said = ran.stderr.decode(errors="replace").strip().splitlines()
-        raise NoCluster(f"a Dask worker cannot play: {said[-1] if said else f'status {ran.returncode}'}")
+        raise NoCluster(
+            f"a Dask worker cannot play: {said[-1] if said else f'status {ran.returncode}'}"
+        )
     found: List[Result] = pickle.loads(ran.stdout)
     return found
 
 
 def own_digests() -> Dict[str, str]:
     """The SHA-256 of each file of the lab that plays."""
-    return {str(path): digest_of(path) for path in sorted((TOP / "arena_lab").rglob("*.py")) if "tests" not
-            in path.parts}
+    return {
+        str(path): digest_of(path)
+        for path in sorted((TOP / "arena_lab").rglob("*.py"))
+        if "tests" not in path.parts
+    }
 
 
 def other_files(files: Dict[str, str]) -> List[str]:
@@ -205,6 +243,8 @@ def serve() -> None:
     answers, sys.stdout = sys.stdout.buffer, io.StringIO()
     others = other_files(files)
     if others:
-        sys.exit(f"{others[0]} is not the file that it is on the machine of the command: a worker needs the same "
-                 "folder at the same path")
+        sys.exit(
+            f"{others[0]} is not the file that it is on the machine of the command: a worker needs the same "
+            "folder at the same path"
+        )
     pickle.dump([result_of(job, case) for case in batch], answers)

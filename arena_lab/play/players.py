@@ -110,7 +110,11 @@ class Player:
         before = [*map(parts.get, STAYS)]
         with self.modules:
             begins()
-        if type(self) is kind and vars(self) is parts and all(map(operator.is_, before, map(parts.get, STAYS))):
+        if (
+            type(self) is kind
+            and vars(self) is parts
+            and all(map(operator.is_, before, map(parts.get, STAYS)))
+        ):
             return None
         changed = [it for it, part in zip(STAYS, before) if parts.get(it) is not part]
         object.__setattr__(self, "__class__", kind)
@@ -130,7 +134,11 @@ class Player:
     def receive(self) -> str:
         if not self._heard:
             ahead, state = self.ahead, WAITS if self.line is not None else TRAVELS
-            if ahead and ahead[0] not in NEVER_AHEAD and (self.latest == DEPARTED) == (state == TRAVELS):
+            if (
+                ahead
+                and ahead[0] not in NEVER_AHEAD
+                and (self.latest == DEPARTED) == (state == TRAVELS)
+            ):
                 # it is for an agent that waits as this one does: a way that was gone before is gone again in one turn.
                 # All that the program can read is as if it had waited
                 self._team.turns += 1
@@ -152,7 +160,9 @@ class Player:
         except TooSlow as fault:
             self.fault = str(fault)
         except (Exception, SystemExit) as fault:
-            self.fault = f"raises {type(fault).__name__}: {fault}{place_in(fault.__traceback__)}"
+            self.fault = (
+                f"raises {type(fault).__name__}: {fault}{place_in(fault.__traceback__)}"
+            )
         # its connection is closed, as that of a program that ends
         self.line, self.state = None, DONE if self._is_over else WAITS
 
@@ -163,7 +173,11 @@ def place_in(trace: Optional[TracebackType]) -> str:
     found = ""
     for frame, line in traceback.walk_tb(trace):
         path = pathlib.PurePath(frame.f_code.co_filename)
-        if path.name != "client.py" and path.suffix == ".py" and not any(it in path.parents for it in NOT_OWN):
+        if (
+            path.name != "client.py"
+            and path.suffix == ".py"
+            and not any(it in path.parents for it in NOT_OWN)
+        ):
             found = f" ({path.name}, line {line})"
     return found
 
@@ -171,8 +185,15 @@ def place_in(trace: Optional[TracebackType]) -> str:
 class Clock:
     """Ends a program that is still in the same turn when the clock has rung twice."""
 
-    def __init__(self, team: "Team", signals: int, timer: int, seconds: float, does: str) -> None:
-        self._team, self._signal, self._timer, self._seconds = team, signals, timer, seconds
+    def __init__(
+        self, team: "Team", signals: int, timer: int, seconds: float, does: str
+    ) -> None:
+        self._team, self._signal, self._timer, self._seconds = (
+            team,
+            signals,
+            timer,
+            seconds,
+        )
         self._fault = f"has {does} for {seconds:g} s, and neither sends nor waits"
         self._seen = 0
         self._before: Any = None
@@ -191,21 +212,38 @@ class Clock:
 
     def _look(self, *_: Any) -> None:
         """Ends a program that has been running since the last look."""
-        if self._team.turns == self._seen and needed("greenlet").getcurrent().parent is not None:
+        if (
+            self._team.turns == self._seen
+            and needed("greenlet").getcurrent().parent is not None
+        ):
             raise TooSlow(self._fault)
         self._seen = self._team.turns
 
 
 class Team:
     """The players of a match. A player that computes longer than its limit is ended. That is time of the processor, as
-    one that is busy with other work must not end an agent; an agent that sleeps has a longer limit."""
+    one that is busy with other work must not end an agent; an agent that sleeps has a longer limit.
+    """
 
-    def __init__(self, keys: Sequence[str], scripts: Mapping[int, Script], seconds: float = LIMIT) -> None:
+    def __init__(
+        self, keys: Sequence[str], scripts: Mapping[int, Script], seconds: float = LIMIT
+    ) -> None:
         """The scripts are by the number of their agent."""
         self.turns = 0
-        self.players = [Player(self, number, keys[number], script) for number, script in scripts.items()]
-        self._clocks = [Clock(self, signal.SIGPROF, signal.ITIMER_PROF, seconds, "computed"),
-                        Clock(self, signal.SIGALRM, signal.ITIMER_REAL, seconds * LONGER, "slept or computed")]
+        self.players = [
+            Player(self, number, keys[number], script)
+            for number, script in scripts.items()
+        ]
+        self._clocks = [
+            Clock(self, signal.SIGPROF, signal.ITIMER_PROF, seconds, "computed"),
+            Clock(
+                self,
+                signal.SIGALRM,
+                signal.ITIMER_REAL,
+                seconds * LONGER,
+                "slept or computed",
+            ),
+        ]
 
     def start(self) -> None:
         """Begins all programs, in order."""
@@ -224,4 +262,6 @@ class Team:
 
 def faults_of(players: Sequence[Any]) -> List[str]:
     """A line for each player that has a fault, which names its agent."""
-    return [f"agent {player.number}: {player.fault}" for player in players if player.fault]
+    return [
+        f"agent {player.number}: {player.fault}" for player in players if player.fault
+    ]

@@ -20,7 +20,19 @@ import subprocess
 import threading
 import time
 from collections import deque
-from typing import Any, Callable, Deque, Dict, List, Mapping, Optional, Protocol, Sequence, Sized, Tuple
+from typing import (
+    Any,
+    Callable,
+    Deque,
+    Dict,
+    List,
+    Mapping,
+    Optional,
+    Protocol,
+    Sequence,
+    Sized,
+    Tuple,
+)
 
 from arena_lab.play import wasm_modules
 from arena_lab.play.agent_files import NoAgent, facts_of
@@ -44,8 +56,10 @@ SLICE = 0.02
 # characters of a program's last words that are told
 WORDS = 200
 # what a program that was not let in has done, by the line that it was sent
-NOT_LET_IN = {'{"no":"key"}': "; its key is of no agent here: take the one that it is given in the place of {key}",
-              '{"no":"taken"}': "; another program has entered by its key"}
+NOT_LET_IN = {
+    '{"no":"key"}': "; its key is of no agent here: take the one that it is given in the place of {key}",
+    '{"no":"taken"}': "; another program has entered by its key",
+}
 
 
 class NoStart(Exception):
@@ -60,7 +74,8 @@ class Ground(Protocol):
     """Where a program runs. Its facts are what stands there for words of a command, by name."""
 
     @property
-    def facts(self) -> Mapping[str, str]: ...
+    def facts(self) -> Mapping[str, str]:
+        ...
 
     def start(self, words: Sequence[str], seed: int, errors: Any) -> Started:
         """Starts a program, which finds the seed in ARENA_SEED. The port of its listener stands for `{port}`."""
@@ -91,11 +106,22 @@ class LocalRunner:
 
     def start(self, words: Sequence[str], seed: int, errors: Any) -> Started:
         listener = socket.create_server((HOST, 0))
-        command = [word.replace("{port}", str(listener.getsockname()[1])) for word in words]
+        command = [
+            word.replace("{port}", str(listener.getsockname()[1])) for word in words
+        ]
         try:
-            return subprocess.Popen(command, stdin=subprocess.DEVNULL, stdout=subprocess.DEVNULL, stderr=errors,
-                                    cwd=self._folder, env={**os.environ, **seeds(seed)},
-                                    start_new_session=True), lambda: listener
+            return (
+                subprocess.Popen(
+                    command,
+                    stdin=subprocess.DEVNULL,
+                    stdout=subprocess.DEVNULL,
+                    stderr=errors,
+                    cwd=self._folder,
+                    env={**os.environ, **seeds(seed)},
+                    start_new_session=True,
+                ),
+                lambda: listener,
+            )
         except OSError:
             listener.close()
             raise
@@ -148,7 +174,9 @@ class Lines:
     def next(self, seconds: float) -> Optional[bytes]:
         """The next line, or None at the end. If there is neither within this time, TimeoutError."""
         with self._changed:
-            if not self._changed.wait_for(lambda: self._lines or self._is_over, seconds):
+            if not self._changed.wait_for(
+                lambda: self._lines or self._is_over, seconds
+            ):
                 raise TimeoutError
             if not self._lines:
                 return None
@@ -181,8 +209,8 @@ class Lines:
         left = b""
         while piece := self._piece():
             *whole, left = (left + piece).split(b"\n")
-            self.rest = left = left[:MAX_LINE + 1]
-            self._keep([line[:MAX_LINE + 1] for line in whole if line.strip(b" \t\r")])
+            self.rest = left = left[: MAX_LINE + 1]
+            self._keep([line[: MAX_LINE + 1] for line in whole if line.strip(b" \t\r")])
         with self._changed:
             self._is_over = True
             self._changed.notify()
@@ -227,10 +255,14 @@ class Player:
 
     def start(self) -> None:
         """Starts the program. It is the first of a group of its own, so that all that it starts can be ended."""
-        words = command_of(self.words, self._team.fixture, self.number, self._ground.facts)
+        words = command_of(
+            self.words, self._team.fixture, self.number, self._ground.facts
+        )
         try:
             seed = self._team.seeds[self.number]
-            self._child, self._listener_of = self._ground.start(words, seed, self._errors)
+            self._child, self._listener_of = self._ground.start(
+                words, seed, self._errors
+            )
         except NoStart as fault:
             self._end(f"cannot be started: {fault}")
         except OSError as fault:
@@ -265,14 +297,19 @@ class Player:
         self.line = None
         self.state = TRAVELS if line == GONE else DONE if line in LAST_LINES else WAITS
         if line in DENIALS:
-            self.fault = self.fault or f"was not let in: {line}{NOT_LET_IN.get(line, '')}"
+            self.fault = (
+                self.fault or f"was not let in: {line}{NOT_LET_IN.get(line, '')}"
+            )
         self._count(line)
         if self._connection is not None and not self._has_ended:
             with self._team.clock as until:
                 seconds, part = divmod(max(SLICE, until - time.monotonic()), 1)
                 # for sending alone: a timeout of the socket would be one of the thread that reads, too
-                self._connection.setsockopt(socket.SOL_SOCKET, socket.SO_SNDTIMEO,
-                                            struct.pack("ll", int(seconds), int(part * 1_000_000)))
+                self._connection.setsockopt(
+                    socket.SOL_SOCKET,
+                    socket.SO_SNDTIMEO,
+                    struct.pack("ll", int(seconds), int(part * 1_000_000)),
+                )
                 try:
                     self._connection.sendall(line.encode() + b"\n")
                 except BlockingIOError:
@@ -372,7 +409,9 @@ class Player:
                 self._lines = Lines(self._connection)
             elif not was_alive:
                 status = self._child.returncode if self._child else None
-                self._end(f"has ended with status {as_in_a_shell(status)} before it connected{self._last_words()}")
+                self._end(
+                    f"has ended with status {as_in_a_shell(status)} before it connected{self._last_words()}"
+                )
                 return
             elif time.monotonic() > until:
                 raise TimeoutError
@@ -405,7 +444,9 @@ class Player:
         """The end of what the program wrote to standard error, without what is another on each run."""
         if self._errors.closed:
             return self.errors
-        return "\n".join(plain(self._ground.told(line)) for line in self._end_of_errors().split("\n"))
+        return "\n".join(
+            plain(self._ground.told(line)) for line in self._end_of_errors().split("\n")
+        )
 
     def _end_of_errors(self) -> str:
         """The same as it was written. A player of modules may have said besides that it is not proved."""
@@ -417,12 +458,18 @@ class Player:
         """The line that names the error in what the program wrote to standard error, as one that changes nothing where
         it is shown."""
         text = self._end_of_errors()
-        words, usage = self._ground.told(error_in(text)), self._ground.told(usage_in(text))
+        words, usage = self._ground.told(error_in(text)), self._ground.told(
+            usage_in(text)
+        )
         if usage:
             return f": an argument is missing, or there is one too many: it is called as `{plain(usage)[:WORDS]}`"
         if not words:
             return ""
-        hint = self._ground.hint(words) or self._ground.hint(text.strip()[-PIECE // 64:]) or asked_behind(words)
+        hint = (
+            self._ground.hint(words)
+            or self._ground.hint(text.strip()[-PIECE // 64 :])
+            or asked_behind(words)
+        )
         return f": {plain(words)[:WORDS]}{hint}"
 
     def _hung(self) -> str:
@@ -430,7 +477,11 @@ class Player:
         said, words = self._team.clock.says(SENT_NOTHING), self._last_words()
         if words or not said.startswith(SENT_NOTHING):
             return f"{said}{words}"
-        asks = "does it end each line with a line feed, and flush?" if self.rest() else "does it flush after each line?"
+        asks = (
+            "does it end each line with a line feed, and flush?"
+            if self.rest()
+            else "does it flush after each line?"
+        )
         return f"{said}; {asks}"
 
     def _end(self, fault: str) -> None:
@@ -448,7 +499,8 @@ def as_in_a_shell(status: Optional[int]) -> Optional[int]:
 
 def seed_of(key: str) -> int:
     """The number from which a program may draw its chance. It comes from the agent's key, so it is the same when a
-    match is played again. It fits in an int of C, and Python takes it as the seed of its hashes."""
+    match is played again. It fits in an int of C, and Python takes it as the seed of its hashes.
+    """
     return int(hashlib.sha256(key.encode(errors="replace")).hexdigest()[:7], 16)
 
 
@@ -463,35 +515,55 @@ def seeds(seed: int) -> Dict[str, str]:
     return {"ARENA_SEED": str(seed), "PYTHONHASHSEED": str(seed)}
 
 
-def command_of(words: str, fixture: Fixture, number: int, others: Mapping[str, str]) -> List[str]:
+def command_of(
+    words: str, fixture: Fixture, number: int, others: Mapping[str, str]
+) -> List[str]:
     """The words of a command that starts an agent's program, or the player of a module, but for the port, which is not
     known yet."""
-    facts: Dict[str, object] = {"host": HOST, "port": "{port}", "key": fixture.keys[number],
-                                **facts_of(fixture.setup), **others}
+    facts: Dict[str, object] = {
+        "host": HOST,
+        "port": "{port}",
+        "key": fixture.keys[number],
+        **facts_of(fixture.setup),
+        **others,
+    }
     try:
-        command = [word.format(**facts) for word in shlex.split(wasm_modules.command_of(words))]
+        command = [
+            word.format(**facts) for word in shlex.split(wasm_modules.command_of(words))
+        ]
     except (KeyError, IndexError, ValueError):
         command = []
     if not command:
         names = [f"{{{name}}}" for name in facts]
-        raise NoAgent(f"{words}: in a command stand {', '.join(names[:-1])} and {names[-1]}")
+        raise NoAgent(
+            f"{words}: in a command stand {', '.join(names[:-1])} and {names[-1]}"
+        )
     return command
 
 
 class Team:
     """The programs of a match, with a limit of seconds for each line and one for the whole match."""
 
-    def __init__(self, fixture: Fixture, commands: Mapping[int, str], seconds: float,
-                 grounds: Optional[Mapping[int, Ground]] = None, in_all: float = math.inf,
-                 seeds: Optional[Sequence[int]] = None, room: float = math.inf) -> None:
+    def __init__(
+        self,
+        fixture: Fixture,
+        commands: Mapping[int, str],
+        seconds: float,
+        grounds: Optional[Mapping[int, Ground]] = None,
+        in_all: float = math.inf,
+        seeds: Optional[Sequence[int]] = None,
+        room: float = math.inf,
+    ) -> None:
         """The commands are by the numbers of agents, and the grounds too. Seeds are those of the keys unless others are
         given."""
         self.fixture = fixture
         self.room = Room(room)
         self.seeds = seeds_of(fixture) if seeds is None else seeds
         self.clock = TimeBound(seconds, in_all)
-        self.players: List[Player] = [Player(self, number, words, grounds[number] if grounds else LocalRunner())
-                                      for number, words in commands.items()]
+        self.players: List[Player] = [
+            Player(self, number, words, grounds[number] if grounds else LocalRunner())
+            for number, words in commands.items()
+        ]
 
     def start(self) -> None:
         """Starts all programs, and waits for their first lines, for all of them together."""
@@ -506,7 +578,10 @@ class Team:
     def stop(self) -> None:
         """Ends all programs; those that have been told that the match is over may end by themselves."""
         until = time.monotonic() + GRACE
-        while any(player.is_alive() for player in self.players) and time.monotonic() < until:
+        while (
+            any(player.is_alive() for player in self.players)
+            and time.monotonic() < until
+        ):
             time.sleep(0.005)
         for player in self.players:
             player.hurry()

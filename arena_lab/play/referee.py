@@ -3,7 +3,16 @@ import re
 from typing import Collection, Dict, Iterator, List, Sequence
 
 from arena_lab.play.matches import STUCK
-from arena_lab.rules.model import AWAY, BYE, OUTSIDE, PRESENT, AgentState, Match, Place, outcome_of
+from arena_lab.rules.model import (
+    AWAY,
+    BYE,
+    OUTSIDE,
+    PRESENT,
+    AgentState,
+    Match,
+    Place,
+    outcome_of,
+)
 
 
 def agents(numbers: Sequence[int]) -> str:
@@ -24,8 +33,17 @@ def told(match: Match, faults: Sequence[str] = ()) -> List[str]:
     outcome = outcome_of(match)
     if outcome == "solved":
         return []
-    asleep = [int(it) for fault in faults for it in re.findall(rf"^agent (\d+): {re.escape(STUCK)}$", fault)]
-    return [*accusations(match), *losses(match), *ends(match, asleep), *missed(match, outcome)]
+    asleep = [
+        int(it)
+        for fault in faults
+        for it in re.findall(rf"^agent (\d+): {re.escape(STUCK)}$", fault)
+    ]
+    return [
+        *accusations(match),
+        *losses(match),
+        *ends(match, asleep),
+        *missed(match, outcome),
+    ]
 
 
 def accusations(match: Match) -> Iterator[str]:
@@ -33,10 +51,20 @@ def accusations(match: Match) -> Iterator[str]:
     for event in match.log:
         agent = match.agents[event["agent"]] if event["do"] == "accuse" else None
         place = agent and (agent.node, agent.port)
-        if agent and place in match.accused and not match.doomed(agent.node, agent.port):
-            yield (f"agent {event['agent']} accused port {agent.port} of node {agent.node}, which leads to node "
-                   f"{match.far[agent.node][agent.port][0]}, which is safe")
-    left = [event["agent"] for event in match.log if event["do"] == "leave" and event["reply"] == BYE]
+        if (
+            agent
+            and place in match.accused
+            and not match.doomed(agent.node, agent.port)
+        ):
+            yield (
+                f"agent {event['agent']} accused port {agent.port} of node {agent.node}, which leads to node "
+                f"{match.far[agent.node][agent.port][0]}, which is safe"
+            )
+    left = [
+        event["agent"]
+        for event in match.log
+        if event["do"] == "leave" and event["reply"] == BYE
+    ]
     if not match.accused:
         yield f"nobody accused: {agents(sorted(left))} left" if left else "nobody accused"
 
@@ -55,12 +83,18 @@ def losses(match: Match) -> Iterator[str]:
 
 def ends(match: Match, asleep: Collection[int]) -> Iterator[str]:
     """Who never came, and who stood at a node or was on a link in the end."""
-    outside = [number for number, agent in enumerate(match.agents) if agent.standing == OUTSIDE]
+    outside = [
+        number for number, agent in enumerate(match.agents) if agent.standing == OUTSIDE
+    ]
     if outside:
         yield f"{agents(outside)} never entered"
     for number, agent in enumerate(match.agents):
         if agent.standing == PRESENT:
-            waited = " and waited for a whiteboard that nobody changed" if number in asleep else ""
+            waited = (
+                " and waited for a whiteboard that nobody changed"
+                if number in asleep
+                else ""
+            )
             yield f"agent {number} still stood at node {agent.node}{waited}"
         elif agent.standing == AWAY and not agent.lost:
             yield f"agent {number} was still on {link(match, agent)}"
@@ -70,7 +104,10 @@ def missed(match: Match, outcome: str) -> Iterator[str]:
     """What a right accusation leaves open: black holes that nobody named, and a node that nobody visited."""
     named = {match.far[node][port][0] for node, port in match.accused}
     if match.accused and outcome == "silent":
-        yield from (f"nobody accused a link into the black hole at node {hole}" for hole in match.setup.holes
-                    if hole not in named)
+        yield from (
+            f"nobody accused a link into the black hole at node {hole}"
+            for hole in match.setup.holes
+            if hole not in named
+        )
     if outcome.startswith("guess "):
         yield f"nobody visited node {outcome.split()[1]}, so that might as well be the black hole"

@@ -20,15 +20,25 @@ from arena_lab.play.matches import MOST_REFUSED, PlayedMatch, Player, Team
 from arena_lab.play.players import SLEEPS, WAITS
 from arena_lab.play.teams import AgentWords, alone
 from arena_lab.rules.fixtures import Fixture
-from arena_lab.rules.model import GONE, OVER, Object, command_of, objects_of, spelled, text_of
+from arena_lab.rules.model import (
+    GONE,
+    OVER,
+    Object,
+    command_of,
+    objects_of,
+    spelled,
+    text_of,
+)
 
 SAYS_OTHERWISE = "says something else when it is told the same again"
 ENTER: Object = {"do": "enter"}
 LEAVE: Object = {"do": "leave"}
 # what does not count towards the quota
 FREE = ("enter", "leave")
-RULE = ("a program may use what it is told and the number in ARENA_SEED, and nothing else, so neither its key nor a "
-        "clock")
+RULE = (
+    "a program may use what it is told and the number in ARENA_SEED, and nothing else, so neither its key nor a "
+    "clock"
+)
 
 
 class Said(NamedTuple):
@@ -50,15 +60,20 @@ class Otherwise(NamedTuple):
 
     def __str__(self) -> str:
         fault = f" (the program {self.fault})" if self.fault else ""
-        return (f"agent {self.agent}: {SAYS_OTHERWISE}, at command {self.number}: in the match "
-                f"`{in_words(self.in_match)}`, alone `{in_words(self.alone)}`{fault}; {RULE}")
+        return (
+            f"agent {self.agent}: {SAYS_OTHERWISE}, at command {self.number}: in the match "
+            f"`{in_words(self.in_match)}`, alone `{in_words(self.alone)}`{fault}; {RULE}"
+        )
 
 
 def in_words(command: Object) -> str:
     """A command as a reader has it, such as `depart port 1`, and of a long one the beginning."""
-    words = [f"{name} {json.dumps(value, ensure_ascii=False)}" for name, value in command.items()
-             if name not in ("do", "key")]
-    return mistakes.plain(" ".join([str(command["do"]), *words]))[:programs.WORDS]
+    words = [
+        f"{name} {json.dumps(value, ensure_ascii=False)}"
+        for name, value in command.items()
+        if name not in ("do", "key")
+    ]
+    return mistakes.plain(" ".join([str(command["do"]), *words]))[: programs.WORDS]
 
 
 def past_of(replay: str, agent: int) -> List[Said]:
@@ -71,7 +86,11 @@ def past_of(replay: str, agent: int) -> List[Said]:
             # a destroyed agent is told nothing before the close
             found[-1].told.append(event["reply"] or OVER)
         else:
-            command = {name: value for name, value in event.items() if name not in ("agent", "reply")}
+            command = {
+                name: value
+                for name, value in event.items()
+                if name not in ("agent", "reply")
+            }
             found.append(Said(command, [event["reply"]]))
     if found and found[-1].told == [GONE]:
         # nobody delivered it: its link is held
@@ -104,7 +123,9 @@ class Alone:
         return None
 
     def _differs(self, number: int, in_match: Object, alone: Object) -> Otherwise:
-        return Otherwise(self._player.number, number, in_match, alone, self._player.fault or "")
+        return Otherwise(
+            self._player.number, number, in_match, alone, self._player.fault or ""
+        )
 
     def _hears(self, told: Sequence[Object]) -> bool:
         """Tells the agent what it was told; gives whether its input goes on."""
@@ -141,7 +162,9 @@ class Alone:
             return None
         if command["do"] == "enter":
             return "twice"
-        return "spent" if self._used == self._quota and command["do"] != "leave" else None
+        return (
+            "spent" if self._used == self._quota and command["do"] != "leave" else None
+        )
 
 
 def with_new_keys(fixture: Fixture) -> Fixture:
@@ -154,17 +177,27 @@ def repeated(team: Team, fixture: Fixture, past: Sequence[Said]) -> Optional[Oth
     player = team.players[0]
     try:
         team.start()
-        return Alone(player, fixture.keys[player.number], fixture.setup.quota).otherwise(past)
+        return Alone(
+            player, fixture.keys[player.number], fixture.setup.quota
+        ).otherwise(past)
     finally:
         team.stop()
 
 
-def with_repeats(played: PlayedMatch, agents: Sequence[AgentWords], fixture: Fixture, seconds: float) -> PlayedMatch:
+def with_repeats(
+    played: PlayedMatch, agents: Sequence[AgentWords], fixture: Fixture, seconds: float
+) -> PlayedMatch:
     """The match with what its agents say otherwise when each is repeated alone, one after the other, where they have
     played; as it is if one of them has a fault."""
     if played.faults:
         return played
     again, replay = with_new_keys(fixture), played.replay.decode()
-    found = [repeated(alone(number, agents[number], again, fixture, seconds), again, past_of(replay, number))
-             for number in range(len(agents))]
+    found = [
+        repeated(
+            alone(number, agents[number], again, fixture, seconds),
+            again,
+            past_of(replay, number),
+        )
+        for number in range(len(agents))
+    ]
     return played._replace(faults=[str(it) for it in found if it])

@@ -10,7 +10,17 @@ of a whole number that gives a scheduler. The command line names makers: `fair`,
 """
 import itertools
 import random
-from typing import Callable, Dict, List, NamedTuple, Optional, Protocol, Sequence, Set, Tuple
+from typing import (
+    Callable,
+    Dict,
+    List,
+    NamedTuple,
+    Optional,
+    Protocol,
+    Sequence,
+    Set,
+    Tuple,
+)
 
 from arena_lab.rules.delays import ODDS, SCALES, Delays, Turns
 from arena_lab.rules.model import Match, Object, Place
@@ -31,7 +41,8 @@ class MatchView(Protocol):
     """How a match stands: where its agents are, what its whiteboards say, and what agents wait to be answered."""
 
     @property
-    def match(self) -> Match: ...
+    def match(self) -> Match:
+        ...
 
     def said(self, agent: int) -> Optional[Object]:
         """The command of an agent that waits for an answer, as docs/FORMATS.md has it, or None."""
@@ -49,9 +60,13 @@ def fair(seed: int) -> Scheduler:
     return lambda choices, state: chance.choice(choices)
 
 
-def weighted(chance: random.Random, weight: Callable[[Choice, MatchView], float]) -> Scheduler:
+def weighted(
+    chance: random.Random, weight: Callable[[Choice, MatchView], float]
+) -> Scheduler:
     """Choices are as likely as they weigh."""
-    return lambda choices, state: chance.choices(choices, [weight(choice, state) for choice in choices])[0]
+    return lambda choices, state: chance.choices(
+        choices, [weight(choice, state) for choice in choices]
+    )[0]
 
 
 def slow_agents(seed: int) -> Scheduler:
@@ -61,7 +76,12 @@ def slow_agents(seed: int) -> Scheduler:
     paces: Dict[Tuple[str, int], float] = {}
 
     def weight(choice: Choice, state: MatchView) -> float:
-        return waking if choice.do == WAKE else paces.setdefault(choice, chance.choice(PACES))
+        return (
+            waking
+            if choice.do == WAKE
+            else paces.setdefault(choice, chance.choice(PACES))
+        )
+
     return weighted(chance, weight)
 
 
@@ -75,6 +95,7 @@ def slow_links(seed: int) -> Scheduler:
             return 1
         agent = state.match.agents[choice.agent]
         return paces.setdefault((agent.node, agent.port), chance.choice(PACES))
+
     return weighted(chance, weight)
 
 
@@ -88,6 +109,7 @@ def last_departed(seed: int) -> Scheduler:
         if others:
             return chance.choice(others)
         return max(choices, key=lambda choice: state.match.pool.index(choice.agent))
+
     return choose
 
 
@@ -100,6 +122,7 @@ def starved(seed: int) -> Scheduler:
         agent = seed % len(state.match.agents)
         others = [choice for choice in choices if choice.agent != agent]
         return chance.choice(others or choices)
+
     return choose
 
 
@@ -119,7 +142,11 @@ class Oblivious:
             self._turns.departs(agent)
         self._departed = set(pool)
         answers = [choice for choice in choices if choice.do == ANSWER]
-        return answers[0] if answers else self._woken(choices) or self._arrival(choices, state)
+        return (
+            answers[0]
+            if answers
+            else self._woken(choices) or self._arrival(choices, state)
+        )
 
     def _woken(self, choices: Sequence[Choice]) -> Optional[Choice]:
         """The first that sleeps and has not woken since the last turn."""
@@ -150,10 +177,13 @@ def oblivious(seed: int) -> Scheduler:
 def in_runs(runs: Sequence[Tuple[int, int]]) -> Scheduler:
     """A scheduler of (which of the choices, how often in a row); if only one thing can happen, nothing is used up,
     and behind the last run it is always the first."""
-    numbers = itertools.chain.from_iterable(itertools.repeat(which, times) for which, times in runs)
+    numbers = itertools.chain.from_iterable(
+        itertools.repeat(which, times) for which, times in runs
+    )
 
     def choose(choices: Sequence[Choice], state: MatchView) -> Choice:
         return choices[0 if len(choices) == 1 else next(numbers, 0) % len(choices)]
+
     return choose
 
 
@@ -177,15 +207,19 @@ def recorded(schedule: Sequence[Choice]) -> Scheduler:
             raise ScheduleEnded
         if choice not in choices:
             possible: List[str] = [f"{it.do} {it.agent}" for it in choices]
-            raise Impossible(f"choice {number} is `{choice.do} {choice.agent}`, and what may happen there is: "
-                             f"{', '.join(possible)}")
+            raise Impossible(
+                f"choice {number} is `{choice.do} {choice.agent}`, and what may happen there is: "
+                f"{', '.join(possible)}"
+            )
         return choice
+
     return choose
 
 
 class ScheduleFollower:
     """The choices of a schedule, in order, up to the first that cannot happen; from there on, and behind the last one,
-    every choice is as likely as any other. So a program that was mended is tried against what it failed under."""
+    every choice is as likely as any other. So a program that was mended is tried against what it failed under.
+    """
 
     def __init__(self, schedule: Sequence[Choice]) -> None:
         self._schedule = schedule
@@ -209,15 +243,25 @@ class ScheduleFollower:
         if self.count == whole:
             said = f"followed all {whole} choices of the schedule"
         elif self.left:
-            choice, possible = self._schedule[self.count], ", ".join(f"{it.do} {it.agent}" for it in self.left)
-            said = (f"followed {self.count} of {whole} choices: the next is `{choice.do} {choice.agent}`, and what may "
-                    f"happen there is: {possible}")
+            choice, possible = self._schedule[self.count], ", ".join(
+                f"{it.do} {it.agent}" for it in self.left
+            )
+            said = (
+                f"followed {self.count} of {whole} choices: the next is `{choice.do} {choice.agent}`, and what may "
+                f"happen there is: {possible}"
+            )
         else:
             said = f"followed {self.count} of {whole} choices: then nothing could happen any more"
-        return f"{said}; {self.went_on} fair choices came then" if self.went_on else said
+        return (
+            f"{said}; {self.went_on} fair choices came then" if self.went_on else said
+        )
 
 
 NAMED: Dict[str, Maker] = {
-    "fair": fair, "slow-agents": slow_agents, "slow-links": slow_links, "last-departed": last_departed,
-    "starved": starved, "oblivious": oblivious,
+    "fair": fair,
+    "slow-agents": slow_agents,
+    "slow-links": slow_links,
+    "last-departed": last_departed,
+    "starved": starved,
+    "oblivious": oblivious,
 }

@@ -47,8 +47,13 @@ class Schedule(NamedTuple):
         return f"{names if self.fixture.team == OWN_TEAM else self.fixture.team}: {self.origin}"
 
 
-def schedule_of(fixture: Fixture, agents: List[AgentWords], origin: str, choices: List[Choice],
-                limit: float = LIMIT) -> Schedule:
+def schedule_of(
+    fixture: Fixture,
+    agents: List[AgentWords],
+    origin: str,
+    choices: List[Choice],
+    limit: float = LIMIT,
+) -> Schedule:
     return Schedule(fixture, agents, origin, choices, digests_of(agents), limit)
 
 
@@ -58,12 +63,26 @@ def text_of(schedule: Schedule) -> str:
     setup = {name: value for name, value in fixture.setup._asdict().items()}
     limit = int(schedule.limit) if schedule.limit % 1 == 0 else schedule.limit
     head: Object = {
-        "agents": [f"{agent.kind} {agent.words}" for agent in schedule.agents], "files": schedule.files,
-        "fixture": {"team": fixture.team, "keys": fixture.keys, "held": pairs(fixture.held), "naps": fixture.naps,
-                    **setup},
-        "lab": VERSION, "limit": limit, "origin": schedule.origin, "schedule": 1,
+        "agents": [f"{agent.kind} {agent.words}" for agent in schedule.agents],
+        "files": schedule.files,
+        "fixture": {
+            "team": fixture.team,
+            "keys": fixture.keys,
+            "held": pairs(fixture.held),
+            "naps": fixture.naps,
+            **setup,
+        },
+        "lab": VERSION,
+        "limit": limit,
+        "origin": schedule.origin,
+        "schedule": 1,
     }
-    return "".join([spelled(head) + "\n", *(f"{choice.do} {choice.agent}\n" for choice in schedule.choices)])
+    return "".join(
+        [
+            spelled(head) + "\n",
+            *(f"{choice.do} {choice.agent}\n" for choice in schedule.choices),
+        ]
+    )
 
 
 def read(path: pathlib.Path) -> Schedule:
@@ -73,16 +92,30 @@ def read(path: pathlib.Path) -> Schedule:
         head = json.loads(lines[0])
         given = dict(head["fixture"])
         team, keys, held = (given.pop(name) for name in ("team", "keys", "held"))
-        given.update(links=list(map(link_of, given["links"])), dark=list(map(place_of, given["dark"])))
+        given.update(
+            links=list(map(link_of, given["links"])),
+            dark=list(map(place_of, given["dark"])),
+        )
         naps = given.pop("naps", 0)
-        fixture = Fixture(team, checked(Setup(**given)), keys, list(map(place_of, held)), naps)
+        fixture = Fixture(
+            team, checked(Setup(**given)), keys, list(map(place_of, held)), naps
+        )
         agents = [agent_of(line) for line in head["agents"]]
         if not len(agents) == len(keys) == fixture.setup.agents:
-            raise NoSchedule(f"{path}: its head names {len(agents)} agents and {len(keys)} keys, and the match has "
-                             f"{fixture.setup.agents} agents")
+            raise NoSchedule(
+                f"{path}: its head names {len(agents)} agents and {len(keys)} keys, and the match has "
+                f"{fixture.setup.agents} agents"
+            )
         # schedules of earlier versions have no limit
         limit = seconds_of(head.get("limit", LIMIT))
-        return Schedule(fixture, agents, head["origin"], choices_of(path, lines[1:]), head["files"], limit)
+        return Schedule(
+            fixture,
+            agents,
+            head["origin"],
+            choices_of(path, lines[1:]),
+            head["files"],
+            limit,
+        )
     except NoMatch as fault:
         raise NoSchedule(f"{path}: its head names no match: {fault}") from None
     except (KeyError, TypeError, ValueError, AttributeError):
@@ -91,7 +124,11 @@ def read(path: pathlib.Path) -> Schedule:
 
 def seconds_of(value: object) -> float:
     """How many seconds an agent may take, as the head has them."""
-    if isinstance(value, bool) or not isinstance(value, (int, float)) or not 0 < value < float("inf"):
+    if (
+        isinstance(value, bool)
+        or not isinstance(value, (int, float))
+        or not 0 < value < float("inf")
+    ):
         raise ValueError(value)
     return value
 

@@ -9,7 +9,18 @@ from typing import Deque, Dict, Iterator, List, NamedTuple, Tuple
 
 from arena_lab.rules.delays import Turns
 from arena_lab.rules.fixtures import Tournament, read_tournament
-from arena_lab.rules.model import ENDED, GONE, MAX_LINE, OUTSIDE, Match, Object, Verdict, judge, rank, spelled
+from arena_lab.rules.model import (
+    ENDED,
+    GONE,
+    MAX_LINE,
+    OUTSIDE,
+    Match,
+    Object,
+    Verdict,
+    judge,
+    rank,
+    spelled,
+)
 from arena_lab.rules.rehearsal import Item, Ready, Sent, Sessions
 
 
@@ -29,10 +40,15 @@ class Contest:
 
     def __init__(self, tournament: Tournament) -> None:
         self.teams = [fixture.team for fixture in tournament.fixtures]
-        self.sessions = Sessions([Ready(Match(it.setup), it.held, it.keys) for it in tournament.fixtures])
+        self.sessions = Sessions(
+            [Ready(Match(it.setup), it.held, it.keys) for it in tournament.fixtures]
+        )
         self.matches = [it.match for it in self.sessions.ready]
         self.changed = threading.Condition()
-        self._turns = [Turns(tournament.delays, tournament.seed, game) for game in range(len(self.teams))]
+        self._turns = [
+            Turns(tournament.delays, tournament.seed, game)
+            for game in range(len(self.teams))
+        ]
         self._unsent: Dict[int, Deque[Object]] = defaultdict(deque)
 
     def take(self, conn: int, item: Item) -> None:
@@ -59,8 +75,12 @@ class Contest:
     def deal(self, game: int, course: ServeOptions) -> None:
         """Takes the turns of a match, and closes it."""
         with self.changed:
-            self.changed.wait_for(lambda: all(agent.standing != OUTSIDE for agent in self.matches[game].agents),
-                                  timeout=course.gather)
+            self.changed.wait_for(
+                lambda: all(
+                    agent.standing != OUTSIDE for agent in self.matches[game].agents
+                ),
+                timeout=course.gather,
+            )
         for _ in range(course.turns):
             if course.early and self._is_decided(game):
                 break
@@ -80,7 +100,10 @@ class Contest:
     def _is_decided(self, game: int) -> bool:
         """Whether each agent has ended or is lost."""
         with self.changed:
-            return all(agent.standing == ENDED or agent.lost for agent in self.matches[game].agents)
+            return all(
+                agent.standing == ENDED or agent.lost
+                for agent in self.matches[game].agents
+            )
 
     def _reply(self, sent: Sent) -> None:
         for conn, reply in sent:
@@ -114,8 +137,10 @@ def table(rows: List[Tuple[str, Verdict]]) -> str:
     """The table of teams and verdicts, best first."""
     ranked = sorted(rows, key=lambda row: rank(row[1], row[0]))
     lines = [("#", "team", "outcome", "moves", "lost")]
-    lines += [(str(place), team, verdict.outcome, str(verdict.moves), str(verdict.lost))
-              for place, (team, verdict) in enumerate(ranked, 1)]
+    lines += [
+        (str(place), team, verdict.outcome, str(verdict.moves), str(verdict.lost))
+        for place, (team, verdict) in enumerate(ranked, 1)
+    ]
     return "".join(f"{a:>3} {b:<16} {c:<10} {d:>6} {e:>4}\n" for a, b, c, d, e in lines)
 
 
@@ -125,27 +150,45 @@ def host(listener: socket.socket, sessions: int, contest: Contest) -> None:
     for conn in range(sessions):
         client, _ = listener.accept()
         client.setsockopt(socket.IPPROTO_TCP, socket.TCP_NODELAY, 1)
-        threads.append(threading.Thread(target=contest.serve, args=(conn, client), daemon=True))
+        threads.append(
+            threading.Thread(target=contest.serve, args=(conn, client), daemon=True)
+        )
         threads[-1].start()
     for thread in threads:
         thread.join()
 
 
-def served(tournament: str, port: int, sessions: int, prefix: str, course: ServeOptions) -> None:
+def served(
+    tournament: str, port: int, sessions: int, prefix: str, course: ServeOptions
+) -> None:
     """Serves a contest: writes its replays, and prints its table. The files must be right: ask `arena check`."""
     contest = Contest(read_tournament(tournament))
     with socket.create_server(("127.0.0.1", port), backlog=sessions) as listener:
         print(f"listening {port}", flush=True)
         # daemons, so that a server that is interrupted ends
-        threads = [threading.Thread(target=contest.deal, args=(game, course), daemon=True)
-                   for game in range(len(contest.matches))]
+        threads = [
+            threading.Thread(target=contest.deal, args=(game, course), daemon=True)
+            for game in range(len(contest.matches))
+        ]
         for thread in threads:
             thread.start()
-        hosting = threading.Thread(target=host, args=(listener, sessions, contest), daemon=True)
+        hosting = threading.Thread(
+            target=host, args=(listener, sessions, contest), daemon=True
+        )
         hosting.start()
         for thread in threads:
             thread.join()
         hosting.join(course.grace)
     for number, match in enumerate(contest.matches):
-        pathlib.Path(f"{prefix}{number}.jsonl").write_text(match.replay(), encoding="utf-8")
-    print(table([(team, judge(match)) for team, match in zip(contest.teams, contest.matches)]), end="")
+        pathlib.Path(f"{prefix}{number}.jsonl").write_text(
+            match.replay(), encoding="utf-8"
+        )
+    print(
+        table(
+            [
+                (team, judge(match))
+                for team, match in zip(contest.teams, contest.matches)
+            ]
+        ),
+        end="",
+    )

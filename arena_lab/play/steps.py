@@ -39,15 +39,19 @@ def check(value: Any) -> None:
     if value is None or kind in SIMPLE:
         return
     if kind not in (tuple, list, dict):
-        raise NotPlain(f"its memory holds {value!r}, of type {kind.__name__}: hold None, True, False, numbers, texts, "
-                       "and tuples, lists and dicts of these")
+        raise NotPlain(
+            f"its memory holds {value!r}, of type {kind.__name__}: hold None, True, False, numbers, texts, "
+            "and tuples, lists and dicts of these"
+        )
     for item in value.items() if kind is dict else value:
         check(item)
 
 
 def fresh(step: Step) -> Step:
     """A step that is given, and gives, fresh memories."""
+
     def taken(memory: Any, reply: Dict[str, Any]) -> Tuple[Any, Dict[str, Any]]:
         after, command = step(memory, reply)
         return memory_of(name_of(after)), command
+
     return taken

@@ -23,7 +23,11 @@ class Summary:
 
     def columns(self) -> Dict[str, Any]:
         """The columns that each table of matches has."""
-        return {**self.verdict._asdict(), "commands": self.commands, "events": self.events}
+        return {
+            **self.verdict._asdict(),
+            "commands": self.commands,
+            "events": self.events,
+        }
 
 
 def verdict_by(program: Optional[str], played: PlayedMatch) -> Verdict:
@@ -38,5 +42,10 @@ def verdict_by(program: Optional[str], played: PlayedMatch) -> Verdict:
 
 def summary_of(played: PlayedMatch, program: Optional[str]) -> Summary:
     """The record of a match that was played."""
-    return Summary(verdict_by(program, played), sum(agent.used for agent in played.match.agents), len(played.match.log),
-                   hashlib.sha256(played.replay).hexdigest(), played.faults)
+    return Summary(
+        verdict_by(program, played),
+        sum(agent.used for agent in played.match.agents),
+        len(played.match.log),
+        hashlib.sha256(played.replay).hexdigest(),
+        played.faults,
+    )

@@ -2,8 +2,17 @@
 import pathlib
 from typing import Callable, Dict, List, NamedTuple, Optional, Sequence
 
-from arena_lab.play.agent_files import (NoAgent, Script, digests, function_of, loaded_function, script_of,
-                                        script_of_function, source_digest, step_of)
+from arena_lab.play.agent_files import (
+    NoAgent,
+    Script,
+    digests,
+    function_of,
+    loaded_function,
+    script_of,
+    script_of_function,
+    source_digest,
+    step_of,
+)
 from arena_lab.play.bounds import LIMIT
 from arena_lab.play.matches import Team
 from arena_lab.play.own_modules import OwnModules
@@ -35,13 +44,29 @@ class AgentWords(NamedTuple):
 
     def name(self) -> str:
         """What it is called in a title: its file, or the function that it is."""
-        words = [word.partition(":")[0] for word in self.words.split() if not word.startswith("{")]
-        named = [word for word in words if pathlib.PurePath(word).suffix in (".py", ".sh", ".jar", ".js")]
-        return self.words.partition(":")[2] if self.function else pathlib.PurePath((named or words or ["?"])[0]).name
+        words = [
+            word.partition(":")[0]
+            for word in self.words.split()
+            if not word.startswith("{")
+        ]
+        named = [
+            word
+            for word in words
+            if pathlib.PurePath(word).suffix in (".py", ".sh", ".jar", ".js")
+        ]
+        return (
+            self.words.partition(":")[2]
+            if self.function
+            else pathlib.PurePath((named or words or ["?"])[0]).name
+        )
 
     def script(self, setup: Setup) -> Script:
         """An agent inside, as it plays this match."""
-        return script_of_function(self.function, setup) if self.function else script_of(self.words, setup)
+        return (
+            script_of_function(self.function, setup)
+            if self.function
+            else script_of(self.words, setup)
+        )
 
     def is_module(self) -> bool:
         """Whether it runs a WebAssembly module."""
@@ -53,14 +78,22 @@ class AgentWords(NamedTuple):
 
     def step(self, setup: Setup, modules: OwnModules) -> Step:
         """An agent that is written as a step, in this match and among these modules."""
-        return loaded_function(self.function, setup, modules) if self.function else step_of(self.words, setup, modules)
+        return (
+            loaded_function(self.function, setup, modules)
+            if self.function
+            else step_of(self.words, setup, modules)
+        )
 
     def digests(self) -> Dict[str, str]:
         """The SHA-256 of each file that the agent is made of."""
         if self.function:
             return {self.words: source_digest(self.function)}
         # each agent inside has a client, also one whose file does not import it
-        return digests([self.words], True, ["client"]) if self.kind == INSIDE else digests([self.words], False)
+        return (
+            digests([self.words], True, ["client"])
+            if self.kind == INSIDE
+            else digests([self.words], False)
+        )
 
 
 def agent_named(kind: str, words: str) -> AgentWords:
@@ -80,10 +113,16 @@ def modules_of(agents: Sequence[AgentWords]) -> List[str]:
 
 def digests_of(agents: Sequence[AgentWords]) -> Dict[str, str]:
     """The SHA-256 of each file that some of the agents are made of."""
-    return {name: digest for agent in dict.fromkeys(agents) for name, digest in agent.digests().items()}
+    return {
+        name: digest
+        for agent in dict.fromkeys(agents)
+        for name, digest in agent.digests().items()
+    }
 
 
-def filled(named: Sequence[AgentWords], wanted: Optional[int] = None) -> List[AgentWords]:
+def filled(
+    named: Sequence[AgentWords], wanted: Optional[int] = None
+) -> List[AgentWords]:
     """The agents of a team: one that is named stands for all. They are two if it is not said how many."""
     wanted = (2 if len(named) == 1 else len(named)) if wanted is None else wanted
     if not 1 <= wanted <= MOST_AGENTS:
@@ -96,11 +135,22 @@ def filled(named: Sequence[AgentWords], wanted: Optional[int] = None) -> List[Ag
 class Together:
     """A team of players inside the lab and outside."""
 
-    def __init__(self, agents: Sequence[AgentWords], fixture: Fixture, seconds: float) -> None:
-        inside = {number: agent.script(fixture.setup) for number, agent in enumerate(agents)
-                  if agent.kind == INSIDE}
-        outside = {number: agent.words for number, agent in enumerate(agents) if agent.kind == OUTSIDE}
-        self._teams: List[Team] = [Inside(fixture.keys, inside, seconds)] if inside else []
+    def __init__(
+        self, agents: Sequence[AgentWords], fixture: Fixture, seconds: float
+    ) -> None:
+        inside = {
+            number: agent.script(fixture.setup)
+            for number, agent in enumerate(agents)
+            if agent.kind == INSIDE
+        }
+        outside = {
+            number: agent.words
+            for number, agent in enumerate(agents)
+            if agent.kind == OUTSIDE
+        }
+        self._teams: List[Team] = (
+            [Inside(fixture.keys, inside, seconds)] if inside else []
+        )
         self._teams += [Outside(fixture, outside, seconds)] if outside else []
         players = [player for team in self._teams for player in team.players]
         self.players = sorted(players, key=lambda player: player.number)
@@ -114,7 +164,9 @@ class Together:
             team.stop()
 
 
-def alone(number: int, agent: AgentWords, again: Fixture, fixture: Fixture, seconds: float) -> Team:
+def alone(
+    number: int, agent: AgentWords, again: Fixture, fixture: Fixture, seconds: float
+) -> Team:
     """A team of one agent of a match, which plays with the keys of `again`, and has the chance that it had before."""
     if agent.kind == INSIDE:
         return Inside(again.keys, {number: agent.script(again.setup)}, seconds)
@@ -155,8 +207,16 @@ class Game(NamedTuple):
             raise networks.NoNetwork(f"{self.name}: it has no node {home}")
         others = [v for v in range(self.network.nodes) if v != home]
         holes = list(self.holes) or ([] if self.dark else [others[seed % len(others)]])
-        setup = Setup(self.network.nodes, self.network.links, home, sorted(holes), len(self.agents), self.quota,
-                      self.board, list(self.dark))
+        setup = Setup(
+            self.network.nodes,
+            self.network.links,
+            home,
+            sorted(holes),
+            len(self.agents),
+            self.quota,
+            self.board,
+            list(self.dark),
+        )
         return fixture_of(setup)._replace(naps=self.naps)
 
     def where(self) -> str:
@@ -165,7 +225,10 @@ class Game(NamedTuple):
 
     def fixtures(self) -> List[Fixture]:
         """Its matches: one, or one for each node but the home base as the black hole."""
-        return [self.fixture(seed) for seed in range(1 if self.is_fixed() else self.network.nodes - 1)]
+        return [
+            self.fixture(seed)
+            for seed in range(1 if self.is_fixed() else self.network.nodes - 1)
+        ]
 
     def matches(self) -> Matches:
         return Matches(self.agents, self.fixtures(), self.limit)

@@ -31,13 +31,25 @@ def command_of(words: str) -> str:
     """The command that plays an agent: of a module its player, of another agent the words themselves."""
     if not is_module(words):
         return words
-    player, word = str(built.player()), f"{file_of(file_in(words))}{arguments_in(words)}"
-    return shlex.join([player.replace("{", "{{").replace("}", "}}"), "{host}", "{port}", "{key}", "--module", word])
+    player, word = (
+        str(built.player()),
+        f"{file_of(file_in(words))}{arguments_in(words)}",
+    )
+    return shlex.join(
+        [
+            player.replace("{", "{{").replace("}", "}}"),
+            "{host}",
+            "{port}",
+            "{key}",
+            "--module",
+            word,
+        ]
+    )
 
 
 def arguments_in(words: str) -> str:
     """What stands behind a module's file: nothing, or a colon and its arguments."""
-    return shlex.split(words)[0][len(file_in(words)):]
+    return shlex.split(words)[0][len(file_in(words)) :]
 
 
 def word_of(words: str, setup: Setup) -> str:
@@ -45,5 +57,7 @@ def word_of(words: str, setup: Setup) -> str:
     try:
         numbers = arguments_in(words).format(**facts_of(setup))
     except (KeyError, IndexError, ValueError):
-        raise NoAgent(f"{words}: behind the colon stand whole numbers, {{nodes}}, {{links}} or {{home}}") from None
+        raise NoAgent(
+            f"{words}: behind the colon stand whole numbers, {{nodes}}, {{links}} or {{home}}"
+        ) from None
     return f"{file_of(file_in(words)).absolute()}{numbers}"

@@ -12,8 +12,8 @@ from typing import List, Sequence
 
 MASK = 0xFFFFFFFF
 WORDS_OF_A_BLOCK = 16
-WORDS_OF_A_STREAM = 2 ** 68
-STREAMS = 2 ** 64
+WORDS_OF_A_STREAM = 2**68
+STREAMS = 2**64
 # how much longer than an agent's number a match's number may be
 MATCH_BITS = 32
 
@@ -23,14 +23,21 @@ def rotate(x: int, k: int) -> int:
 
 
 def quarter(s: List[int], a: int, b: int, c: int, d: int) -> None:
-    for left, other, target, k in ((a, b, d, 16), (c, d, b, 12), (a, b, d, 8), (c, d, b, 7)):
+    for left, other, target, k in (
+        (a, b, d, 16),
+        (c, d, b, 12),
+        (a, b, d, 8),
+        (c, d, b, 7),
+    ):
         s[left] = (s[left] + s[other]) & MASK
         s[target] = rotate(s[target] ^ s[left], k)
 
 
 @functools.lru_cache(maxsize=256)
 def block(seed: bytes, stream: int, counter: int) -> Sequence[int]:
-    start = list(struct.unpack("<4I", b"expand 32-byte k")) + list(struct.unpack("<8I", seed))
+    start = list(struct.unpack("<4I", b"expand 32-byte k")) + list(
+        struct.unpack("<8I", seed)
+    )
     start += [counter & MASK, counter >> 32, stream & MASK, stream >> 32]
     s = list(start)
     for _ in range(4):
@@ -64,7 +71,10 @@ def show(seed: bytes, stream: int, places: Sequence[int]) -> None:
 
 if __name__ == "__main__":
     # The key stream of ChaCha8 at a key and a nonce of zeros, as remembered and not looked up.
-    assert struct.pack("<3I", *block(bytes(32), 0, 0)[:3]).hex() == "3e00ef2f895f40d67f5bb8e8"
+    assert (
+        struct.pack("<3I", *block(bytes(32), 0, 0)[:3]).hex()
+        == "3e00ef2f895f40d67f5bb8e8"
+    )
     show(bytes(32), 0, range(8))
     show(bytes(32), 1, range(8))
     show(b"\x07" * 32, 3, list(range(8)) + [15, 16, 17, 63, 64, 65])

@@ -19,7 +19,11 @@ class Delays(NamedTuple):
     def by_word(self, word: int) -> int:
         """How many turns a link takes by this word."""
         scale = word % self.odds
-        return (1 << scale) + word // self.odds % (1 << scale) if scale < self.scales else 0
+        return (
+            (1 << scale) + word // self.odds % (1 << scale)
+            if scale < self.scales
+            else 0
+        )
 
 
 class Turns:

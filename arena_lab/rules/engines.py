@@ -14,7 +14,9 @@ from arena_lab.support.built import NoProgram
 from arena_lab.support.faults import Fault
 
 TOP = built.TOP
-HOW_TO_BUILD = "name another by --program; by default the lab takes the one that `./arena` runs"
+HOW_TO_BUILD = (
+    "name another by --program; by default the lab takes the one that `./arena` runs"
+)
 PROGRAM, MODEL = "program", "model"
 
 
@@ -26,12 +28,23 @@ class Engine(Protocol):
     match: Match
     script: List[bytes]
 
-    def feed(self, number: int, line: bytes) -> List[Said]: ...
-    def end(self, number: int) -> List[Said]: ...
-    def draw(self, word: int) -> List[Said]: ...
-    def close(self) -> List[Said]: ...
-    def replay(self) -> bytes: ...
-    def stop(self) -> None: ...
+    def feed(self, number: int, line: bytes) -> List[Said]:
+        ...
+
+    def end(self, number: int) -> List[Said]:
+        ...
+
+    def draw(self, word: int) -> List[Said]:
+        ...
+
+    def close(self) -> List[Said]:
+        ...
+
+    def replay(self) -> bytes:
+        ...
+
+    def stop(self) -> None:
+        ...
 
 
 def text_of_fault(errors: bytes) -> str:
@@ -55,7 +68,8 @@ class EngineRefused(Fault):
 
 def program_at(path: Optional[str], modules: Iterable[str] = ()) -> str:
     """The program that is named, or else the proved one if it is built, or else one without a proof, which is compiled
-    first, unless modules that are needed are missing. One that is not proved is told on standard error."""
+    first, unless modules that are needed are missing. One that is not proved is told on standard error.
+    """
     found = pathlib.Path(path or built.any_program(modules))
     if not found.is_file() or not os.access(found, os.X_OK):
         raise NoProgram(f"{found}: there is no such program: {HOW_TO_BUILD}")
@@ -75,7 +89,9 @@ def name_of(program: Optional[str]) -> str:
 
 def asked(program: str, *words: str) -> str:
     """What the program prints for these words."""
-    ran = subprocess.run([program, *words], stdin=subprocess.DEVNULL, capture_output=True)
+    ran = subprocess.run(
+        [program, *words], stdin=subprocess.DEVNULL, capture_output=True
+    )
     if ran.returncode != 0:
         raise EngineRefused(text_of_fault(ran.stderr), ran.returncode)
     return ran.stdout.decode()
@@ -100,9 +116,22 @@ class Program:
         self._left = b""
         folder = pathlib.Path(self._folder.name)
         write_tournament(fixture, folder)
-        words = [program, "rehearse", "tournament.toml", "--interactive", "--replay", "match"]
-        self._child = subprocess.Popen(words, cwd=folder, stdin=subprocess.PIPE, stdout=subprocess.PIPE,
-                                       stderr=subprocess.PIPE, start_new_session=True)
+        words = [
+            program,
+            "rehearse",
+            "tournament.toml",
+            "--interactive",
+            "--replay",
+            "match",
+        ]
+        self._child = subprocess.Popen(
+            words,
+            cwd=folder,
+            stdin=subprocess.PIPE,
+            stdout=subprocess.PIPE,
+            stderr=subprocess.PIPE,
+            start_new_session=True,
+        )
 
     def feed(self, number: int, line: bytes) -> List[Said]:
         return self._play(self._beside.feed(number, line))
@@ -139,13 +168,19 @@ class Program:
         answer = self._answer(line)
         wanted = "".join(f"{number} {text}\n" for number, text in expected).encode()
         if answer != wanted:
-            raise Differs(f"line {len(self.script)} of the script, {line!r}: the program says {answer!r}, the Python "
-                          f"model {wanted!r}")
+            raise Differs(
+                f"line {len(self.script)} of the script, {line!r}: the program says {answer!r}, the Python "
+                f"model {wanted!r}"
+            )
         return expected
 
     def _answer(self, line: bytes) -> bytes:
         """What the program prints for a line, up to the empty line behind it."""
-        answer, given, taken = self._left, cast(IO[bytes], self._child.stdin), cast(IO[bytes], self._child.stdout)
+        answer, given, taken = (
+            self._left,
+            cast(IO[bytes], self._child.stdin),
+            cast(IO[bytes], self._child.stdout),
+        )
         try:
             given.write(line + b"\n")
             given.flush()

@@ -6,7 +6,13 @@ from typing import Any, Dict, Iterable, List, NamedTuple, Optional, Sequence, Se
 
 from arena_lab.rules import networks
 from arena_lab.rules.delays import OBLIVIOUS, Delays
-from arena_lab.rules.limits import MOST_AGENTS, MOST_BOARD, MOST_QUOTA, SMALL_BOARD, SMALL_QUOTA
+from arena_lab.rules.limits import (
+    MOST_AGENTS,
+    MOST_BOARD,
+    MOST_QUOTA,
+    SMALL_BOARD,
+    SMALL_QUOTA,
+)
 from arena_lab.rules.model import Object, Place, Setup, command_of, place_of, text_of
 
 SEED_BYTES = 32
@@ -16,7 +22,11 @@ FILE_KEYS: Dict[int, Set[str]] = {1: {"version", "seed", "match"}}
 FILE_KEYS[2] = FILE_KEYS[1]
 FILE_KEYS[3] = FILE_KEYS[2] | {"schedule", "delay_scales", "delay_odds"}
 ALIKE = {"team", "network", "home", "quota", "board", "keys", "held"}
-MATCH_KEYS = {1: ALIKE | {"hole"}, 2: ALIKE | {"holes", "dark"}, 3: ALIKE | {"holes", "dark"}}
+MATCH_KEYS = {
+    1: ALIKE | {"hole"},
+    2: ALIKE | {"holes", "dark"},
+    3: ALIKE | {"holes", "dark"},
+}
 # the first version that refuses unknown keys
 STRICT = 3
 # the team of a match that has none
@@ -45,26 +55,42 @@ def twice(found: Sequence[Any]) -> List[Any]:
 
 def checked(setup: Setup) -> Setup:
     """A setup, if the program takes it. Whether its links make a network is not asked here."""
-    ports = {(v, p): (w, q) for v, p, w, q in setup.links} | {(w, q): (v, p) for v, p, w, q in setup.links}
+    ports = {(v, p): (w, q) for v, p, w, q in setup.links} | {
+        (w, q): (v, p) for v, p, w, q in setup.links
+    }
     unknown = [place for place in setup.dark if place not in ports]
     ends = [min(place, ports.get(place, place)) for place in setup.dark]
     if not 1 <= setup.agents <= MOST_AGENTS:
         raise NoMatch(f"a match has 1 to {MOST_AGENTS} agents, and not {setup.agents}")
     if not 1 <= setup.quota <= MOST_QUOTA:
-        raise NoMatch(f"an agent has 1 to {MOST_QUOTA} commands, and not {setup.quota}: name another number by --quota")
+        raise NoMatch(
+            f"an agent has 1 to {MOST_QUOTA} commands, and not {setup.quota}: name another number by --quota"
+        )
     if not 0 <= setup.board <= MOST_BOARD:
-        raise NoMatch(f"a whiteboard has 0 to {MOST_BOARD} bytes, and not {setup.board}: name another number by "
-                      "--board")
-    if any(not 0 <= node < setup.nodes for v, _, w, _ in setup.links for node in (v, w)):
-        raise NoMatch(f"a link has an end that does not exist: nodes are 0 to {setup.nodes - 1}")
+        raise NoMatch(
+            f"a whiteboard has 0 to {MOST_BOARD} bytes, and not {setup.board}: name another number by "
+            "--board"
+        )
+    if any(
+        not 0 <= node < setup.nodes for v, _, w, _ in setup.links for node in (v, w)
+    ):
+        raise NoMatch(
+            f"a link has an end that does not exist: nodes are 0 to {setup.nodes - 1}"
+        )
     if not 0 <= setup.home < setup.nodes:
-        raise NoMatch(f"the home base {setup.home} does not exist: nodes are 0 to {setup.nodes - 1}")
+        raise NoMatch(
+            f"the home base {setup.home} does not exist: nodes are 0 to {setup.nodes - 1}"
+        )
     if any(hole == setup.home or not 0 <= hole < setup.nodes for hole in setup.holes):
-        raise NoMatch(f"black holes are nodes from 0 to {setup.nodes - 1} other than the home base {setup.home}")
+        raise NoMatch(
+            f"black holes are nodes from 0 to {setup.nodes - 1} other than the home base {setup.home}"
+        )
     if twice(setup.holes):
         raise NoMatch(f"node {twice(setup.holes)[0]} is named as a black hole twice")
     if unknown:
-        raise NoMatch(f"node {unknown[0][0]} has no port {unknown[0][1]}, so no dark link is there")
+        raise NoMatch(
+            f"node {unknown[0][0]} has no port {unknown[0][1]}, so no dark link is there"
+        )
     if twice(ends):
         raise NoMatch("a dark link is named twice: name it by one of its ends")
     return setup
@@ -72,7 +98,9 @@ def checked(setup: Setup) -> Setup:
 
 def fixture_of(setup: Setup) -> Fixture:
     """A fixture with keys of its own."""
-    return Fixture(OWN_TEAM, checked(setup), [f"k{agent}" for agent in range(setup.agents)])
+    return Fixture(
+        OWN_TEAM, checked(setup), [f"k{agent}" for agent in range(setup.agents)]
+    )
 
 
 def enters_as_another(fixture: Fixture, number: int, line: bytes) -> bool:
@@ -94,20 +122,34 @@ def read_tournament(path: str) -> Tournament:
     try:
         found = tomllib.loads(pathlib.Path(path).read_text(encoding="utf-8"))
         if found["version"] >= STRICT:
-            for row, known in [(found, FILE_KEYS), *((row, MATCH_KEYS) for row in found["match"])]:
+            for row, known in [
+                (found, FILE_KEYS),
+                *((row, MATCH_KEYS) for row in found["match"]),
+            ]:
                 only_known(row, known[found["version"]])
-        fixtures = [fixture_in(row, pathlib.Path(path).parent) for row in found["match"]]
+        fixtures = [
+            fixture_in(row, pathlib.Path(path).parent) for row in found["match"]
+        ]
         is_oblivious = found.get("schedule") == OBLIVIOUS
-        return Tournament(seed_in(found), fixtures,
-                          Delays(found["delay_scales"], found["delay_odds"]) if is_oblivious else None)
+        return Tournament(
+            seed_in(found),
+            fixtures,
+            Delays(found["delay_scales"], found["delay_odds"])
+            if is_oblivious
+            else None,
+        )
     except (ValueError, KeyError, TypeError) as fault:
-        raise NoMatch(f"{path}: it is no tournament ({networks.fault_text(fault)}); `arena check` says more") from None
+        raise NoMatch(
+            f"{path}: it is no tournament ({networks.fault_text(fault)}); `arena check` says more"
+        ) from None
 
 
 def only_known(row: Object, known: Set[str]) -> None:
     """Refuses a table that has another key than these."""
     for key in sorted(set(row) - known):
-        raise ValueError(f"unknown key {key}: the keys here are {', '.join(sorted(known))}")
+        raise ValueError(
+            f"unknown key {key}: the keys here are {', '.join(sorted(known))}"
+        )
 
 
 def seed_in(found: Object) -> str:
@@ -121,10 +163,30 @@ def seed_in(found: Object) -> str:
 def fixture_in(row: Dict[str, Any], folder: pathlib.Path) -> Fixture:
     """The fixture of a match's table, in a tournament whose file is in this folder."""
     network = networks.in_file(network_path(row["network"], folder))
-    holes = row["holes"] if "holes" in row or "hole" not in row else [row["hole"]] if row["hole"] != "none" else []
+    holes = (
+        row["holes"]
+        if "holes" in row or "hole" not in row
+        else [row["hole"]]
+        if row["hole"] != "none"
+        else []
+    )
     dark = list(map(place_of, row.get("dark", [])))
-    setup = Setup(network.nodes, network.links, row["home"], holes, len(row["keys"]), row["quota"], row["board"], dark)
-    return Fixture(row["team"], checked(setup), row["keys"], list(map(place_of, row.get("held", []))))
+    setup = Setup(
+        network.nodes,
+        network.links,
+        row["home"],
+        holes,
+        len(row["keys"]),
+        row["quota"],
+        row["board"],
+        dark,
+    )
+    return Fixture(
+        row["team"],
+        checked(setup),
+        row["keys"],
+        list(map(place_of, row.get("held", []))),
+    )
 
 
 def network_path(name: str, folder: pathlib.Path) -> str:
@@ -137,11 +199,19 @@ def match_text(fixture: Fixture, network: str) -> str:
     """The table of a match, whose network stands in this file."""
     setup = fixture.setup
     rows: Object = {
-        "team": fixture.team, "network": network, "home": setup.home, "holes": setup.holes,
-        "dark": pairs(setup.dark), "quota": setup.quota, "board": setup.board, "keys": fixture.keys,
+        "team": fixture.team,
+        "network": network,
+        "home": setup.home,
+        "holes": setup.holes,
+        "dark": pairs(setup.dark),
+        "quota": setup.quota,
+        "board": setup.board,
+        "keys": fixture.keys,
         "held": pairs(fixture.held),
     }
-    return "\n[[match]]\n" + "".join(f"{key} = {toml_of(value)}\n" for key, value in rows.items())
+    return "\n[[match]]\n" + "".join(
+        f"{key} = {toml_of(value)}\n" for key, value in rows.items()
+    )
 
 
 def toml_of(value: Any) -> str:
@@ -150,11 +220,19 @@ def toml_of(value: Any) -> str:
     return json.dumps(value, ensure_ascii=False).replace("\x7f", "\\u007f")
 
 
-def tournament_text(seed: str, matches: Iterable[Tuple[Fixture, str]], delays: Optional[Delays] = None) -> str:
+def tournament_text(
+    seed: str, matches: Iterable[Tuple[Fixture, str]], delays: Optional[Delays] = None
+) -> str:
     """The file of a tournament: its seed, the delays of the oblivious schedule if it has that one, and its matches with
     the files of their networks."""
     rows = list(matches)
-    is_old = all(it.setup.quota <= SMALL_QUOTA and it.setup.board <= SMALL_BOARD for it, _ in rows) and not delays
+    is_old = (
+        all(
+            it.setup.quota <= SMALL_QUOTA and it.setup.board <= SMALL_BOARD
+            for it, _ in rows
+        )
+        and not delays
+    )
     head = f'version = {2 if is_old else 3}\nseed = "{seed}"\n'
     if delays:
         head += f'schedule = "{OBLIVIOUS}"\ndelay_scales = {delays.scales}\ndelay_odds = {delays.odds}\n'
@@ -167,7 +245,9 @@ def write_tournament(fixture: Fixture, folder: pathlib.Path) -> pathlib.Path:
     network = networks.Network(fixture.setup.nodes, fixture.setup.links)
     (folder / "network.toml").write_text(networks.text_of(network), encoding="utf-8")
     path = folder / "tournament.toml"
-    path.write_text(tournament_text(SEED, [(fixture, "network.toml")]), encoding="utf-8")
+    path.write_text(
+        tournament_text(SEED, [(fixture, "network.toml")]), encoding="utf-8"
+    )
     return path
 
 

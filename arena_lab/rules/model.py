@@ -4,7 +4,17 @@ Nothing is proved of it, and no result of a contest rests on it. Commands are th
 those that they are sent, and a match's log is a list of the objects that stand in a replay.
 """
 import json
-from typing import Any, Container, Dict, List, NamedTuple, Optional, Sequence, Set, Tuple
+from typing import (
+    Any,
+    Container,
+    Dict,
+    List,
+    NamedTuple,
+    Optional,
+    Sequence,
+    Set,
+    Tuple,
+)
 
 from arena_lab.rules.limits import is_small
 
@@ -19,8 +29,12 @@ NOTED: Object = {"ok": "noted"}
 OUTSIDE, PRESENT, AWAY, ENDED = "outside", "present", "away", "ended"
 # what each command names
 SHAPES: Dict[str, Dict[str, type]] = {
-    "enter": {"key": str}, "look": {}, "write": {"expect": str, "put": str}, "depart": {"port": int},
-    "accuse": {"port": int}, "leave": {},
+    "enter": {"key": str},
+    "look": {},
+    "write": {"expect": str, "put": str},
+    "depart": {"port": int},
+    "accuse": {"port": int},
+    "leave": {},
 }
 # what a client is told last
 LAST = (BYE, NOTED, OVER)
@@ -49,7 +63,9 @@ def text_of(line: bytes) -> str:
 def depth(value: Any) -> int:
     """How deep the objects and lists of a value stand in each other."""
     if isinstance(value, (dict, list)):
-        return 1 + max(map(depth, value.values() if isinstance(value, dict) else value), default=0)
+        return 1 + max(
+            map(depth, value.values() if isinstance(value, dict) else value), default=0
+        )
     return 0
 
 
@@ -68,7 +84,9 @@ def whole(digits: str) -> Any:
     return int(digits) if len(digits) < LONG and digits != "-0" else finite(digits)
 
 
-DECODER = json.JSONDecoder(parse_int=whole, parse_float=finite, parse_constant=refused_constant)
+DECODER = json.JSONDecoder(
+    parse_int=whole, parse_float=finite, parse_constant=refused_constant
+)
 
 
 def value_of(line: str) -> Any:
@@ -90,14 +108,18 @@ def command_of(line: str) -> Object:
         return BAD
     do = given.get("do") if isinstance(given, dict) else None
     shape = SHAPES.get(do) if isinstance(do, str) else None
-    if shape is None or any(type(given.get(name)) is not kind for name, kind in shape.items()):
+    if shape is None or any(
+        type(given.get(name)) is not kind for name, kind in shape.items()
+    ):
         return BAD
     if "port" in shape and not 0 <= given["port"] <= 65_535:
         return BAD
     return {"do": do, **{name: given[name] for name in shape}}
 
 
-def denial(command: Object, keys: Container[str], taken: Container[str]) -> Optional[Object]:
+def denial(
+    command: Object, keys: Container[str], taken: Container[str]
+) -> Optional[Object]:
     """Why a connection's first command does not let it in, or None."""
     if command["do"] != "enter":
         return {"no": "enter"}
@@ -158,7 +180,12 @@ class Match:
 
     def _here(self, agent: AgentState) -> Object:
         board = self.boards[agent.node]
-        return {"ok": "here", "ports": len(self.far[agent.node]), "from": agent.came, "board": board}
+        return {
+            "ok": "here",
+            "ports": len(self.far[agent.node]),
+            "from": agent.came,
+            "board": board,
+        }
 
     def _refusal(self, agent: AgentState, do: str) -> Optional[str]:
         """Why a command is not heard."""
@@ -181,7 +208,13 @@ class Match:
         if command["do"] not in ("enter", "leave"):
             agent.used += 1
         reply = self._heard(number, agent, command)
-        self.log.append({"agent": number, "reply": reply, **{k: v for k, v in command.items() if k != "key"}})
+        self.log.append(
+            {
+                "agent": number,
+                "reply": reply,
+                **{k: v for k, v in command.items() if k != "key"},
+            }
+        )
         return reply
 
     def _heard(self, number: int, agent: AgentState, command: Object) -> Object:
@@ -255,7 +288,10 @@ class Match:
         elif event["do"] == "deliver":
             self.deliver(event["agent"])
         else:
-            self.tell(event["agent"], {name: event[name] for name in event if name not in ("agent", "reply")})
+            self.tell(
+                event["agent"],
+                {name: event[name] for name in event if name not in ("agent", "reply")},
+            )
 
     def head(self) -> Object:
         """The head of the match's replay."""
@@ -264,8 +300,15 @@ class Match:
         dark = [min([v, p], list(self.far[v][p])) for v, p in setup.dark]
         version = 2 if is_small(setup.nodes, setup.quota, setup.board) else 3
         return {
-            "replay": version, "agents": setup.agents, "board": setup.board, "quota": setup.quota, "home": setup.home,
-            "holes": sorted(setup.holes), "dark": sorted(dark), "nodes": setup.nodes, "links": sorted(links),
+            "replay": version,
+            "agents": setup.agents,
+            "board": setup.board,
+            "quota": setup.quota,
+            "home": setup.home,
+            "holes": sorted(setup.holes),
+            "dark": sorted(dark),
+            "nodes": setup.nodes,
+            "links": sorted(links),
         }
 
     def replay(self) -> str:
@@ -281,8 +324,18 @@ def objects_of(text: str) -> List[Object]:
 
 def begun(head: Object) -> Match:
     """The match of a replay's head, before anything happens in it."""
-    return Match(Setup(head["nodes"], list(map(link_of, head["links"])), head["home"], head["holes"], head["agents"],
-                       head["quota"], head["board"], list(map(place_of, head["dark"]))))
+    return Match(
+        Setup(
+            head["nodes"],
+            list(map(link_of, head["links"])),
+            head["home"],
+            head["holes"],
+            head["agents"],
+            head["quota"],
+            head["board"],
+            list(map(place_of, head["dark"])),
+        )
+    )
 
 
 def link_of(values: Sequence[int]) -> Tuple[int, int, int, int]:
@@ -336,7 +389,13 @@ class Verdict(NamedTuple):
 
 
 # what a match may come to, best first, as the arena's table ranks it
-RANKS = SOLVED, GUESS, UNFINISHED, SILENT, WRONG = ("solved", "guess", "unfinished", "silent", "wrong")
+RANKS = SOLVED, GUESS, UNFINISHED, SILENT, WRONG = (
+    "solved",
+    "guess",
+    "unfinished",
+    "silent",
+    "wrong",
+)
 
 
 def rank(verdict: Verdict, team: str) -> Tuple[int, int, int, str]:
@@ -346,7 +405,9 @@ def rank(verdict: Verdict, team: str) -> Tuple[int, int, int, str]:
 
 def judge(match: Match) -> Verdict:
     """The verdict on a match that has ended."""
-    moves = sum(event["do"] == "depart" and event["reply"] == GONE for event in match.log)
+    moves = sum(
+        event["do"] == "depart" and event["reply"] == GONE for event in match.log
+    )
     return Verdict(outcome_of(match), moves, sum(agent.lost for agent in match.agents))
 
 
@@ -357,7 +418,11 @@ def outcome_of(match: Match) -> str:
         return "wrong"
     links = set(accused) | {match.far[v][p] for v, p in accused}
     named = {match.far[v][p][0] for v, p in accused}
-    if not accused or not named.issuperset(setup.holes) or not links.issuperset(match.dark):
+    if (
+        not accused
+        or not named.issuperset(setup.holes)
+        or not links.issuperset(match.dark)
+    ):
         return "silent"
     if any(agent.standing == PRESENT for agent in match.agents):
         return "unfinished"

@@ -35,8 +35,10 @@ from arena_lab.support.missing import needed
 
 Link = Tuple[int, int, int, int]
 
-NAMES = ("ring:N, hypercube:D, complete:N, torus:RxC, grid:RxC, wheel:N, petersen:NxK, ccc:D, random:SEED, "
-         "random:N:degK:seedS")
+NAMES = (
+    "ring:N, hypercube:D, complete:N, torus:RxC, grid:RxC, wheel:N, petersen:NxK, ccc:D, random:SEED, "
+    "random:N:degK:seedS"
+)
 GRAPHML = ".graphml"
 # bytes of a file of GraphML, and characters of a fault that are shown
 MOST_GRAPHML, MOST_SHOWN = 16 << 20, 100
@@ -47,7 +49,10 @@ LARGEST_DEGREE = 6
 def places_into(links: Sequence[Link], nodes: Collection[int]) -> List[Place]:
     """The places, each a node and a port, from which a link leads to one of these nodes. If all of them are held,
     nobody arrives there."""
-    return sorted([(v, p) for v, p, w, _ in links if w in nodes] + [(w, q) for v, _, w, q in links if v in nodes])
+    return sorted(
+        [(v, p) for v, p, w, _ in links if w in nodes]
+        + [(w, q) for v, _, w, q in links if v in nodes]
+    )
 
 
 class Network(NamedTuple):
@@ -80,15 +85,25 @@ def ring(nodes: int) -> Network:
 def flipped_ring(nodes: int, chance: random.Random) -> Network:
     """A ring at whose nodes, the home base aside, the two ports may stand the other way round."""
     flips = [0] + [chance.randrange(2) for _ in range(1, nodes)]
-    return Network(nodes, [(v, flips[v], (v + 1) % nodes, 1 - flips[(v + 1) % nodes]) for v in range(nodes)])
+    return Network(
+        nodes,
+        [
+            (v, flips[v], (v + 1) % nodes, 1 - flips[(v + 1) % nodes])
+            for v in range(nodes)
+        ],
+    )
 
 
 def hypercube(dimension: int) -> Network:
-    return of_neighbours([[v ^ 1 << bit for bit in range(dimension)] for v in range(2 ** dimension)])
+    return of_neighbours(
+        [[v ^ 1 << bit for bit in range(dimension)] for v in range(2**dimension)]
+    )
 
 
 def complete(nodes: int) -> Network:
-    return of_neighbours([[(v + port + 1) % nodes for port in range(nodes - 1)] for v in range(nodes)])
+    return of_neighbours(
+        [[(v + port + 1) % nodes for port in range(nodes - 1)] for v in range(nodes)]
+    )
 
 
 def torus(rows: int, columns: int) -> Network:
@@ -102,41 +117,70 @@ def torus(rows: int, columns: int) -> Network:
 
 def grid(rows: int, columns: int) -> Network:
     """A torus without the links around it."""
-    near = [[node + step for step, is_there in ((1, node % columns < columns - 1), (-1, node % columns > 0),
-                                                (columns, node + columns < rows * columns), (-columns, node >= columns))
-             if is_there] for node in range(rows * columns)]
+    near = [
+        [
+            node + step
+            for step, is_there in (
+                (1, node % columns < columns - 1),
+                (-1, node % columns > 0),
+                (columns, node + columns < rows * columns),
+                (-columns, node >= columns),
+            )
+            if is_there
+        ]
+        for node in range(rows * columns)
+    ]
     return of_neighbours(near)
 
 
 def wheel(rim: int) -> Network:
     """A hub that is joined to each node of a ring around it."""
-    return of_neighbours([[*range(1, rim + 1)], *([place % rim + 1, (place - 2) % rim + 1, 0]
-                                                  for place in range(1, rim + 1))])
+    return of_neighbours(
+        [
+            [*range(1, rim + 1)],
+            *(
+                [place % rim + 1, (place - 2) % rim + 1, 0]
+                for place in range(1, rim + 1)
+            ),
+        ]
+    )
 
 
 def petersen(nodes: int, step: int) -> Network:
     """The generalized Petersen graph: two rings, by places of one and of another step, whose nodes are joined."""
     if not 1 <= step < nodes / 2:
         raise ValueError("no such network")
-    return of_neighbours([[*((place + by) % nodes + own for by in (pace, -pace)), place + other]
-                          for own, other, pace in ((0, nodes, 1), (nodes, 0, step)) for place in range(nodes)])
+    return of_neighbours(
+        [
+            [*((place + by) % nodes + own for by in (pace, -pace)), place + other]
+            for own, other, pace in ((0, nodes, 1), (nodes, 0, step))
+            for place in range(nodes)
+        ]
+    )
 
 
 def of_neighbours(near: Sequence[Sequence[int]]) -> Network:
     """The network in which port P of node V leads to the node at place P of V's list."""
-    return Network(len(near), [(v, p, w, near[w].index(v)) for v, ends in enumerate(near) for p, w in enumerate(ends)
-                               if v < w])
+    return Network(
+        len(near),
+        [
+            (v, p, w, near[w].index(v))
+            for v, ends in enumerate(near)
+            for p, w in enumerate(ends)
+            if v < w
+        ],
+    )
 
 
 def cube_connected_cycles(dimension: int) -> Network:
     """A hypercube with a cycle in the place of each node."""
     links = []
-    for node in range(dimension * 2 ** dimension):
+    for node in range(dimension * 2**dimension):
         cycle, spot = divmod(node, dimension)
         links.append((node, 0, cycle * dimension + (spot + 1) % dimension, 1))
         if not cycle >> spot & 1:
             links.append((node, 2, (cycle | 1 << spot) * dimension + spot, 2))
-    return Network(dimension * 2 ** dimension, links)
+    return Network(dimension * 2**dimension, links)
 
 
 def regular(nodes: int, degree: int, seed: int) -> Network:
@@ -156,14 +200,19 @@ def shuffled(network: Network, seed: int) -> Network:
     labels = [list(range(degree)) for degree in network.degrees()]
     for ports in labels:
         chance.shuffle(ports)
-    return Network(network.nodes, [(v, labels[v][p], w, labels[w][q]) for v, p, w, q in network.links])
+    return Network(
+        network.nodes,
+        [(v, labels[v][p], w, labels[w][q]) for v, p, w, q in network.links],
+    )
 
 
 def ports_seed(word: str) -> int:
     """The seed of `shuffled:SEED`, by which ports are numbered anew."""
     found = re.fullmatch(r"shuffled:(\d+)", word)
     if not found:
-        raise NoNetwork(f"{word}: ports are numbered by shuffled:SEED, such as shuffled:3")
+        raise NoNetwork(
+            f"{word}: ports are numbered by shuffled:SEED, such as shuffled:3"
+        )
     return int(found[1])
 
 
@@ -187,7 +236,9 @@ def drawn(chance: random.Random, largest: int = LARGEST) -> Network:
     pairs = [(v, (v + 1) % size) for v in range(size)]
     degree = [2] * size + [0] * (nodes - size)
     while size < nodes:
-        one, two = chance.sample([v for v in range(size) if degree[v] < LARGEST_DEGREE], 2)
+        one, two = chance.sample(
+            [v for v in range(size) if degree[v] < LARGEST_DEGREE], 2
+        )
         new = chance.randint(1, nodes - size)
         path = [one, *range(size, size + new), two]
         pairs += list(zip(path, path[1:]))
@@ -196,17 +247,24 @@ def drawn(chance: random.Random, largest: int = LARGEST) -> Network:
         size += new
     for _ in range(chance.choice((0, nodes // 2, 3 * nodes))):
         one, two = chance.sample(range(nodes), 2)
-        if max(degree[one], degree[two]) < LARGEST_DEGREE and not {(one, two), (two, one)} & set(pairs):
+        if max(degree[one], degree[two]) < LARGEST_DEGREE and not {
+            (one, two),
+            (two, one),
+        } & set(pairs):
             pairs.append((one, two))
             degree[one] += 1
             degree[two] += 1
     return Network(nodes, numbered(nodes, pairs, chance))
 
 
-def numbered(nodes: int, pairs: List[Tuple[int, int]], chance: random.Random) -> List[Link]:
+def numbered(
+    nodes: int, pairs: List[Tuple[int, int]], chance: random.Random
+) -> List[Link]:
     """The links between these pairs, each node's ports being numbered by chance."""
     degrees = collections.Counter(node for pair in pairs for node in pair)
-    ports: Dict[int, List[int]] = {node: list(range(degrees[node])) for node in range(nodes)}
+    ports: Dict[int, List[int]] = {
+        node: list(range(degrees[node])) for node in range(nodes)
+    }
     for labels in ports.values():
         chance.shuffle(labels)
     return [(v, ports[v].pop(), w, ports[w].pop()) for v, w in pairs]
@@ -218,7 +276,9 @@ def in_file(path: str) -> Network:
         found = tomllib.loads(pathlib.Path(path).read_text(encoding="utf-8"))
         return Network(found["nodes"], list(map(link_of, found["links"])))
     except (ValueError, KeyError, TypeError) as fault:
-        raise NoNetworkFile(f"{path}: it is no network file ({fault_text(fault)}); `arena check` says more") from None
+        raise NoNetworkFile(
+            f"{path}: it is no network file ({fault_text(fault)}); `arena check` says more"
+        ) from None
 
 
 def in_graphml(path: str) -> Network:
@@ -232,8 +292,16 @@ def in_graphml(path: str) -> Network:
             # of data and ports that a file has beside its graph
             warnings.simplefilter("ignore")
             graph = networkx.read_graphml(io.BytesIO(raw))
-    except (ValueError, LookupError, SyntaxError, expat.ExpatError, networkx.NetworkXException) as fault:
-        raise NoNetworkFile(f"{path}: it is no GraphML ({str(fault)[:MOST_SHOWN]})") from None
+    except (
+        ValueError,
+        LookupError,
+        SyntaxError,
+        expat.ExpatError,
+        networkx.NetworkXException,
+    ) as fault:
+        raise NoNetworkFile(
+            f"{path}: it is no GraphML ({str(fault)[:MOST_SHOWN]})"
+        ) from None
     graph.name = path
     return of_graph(graph)
 
@@ -253,6 +321,7 @@ def check_xml(raw: bytes) -> None:
         nodes += name.rpartition(":")[2] == "node"
         if nodes > MOST_NODES:
             raise ValueError(f"it has more than {MOST_NODES} nodes")
+
     parser = expat.ParserCreate()
     parser.EntityDeclHandler, parser.StartElementHandler = declared, begun
     parser.Parse(raw, True)
@@ -266,13 +335,27 @@ def fault_text(fault: Exception) -> str:
 def of_graph(graph: Any) -> Network:
     """The network of a networkx graph. Nodes are numbered in the graph's order, and the ports of each node in the order
     of its neighbours."""
-    if graph.is_directed() or graph.is_multigraph() or any(v == w for v, w in graph.edges):
-        raise NoNetwork("a network is a graph without directions, in which a link joins two nodes and no other does")
+    if (
+        graph.is_directed()
+        or graph.is_multigraph()
+        or any(v == w for v, w in graph.edges)
+    ):
+        raise NoNetwork(
+            "a network is a graph without directions, in which a link joins two nodes and no other does"
+        )
     if not 3 <= graph.number_of_nodes() <= MOST_NODES:
-        raise NoNetwork(f"a network has 3 to {MOST_NODES} nodes, and this graph has {graph.number_of_nodes()}")
+        raise NoNetwork(
+            f"a network has 3 to {MOST_NODES} nodes, and this graph has {graph.number_of_nodes()}"
+        )
     number = {node: place for place, node in enumerate(graph.nodes)}
-    ports = {node: {other: port for port, other in enumerate(graph.adj[node])} for node in graph.nodes}
-    network = Network(len(number), [(number[v], ports[v][w], number[w], ports[w][v]) for v, w in graph.edges])
+    ports = {
+        node: {other: port for port, other in enumerate(graph.adj[node])}
+        for node in graph.nodes
+    }
+    network = Network(
+        len(number),
+        [(number[v], ports[v][w], number[w], ports[w][v]) for v, w in graph.edges],
+    )
     return checked(network, str(getattr(graph, "name", "")) or "the graph")
 
 
@@ -281,18 +364,28 @@ def named(name: str) -> Network:
     kind, colon, size = name.partition(":")
     if not colon:
         if not pathlib.Path(name).is_file():
-            raise NoNetwork(f"{name}: there is no such file; a network is {NAMES} or a file")
+            raise NoNetwork(
+                f"{name}: there is no such file; a network is {NAMES} or a file"
+            )
         return in_graphml(name) if name.endswith(GRAPHML) else in_file(name)
     try:
         sizes, made = sizes_of(kind, size), MADE[kind]
-        if not SMALLEST.get(kind, 0) <= min(sizes) or sizes[0] > LARGEST_SIZE.get(kind, sizes[0]):
-            raise NoNetwork(f"{name}: a network has 3 to {MOST_NODES} nodes, a torus 3 rows and columns or more, a "
-                            "grid 2, a ring around a hub 3 nodes, and cube-connected cycles 3 dimensions or more")
+        if not SMALLEST.get(kind, 0) <= min(sizes) or sizes[0] > LARGEST_SIZE.get(
+            kind, sizes[0]
+        ):
+            raise NoNetwork(
+                f"{name}: a network has 3 to {MOST_NODES} nodes, a torus 3 rows and columns or more, a "
+                "grid 2, a ring around a hub 3 nodes, and cube-connected cycles 3 dimensions or more"
+            )
         network: Network = made(*sizes)
     except (KeyError, TypeError, ValueError):
-        raise NoNetwork(f"{name}: a network is {NAMES} or a file; N times K is even, and K less than N") from None
+        raise NoNetwork(
+            f"{name}: a network is {NAMES} or a file; N times K is even, and K less than N"
+        ) from None
     if not 3 <= network.nodes <= MOST_NODES:
-        raise NoNetwork(f"{name}: a network has 3 to {MOST_NODES} nodes, and this one has {network.nodes}")
+        raise NoNetwork(
+            f"{name}: a network has 3 to {MOST_NODES} nodes, and this one has {network.nodes}"
+        )
     return network
 
 
@@ -303,18 +396,36 @@ def in_range(name: str) -> List[str]:
         return [name]
     first, last = int(found[2]), int(found[3])
     if first > last:
-        raise NoNetwork(f"{name}: the first size is the smaller one, as in {found[1]}:{last}..{first}")
+        raise NoNetwork(
+            f"{name}: the first size is the smaller one, as in {found[1]}:{last}..{first}"
+        )
     return [f"{found[1]}:{size}" for size in range(first, last + 1)]
 
 
 MADE: Dict[str, Callable[..., Network]] = {
-    "ring": ring, "hypercube": hypercube, "complete": complete, "torus": torus, "grid": grid, "wheel": wheel,
-    "petersen": petersen, "ccc": cube_connected_cycles,
-    "random": lambda *sizes: regular(*sizes) if len(sizes) == 3 else drawn(random.Random(*sizes)),
+    "ring": ring,
+    "hypercube": hypercube,
+    "complete": complete,
+    "torus": torus,
+    "grid": grid,
+    "wheel": wheel,
+    "petersen": petersen,
+    "ccc": cube_connected_cycles,
+    "random": lambda *sizes: regular(*sizes)
+    if len(sizes) == 3
+    else drawn(random.Random(*sizes)),
 }
 SMALLEST = {"torus": 3, "ccc": 3, "grid": 2, "wheel": 3}
-LARGEST_SIZE = {"hypercube": 12, "ccc": 9, "ring": MOST_NODES, "complete": SMALL_NODES, "torus": MOST_NODES,
-                "grid": MOST_NODES, "wheel": MOST_NODES, "petersen": MOST_NODES}
+LARGEST_SIZE = {
+    "hypercube": 12,
+    "ccc": 9,
+    "ring": MOST_NODES,
+    "complete": SMALL_NODES,
+    "torus": MOST_NODES,
+    "grid": MOST_NODES,
+    "wheel": MOST_NODES,
+    "petersen": MOST_NODES,
+}
 
 
 def sizes_of(kind: str, size: str) -> List[int]:
@@ -335,9 +446,15 @@ def checked(network: Network, name: str) -> Network:
     ends = [end for v, p, w, q in network.links for end in ((v, p), (w, q))]
     pairs = [frozenset((v, w)) for v, _, w, _ in network.links]
     if not 3 <= network.nodes <= MOST_NODES:
-        raise NoNetwork(f"{name}: a network has 3 to {MOST_NODES} nodes, and not {network.nodes}")
-    if sorted(ends) != [(v, p) for v, degree in enumerate(network.degrees()) for p in range(degree)]:
-        raise NoNetwork(f"{name}: a node with D links has the ports 0 to D - 1, each once")
+        raise NoNetwork(
+            f"{name}: a network has 3 to {MOST_NODES} nodes, and not {network.nodes}"
+        )
+    if sorted(ends) != [
+        (v, p) for v, degree in enumerate(network.degrees()) for p in range(degree)
+    ]:
+        raise NoNetwork(
+            f"{name}: a node with D links has the ports 0 to D - 1, each once"
+        )
     if len(set(pairs)) < len(pairs) or any(len(pair) < 2 for pair in pairs):
         raise NoNetwork(f"{name}: a link joins two nodes, and no other link joins them")
     cut = cut_of(network)

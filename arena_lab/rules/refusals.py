@@ -19,11 +19,20 @@ MEANINGS = (
     (r"home", "the home base is a node of the network (--home)"),
     (r"hole", "black holes are nodes other than the home base, each once (--hole)"),
     (r"agents", "a match has 1 to 64 agents (--agents)"),
-    (r"quota", "an agent has 1 to 1000 commands, and in a file of version 3 up to 65535 (--quota)"),
-    (r"board", "a whiteboard has 0 to 4096 bytes, and in a file of version 3 up to 65535 (--board)"),
+    (
+        r"quota",
+        "an agent has 1 to 1000 commands, and in a file of version 3 up to 65535 (--quota)",
+    ),
+    (
+        r"board",
+        "a whiteboard has 0 to 4096 bytes, and in a file of version 3 up to 65535 (--board)",
+    ),
     (r"dark", "a dark link is named by one of its ends, once (--dark)"),
     (r"key (\d+) twice", "the key of agent {0} is another agent's too"),
-    (r"cut node (\d+)", "without node {0} the network falls apart, so no team can search it"),
+    (
+        r"cut node (\d+)",
+        "without node {0} the network falls apart, so no team can search it",
+    ),
     (r"apart", "its nodes are not all joined"),
     (r"same", "the node is a black hole already"),
     (r"node", "the node does not exist"),

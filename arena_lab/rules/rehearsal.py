@@ -8,8 +8,20 @@ from collections import deque
 from typing import Collection, Deque, Dict, List, NamedTuple, Optional, Sequence, Tuple
 
 from arena_lab.rules.fixtures import Fixture
-from arena_lab.rules.model import (AWAY, LAST, MAX_LINE, OVER, AgentState, Match, Object, Place, command_of, denial,
-                                   spelled, text_of)
+from arena_lab.rules.model import (
+    AWAY,
+    LAST,
+    MAX_LINE,
+    OVER,
+    AgentState,
+    Match,
+    Object,
+    Place,
+    command_of,
+    denial,
+    spelled,
+    text_of,
+)
 
 # an agent: the numbers of its match and of itself
 Seat = Tuple[int, int]
@@ -45,7 +57,11 @@ class Sessions:
     def __init__(self, ready: Sequence[Ready]) -> None:
         self.ready = ready
         # the agent of each key, and the connection that plays it
-        self.seats = {key: (game, agent) for game, it in enumerate(ready) for agent, key in enumerate(it.keys)}
+        self.seats = {
+            key: (game, agent)
+            for game, it in enumerate(ready)
+            for agent, key in enumerate(it.keys)
+        }
         self.plays: Dict[str, int] = {}
         self.connections: Dict[int, Connection] = {}
 
@@ -75,7 +91,11 @@ class Sessions:
         agent = match.agents[number]
         reply = None if (agent.node, agent.port) in held else match.deliver(number)
         conn = self.plays.get(keys[number])
-        return [] if reply is None or conn is None else [(conn, reply), *self._taken_by(conn)]
+        return (
+            []
+            if reply is None or conn is None
+            else [(conn, reply), *self._taken_by(conn)]
+        )
 
     def close(self, game: int) -> Sent:
         """What comes of the end of a match."""
@@ -83,7 +103,11 @@ class Sessions:
         if match.closed:
             return []
         match.close()
-        waiting = sorted(self.plays[key] for key in keys if key in self.plays and self.waits(self.plays[key]))
+        waiting = sorted(
+            self.plays[key]
+            for key in keys
+            if key in self.plays and self.waits(self.plays[key])
+        )
         for conn in waiting:
             self.connections[conn].is_done = True
         return [(conn, OVER) for conn in waiting]
@@ -174,7 +198,9 @@ class Rehearsal:
     def stop(self) -> None:
         """Ends the engine; there is nothing to end here."""
 
-    def set_alone(self, number: int, agent: AgentState, is_seated: bool, board: str) -> None:
+    def set_alone(
+        self, number: int, agent: AgentState, is_seated: bool, board: str
+    ) -> None:
         """Sets the match to one agent, which plays over the connection of its number, with this text on the whiteboard
         in front of it; of the other agents and nodes nothing is kept."""
         self.match.set_alone(number, agent, board)

@@ -14,7 +14,18 @@ import re
 import shlex
 import sys
 import tomllib
-from typing import Any, Callable, Counter, Dict, Iterable, List, Optional, Sequence, Set, Tuple
+from typing import (
+    Any,
+    Callable,
+    Counter,
+    Dict,
+    Iterable,
+    List,
+    Optional,
+    Sequence,
+    Set,
+    Tuple,
+)
 
 TABLE = pathlib.Path(__file__).resolve().parent / "calls.toml"
 # the file in which one sets what programs in cells may do, as messages name it
@@ -44,9 +55,21 @@ def languages() -> List[str]:
 
 def allowed(language: str) -> Set[str]:
     """The calls that a language may make whatever their arguments, and those that do nothing."""
-    lists = [table()[EVERY]] if language == EVERY else [
-        table()[EVERY], *(it for name, it in table()["languages"].items() if language in (name, ANY))]
-    idle = {call for row in table()["answers"] if row["error"] == 0 for call in row["calls"]}
+    lists = (
+        [table()[EVERY]]
+        if language == EVERY
+        else [
+            table()[EVERY],
+            *(
+                it
+                for name, it in table()["languages"].items()
+                if language in (name, ANY)
+            ),
+        ]
+    )
+    idle = {
+        call for row in table()["answers"] if row["error"] == 0 for call in row["calls"]
+    }
     return {call for it in lists for call in it["calls"]} | idle
 
 
@@ -55,7 +78,9 @@ def never(call: str) -> str:
     by_arguments = {row["call"] for row in table()["arguments"]}
     if call in by_arguments:
         return "it is allowed by its arguments, which stand in calls.toml"
-    return next((str(row["why"]) for row in table()["never"] if call in row["calls"]), "")
+    return next(
+        (str(row["why"]) for row in table()["never"] if call in row["calls"]), ""
+    )
 
 
 def language_of(words: str, content_of: Callable[[str], Optional[bytes]]) -> str:
@@ -66,10 +91,21 @@ def language_of(words: str, content_of: Callable[[str], Optional[bytes]]) -> str
         if content.startswith(ELF):
             return NATIVE
         line = content[:256].partition(b"\n")[0]
-        first = line.split()[-1].decode(errors="replace") if line.startswith(b"#!") and line.split() else first
+        first = (
+            line.split()[-1].decode(errors="replace")
+            if line.startswith(b"#!") and line.split()
+            else first
+        )
     started = os.path.basename(first)
     # a shell may start programs in any language
-    return next((name for name, it in table()["languages"].items() if started in it["starts"] and name != "shell"), ANY)
+    return next(
+        (
+            name
+            for name, it in table()["languages"].items()
+            if started in it["starts"] and name != "shell"
+        ),
+        ANY,
+    )
 
 
 def refused(lines: Iterable[str], language: str) -> Tuple[Counter[str], Counter[str]]:
@@ -82,12 +118,18 @@ def refused(lines: Iterable[str], language: str) -> Tuple[Counter[str], Counter[
         matched = LINE.match(line)
         if matched is None:
             continue
-        call, rows = matched[1], [row for row in table()["arguments"] if row["call"] == matched[1]]
+        call, rows = matched[1], [
+            row for row in table()["arguments"] if row["call"] == matched[1]
+        ]
         made[call] += 1
         numbers = numbers_in(call, matched[2])
         if rows and not any(is_allowed(row, numbers) for row in rows):
-            places = sorted({int(place) for row in rows for it in row["rows"] for place in it})
-            found[f"{call} {' '.join(hex(numbers.get(place, 0)) for place in places)}"] += 1
+            places = sorted(
+                {int(place) for row in rows for it in row["rows"] for place in it}
+            )
+            found[
+                f"{call} {' '.join(hex(numbers.get(place, 0)) for place in places)}"
+            ] += 1
         elif not rows and call not in known:
             found[call] += 1
     return made, found
@@ -97,7 +139,11 @@ def is_allowed(row: Dict[str, Any], numbers: Dict[int, int]) -> bool:
     """Whether a row allows a call that has these numbers as arguments."""
     mask = row.get("mask", INT)
     return "error" not in row and any(
-        all(numbers.get(int(place), -1) & mask in values for place, values in it.items()) for it in row["rows"])
+        all(
+            numbers.get(int(place), -1) & mask in values for place, values in it.items()
+        )
+        for it in row["rows"]
+    )
 
 
 def numbers_in(call: str, given: str) -> Dict[int, int]:
@@ -112,8 +158,13 @@ def number_in(text: str) -> Optional[int]:
     """The number with which a text of a trace begins, or None."""
     matched = NUMBERS.match(text)
     try:
-        return None if matched is None else functools.reduce(
-            lambda found, part: found | int(part, 0), matched[0].split("|"), 0)
+        return (
+            None
+            if matched is None
+            else functools.reduce(
+                lambda found, part: found | int(part, 0), matched[0].split("|"), 0
+            )
+        )
     except ValueError:
         return None
 
@@ -121,24 +172,34 @@ def number_in(text: str) -> Optional[int]:
 def report_trace(language: str, lines: Iterable[str]) -> str:
     """What is said of a trace."""
     made, found = refused(lines, language)
-    said = [f"{language}: of {len(made)} calls that were traced {len(found)} are refused"]
+    said = [
+        f"{language}: of {len(made)} calls that were traced {len(found)} are refused"
+    ]
     free = [call for call in sorted(found) if " " not in call and not never(call)]
     for call, count in sorted(found.items()):
         why = "by its arguments" if " " in call else never(call) or "it is in no list"
         said.append(f"{count:7}  {call}: {why}")
     if free:
-        said.append(f"in {SETTINGS} this allows what is in no list: calls = {str(free).replace(chr(39), chr(34))}")
+        said.append(
+            f"in {SETTINGS} this allows what is in no list: calls = {str(free).replace(chr(39), chr(34))}"
+        )
     return "\n".join(said)
 
 
 def main(given: Sequence[str]) -> int:
     if len(given) < 2 or given[0] not in (*languages(), EVERY):
-        print(f"{(__doc__ or '').strip()}\n\nLanguages: {', '.join([*languages(), EVERY])}")
+        print(
+            f"{(__doc__ or '').strip()}\n\nLanguages: {', '.join([*languages(), EVERY])}"
+        )
         return 0 if given[:1] in (["-h"], ["--help"]) else 2
     lines: List[str] = []
     for name in given[1:]:
         try:
-            lines += pathlib.Path(name).read_text(encoding="utf-8", errors="replace").splitlines()
+            lines += (
+                pathlib.Path(name)
+                .read_text(encoding="utf-8", errors="replace")
+                .splitlines()
+            )
         except OSError as fault:
             print(f"{name}: {fault.strerror}", file=sys.stderr)
             return 1

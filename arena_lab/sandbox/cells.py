@@ -24,11 +24,30 @@ import subprocess
 import sys
 import tarfile
 import tempfile
-from typing import Any, Collection, Dict, Iterator, List, NamedTuple, Optional, Sequence, Tuple
+from typing import (
+    Any,
+    Collection,
+    Dict,
+    Iterator,
+    List,
+    NamedTuple,
+    Optional,
+    Sequence,
+    Tuple,
+)
 
 from arena_lab.play.programs import NoStart, Started
 from arena_lab.play.wasm_modules import is_module
-from arena_lab.sandbox import calls, groups, isolation, network, processes, system_copy, users, watch
+from arena_lab.sandbox import (
+    calls,
+    groups,
+    isolation,
+    network,
+    processes,
+    system_copy,
+    users,
+    watch,
+)
 from arena_lab.sandbox.groups import ControlGroup
 from arena_lab.sandbox.isolation import HOME, PATH, PORT, SPACES, NoCell
 from arena_lab.sandbox.start import GO, READY
@@ -46,8 +65,10 @@ NOTHING = bytes(tarfile.RECORDSIZE)
 # last words of programs that meet a bound, and what is said of them
 THREADS = "a program may have 256 processes and threads"
 HINTS = {
-    "can't start new thread": THREADS, "unable to create native thread": THREADS,
-    "failed to create new OS thread": THREADS, "Resource temporarily unavailable": THREADS,
+    "can't start new thread": THREADS,
+    "unable to create native thread": THREADS,
+    "failed to create new OS thread": THREADS,
+    "Resource temporarily unavailable": THREADS,
     "annot assign requested address": "a program may have two connections to a port at a time",
     "Too many open files": "a program may have 256 open files",
     "libjli.so": f"programs in Java need `proc = true` in {calls.SETTINGS}",
@@ -55,25 +76,35 @@ HINTS = {
 }
 
 # last words of programs that make a call of the system which is refused; what is said of it
-NO_CALL = re.compile("function not implemented|operation not permitted|bad system call|ENOSYS|EPERM", re.IGNORECASE)
-A_CALL = ("calls of the system are refused to it that {language} does not need: examples/README.md says how to see "
-          f"which this was, and `calls` in {calls.SETTINGS} allows more")
+NO_CALL = re.compile(
+    "function not implemented|operation not permitted|bad system call|ENOSYS|EPERM",
+    re.IGNORECASE,
+)
+A_CALL = (
+    "calls of the system are refused to it that {language} does not need: examples/README.md says how to see "
+    f"which this was, and `calls` in {calls.SETTINGS} allows more"
+)
 
 
 class Isolation(enum.Enum):
     """What keeps a program apart, besides a folder of its own."""
 
     ALL = "each program has a network, processes and a view of the disk of its own"
-    USER = ("each program has a user of its own, but can read what every user may read, so close your folder "
-            "to others by `chmod go= FOLDER`; and a team's programs can talk to each other unseen")
-    NONE = ("teams' programs run as you: they can read and change your files, and what they write to /tmp and "
-            "processes that leave their group stay when a match has ended")
+    USER = (
+        "each program has a user of its own, but can read what every user may read, so close your folder "
+        "to others by `chmod go= FOLDER`; and a team's programs can talk to each other unseen"
+    )
+    NONE = (
+        "teams' programs run as you: they can read and change your files, and what they write to /tmp and "
+        "processes that leave their group stay when a match has ended"
+    )
 
 
 class Sandbox(NamedTuple):
     """What cells share. `walls` keep programs apart. Besides the system's folders programs see `tools`, and /proc if
     `has_proc`. `root` has the copy of the system that they see, or is empty. They may make `calls` of the system
-    besides those of their languages. `groups` has the control groups of programs, or is empty."""
+    besides those of their languages. `groups` has the control groups of programs, or is empty.
+    """
 
     walls: Isolation
     tools: Tuple[str, ...] = ()
@@ -94,8 +125,14 @@ class ProgramFiles(NamedTuple):
 class Cell:
     """A place in which one program runs, apart from others, with its files and perhaps a user of its own."""
 
-    def __init__(self, yard: Sandbox, kept: ProgramFiles, user: Optional[int], place: Optional[pathlib.Path],
-                 group: Optional[ControlGroup] = None) -> None:
+    def __init__(
+        self,
+        yard: Sandbox,
+        kept: ProgramFiles,
+        user: Optional[int],
+        place: Optional[pathlib.Path],
+        group: Optional[ControlGroup] = None,
+    ) -> None:
         self.yard = yard
         self._group = group
         self.user = user
@@ -115,28 +152,68 @@ class Cell:
             given, command, port = [theirs.fileno(), files], self._before(), 0
             if self.place is None:
                 port = PORT
-                given.append(held.enter_context(in_memory(isolation.system_filter(self._language, self.yard.calls))))
-                command += isolation.words(self.yard.tools, self.yard.has_proc, self.yard.root)
+                given.append(
+                    held.enter_context(
+                        in_memory(
+                            isolation.system_filter(self._language, self.yard.calls)
+                        )
+                    )
+                )
+                command += isolation.words(
+                    self.yard.tools, self.yard.has_proc, self.yard.root
+                )
                 command += ["--seccomp", str(given[-1])]
-            command += [python(), "-I", "-S", "-c", STARTER.read_text(encoding="utf-8"), str(theirs.fileno()),
-                        str(files), str(port), str(seed), *words]
+            command += [
+                python(),
+                "-I",
+                "-S",
+                "-c",
+                STARTER.read_text(encoding="utf-8"),
+                str(theirs.fileno()),
+                str(files),
+                str(port),
+                str(seed),
+                *words,
+            ]
             path = PATH if self.user is not None else os.environ.get("PATH", PATH)
             child = self._child = subprocess.Popen(
-                command, pass_fds=given, stdin=subprocess.DEVNULL, stdout=subprocess.DEVNULL, stderr=errors,
-                cwd=self.place, env={"PATH": path, "COUNTED": "" if self.user is None else "yes"},
-                start_new_session=True)
+                command,
+                pass_fds=given,
+                stdin=subprocess.DEVNULL,
+                stdout=subprocess.DEVNULL,
+                stderr=errors,
+                cwd=self.place,
+                env={"PATH": path, "COUNTED": "" if self.user is None else "yes"},
+                start_new_session=True,
+            )
         return child, functools.partial(self._listener_of, child, ours, errors)
 
     def _before(self) -> List[str]:
         """The words that make a program the first that is ended if memory is short, and another user. Where no walls
         end it with the process that plays it, the system does."""
-        first = [*(self._group.words() if self._group else []), "choom", "-n", "1000", "--"]
+        first = [
+            *(self._group.words() if self._group else []),
+            "choom",
+            "-n",
+            "1000",
+            "--",
+        ]
         ends = [] if self.place is None else ["--pdeathsig", "KILL"]
-        user = [] if self.user is None else [f"--reuid={self.user}", f"--regid={self.user}", "--clear-groups",
-                                             "--no-new-privs"]
+        user = (
+            []
+            if self.user is None
+            else [
+                f"--reuid={self.user}",
+                f"--regid={self.user}",
+                "--clear-groups",
+                "--no-new-privs",
+            ]
+        )
         return [*first, *(["setpriv", *ends, *user, "--"] if ends or user else [])]
 
-    def _listener_of(self, child: "subprocess.Popen[bytes]", channel: socket.socket, errors: Any) -> socket.socket:
+    def _listener_of(
+        self, child: "subprocess.Popen[bytes]", channel: socket.socket, errors: Any
+    ) -> socket.socket:
         """Takes the listener, and so waits until the program begins."""
         try:
             with channel:
@@ -190,7 +267,9 @@ class Cell:
         """What to change, as far as a program's last words show it."""
         said = next((said for known, said in HINTS.items() if known in words), "")
         if not said and self.place is None and NO_CALL.search(words):
-            said = A_CALL.format(language="a program" if self._language == calls.ANY else self._language)
+            said = A_CALL.format(
+                language="a program" if self._language == calls.ANY else self._language
+            )
         return f" ({said})" if said else ""
 
     def fault(self) -> str:
@@ -201,7 +280,9 @@ class Cell:
 
     def takes_too_much(self) -> bool:
         """Whether the program has more memory than it may. In a group of its own the kernel sees to that."""
-        return self._group.has_met_its_bound() if self._group else self.used() > watch.MOST
+        return (
+            self._group.has_met_its_bound() if self._group else self.used() > watch.MOST
+        )
 
     def used(self) -> int:
         """The bytes of memory that the program takes."""
@@ -209,7 +290,9 @@ class Cell:
             return 0
         running = processes.below(self._child.pid)
         inside = running[1:2] if self.place is None else []
-        spaces = [space_of(f"/proc/{first}/root{path}") for first in inside for path in SPACES]
+        spaces = [
+            space_of(f"/proc/{first}/root{path}") for first in inside for path in SPACES
+        ]
         return memory_of(running) + sum(spaces)
 
     def end_for(self, fault: str) -> None:
@@ -217,7 +300,11 @@ class Cell:
         self._fault = fault
         if self._child is None:
             return
-        for process in processes.below(self._child.pid)[1:] if self.place is None else [self._child.pid]:
+        for process in (
+            processes.below(self._child.pid)[1:]
+            if self.place is None
+            else [self._child.pid]
+        ):
             with contextlib.suppress(ProcessLookupError):
                 os.kill(process, signal.SIGKILL)
 
@@ -237,14 +324,32 @@ def cells_for(yard: Sandbox, kept: ProgramFiles, count: int) -> Iterator[List[Ce
         for _ in range(count):
             has_user = os.geteuid() == 0 and yard.walls is not Isolation.NONE
             user = left.enter_context(users.claimed()) if has_user else None
-            place = None if yard.walls is Isolation.ALL else left.enter_context(folder_for(user))
-            made.append(Cell(yard, kept, user, place, left.enter_context(groups.group_in(yard.groups))))
-        left.enter_context(MemoryWatch([cell.takes_too_much for cell in made], [cell.end_for for cell in made]))
+            place = (
+                None
+                if yard.walls is Isolation.ALL
+                else left.enter_context(folder_for(user))
+            )
+            made.append(
+                Cell(
+                    yard,
+                    kept,
+                    user,
+                    place,
+                    left.enter_context(groups.group_in(yard.groups)),
+                )
+            )
+        left.enter_context(
+            MemoryWatch(
+                [cell.takes_too_much for cell in made], [cell.end_for for cell in made]
+            )
+        )
         yield made
 
 
 @contextlib.contextmanager
-def furnished(yard: Sandbox, commands: Collection[str], packages: Sequence[str]) -> Iterator[Sandbox]:
+def furnished(
+    yard: Sandbox, commands: Collection[str], packages: Sequence[str]
+) -> Iterator[Sandbox]:
     """The yard with control groups, and with a copy of the system for these commands, and these packages besides, if
     there can be one. If not, a line says why."""
     if any(map(is_module, commands)):
@@ -255,25 +360,34 @@ def furnished(yard: Sandbox, commands: Collection[str], packages: Sequence[str])
             # so that a name which is none is told before the first match
             isolation.system_filter(calls.ANY, yard.calls)
         try:
-            folder = held.enter_context(system_copy.copied(commands, packages,
-                                                           yard.tools)) if yard.walls is Isolation.ALL else ""
+            folder = (
+                held.enter_context(system_copy.copied(commands, packages, yard.tools))
+                if yard.walls is Isolation.ALL
+                else ""
+            )
         except system_copy.NoCopy as fault:
             if packages:
                 raise NoCell(f"packages: {fault}") from None
-            print(f"arena-lab: programs see the system's own disk, where the kernel keeps names for later ones: "
-                  f"{fault}",
-                  file=sys.stderr)
+            print(
+                f"arena-lab: programs see the system's own disk, where the kernel keeps names for later ones: "
+                f"{fault}",
+                file=sys.stderr,
+            )
             folder = ""
         yield yard._replace(root=folder, groups=held.enter_context(groups.divided()))
 
 
 def try_out(yard: Sandbox) -> None:
     """Starts a program that does nothing; if even that cannot be started, NoCell says why."""
-    with cells_for(yard, ProgramFiles(NOTHING), 1) as made, tempfile.TemporaryFile() as errors:
+    with cells_for(
+        yard, ProgramFiles(NOTHING), 1
+    ) as made, tempfile.TemporaryFile() as errors:
         child, listener_of = made[0].start(["true"], 0, errors)
         listener_of().close()
         if child.wait() != 0:
-            raise NoCell(f"a program that does nothing has ended with status {child.returncode}")
+            raise NoCell(
+                f"a program that does nothing has ended with status {child.returncode}"
+            )
 
 
 @contextlib.contextmanager
@@ -319,14 +433,22 @@ def python() -> str:
 @functools.lru_cache(maxsize=1)
 def weakness() -> str:
     """Why there are no walls here, or nothing if there are."""
-    if shutil.which("bwrap") is None or not os.path.exists(DEBIANS_PYTHON) or subprocess.run(
-            [DEBIANS_PYTHON, "-c", "import seccomp"], stderr=subprocess.DEVNULL).returncode != 0:
+    if (
+        shutil.which("bwrap") is None
+        or not os.path.exists(DEBIANS_PYTHON)
+        or subprocess.run(
+            [DEBIANS_PYTHON, "-c", "import seccomp"], stderr=subprocess.DEVNULL
+        ).returncode
+        != 0
+    ):
         return f"there are no walls between programs: `{PACKAGES}` installs what makes them"
     try:
         try_out(Sandbox(Isolation.ALL))
         return ""
     except NoCell as fault:
-        return f"this machine makes no walls between programs, as in a container: {fault}"
+        return (
+            f"this machine makes no walls between programs, as in a container: {fault}"
+        )
 
 
 @functools.lru_cache(maxsize=1)

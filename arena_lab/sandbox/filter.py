@@ -26,7 +26,9 @@ def allowed(table: Table, language: str) -> Set[str]:
     """The calls that a language may make, with those of which some are allowed by their arguments."""
     languages: Dict[str, Any] = table["languages"]
     chosen = list(languages.values()) if language == ANY else [languages[language]]
-    return {call for it in [table["every"], *chosen] for call in it["calls"]} | by_arguments(table)
+    return {
+        call for it in [table["every"], *chosen] for call in it["calls"]
+    } | by_arguments(table)
 
 
 def by_arguments(table: Table) -> Set[str]:
@@ -34,7 +36,9 @@ def by_arguments(table: Table) -> Set[str]:
     return {row["call"] for row in table["arguments"]}
 
 
-def made(table: Table, language: str, more: Sequence[str] = ()) -> "seccomp.SyscallFilter":
+def made(
+    table: Table, language: str, more: Sequence[str] = ()
+) -> "seccomp.SyscallFilter":
     """The filter of a language, which allows these calls besides."""
     found = seccomp.SyscallFilter(seccomp.ERRNO(errno.ENOSYS))
     for call in sorted((allowed(table, language) | set(more)) - by_arguments(table)):
@@ -42,7 +46,9 @@ def made(table: Table, language: str, more: Sequence[str] = ()) -> "seccomp.Sysc
             sys.exit(f"{call} is no call of Linux: write names as `strace` shows them")
         found.add_rule(seccomp.ALLOW, call)
     for row in table["arguments"]:
-        action = seccomp.ERRNO(number_of(row["error"])) if "error" in row else seccomp.ALLOW
+        action = (
+            seccomp.ERRNO(number_of(row["error"])) if "error" in row else seccomp.ALLOW
+        )
         for conditions in conditions_of(row):
             found.add_rule(action, row["call"], *conditions)
     for row in [*table["answers"], *table["never"]]:
@@ -62,7 +68,10 @@ def conditions_of(row: Table) -> Iterator[List["seccomp.Arg"]]:
     mask = row.get("mask", INT)
     for it in row["rows"]:
         for values in itertools.product(*it.values()):
-            yield [seccomp.Arg(int(place), seccomp.MASKED_EQ, mask, value) for place, value in zip(it, values)]
+            yield [
+                seccomp.Arg(int(place), seccomp.MASKED_EQ, mask, value)
+                for place, value in zip(it, values)
+            ]
 
 
 def main(place: str, language: str, *more: str) -> None:

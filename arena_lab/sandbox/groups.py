@@ -15,8 +15,15 @@ from typing import Iterator, List, Optional
 from arena_lab.sandbox import processes, watch
 
 # where groups are, and which is that of this process
-MOUNTS, OWN = ("/sys/fs/cgroup", "/sys/fs/cgroup/unified"), pathlib.Path("/proc/self/cgroup")
-CONTROLLERS, SUBTREE, PROCESSES, KIND = "cgroup.controllers", "cgroup.subtree_control", "cgroup.procs", "cgroup.type"
+MOUNTS, OWN = ("/sys/fs/cgroup", "/sys/fs/cgroup/unified"), pathlib.Path(
+    "/proc/self/cgroup"
+)
+CONTROLLERS, SUBTREE, PROCESSES, KIND = (
+    "cgroup.controllers",
+    "cgroup.subtree_control",
+    "cgroup.procs",
+    "cgroup.type",
+)
 NEEDED = {"memory", "pids"}
 # the names of groups: of the lab itself, and of programs; behind it stands the lab's process
 OF_LAB, OF_PROGRAM = "arena-lab-", "arena-program-"
@@ -53,7 +60,11 @@ class ControlGroup:
             lines = (self._folder / "memory.events").read_text().splitlines()
         except OSError:
             return False
-        return any(int(count) > 0 for name, count in map(str.split, lines) if name == "oom_kill")
+        return any(
+            int(count) > 0
+            for name, count in map(str.split, lines)
+            if name == "oom_kill"
+        )
 
     def end(self) -> None:
         """Ends all that is in the group."""
@@ -64,7 +75,8 @@ class ControlGroup:
 @contextlib.contextmanager
 def divided() -> Iterator[str]:
     """The folder of the group that has those of programs, as long as it is open, or nothing if there can be none. The
-    lab's own processes are in a group beside those of programs, as the kernel wants it."""
+    lab's own processes are in a group beside those of programs, as the kernel wants it.
+    """
     own = own_group()
     if own is None:
         yield ""
@@ -112,12 +124,22 @@ def group_in(folder: str) -> Iterator[Optional[ControlGroup]]:
 def own_group() -> Optional[pathlib.Path]:
     """The group of this process, if groups with bounds can be made in it."""
     try:
-        path = next(line[3:] for line in OWN.read_text().splitlines() if line.startswith("0::"))
-        mount = next(pathlib.Path(it) for it in MOUNTS if (pathlib.Path(it) / CONTROLLERS).exists())
+        path = next(
+            line[3:] for line in OWN.read_text().splitlines() if line.startswith("0::")
+        )
+        mount = next(
+            pathlib.Path(it)
+            for it in MOUNTS
+            if (pathlib.Path(it) / CONTROLLERS).exists()
+        )
         own = mount / path.lstrip("/")
         has_all = NEEDED <= set((own / CONTROLLERS).read_text().split())
-        may_write = all(os.access(it, os.W_OK) for it in (own, own / PROCESSES, own / SUBTREE))
-        is_alone = not (own / KIND).exists() or set(processes_in(own)) <= set(processes.below(os.getpid()))
+        may_write = all(
+            os.access(it, os.W_OK) for it in (own, own / PROCESSES, own / SUBTREE)
+        )
+        is_alone = not (own / KIND).exists() or set(processes_in(own)) <= set(
+            processes.below(os.getpid())
+        )
     except (OSError, StopIteration, ValueError):
         return None
     return own if has_all and may_write and is_alone else None
@@ -137,7 +159,9 @@ def move(source: pathlib.Path, target: pathlib.Path) -> None:
 def switch(group: pathlib.Path, sign: str, controllers: "set[str]") -> None:
     """Has a group bound those below it, or no more."""
     with contextlib.suppress(OSError) if sign == "-" else contextlib.nullcontext():
-        write(group / SUBTREE, " ".join(f"{sign}{name}" for name in sorted(controllers)))
+        write(
+            group / SUBTREE, " ".join(f"{sign}{name}" for name in sorted(controllers))
+        )
 
 
 def remove(group: pathlib.Path) -> None:
@@ -159,7 +183,7 @@ def remove_left(own: pathlib.Path) -> None:
     """Removes groups of commands that were killed."""
     for prefix in (OF_LAB, OF_PROGRAM):
         for place in own.glob(f"{prefix}*"):
-            process = place.name[len(prefix):].partition("-")[0]
+            process = place.name[len(prefix) :].partition("-")[0]
             if not os.path.exists(f"/proc/{process}"):
                 ControlGroup(place).end()
                 remove(place)

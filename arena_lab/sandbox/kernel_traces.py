@@ -18,8 +18,10 @@ class CannotForget(Fault):
 def stir() -> None:
     """Has the numbers of pipes and sockets, and those of memory that processes share, go on by numbers that nobody
     knows, on all processors at a time."""
-    children = [subprocess.Popen([sys.executable, "-I", "-S", str(STIRRING), str(processor)])
-                for processor in os.sched_getaffinity(0)]
+    children = [
+        subprocess.Popen([sys.executable, "-I", "-S", str(STIRRING), str(processor)])
+        for processor in os.sched_getaffinity(0)
+    ]
     for child in children:
         child.wait()
 
@@ -30,4 +32,6 @@ def forget() -> None:
     try:
         CACHES.write_text("3\n")
     except OSError as fault:
-        raise CannotForget(f"{CACHES}: {fault.strerror}: root may drop the caches; leave out --drop-caches") from None
+        raise CannotForget(
+            f"{CACHES}: {fault.strerror}: root may drop the caches; leave out --drop-caches"
+        ) from None

@@ -23,19 +23,29 @@ def below(process: int) -> List[int]:
         threads = PROC / str(found[-1]) / "task"
         for thread in listed(threads):
             with contextlib.suppress(OSError):
-                waiting += map(int, (threads / str(thread) / "children").read_text().split())
+                waiting += map(
+                    int, (threads / str(thread) / "children").read_text().split()
+                )
     return found
 
 
 def is_alive(process: int) -> bool:
     """Whether a process has not ended. One that has, but is not waited for, is listed all the same."""
     with contextlib.suppress(OSError):
-        return (PROC / str(process) / "stat").read_text().rpartition(")")[2].split()[0] != "Z"
+        return (PROC / str(process) / "stat").read_text().rpartition(")")[2].split()[
+            0
+        ] != "Z"
     return False
 
 
 def words_of(process: int) -> List[str]:
     """The words of the command that started a process; none if it has ended, or is the kernel's."""
     with contextlib.suppress(OSError):
-        return (PROC / str(process) / "cmdline").read_bytes().decode(errors="replace").rstrip("\0").split("\0")
+        return (
+            (PROC / str(process) / "cmdline")
+            .read_bytes()
+            .decode(errors="replace")
+            .rstrip("\0")
+            .split("\0")
+        )
     return []

@@ -16,8 +16,14 @@ from typing import List, NoReturn
 HOST = "127.0.0.1"
 READY, GO = b"ready", b"go"
 # bytes of a file, bytes of memory, bytes of addresses, open files, processes with their threads
-LIMITS = {resource.RLIMIT_CORE: 0, resource.RLIMIT_FSIZE: 64 << 20, resource.RLIMIT_DATA: 2 << 30,
-          resource.RLIMIT_AS: 256 << 30, resource.RLIMIT_NOFILE: 256, resource.RLIMIT_NPROC: 256}
+LIMITS = {
+    resource.RLIMIT_CORE: 0,
+    resource.RLIMIT_FSIZE: 64 << 20,
+    resource.RLIMIT_DATA: 2 << 30,
+    resource.RLIMIT_AS: 256 << 30,
+    resource.RLIMIT_NOFILE: 256,
+    resource.RLIMIT_NPROC: 256,
+}
 NO_FIRST_LINE = "it is no program of this machine; a script's first line says what runs it, such as #!/bin/sh"
 # bytes of a script's first line that the kernel looks at
 LONGEST = 256
@@ -36,7 +42,12 @@ def limit() -> None:
 
 def unpack(files: int) -> None:
     """Unpacks the team's files."""
-    tar = os.posix_spawnp("tar", ["tar", "-xf", "-"], os.environ, file_actions=[(os.POSIX_SPAWN_DUP2, files, 0)])
+    tar = os.posix_spawnp(
+        "tar",
+        ["tar", "-xf", "-"],
+        os.environ,
+        file_actions=[(os.POSIX_SPAWN_DUP2, files, 0)],
+    )
     _, status = os.waitpid(tar, 0)
     os.close(files)
     if status != 0:
@@ -49,7 +60,16 @@ def listen(channel: int, port: int) -> int:
         listener.setsockopt(socket.SOL_SOCKET, socket.SO_RCVBUF, AHEAD)
         listener.bind((HOST, port))
         listener.listen()
-        sends.sendmsg([READY], [(socket.SOL_SOCKET, socket.SCM_RIGHTS, array.array("i", [listener.fileno()]))])
+        sends.sendmsg(
+            [READY],
+            [
+                (
+                    socket.SOL_SOCKET,
+                    socket.SCM_RIGHTS,
+                    array.array("i", [listener.fileno()]),
+                )
+            ],
+        )
         opened: int = listener.getsockname()[1]
         if sends.recv(len(GO)) != GO:
             sys.exit("the lab has ended before the program began")
@@ -64,7 +84,9 @@ def hint(name: str) -> str:
     except OSError:
         return ""
     if first.startswith(b"#!") and first.rstrip(b"\n").endswith(b"\r"):
-        return f"its lines end as on Windows: hand it in after `sed -i 's/\\r$//' {name}`"
+        return (
+            f"its lines end as on Windows: hand it in after `sed -i 's/\\r$//' {name}`"
+        )
     if not os.access(name, os.X_OK):
         return f"it may not be run: hand it in after `chmod +x {name}`"
     return ""
@@ -82,15 +104,26 @@ def main(channel: str, files: str, port: str, seed: str, *words: str) -> None:
     opened = str(listen(int(channel), int(port)))
     command: List[str] = [word.replace("{port}", opened) for word in words]
     here = os.getcwd()
-    environment = {"PATH": os.environ["PATH"], "HOME": here, "TMPDIR": os.environ.get("TMPDIR", here), "USER": "agent",
-                   "LANG": "C.UTF-8", "ARENA_SEED": seed, "PYTHONHASHSEED": seed, "PYTHONDONTWRITEBYTECODE": "1"}
+    environment = {
+        "PATH": os.environ["PATH"],
+        "HOME": here,
+        "TMPDIR": os.environ.get("TMPDIR", here),
+        "USER": "agent",
+        "LANG": "C.UTF-8",
+        "ARENA_SEED": seed,
+        "PYTHONHASHSEED": seed,
+        "PYTHONDONTWRITEBYTECODE": "1",
+    }
     wrong = hint(command[0]) if "/" in command[0] else ""
     if wrong:
         fail(command[0], wrong)
     try:
         os.execvpe(command[0], command, environment)
     except OSError as fault:
-        fail(command[0], NO_FIRST_LINE if fault.errno == errno.ENOEXEC else str(fault.strerror))
+        fail(
+            command[0],
+            NO_FIRST_LINE if fault.errno == errno.ENOEXEC else str(fault.strerror),
+        )
 
 
 if __name__ == "__main__":

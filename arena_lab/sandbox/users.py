@@ -50,7 +50,9 @@ def claimed() -> Iterator[int]:
                 continue
             yield user
             return
-    raise NoUser(f"of {len(unnamed())} users for programs {TRIES} that were tried are taken")
+    raise NoUser(
+        f"of {len(unnamed())} users for programs {TRIES} that were tried are taken"
+    )
 
 
 def end_all_of(user: int) -> None:
@@ -60,8 +62,18 @@ def end_all_of(user: int) -> None:
         if time.monotonic() > until:
             raise NoUser(f"processes of user {user} do not end: {found[:5]}")
         # as that user, so that all of them are told in one call, also those that begin meanwhile
-        subprocess.run(["setpriv", f"--reuid={user}", f"--regid={user}", "--clear-groups", "kill", "-KILL", "-1"],
-                       stderr=subprocess.DEVNULL)
+        subprocess.run(
+            [
+                "setpriv",
+                f"--reuid={user}",
+                f"--regid={user}",
+                "--clear-groups",
+                "kill",
+                "-KILL",
+                "-1",
+            ],
+            stderr=subprocess.DEVNULL,
+        )
         for process in found:
             with contextlib.suppress(ProcessLookupError):
                 os.kill(process, signal.SIGKILL)
@@ -71,7 +83,10 @@ def end_all_of(user: int) -> None:
 def end_and_remove(user: int) -> None:
     """Ends all processes of a user, and removes what it has left in the folders where all may write."""
     end_all_of(user)
-    subprocess.run(["find", *SHARED, "-xdev", "-user", str(user), "-delete"], stderr=subprocess.DEVNULL)
+    subprocess.run(
+        ["find", *SHARED, "-xdev", "-user", str(user), "-delete"],
+        stderr=subprocess.DEVNULL,
+    )
 
 
 def processes_of(user: int) -> List[int]:
@@ -80,8 +95,15 @@ def processes_of(user: int) -> List[int]:
     for process in processes.listed():
         with contextlib.suppress(OSError):
             # a process can choose its name, which stands in the first line, and whose its files are
-            lines = (processes.PROC / str(process) / "status").read_bytes().split(b"\n")[1:]
-            users = [word for line in lines if line.startswith(b"Uid:") for word in line.split()[1:]]
+            lines = (
+                (processes.PROC / str(process) / "status").read_bytes().split(b"\n")[1:]
+            )
+            users = [
+                word
+                for line in lines
+                if line.startswith(b"Uid:")
+                for word in line.split()[1:]
+            ]
             has_ended = any(line.startswith(b"State:\tZ") for line in lines)
             if str(user).encode() in users and not has_ended:
                 found.append(process)

@@ -17,14 +17,20 @@ PAGE = os.sysconf("SC_PAGE_SIZE")
 BYTES_OF_A_FILE = 1024
 # lines of /proc/PROCESS/status: pages of its own and of files, and what tables of pages take; of smaps_rollup the
 # shares of the first; and how maps end that are of shared memory without a name
-OWN, TABLES, SHARES = ("RssAnon:", "RssFile:", "VmSwap:"), ("VmPTE:",), ("Pss_Anon:", "Pss_File:", "SwapPss:")
+OWN, TABLES, SHARES = (
+    ("RssAnon:", "RssFile:", "VmSwap:"),
+    ("VmPTE:",),
+    ("Pss_Anon:", "Pss_File:", "SwapPss:"),
+)
 SHARED = "/dev/zero (deleted)"
 
 
 class MemoryWatch:
     """While it is open, looks at all programs, and ends one that takes too much by its own call."""
 
-    def __init__(self, looks: Sequence[Callable[[], bool]], ends: Sequence[Callable[[str], None]]) -> None:
+    def __init__(
+        self, looks: Sequence[Callable[[], bool]], ends: Sequence[Callable[[str], None]]
+    ) -> None:
         """The first say of each program whether it takes too much."""
         self._looks = looks
         self._ends = ends
@@ -51,22 +57,43 @@ def memory_of(processes: Sequence[int]) -> int:
     """The bytes of memory that these processes take. Who has few addresses takes little; else tables of pages count
     too, and memory that processes share by its size, as what they have given back of it is taken all the same. Pages of
     their own that several have count once, if it may matter."""
-    addresses, resident = (sum(counted(process, "statm", lambda text: int(text.split()[column]) * PAGE)
-                               for process in processes) for column in (0, 1))
+    addresses, resident = (
+        sum(
+            counted(process, "statm", lambda text: int(text.split()[column]) * PAGE)
+            for process in processes
+        )
+        for column in (0, 1)
+    )
     if addresses <= MOST:
         return resident
     shared = sum(sizes_of_shared(processes).values())
-    quick = shared + sum(counted(process, "status", lambda text: bytes_in(text, OWN + TABLES)) for process in processes)
+    quick = shared + sum(
+        counted(process, "status", lambda text: bytes_in(text, OWN + TABLES))
+        for process in processes
+    )
     if quick <= MOST:
         return quick
-    tables = sum(counted(process, "status", lambda text: bytes_in(text, TABLES)) for process in processes)
-    return shared + tables + sum(counted(process, "smaps_rollup", lambda text: bytes_in(text, SHARES))
-                                 for process in processes)
+    tables = sum(
+        counted(process, "status", lambda text: bytes_in(text, TABLES))
+        for process in processes
+    )
+    return (
+        shared
+        + tables
+        + sum(
+            counted(process, "smaps_rollup", lambda text: bytes_in(text, SHARES))
+            for process in processes
+        )
+    )
 
 
 def bytes_in(text: str, names: Sequence[str]) -> int:
     """The bytes that these lines of a text say, in whose numbers stand kilobytes."""
-    return sum(int(line.split()[1]) << 10 for line in text.splitlines() if line.startswith(tuple(names)))
+    return sum(
+        int(line.split()[1]) << 10
+        for line in text.splitlines()
+        if line.startswith(tuple(names))
+    )
 
 
 def sizes_of_shared(processes: Sequence[int]) -> Dict[str, int]:
@@ -74,11 +101,17 @@ def sizes_of_shared(processes: Sequence[int]) -> Dict[str, int]:
     found: Dict[str, int] = {}
     for process in processes:
         with contextlib.suppress(OSError, ValueError):
-            for line in pathlib.Path(f"/proc/{process}/maps").read_text(errors="replace").splitlines():
+            for line in (
+                pathlib.Path(f"/proc/{process}/maps")
+                .read_text(errors="replace")
+                .splitlines()
+            ):
                 if line.endswith(SHARED):
                     place, _, offset, _, number, *_ = line.split()
                     first, last = (int(it, 16) for it in place.split("-"))
-                    found[number] = max(found.get(number, 0), int(offset, 16) + last - first)
+                    found[number] = max(
+                        found.get(number, 0), int(offset, 16) + last - first
+                    )
     return found
 
 
@@ -93,4 +126,6 @@ def counted(process: int, name: str, count: Callable[[str], int]) -> int:
 def space_of(folder: str) -> int:
     """The bytes of memory that a file system in memory takes."""
     found = os.statvfs(folder)
-    return (found.f_blocks - found.f_bfree) * found.f_frsize + (found.f_files - found.f_ffree) * BYTES_OF_A_FILE
+    return (found.f_blocks - found.f_bfree) * found.f_frsize + (
+        found.f_files - found.f_ffree
+    ) * BYTES_OF_A_FILE

@@ -74,7 +74,7 @@ class RunAlone:
 
     def note(self, match: Match) -> None:
         """Notes where the agent is."""
-        self._moves += sum(event["reply"] == GONE for event in match.log[self._read:])
+        self._moves += sum(event["reply"] == GONE for event in match.log[self._read :])
         self._read = len(match.log)
         agent = match.agents[self._agent]
         self.spots.append(Spot(agent.standing, agent.node, agent.port, self._moves))
@@ -87,7 +87,9 @@ class Departure:
         self.turns: List[int] = []
 
     def __call__(self, choices: Sequence[Choice], state: MatchView) -> Choice:
-        if len(self.turns) > MOST_TURNS or any(agent.standing == AWAY for agent in state.match.agents):
+        if len(self.turns) > MOST_TURNS or any(
+            agent.standing == AWAY for agent in state.match.agents
+        ):
             raise ScheduleEnded
         last = self.turns[-1] if self.turns else 1
         choice = max(choices, key=lambda it: it.agent != last)
@@ -119,7 +121,8 @@ class WayOut(NamedTuple):
 
 class Arcs(NamedTuple):
     """The nodes in a line, of which the first ones are explored and the others new. One agent is on a link to the first
-    new node, the other one on a link to the last node. Whose turns led there, and the moves."""
+    new node, the other one on a link to the last node. Whose turns led there, and the moves.
+    """
 
     line: Tuple[int, ...]
     explored: int
@@ -134,12 +137,16 @@ class Arcs(NamedTuple):
 
     def mirrored(self) -> "Arcs":
         """The same seen from the other agent."""
-        explored, new = self.line[:self.explored], self.line[self.explored:]
+        explored, new = self.line[: self.explored], self.line[self.explored :]
         return self._replace(line=explored[::-1] + new[::-1], agent=1 - self.agent)
 
     def after(self, place: int, way: WayOut) -> "Arcs":
         """What the agent's way to a link to the node at this place makes of it."""
-        return self._replace(explored=place, turns=self.turns + (self.agent,) * way.turns, moves=way.moves)
+        return self._replace(
+            explored=place,
+            turns=self.turns + (self.agent,) * way.turns,
+            moves=way.moves,
+        )
 
     def ends(self) -> Tuple[int, int]:
         """The new nodes that the agents are on links to."""
@@ -169,12 +176,16 @@ class Adversary:
         self.game = game
         setup = game.fixture(0).setup
         if setup.agents != AGENTS or setup.dark or set(game.network.degrees()) != {2}:
-            raise NotARing("the adversary plays two agents on a ring without dark links: --network ring:N --agents 2")
+            raise NotARing(
+                "the adversary plays two agents on a ring without dark links: --network ring:N --agents 2"
+            )
         self.nodes = setup.nodes
         self._far = Match(setup).far
         self.around = self._walked(setup.home)
         if len(self.around) != self.nodes:
-            raise NotARing("the adversary plays on one ring, and this network is not connected")
+            raise NotARing(
+                "the adversary plays on one ring, and this network is not connected"
+            )
 
     def _walked(self, home: int) -> List[int]:
         """The nodes in the order in which one comes to them from the home base by its port 0."""
@@ -199,7 +210,13 @@ class Adversary:
         """The match with this black hole after these turns and all that can happen then, and its schedule."""
         played = self.played(hole, turns, ToRest())
         origin = f"adversary{self.game.where()}"
-        return played, schedule_of(self.fixture(hole), self.game.agents, origin, played.choices, self.game.limit)
+        return played, schedule_of(
+            self.fixture(hole),
+            self.game.agents,
+            origin,
+            played.choices,
+            self.game.limit,
+        )
 
     def phases(self) -> Iterator[Phase]:
         """Plays until two nodes are new. Raises Beaten if the team does not find some black hole."""
@@ -215,14 +232,24 @@ class Adversary:
         departure = Departure()
         hole = self.around[1]
         match = self.played(hole, [], departure).match
-        away = [number for number, agent in enumerate(match.agents) if agent.standing == AWAY]
+        away = [
+            number
+            for number, agent in enumerate(match.agents)
+            if agent.standing == AWAY
+        ]
         if not away:
-            spared = next(it for it in self.around[1:] if not any(self._far[v][p][0] == it for v, p in match.accused))
+            spared = next(
+                it
+                for it in self.around[1:]
+                if not any(self._far[v][p][0] == it for v, p in match.accused)
+            )
             raise Beaten("no agent departs", spared, departure.turns)
         agent = match.agents[away[0]]
         first = self._far[agent.node][agent.port][0]
         others = self.around[1:][::-1] if first == self.around[1] else self.around[1:]
-        before = Arcs((self.around[0], *others), 1, 1 - away[0], tuple(departure.turns), 1)
+        before = Arcs(
+            (self.around[0], *others), 1, 1 - away[0], tuple(departure.turns), 1
+        )
         return before.after(1, self.ways(before)[1])
 
     def ways(self, arcs: Arcs) -> Dict[int, WayOut]:
@@ -232,13 +259,24 @@ class Adversary:
         match = self.played(hole, arcs.turns, alone).match
         turns = arcs.turns + (arcs.agent,) * len(alone.spots)
         if [self._far[v][p][0] for v, p in match.accused] != [hole]:
-            raise Beaten(f"agent {arcs.agent} alone does not accuse node {hole}, to which the other agent is on its "
-                         "way", hole, turns)
+            raise Beaten(
+                f"agent {arcs.agent} alone does not accuse node {hole}, to which the other agent is on its "
+                "way",
+                hole,
+                turns,
+            )
         found = self._ways_of(arcs, alone.spots)
-        missed = [place for place in range(arcs.explored, self.nodes - 1) if place not in found]
+        missed = [
+            place
+            for place in range(arcs.explored, self.nodes - 1)
+            if place not in found
+        ]
         if missed:
-            raise Beaten(f"agent {arcs.agent} accuses node {hole} before node {arcs.line[missed[0]]} was reached",
-                         arcs.line[missed[0]], turns)
+            raise Beaten(
+                f"agent {arcs.agent} accuses node {hole} before node {arcs.line[missed[0]]} was reached",
+                arcs.line[missed[0]],
+                turns,
+            )
         return found
 
     def _ways_of(self, arcs: Arcs, spots: Sequence[Spot]) -> Dict[int, WayOut]:
@@ -248,8 +286,13 @@ class Adversary:
         back, front = arcs.explored, arcs.explored
         for count, spot in enumerate(spots):
             if spot.standing == PRESENT:
-                back, front = min(back, place[spot.node]), max(front, place[spot.node] + 1)
-            elif spot.standing == AWAY and place[self._far[spot.node][spot.port][0]] == front < self.nodes - 1:
+                back, front = min(back, place[spot.node]), max(
+                    front, place[spot.node] + 1
+                )
+            elif (
+                spot.standing == AWAY
+                and place[self._far[spot.node][spot.port][0]] == front < self.nodes - 1
+            ):
                 found.setdefault(front, WayOut(count, back, spot.moves))
         return found
 
@@ -259,11 +302,19 @@ class Adversary:
         other = arcs.mirrored()
         ways, other_ways = self.ways(arcs), self.ways(other)
         for place in range(arcs.explored + 1, self.nodes - 1):
-            way, other_way = ways[place], other_ways[self.nodes - 1 + arcs.explored - place]
+            way, other_way = (
+                ways[place],
+                other_ways[self.nodes - 1 + arcs.explored - place],
+            )
             if way.back + other_way.back >= arcs.explored:
-                raise Beaten(f"both agents come to links to node {arcs.line[place]}, and neither can know of the other",
-                             arcs.line[place], arcs.after(place, way).turns + (other.agent,) * other_way.turns)
+                raise Beaten(
+                    f"both agents come to links to node {arcs.line[place]}, and neither can know of the other",
+                    arcs.line[place],
+                    arcs.after(place, way).turns + (other.agent,) * other_way.turns,
+                )
         place = arcs.explored + steps_of(arcs.new)
-        found = [Phase(side.agent, arcs.explored - way.back, side.after(place, way))
-                 for side, way in ((arcs, ways[place]), (other, other_ways[place]))]
+        found = [
+            Phase(side.agent, arcs.explored - way.back, side.after(place, way))
+            for side, way in ((arcs, ways[place]), (other, other_ways[place]))
+        ]
         return max(found, key=lambda it: it.arcs.moves)

@@ -9,7 +9,14 @@ from arena_lab.play.players import DEPARTED, DONE, SLEEPS, WAITS, WAKES, Player,
 from arena_lab.play.agent_files import Script
 from arena_lab.play.teams import INSIDE, AgentWords
 from arena_lab.rules.fixtures import Fixture
-from arena_lab.rules.model import LAST, OVER as TOLD_OVER, command_of, denial, spelled, text_of
+from arena_lab.rules.model import (
+    LAST,
+    OVER as TOLD_OVER,
+    command_of,
+    denial,
+    spelled,
+    text_of,
+)
 from arena_lab.search.history_tree import EARLY, NoFunction
 
 SAYS, SLEEP, STOP, FAIL, LEAVE = "says", "sleeps", "stops", "fails", b'{"do":"leave"}'
@@ -28,7 +35,11 @@ class AgentStep(NamedTuple):
     line: bytes = b""
 
     def __str__(self) -> str:
-        return f"says {self.line.decode(errors='replace')}" if self.does == SAYS else self.does
+        return (
+            f"says {self.line.decode(errors='replace')}"
+            if self.does == SAYS
+            else self.does
+        )
 
 
 class AgentProcess:
@@ -46,7 +57,12 @@ class AgentProcess:
 
     def is_over(self) -> bool:
         """Whether nothing more comes of the program."""
-        return self.has_ended or self.is_denied or self.player.state == DONE or self.player.fault is not None
+        return (
+            self.has_ended
+            or self.is_denied
+            or self.player.state == DONE
+            or self.player.fault is not None
+        )
 
     def step(self) -> AgentStep:
         """What the program does next."""
@@ -59,20 +75,32 @@ class AgentProcess:
             return AgentStep(STOP)
         if player.line is None:
             return AgentStep(SAYS, LEAVE) if self.has_entered else AgentStep(STOP)
-        if type(player.line) is not bytes or not player.line.strip() or b"\n" in player.line:
-            raise NoFunction(f"agent {player.number} sends {player.line!r}, which is no line")
+        if (
+            type(player.line) is not bytes
+            or not player.line.strip()
+            or b"\n" in player.line
+        ):
+            raise NoFunction(
+                f"agent {player.number} sends {player.line!r}, which is no line"
+            )
         return AgentStep(SAYS, player.line)
 
 
 class AgentProcesses:
     """Begins the programs of a team's agents, and tells them what happens."""
 
-    def __init__(self, fixture: Fixture, agents: List[AgentWords], seconds: float) -> None:
+    def __init__(
+        self, fixture: Fixture, agents: List[AgentWords], seconds: float
+    ) -> None:
         self._fixture, self._agents = fixture, agents
         inside = [agent for agent in agents if agent.kind == INSIDE]
-        self._scripts: Dict[str, Script] = {agent.words: agent.script(fixture.setup) for agent in inside}
+        self._scripts: Dict[str, Script] = {
+            agent.words: agent.script(fixture.setup) for agent in inside
+        }
         # the team inside the lab, whose clocks end programs that compute without end
-        self.team, self._outside = Team(fixture.keys, {}, seconds), programs.Team(fixture, {}, seconds)
+        self.team, self._outside = Team(fixture.keys, {}, seconds), programs.Team(
+            fixture, {}, seconds
+        )
         self.start, self.stop = self.team.start, self.team.stop
         # what the programs of all agents inside the lab read and reach
         self.notes = Notes()
@@ -86,7 +114,9 @@ class AgentProcesses:
             one = AgentProcess(player)
             player.go_on()
         else:
-            player = programs.Player(self._outside, agent, words, programs.LocalRunner())
+            player = programs.Player(
+                self._outside, agent, words, programs.LocalRunner()
+            )
             player.start()
             player.begin()
             player.settle()
@@ -100,7 +130,9 @@ class AgentProcesses:
         while ahead:
             self.tell(one, ahead.popleft(), ahead)
 
-    def tell(self, one: AgentProcess, news: str, ahead: Optional[Deque[str]] = None) -> None:
+    def tell(
+        self, one: AgentProcess, news: str, ahead: Optional[Deque[str]] = None
+    ) -> None:
         """Tells a program a line, or wakes it. It may take lines that are ahead."""
         player = one.player
         if player.state == DONE or one.is_denied:
@@ -146,7 +178,10 @@ class AgentProcesses:
         player = one.player
         if one.has_entered or player.state != WAITS or player.line is None:
             return
-        command, own = command_of(text_of(player.line)), self._fixture.keys[player.number]
+        command, own = (
+            command_of(text_of(player.line)),
+            self._fixture.keys[player.number],
+        )
         key = command.get("key")
         if key in self._fixture.keys and key != own:
             player.stop("enters with the key of another agent")

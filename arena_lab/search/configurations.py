@@ -8,7 +8,19 @@ of the node.
 import functools
 import json
 from dataclasses import dataclass
-from typing import Any, Callable, Dict, FrozenSet, List, NamedTuple, Optional, Sequence, Tuple, TypeVar, Union
+from typing import (
+    Any,
+    Callable,
+    Dict,
+    FrozenSet,
+    List,
+    NamedTuple,
+    Optional,
+    Sequence,
+    Tuple,
+    TypeVar,
+    Union,
+)
 
 from arena_lab.play.players import SLEEPS, WAITS
 from arena_lab.rules.model import AWAY, BYE, OUTSIDE, PRESENT, Match, Object, Place
@@ -80,7 +92,12 @@ class World:
 
     def __init__(self, match: Match) -> None:
         setup = match.setup
-        self.nodes, self.home, self.holes, self.dark = setup.nodes, setup.home, tuple(setup.holes), tuple(setup.dark)
+        self.nodes, self.home, self.holes, self.dark = (
+            setup.nodes,
+            setup.home,
+            tuple(setup.holes),
+            tuple(setup.dark),
+        )
         self.agents, self.quota, self.board = setup.agents, setup.quota, setup.board
         self._match = match
 
@@ -97,7 +114,9 @@ class World:
         return self._match.doomed(node, port)
 
 
-def held_after(start: Memory, after: Callable[[Memory, Item], Memory], history: History) -> Memory:
+def held_after(
+    start: Memory, after: Callable[[Memory, Item], Memory], history: History
+) -> Memory:
     """What an agent holds after a history, by what it holds at the start and after one thing more has happened."""
     return functools.reduce(after, reversed(history), start)
 
@@ -113,9 +132,16 @@ class Configurations:
         pasts = state.pasts
         # the link that each agent has accused, by its node and port
         accused = tuple(past.accused[-1] if past.accused else None for past in pasts)
-        return Configuration(tuple(map(position_of, pasts)), tuple(map(self._history, pasts)), state.woken,
-                       tuple(past.agent.used for past in pasts), state.boards, accused,
-                       frozenset().union(*(past.reached for past in pasts)), sum(past.moves for past in pasts))
+        return Configuration(
+            tuple(map(position_of, pasts)),
+            tuple(map(self._history, pasts)),
+            state.woken,
+            tuple(past.agent.used for past in pasts),
+            state.boards,
+            accused,
+            frozenset().union(*(past.reached for past in pasts)),
+            sum(past.moves for past in pasts),
+        )
 
     def _history(self, past: Past) -> History:
         """What has happened to an agent up to a past."""

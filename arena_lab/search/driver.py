@@ -7,7 +7,17 @@ import pickle
 import signal
 import sys
 import time
-from typing import Any, Callable, Dict, Generator, Iterator, List, NamedTuple, Optional, Sequence
+from typing import (
+    Any,
+    Callable,
+    Dict,
+    Generator,
+    Iterator,
+    List,
+    NamedTuple,
+    Optional,
+    Sequence,
+)
 
 from arena_lab.play.agent_files import digests
 from arena_lab.play.parallel import Parallelism
@@ -65,7 +75,12 @@ class LocalMatches:
 
     def __init__(self, job: ExploreJob) -> None:
         self._job, matches = job, job.matches
-        self._machines = Machines(matches.fixtures[0], matches.agents, matches.limit, MERGES if job.check else 0)
+        self._machines = Machines(
+            matches.fixtures[0],
+            matches.agents,
+            matches.limit,
+            MERGES if job.check else 0,
+        )
         self._checks = Checks(self._machines, matches, job.check)
         self._machines.start()
         self.stop, self.read = self._machines.stop, self._machines.read
@@ -73,8 +88,17 @@ class LocalMatches:
     def done(self, number: int, shown: Any = NO_PROGRESS) -> ExploreJobResult:
         """Tries the match of a number, and checks it."""
         fixture, counted = self._job.matches.fixtures[number], self._checks.counted()
-        tried = MatchResult(fixture, asked(self._job.program, fixture, self._machines, self._job.states, shown,
-                                           self._job.draws))
+        tried = MatchResult(
+            fixture,
+            asked(
+                self._job.program,
+                fixture,
+                self._machines,
+                self._job.states,
+                shown,
+                self._job.draws,
+            ),
+        )
         shown.clear()
         if tried.is_whole():
             self._checks.check(fixture, tried.answered.found, shown, number)
@@ -99,8 +123,13 @@ def here(job: ExploreJob) -> LocalMatches:
 class Search:
     """The matches of a game that were tried so far, what was checked of them, and the seconds that it took."""
 
-    def __init__(self, job: ExploreJob, way: Optional[Parallelism] = None, before: Sequence[MatchResult] = (),
-                 after: After = lambda tried, _: tried) -> None:
+    def __init__(
+        self,
+        job: ExploreJob,
+        way: Optional[Parallelism] = None,
+        before: Sequence[MatchResult] = (),
+        after: After = lambda tried, _: tried,
+    ) -> None:
         """This process tries them if no way is named. Those of earlier runs come first, and are not tried again."""
         self.tries: List[MatchResult] = list(before)
         self.checks, self.seconds = Counted(), 0.0
@@ -109,7 +138,9 @@ class Search:
     def tried(self, shown: Any) -> Iterator[MatchResult]:
         """Tries the matches; they come in their order, each once it was checked."""
         started = time.monotonic()
-        with contextlib.closing(self._elsewhere(self._way, shown) if self._way else self._here(shown)) as results:
+        with contextlib.closing(
+            self._elsewhere(self._way, shown) if self._way else self._here(shown)
+        ) as results:
             for result in results:
                 self.checks = self.checks.more(result.counted)
                 tried = self._after(result.tried, shown)
@@ -127,16 +158,26 @@ class Search:
         finally:
             matches.stop()
 
-    def _elsewhere(self, way: Parallelism, shown: Any) -> Generator[ExploreJobResult, None, None]:
+    def _elsewhere(
+        self, way: Parallelism, shown: Any
+    ) -> Generator[ExploreJobResult, None, None]:
         fixtures = self._job.matches.fixtures
-        cases = [NumberedMatch(number) for number in range(len(self.tries), len(fixtures))]
+        cases = [
+            NumberedMatch(number) for number in range(len(self.tries), len(fixtures))
+        ]
         try:
-            with contextlib.closing(way.results(self._job, cases, is_long=True)) as results:
+            with contextlib.closing(
+                way.results(self._job, cases, is_long=True)
+            ) as results:
                 for result in results:
                     if result.fault:
                         raise NoFunction(result.fault)
                     shown.update()
                     yield result.found
         except KeyboardInterrupt:
-            yield ExploreJobResult(MatchResult(fixtures[len(self.tries)], ExploreAnswer(None, 0.0, why=STOPPED)),
-                                   Counted())
+            yield ExploreJobResult(
+                MatchResult(
+                    fixtures[len(self.tries)], ExploreAnswer(None, 0.0, why=STOPPED)
+                ),
+                Counted(),
+            )

@@ -42,14 +42,19 @@ class End(NamedTuple):
 class Explorer:
     """All states of one match. Of each state it keeps the state before it, and the agent that moved."""
 
-    def __init__(self, fixture: Fixture, team: Team, scripts: List[Any], most: int) -> None:
+    def __init__(
+        self, fixture: Fixture, team: Team, scripts: List[Any], most: int
+    ) -> None:
         self.fixture = fixture
         self.worst: Optional[End] = None
         self.most_lost = 0
         self._most = most
         self._match = Match(fixture.setup)
         self._held = set(fixture.held)
-        self._pasts = [Pasts(fixture, number, script, team) for number, script in enumerate(scripts)]
+        self._pasts = [
+            Pasts(fixture, number, script, team)
+            for number, script in enumerate(scripts)
+        ]
         self._seen: Set[Tuple[int, ...]] = set()
         self._before, self._moved = array("q"), array("b")
         self._texts: Dict[str, int] = {}
@@ -93,14 +98,20 @@ class Explorer:
 
     def _start(self) -> HistoryState:
         """How the match stands before anything has happened."""
-        return HistoryState(tuple(it.start for it in self._pasts), ("",) * self.fixture.setup.nodes,
-                     (0,) * len(self._pasts))
+        return HistoryState(
+            tuple(it.start for it in self._pasts),
+            ("",) * self.fixture.setup.nodes,
+            (0,) * len(self._pasts),
+        )
 
     def _new(self, state: HistoryState, before: int, agent: int) -> bool:
         """Numbers a state; answers whether it was not seen before."""
         texts = self._texts
-        key = (*(past.number for past in state.pasts), *(texts.setdefault(text, len(texts)) for text in state.boards),
-               *state.woken)
+        key = (
+            *(past.number for past in state.pasts),
+            *(texts.setdefault(text, len(texts)) for text in state.boards),
+            *state.woken,
+        )
         if key in self._seen:
             return False
         if len(self._before) >= self._most:
@@ -112,14 +123,26 @@ class Explorer:
 
     def _movers(self, state: HistoryState) -> List[int]:
         """The agents whose next steps are to be tried: one that meets nobody by itself."""
-        movers = [agent for agent, past in enumerate(state.pasts) if self._can_move(past, state.woken[agent])]
-        return next(([agent] for agent in movers if state.pasts[agent].is_local), movers)
+        movers = [
+            agent
+            for agent, past in enumerate(state.pasts)
+            if self._can_move(past, state.woken[agent])
+        ]
+        return next(
+            ([agent] for agent in movers if state.pasts[agent].is_local), movers
+        )
 
     def _can_move(self, past: Past, woken: int) -> bool:
         if past.state == TRAVELS:
             agent = past.agent
-            return agent.standing == AWAY and not agent.lost and (agent.node, agent.port) not in self._held
-        return past.state == WAITS or past.state == SLEEPS and woken <= self.fixture.naps
+            return (
+                agent.standing == AWAY
+                and not agent.lost
+                and (agent.node, agent.port) not in self._held
+            )
+        return (
+            past.state == WAITS or past.state == SLEEPS and woken <= self.fixture.naps
+        )
 
     def _after(self, state: HistoryState, agent: int) -> HistoryState:
         """The state after the next step of an agent."""
@@ -127,15 +150,24 @@ class Explorer:
         ahead = self._pasts[agent].node_ahead(past)
         text = state.boards[ahead]
         new, put = self._pasts[agent].step(past, text)
-        pasts = (*state.pasts[:agent], new, *state.pasts[agent + 1:])
+        pasts = (*state.pasts[:agent], new, *state.pasts[agent + 1 :])
         woken = list(state.woken)
-        woken[agent] = 0 if past.state == TRAVELS else woken[agent] + (past.state == SLEEPS)
+        woken[agent] = (
+            0 if past.state == TRAVELS else woken[agent] + (past.state == SLEEPS)
+        )
         if is_blind(new) and not is_blind(past):
             woken[agent] = 0
         if put == text:
             return HistoryState(pasts, state.boards, tuple(woken))
-        woken = [0 if other.agent.node == ahead and not is_blind(other) else it for it, other in zip(woken, pasts)]
-        return HistoryState(pasts, (*state.boards[:ahead], put, *state.boards[ahead + 1:]), tuple(woken))
+        woken = [
+            0 if other.agent.node == ahead and not is_blind(other) else it
+            for it, other in zip(woken, pasts)
+        ]
+        return HistoryState(
+            pasts,
+            (*state.boards[:ahead], put, *state.boards[ahead + 1 :]),
+            tuple(woken),
+        )
 
     def _end(self, state: HistoryState, number: int) -> bool:
         """Judges the match that ends here; answers whether the team fails."""
@@ -144,9 +176,14 @@ class Explorer:
         match.accused = [place for past in state.pasts for place in past.accused]
         match.reached = {node for past in state.pasts for node in past.reached}
         lost = sum(past.agent.lost for past in state.pasts)
-        verdict = Verdict(outcome_of(match), sum(past.moves for past in state.pasts), lost)
+        verdict = Verdict(
+            outcome_of(match), sum(past.moves for past in state.pasts), lost
+        )
         stuck = any(past.state == SLEEPS for past in state.pasts)
-        ended = [own.closed(past) if past.state == TRAVELS else past for own, past in zip(self._pasts, state.pasts)]
+        ended = [
+            own.closed(past) if past.state == TRAVELS else past
+            for own, past in zip(self._pasts, state.pasts)
+        ]
         has_failed = not verdict.is_solved or stuck or any(past.fault for past in ended)
         end = End(has_failed, verdict, number)
         self.most_lost = max(self.most_lost, lost)
@@ -175,13 +212,21 @@ class Explored(NamedTuple):
         """The schedule that comes to its worst end, which there is."""
         assert self.explorer.worst is not None
         choices = self.explorer.schedule(self.explorer.worst.number)
-        return schedule_of(self.explorer.fixture, game.agents, f"explore{game.origin}", choices, game.limit)
+        return schedule_of(
+            self.explorer.fixture,
+            game.agents,
+            f"explore{game.origin}",
+            choices,
+            game.limit,
+        )
 
 
 def check_inside(game: Game) -> None:
     """Refuses agents that are programs, whose states cannot be told apart."""
     if any(agent.kind != INSIDE for agent in game.agents):
-        raise NoAgent("the Python model's search plays Python agents inside the lab: name them by --agent")
+        raise NoAgent(
+            "the Python model's search plays Python agents inside the lab: name them by --agent"
+        )
 
 
 def tried(game: Game, states: int, shown: Any) -> Iterator[Explored]:
@@ -194,10 +239,20 @@ def tried(game: Game, states: int, shown: Any) -> Iterator[Explored]:
             return
 
 
-def explored(fixture: Fixture, agents: Sequence[AgentWords], shown: Any, states: int = MOST_STATES,
-             limit: float = LIMIT, seconds: float = math.inf) -> Explored:
+def explored(
+    fixture: Fixture,
+    agents: Sequence[AgentWords],
+    shown: Any,
+    states: int = MOST_STATES,
+    limit: float = LIMIT,
+    seconds: float = math.inf,
+) -> Explored:
     """Tries the schedules of one match, for this many seconds of a processor."""
-    team, started, until = Team(fixture.keys, {}, limit), time.monotonic(), time.process_time() + seconds
+    team, started, until = (
+        Team(fixture.keys, {}, limit),
+        time.monotonic(),
+        time.process_time() + seconds,
+    )
     team.start()
     try:
         scripts = [agent.script(fixture.setup) for agent in agents]

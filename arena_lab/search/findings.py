@@ -1,6 +1,16 @@
 """What the program finds of the schedules of a match (`arena explore`), each kind as a type of its own."""
 import dataclasses
-from typing import Any, Dict, Mapping, NamedTuple, Optional, Sequence, Tuple, Type, Union
+from typing import (
+    Any,
+    Dict,
+    Mapping,
+    NamedTuple,
+    Optional,
+    Sequence,
+    Tuple,
+    Type,
+    Union,
+)
 
 from arena_lab.rules import model
 from arena_lab.rules.model import Verdict
@@ -75,7 +85,9 @@ def name_of(kind: Type[Any]) -> str:
     return kind.__name__.lower()
 
 
-KINDS: Dict[str, Type[Any]] = {name_of(kind): kind for kind in (*SOLVED, *FAILED, Exceeds)}
+KINDS: Dict[str, Type[Any]] = {
+    name_of(kind): kind for kind in (*SOLVED, *FAILED, Exceeds)
+}
 
 
 class SampleCounts(NamedTuple):
@@ -114,7 +126,11 @@ class ExploreAnswer(NamedTuple):
 
     def module(self, agent: int) -> Optional[ModuleRun]:
         """The module that an agent runs, if the program runs it."""
-        return self.modules[agent if len(self.modules) > 1 else 0] if self.modules else None
+        return (
+            self.modules[agent if len(self.modules) > 1 else 0]
+            if self.modules
+            else None
+        )
 
 
 def frozen(value: Any) -> Any:
@@ -130,26 +146,47 @@ def of_names(told: Mapping[str, Any], names: Tuple[str, ...]) -> Dict[str, Any]:
 def finding_of(told: Mapping[str, Any]) -> Finding:
     """What the first line of a result says."""
     kind = KINDS[told["found"]]
-    found: Finding = kind(**of_names(told, tuple(field.name for field in dataclasses.fields(kind))))
+    found: Finding = kind(
+        **of_names(told, tuple(field.name for field in dataclasses.fields(kind)))
+    )
     return found
 
 
-def answer_of(told: Mapping[str, Any], counts: Mapping[str, Any], modules: Sequence[Mapping[str, Any]], seconds: float,
-              unwoken: int = 0) -> ExploreAnswer:
+def answer_of(
+    told: Mapping[str, Any],
+    counts: Mapping[str, Any],
+    modules: Sequence[Mapping[str, Any]],
+    seconds: float,
+    unwoken: int = 0,
+) -> ExploreAnswer:
     """What the lines of a result say."""
-    return ExploreAnswer(finding_of(told), seconds, counts.get("states"),
-                         SampleCounts(**of_names(counts, SampleCounts._fields)) if "solved" in counts else None,
-                         unwoken=unwoken,
-                         modules=tuple(ModuleRun(**of_names(module, ModuleRun._fields)) for module in modules))
+    return ExploreAnswer(
+        finding_of(told),
+        seconds,
+        counts.get("states"),
+        SampleCounts(**of_names(counts, SampleCounts._fields))
+        if "solved" in counts
+        else None,
+        unwoken=unwoken,
+        modules=tuple(
+            ModuleRun(**of_names(module, ModuleRun._fields)) for module in modules
+        ),
+    )
 
 
 def turns_of(found: Union[Comes, Failed]) -> Turns:
     """The agents whose turns are told, in order."""
-    return found.schedule + found.round if isinstance(found, Endless) else found.schedule
+    return (
+        found.schedule + found.round if isinstance(found, Endless) else found.schedule
+    )
 
 
 def verdict_of(found: Finding) -> Optional[Verdict]:
     """What the schedule that is told comes to, if the program says so."""
     if isinstance(found, Comes):
         return Verdict(model.SOLVED, found.moves, found.lost)
-    return Verdict(found.outcome, found.moves, found.lost) if isinstance(found, Fails) else None
+    return (
+        Verdict(found.outcome, found.moves, found.lost)
+        if isinstance(found, Fails)
+        else None
+    )

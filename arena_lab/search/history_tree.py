@@ -11,7 +11,17 @@ from arena_lab.play.agent_files import Script
 from arena_lab.play.matches import IS_REFUSED, MOST_REFUSED, REFUSED
 from arena_lab.play.players import DONE, SLEEPS, TRAVELS, WAITS, Player, Team
 from arena_lab.rules.fixtures import Fixture, enters_as_another
-from arena_lab.rules.model import AWAY, ENDED, GONE, OVER, AgentState, Place, command_of, spelled, text_of
+from arena_lab.rules.model import (
+    AWAY,
+    ENDED,
+    GONE,
+    OVER,
+    AgentState,
+    Place,
+    command_of,
+    spelled,
+    text_of,
+)
 from arena_lab.rules.rehearsal import Rehearsal
 from arena_lab.support.faults import Fault
 
@@ -29,7 +39,13 @@ class NoFunction(Fault):
 class Past:
     """What one agent has met, and what its program does next."""
 
-    def __init__(self, before: Optional["Past"], heard: Tuple[str, ...], agent: AgentState, is_seated: bool) -> None:
+    def __init__(
+        self,
+        before: Optional["Past"],
+        heard: Tuple[str, ...],
+        agent: AgentState,
+        is_seated: bool,
+    ) -> None:
         self.before = before
         self.heard = heard
         self.agent = agent
@@ -58,7 +74,9 @@ def refused_in_a_row(before: int, heard: Tuple[str, ...]) -> int:
 class Pasts:
     """The pasts of one agent."""
 
-    def __init__(self, fixture: Fixture, number: int, script: Script, team: Team) -> None:
+    def __init__(
+        self, fixture: Fixture, number: int, script: Script, team: Team
+    ) -> None:
         self._alone = Rehearsal(fixture)
         self._fixture = fixture
         self._number = number
@@ -74,7 +92,11 @@ class Pasts:
     def node_ahead(self, past: Past) -> int:
         """The node whose whiteboard the agent's next step meets."""
         agent = past.agent
-        return self._alone.match.far[agent.node][agent.port][0] if past.state == TRAVELS else agent.node
+        return (
+            self._alone.match.far[agent.node][agent.port][0]
+            if past.state == TRAVELS
+            else agent.node
+        )
 
     def step(self, past: Past, board: str) -> Tuple[Past, str]:
         """What comes of the agent's next step: it is answered, it arrives, or it wakes."""
@@ -103,14 +125,21 @@ class Pasts:
         heard = tuple(line for _, line in said)
         if refused_in_a_row(past.refused, heard) >= MOST_REFUSED:
             alone.end(number)
-        return self._next(past, heard, alone.match.agents[number], alone.is_seated(number)), alone.match.boards[ahead]
+        return (
+            self._next(
+                past, heard, alone.match.agents[number], alone.is_seated(number)
+            ),
+            alone.match.boards[ahead],
+        )
 
     def closed(self, past: Past) -> Past:
         """What comes of an agent on a link once it is told that the match is over."""
         self._alone.set_alone(self._number, copy.copy(past.agent), past.is_seated, "")
         return self._next(past, (spelled(OVER),), past.agent, past.is_seated)
 
-    def _next(self, past: Past, heard: Tuple[str, ...], agent: AgentState, is_seated: bool) -> Past:
+    def _next(
+        self, past: Past, heard: Tuple[str, ...], agent: AgentState, is_seated: bool
+    ) -> Past:
         """The past after this one in which the agent has heard these lines, or has woken."""
         found = past.later.get(heard)
         if found is None:
@@ -125,9 +154,14 @@ class Pasts:
         if before.state != SLEEPS and not is_unanswered(before):
             past.accused += tuple(match.accused)
             past.reached |= frozenset(match.reached)
-            past.moves += sum(event["do"] == "depart" and event["reply"] == GONE for event in match.log)
+            past.moves += sum(
+                event["do"] == "depart" and event["reply"] == GONE
+                for event in match.log
+            )
 
-    def _settle(self, past: Past, player: Player, before: Optional[Past] = None) -> None:
+    def _settle(
+        self, past: Past, player: Player, before: Optional[Past] = None
+    ) -> None:
         """Tells the player what it heard last, and keeps what it does next."""
         if before is not None:
             move(player, before, past.heard)
@@ -146,11 +180,15 @@ class Pasts:
         if past.state == TRAVELS:
             return agent.standing == AWAY and match.doomed(agent.node, agent.port)
         if past.state == WAITS:
-            return past.line is None or command_of(text_of(past.line))["do"] not in READS
+            return (
+                past.line is None or command_of(text_of(past.line))["do"] not in READS
+            )
         return False
 
     def _begun(self) -> Player:
-        player = Player(self._team, self._number, self._fixture.keys[self._number], self._script)
+        player = Player(
+            self._team, self._number, self._fixture.keys[self._number], self._script
+        )
         player.go_on()
         return player
 
@@ -167,14 +205,18 @@ class Pasts:
         for before, after in reversed(steps):
             move(player, before, after.heard)
             if (player.state, player.line) != (after.state, after.line):
-                raise NoFunction(f"agent {self._number} sends {player.line!r} where it sent {after.line!r}, having "
-                                 "heard the same: explore needs agents that are functions of what they are told")
+                raise NoFunction(
+                    f"agent {self._number} sends {player.line!r} where it sent {after.line!r}, having "
+                    "heard the same: explore needs agents that are functions of what they are told"
+                )
         return player
 
 
 def is_unanswered(past: Past) -> bool:
     """Whether an agent says something once it has ended: nobody answers it."""
-    return past.state == WAITS and past.line is not None and past.agent.standing == ENDED
+    return (
+        past.state == WAITS and past.line is not None and past.agent.standing == ENDED
+    )
 
 
 def move(player: Player, before: Past, heard: Tuple[str, ...]) -> None:

@@ -48,7 +48,14 @@ class Hunt(NamedTuple):
     def key(self) -> bytes:
         """What is looked for and of whom: Hypothesis keeps its examples by this."""
         game = self.game
-        drawn = game.quota, game.board, game.naps, self.looked_for, self.any_home, *([True] if self.repeats else [])
+        drawn = (
+            game.quota,
+            game.board,
+            game.naps,
+            self.looked_for,
+            self.any_home,
+            *([True] if self.repeats else []),
+        )
         network = game.name, game.network, game.home, game.holes, game.dark, game.match
         return repr((network, drawn, [agent[:2] for agent in game.agents])).encode()
 
@@ -88,16 +95,26 @@ class Hunter:
     def play(self, home: int, hole: int, scheduler: Scheduler) -> Trial:
         """Plays a schedule, and keeps it if it is the best."""
         fixture, game = self._fixture(hole, home), self.asked.game
-        played = play(Rehearsal(fixture), teams.Together(game.agents, fixture, game.limit), scheduler, fixture)
+        played = play(
+            Rehearsal(fixture),
+            teams.Together(game.agents, fixture, game.limit),
+            scheduler,
+            fixture,
+        )
         if self.asked.repeats:
             played = with_repeats(played, game.agents, fixture, game.limit)
         verdict = played.verdict()
-        worth = {FAILURE: 0, MOVES: verdict.moves, LOST: verdict.lost}[self.asked.looked_for]
+        worth = {FAILURE: 0, MOVES: verdict.moves, LOST: verdict.lost}[
+            self.asked.looked_for
+        ]
         trial = Trial(worth, played.has_failed(), fixture, played)
         self.tried += 1
         if trial.has_failed and self.failed_at is None:
             self.failed_at = self.tried
-        if self.best is None or (trial.has_failed, worth) > (self.best.has_failed, self.best.worth):
+        if self.best is None or (trial.has_failed, worth) > (
+            self.best.has_failed,
+            self.best.worth,
+        ):
             self.best = trial
             self._shown.set_postfix_str(str(verdict))
         self._shown.update()
@@ -107,7 +124,10 @@ class Hunter:
         """Plays the schedules that `run` draws, at most half of those that are left, until the team fails under one."""
         first, left = self.asked.seed * DRAWS, self.asked.runs - self.tried
         for number in range(first, first + min(DRAWS, (left + 1) // 2)):
-            home, hole = self._homes[number // self._holes % len(self._homes)], number % self._holes
+            home, hole = (
+                self._homes[number // self._holes % len(self._homes)],
+                number % self._holes,
+            )
             numbers: List[int] = []
             if self.play(home, hole, noted(fair(number), numbers)).has_failed:
                 self._make_small(home, hole, runs_of(numbers))
@@ -115,11 +135,13 @@ class Hunter:
 
     def _make_small(self, home: int, hole: int, runs: Runs) -> None:
         """Makes a schedule small after which the team fails."""
+
         def fails(runs: Runs) -> bool:
             tried = self.play(home, hole, in_runs(runs))
             if tried.has_failed:
                 self.best = tried
             return tried.has_failed
+
         Cut(runs, fails, SMALLER)
 
     def search(self, phases: Sequence[str]) -> None:
@@ -140,34 +162,59 @@ class Hunter:
         if self.best is None:
             raise ValueError("nothing was tried")
         game = self.asked.game
-        return schedule_of(self.best.fixture, game.agents, self.asked.origin(), self.best.played.choices, game.limit)
+        return schedule_of(
+            self.best.fixture,
+            game.agents,
+            self.asked.origin(),
+            self.best.played.choices,
+            game.limit,
+        )
 
     def _database(self) -> Any:
         """Where Hypothesis keeps its examples: in a folder, or as long as the hunt goes on."""
         if self._kept is None:
             stores, folder = needed("hypothesis.database"), self.asked.database
-            self._kept = stores.DirectoryBasedExampleDatabase(folder) if folder else stores.InMemoryExampleDatabase()
+            self._kept = (
+                stores.DirectoryBasedExampleDatabase(folder)
+                if folder
+                else stores.InMemoryExampleDatabase()
+            )
         return self._kept
 
     def _test(self, phases: Sequence[str]) -> Callable[[], None]:
         hypothesis, asked = needed("hypothesis"), self.asked
         given = needed("hypothesis.strategies")
         settings = hypothesis.settings(
-            max_examples=max(1, asked.runs - self.tried), deadline=None, report_multiple_bugs=False, print_blob=False,
-            database=self._database(), verbosity=hypothesis.Verbosity.quiet,
+            max_examples=max(1, asked.runs - self.tried),
+            deadline=None,
+            report_multiple_bugs=False,
+            print_blob=False,
+            database=self._database(),
+            verbosity=hypothesis.Verbosity.quiet,
             suppress_health_check=list(hypothesis.HealthCheck),
-            phases=[hypothesis.Phase[phase] for phase in phases])
+            phases=[hypothesis.Phase[phase] for phase in phases],
+        )
         agents = len(asked.game.agents)
-        blocks = given.tuples(given.integers(0, max(1, agents - 1)), given.integers(1, LONGEST_BLOCK))
+        blocks = given.tuples(
+            given.integers(0, max(1, agents - 1)), given.integers(1, LONGEST_BLOCK)
+        )
 
         def trial(home: int, hole: int, blocks: Blocks) -> None:
             tried = self.play(home, hole, in_runs(blocks))
             hypothesis.target(float(tried.worth))
-            if tried.has_failed or self.wanted is not None and tried.worth >= self.wanted:
+            if (
+                tried.has_failed
+                or self.wanted is not None
+                and tried.worth >= self.wanted
+            ):
                 self.best = tried
                 raise Stop
-        draws = hypothesis.given(given.sampled_from(list(self._homes)), given.integers(0, self._holes - 1),
-                                 given.lists(blocks, max_size=MOST_BLOCKS))
+
+        draws = hypothesis.given(
+            given.sampled_from(list(self._homes)),
+            given.integers(0, self._holes - 1),
+            given.lists(blocks, max_size=MOST_BLOCKS),
+        )
         # a seed takes the database away, so it comes before the settings
         test: Callable[[], None] = settings(hypothesis.seed(asked.seed)(draws(trial)))
         test._hypothesis_internal_database_key = asked.key()  # type: ignore[attr-defined]
@@ -185,7 +232,11 @@ def hunted(hunter: Hunter) -> None:
         if best is not None and not best.has_failed and best.worth > 0:
             hunter.wanted = best.worth
             hunter.search(["reuse", "shrink"])
-            hunter.best = max(hunter.best or best, best, key=lambda trial: (trial.has_failed, trial.worth))
+            hunter.best = max(
+                hunter.best or best,
+                best,
+                key=lambda trial: (trial.has_failed, trial.worth),
+            )
     except KeyboardInterrupt:
         hunter.was_stopped = True
 

@@ -18,7 +18,15 @@ from arena_lab.play.players import DONE, TRAVELS, WAKES, Player
 from arena_lab.play.teams import INSIDE, AgentWords, digests_of, modules_of
 from arena_lab.rules.fixtures import Fixture
 from arena_lab.rules.model import Object, command_of, spelled, text_of
-from arena_lab.search.agent_processes import FAIL, SAYS, STOP, AgentProcess, AgentProcesses, AgentStep, Way
+from arena_lab.search.agent_processes import (
+    FAIL,
+    SAYS,
+    STOP,
+    AgentProcess,
+    AgentProcesses,
+    AgentStep,
+    Way,
+)
 from arena_lab.search.history_tree import NoFunction
 from arena_lab.search.merge_checks import MERGES, MergeChecks
 from arena_lab.search.step_machines import StepMachine, StepMemory
@@ -65,7 +73,13 @@ class Left:
 class Machines:
     """The machines of a team, one for each agent."""
 
-    def __init__(self, fixture: Fixture, agents: List[AgentWords], seconds: float, merges: int = MERGES) -> None:
+    def __init__(
+        self,
+        fixture: Fixture,
+        agents: List[AgentWords],
+        seconds: float,
+        merges: int = MERGES,
+    ) -> None:
         """Of this many merges of declared memories at least all are checked; of more, a sample."""
         self.steps: List[AgentStep] = []
         self.asked = 0
@@ -89,7 +103,11 @@ class Machines:
         self._news: Dict[bytes, str] = {}
         # of each memory what was told first at it, and the memory after it
         self.first: Dict[int, Tuple[str, int]] = {}
-        most = MOST_LEFT if all(agent.kind == INSIDE for agent in agents) else MOST_PROCESSES
+        most = (
+            MOST_LEFT
+            if all(agent.kind == INSIDE for agent in agents)
+            else MOST_PROCESSES
+        )
         self._left = Left(most)
         self._replayed = 0
         self.beside = MergeChecks(self, merges, most // 2)
@@ -108,9 +126,18 @@ class Machines:
         if agent not in self._starts:
             words, way = self._agents[agent], (-1 - agent, "")
             if words.is_step():
-                machine = self._steps.setdefault(words, StepMachine(
-                    words, self._fixture.setup, self._processes.team, self._processes.notes))
-                self._starts[agent] = self._held_as(machine, machine.begin(self._fixture.keys[agent]), way)
+                machine = self._steps.setdefault(
+                    words,
+                    StepMachine(
+                        words,
+                        self._fixture.setup,
+                        self._processes.team,
+                        self._processes.notes,
+                    ),
+                )
+                self._starts[agent] = self._held_as(
+                    machine, machine.begin(self._fixture.keys[agent]), way
+                )
             else:
                 self._starts[agent] = self._number(self._processes.begun(agent), way)
         return self._starts[agent]
@@ -122,9 +149,13 @@ class Machines:
             return found
         if before in self._held:
             machine, held = self._held[before]
-            found = self._after[before, news] = self._held_as(machine, machine.next(held, news), (before, news))
+            found = self._after[before, news] = self._held_as(
+                machine, machine.next(held, news), (before, news)
+            )
             return found
-        found = self._after[before, news] = self._number(self.told((before, news)), (before, news))
+        found = self._after[before, news] = self._number(
+            self.told((before, news)), (before, news)
+        )
         self.first.setdefault(before, (news, found))
         self.beside.answered(before, news, found)
         return found
@@ -134,7 +165,9 @@ class Machines:
         found = self._news.get(told)
         if found is None:
             question = json.loads(b"{" + told)
-            found = self._news[told] = WAKES if "wakes" in question else spelled(question["hears"])
+            found = self._news[told] = (
+                WAKES if "wakes" in question else spelled(question["hears"])
+            )
         return found
 
     def way_to(self, memory: int) -> Tuple[int, List[str]]:
@@ -143,7 +176,10 @@ class Machines:
 
     def steps_to(self, memory: int) -> List[AgentStep]:
         """What the agent did that was played to a memory first: at the start, and after each thing that happened."""
-        return [*(self.steps[before] for before, _ in all_ways(self.ways, memory)[1:]), self.steps[memory]]
+        return [
+            *(self.steps[before] for before, _ in all_ways(self.ways, memory)[1:]),
+            self.steps[memory],
+        ]
 
     def seen_by(self, memory: int) -> Optional[str]:
         """What an agent that was played to a memory is told if it looks and nothing has changed since it saw its node
@@ -154,7 +190,11 @@ class Machines:
             if reply.get("ok") == "here":
                 here = reply
             elif here and reply.get("ok") in ("changed", "written"):
-                said = reply if reply["ok"] == "changed" else json.loads(self.steps[before].line)
+                said = (
+                    reply
+                    if reply["ok"] == "changed"
+                    else json.loads(self.steps[before].line)
+                )
                 here = {**here, "board": said.get("board", said.get("put"))}
         return spelled(here) if here else None
 
@@ -162,7 +202,11 @@ class Machines:
         """What the programs inside the lab read or reach besides replies: each ends a sentence about them."""
         found, notes = set(self._processes.notes.reads), self._processes.notes
         inside = [agent for agent in self._agents if agent.kind == INSIDE]
-        packages = sorted(name[len(PACKAGE):] for name in digests_of(inside) if name.startswith(PACKAGE))
+        packages = sorted(
+            name[len(PACKAGE) :]
+            for name in digests_of(inside)
+            if name.startswith(PACKAGE)
+        )
         if packages:
             found.add(f"share the installed {', '.join(packages)}")
         if notes.reaches:
@@ -194,10 +238,20 @@ class Machines:
     def name_of(self, one: AgentProcess, way: Way) -> bytes:
         """A name of a program's memory, and of what it does next."""
         step, player = one.step(), one.player
-        is_over = step.does == FAIL or player.line is None and bool(step.line) or (
-            step.does == STOP and (player.state != TRAVELS or one.has_ended))
-        declared = None if is_over or isinstance(player, Player) else declared_in(step.line)
-        held = "over" if is_over else (player.number, way if declared is None else declared, player.state)
+        is_over = (
+            step.does == FAIL
+            or player.line is None
+            and bool(step.line)
+            or (step.does == STOP and (player.state != TRAVELS or one.has_ended))
+        )
+        declared = (
+            None if is_over or isinstance(player, Player) else declared_in(step.line)
+        )
+        held = (
+            "over"
+            if is_over
+            else (player.number, way if declared is None else declared, player.state)
+        )
         return hashlib.blake2b(repr((step, held)).encode(), digest_size=24).digest()
 
     def leave(self, memory: int, one: AgentProcess) -> None:
@@ -213,8 +267,10 @@ class Machines:
         one, all_news = self._nearest(memory)
         self._processes.tell_all(one, all_news)
         if one.step() != self.steps[memory]:
-            raise NoFunction(f"agent {one.player.number} does something else when it is played again: explore needs "
-                             "agents that are functions of what they are told")
+            raise NoFunction(
+                f"agent {one.player.number} does something else when it is played again: explore needs "
+                "agents that are functions of what they are told"
+            )
         return one
 
     def _nearest(self, memory: int) -> Tuple[AgentProcess, List[str]]:
@@ -255,7 +311,9 @@ class Machines:
 
     def _held_as(self, machine: StepMachine, held: StepMemory, way: Way) -> int:
         """The number of what an agent holds that is written as a step."""
-        name = hashlib.blake2b(repr((machine.words, held)).encode(errors="replace"), digest_size=24).digest()
+        name = hashlib.blake2b(
+            repr((machine.words, held)).encode(errors="replace"), digest_size=24
+        ).digest()
         number, is_new = self._named(name, way, held.step)
         if is_new:
             self._held[number] = machine, held
@@ -304,4 +362,8 @@ def declared_in(line: bytes) -> Any:
         said = json.loads(line)
     except ValueError:
         return None
-    return json.dumps(said["memory"], sort_keys=True) if isinstance(said, dict) and "memory" in said else None
+    return (
+        json.dumps(said["memory"], sort_keys=True)
+        if isinstance(said, dict) and "memory" in said
+        else None
+    )

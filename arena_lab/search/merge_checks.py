@@ -25,7 +25,11 @@ class MergeChecks:
 
     def __init__(self, machines: Any, merges: int, most_waiting: int) -> None:
         """Of this many merges at least all are checked, unless too many programs wait beside others."""
-        self._machines, self._merges, self._most_waiting = machines, merges, most_waiting
+        self._machines, self._merges, self._most_waiting = (
+            machines,
+            merges,
+            most_waiting,
+        )
         self.merged = self.checked = self.compared = 0
         self._waiting: Dict[int, List[MergedProgram]] = {}
         self._count = 0
@@ -80,8 +84,11 @@ class MergeChecks:
         machines.tell(one, news)
         self.compared += 1
         is_last = second.steps == 1 or one.is_over()
-        if one.step() != machines.steps[after] or is_last and machines.name_of(
-                one, (memory, news)) != machines.names[after]:
+        if (
+            one.step() != machines.steps[after]
+            or is_last
+            and machines.name_of(one, (memory, news)) != machines.names[after]
+        ):
             raise NoFunction(self._difference(second, after))
         self._go_on(after, second._replace(steps=second.steps - 1))
 
@@ -90,8 +97,14 @@ class MergeChecks:
         machines, came = self._machines, second.way
         agent, first = machines.way_to(after)
         step, wanted = second.one.step(), machines.steps[after]
-        does = f"both {step}, and come to different memories" if step == wanted else f"one {wanted}, the other {step}"
+        does = (
+            f"both {step}, and come to different memories"
+            if step == wanted
+            else f"one {wanted}, the other {step}"
+        )
         other = [*machines.way_to(came[0])[1], came[1]] if came[0] >= 0 else []
-        return (f"agent {agent} came to one memory in two ways, and goes on in two: {does}. What it declares leaves "
-                "something out, or it is no function of its memory. The ways: "
-                f"{' '.join(first) or 'nothing'}; {' '.join(other) or 'nothing'}")
+        return (
+            f"agent {agent} came to one memory in two ways, and goes on in two: {does}. What it declares leaves "
+            "something out, or it is no function of its memory. The ways: "
+            f"{' '.join(first) or 'nothing'}; {' '.join(other) or 'nothing'}"
+        )

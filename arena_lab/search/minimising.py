@@ -13,17 +13,21 @@ Runs = List[Tuple[int, int]]
 
 def noted(scheduler: Scheduler, numbers: List[int]) -> Scheduler:
     """The scheduler, which notes the number of each choice that it makes among several."""
+
     def choose(choices: Sequence[Choice], state: MatchView) -> Choice:
         choice = scheduler(choices, state)
         if len(choices) > 1:
             numbers.append(choices.index(choice))
         return choice
+
     return choose
 
 
 def runs_of(numbers: Sequence[int]) -> Runs:
     """Choices by their numbers, as runs."""
-    return tidy([(number, len(list(same))) for number, same in itertools.groupby(numbers)])
+    return tidy(
+        [(number, len(list(same))) for number, same in itertools.groupby(numbers)]
+    )
 
 
 def tidy(runs: Runs) -> Runs:
@@ -50,13 +54,13 @@ def smaller(runs: Runs) -> Iterator[Runs]:
     length = len(runs)
     while length := length // 2:
         for start in range(0, len(runs), length):
-            yield tidy(runs[:start] + runs[start + length:])
+            yield tidy(runs[:start] + runs[start + length :])
     for place, (which, times) in enumerate(runs):
         for less in dict.fromkeys((1, times // 2, times - 1)):
             if 0 < less < times:
-                yield tidy([*runs[:place], (which, less), *runs[place + 1:]])
+                yield tidy([*runs[:place], (which, less), *runs[place + 1 :]])
         for lower in range(which):
-            yield tidy([*runs[:place], (lower, times), *runs[place + 1:]])
+            yield tidy([*runs[:place], (lower, times), *runs[place + 1 :]])
 
 
 ORDINALS = ("first", "second", "third", "fourth", "fifth", "sixth", "seventh", "eighth")
@@ -64,16 +68,29 @@ ORDINALS = ("first", "second", "third", "fourth", "fifth", "sixth", "seventh", "
 
 def in_words(runs: Runs) -> str:
     """A schedule as one says it."""
-    names = [ORDINALS[which] if which < len(ORDINALS) else f"one at place {which + 1}" for which, _ in runs]
-    said = [f"the {name} {'once' if times == 1 else f'{times} times'}" for name, (_, times) in zip(names, runs)]
-    return f"of the agents that can go on, {', then '.join([*said, 'always the first'])}"
+    names = [
+        ORDINALS[which] if which < len(ORDINALS) else f"one at place {which + 1}"
+        for which, _ in runs
+    ]
+    said = [
+        f"the {name} {'once' if times == 1 else f'{times} times'}"
+        for name, (_, times) in zip(names, runs)
+    ]
+    return (
+        f"of the agents that can go on, {', then '.join([*said, 'always the first'])}"
+    )
 
 
 class Cut:
     """A schedule that is made small: the runs that are left, and how many were tried."""
 
-    def __init__(self, runs: Runs, fails: Callable[[Runs], bool], most: int,
-                 is_late: Callable[[], bool] = lambda: False) -> None:
+    def __init__(
+        self,
+        runs: Runs,
+        fails: Callable[[Runs], bool],
+        most: int,
+        is_late: Callable[[], bool] = lambda: False,
+    ) -> None:
         self.runs = runs
         self.tried = 0
         self._fails = fails

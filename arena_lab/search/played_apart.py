@@ -40,33 +40,54 @@ class Told(NamedTuple):
     histories: List[History]
 
 
-def histories_of(machines: Machines, agents: Sequence[AgentWords], first: int) -> List[History]:
+def histories_of(
+    machines: Machines, agents: Sequence[AgentWords], first: int
+) -> List[History]:
     """Histories of agents inside the lab, evenly among the memories from this number on. Functions of this process are
     in no other."""
     numbers = range(first, len(machines.ways))
     found = []
-    for number in numbers[::max(1, len(numbers) // HISTORIES)]:
+    for number in numbers[:: max(1, len(numbers) // HISTORIES)]:
         agent, news = machines.way_to(number)
         if agents[agent].kind == INSIDE and agents[agent].function is None:
             found.append(History(agent, news, machines.steps_to(number)))
     return found[-HISTORIES:]
 
 
-def play_apart(fixture: Fixture, agents: Sequence[AgentWords], seconds: float, histories: List[History],
-               seed: int) -> int:
+def play_apart(
+    fixture: Fixture,
+    agents: Sequence[AgentWords],
+    seconds: float,
+    histories: List[History],
+    seed: int,
+) -> int:
     """Has another process tell the agents these histories, with the order of sets of this seed; gives how many it told
     them."""
     if not histories:
         return 0
     is_there = {history.agent for history in histories}
-    named = [agent if number in is_there else NOBODY for number, agent in enumerate(agents)]
+    named = [
+        agent if number in is_there else NOBODY for number, agent in enumerate(agents)
+    ]
     told = pickle.dumps(Told(fixture, named, seconds, histories))
-    ran = subprocess.run([sys.executable, "-m", __name__], input=told, capture_output=True, check=False,
-                         env={**os.environ, "PYTHONHASHSEED": str(seed), "PYTHONPATH": os.pathsep.join(
-                             [str(TOP), *filter(None, [os.environ.get("PYTHONPATH")])])})
+    ran = subprocess.run(
+        [sys.executable, "-m", __name__],
+        input=told,
+        capture_output=True,
+        check=False,
+        env={
+            **os.environ,
+            "PYTHONHASHSEED": str(seed),
+            "PYTHONPATH": os.pathsep.join(
+                [str(TOP), *filter(None, [os.environ.get("PYTHONPATH")])]
+            ),
+        },
+    )
     if ran.returncode:
-        raise NoFunction("agents that another process tells the same end it: "
-                         f"{ran.stderr.decode(errors='replace').strip()[-200:]}")
+        raise NoFunction(
+            "agents that another process tells the same end it: "
+            f"{ran.stderr.decode(errors='replace').strip()[-200:]}"
+        )
     if ran.stdout:
         raise NoFunction(ran.stdout.decode(errors="replace"))
     return HISTORIES
@@ -81,9 +102,11 @@ def difference(told: Told) -> Optional[str]:
             does = steps_of(told, processes, history)
             for number, (step, wanted) in enumerate(zip(does, history.steps)):
                 if step != wanted:
-                    return (f"agent {history.agent} {step} when it is told the same in another process, after {number} "
-                            f"lines, where it {wanted}: it is no function of what it is told. It may go by a clock, by "
-                            "chance, by the order of a set, or by what another agent has kept")
+                    return (
+                        f"agent {history.agent} {step} when it is told the same in another process, after {number} "
+                        f"lines, where it {wanted}: it is no function of what it is told. It may go by a clock, by "
+                        "chance, by the order of a set, or by what another agent has kept"
+                    )
     except NoFunction as fault:
         return str(fault)
     finally:
@@ -91,7 +114,9 @@ def difference(told: Told) -> Optional[str]:
     return None
 
 
-def steps_of(told: Told, processes: AgentProcesses, history: History) -> Iterator[AgentStep]:
+def steps_of(
+    told: Told, processes: AgentProcesses, history: History
+) -> Iterator[AgentStep]:
     """What an agent does at the start of a history, and after each line of it."""
     words = told.agents[history.agent]
     if words.is_step():

@@ -39,7 +39,14 @@ class SampleRequest(NamedTuple):
 
     def words(self) -> List[str]:
         """The words by which the program draws them."""
-        words = ["--draws", str(self.schedules), "--seed", str(self.seed), "--scheduler", self.scheduler]
+        words = [
+            "--draws",
+            str(self.schedules),
+            "--seed",
+            str(self.seed),
+            "--scheduler",
+            self.scheduler,
+        ]
         return [*words, "--objective", self.hunt] if self.hunt else words
 
 
@@ -69,7 +76,7 @@ class ProgramRun:
         """The lines that answer a question, which is a line of the program."""
         machines = self._machines
         if line.startswith(ASK):
-            number, _, told = line[len(ASK):].partition(b",")
+            number, _, told = line[len(ASK) :].partition(b",")
             before, news = self.back[int(number)], machines.news_in(told)
             memory = self._after[before, news] = machines.next(before, news)
         else:
@@ -78,7 +85,11 @@ class ProgramRun:
         if found is None:
             step = machines.steps[memory]
             said = b"\n%b\n" % step.line if step.does == SAYS else b"\n"
-            found = self._answers[memory] = b"%d %b%b" % (len(self.back), step.does.encode(), said)
+            found = self._answers[memory] = b"%d %b%b" % (
+                len(self.back),
+                step.does.encode(),
+                said,
+            )
             self.back.append(memory)
         return found
 
@@ -87,7 +98,9 @@ class ProgressWatch:
     """Says now and then how long the program works, how much memory it takes and how far it is, also while it asks
     nothing."""
 
-    def __init__(self, child: "subprocess.Popen[bytes]", said: Callable[[str], None]) -> None:
+    def __init__(
+        self, child: "subprocess.Popen[bytes]", said: Callable[[str], None]
+    ) -> None:
         self._child, self._said, self._started = child, said, time.monotonic()
         self._far = ""
         self._ended = threading.Event()
@@ -103,13 +116,17 @@ class ProgressWatch:
 
     def visited(self, told: Object) -> None:
         """Takes what the program tells of how far it is."""
-        states, speed = told["visited"], told["visited"] / max(time.monotonic() - self._started, 1e-9)
+        states, speed = told["visited"], told["visited"] / max(
+            time.monotonic() - self._started, 1e-9
+        )
         self._far = f": {states:,} states, {speed:,.0f} a second, {told['depth']} turns on the path"
 
     def _watch(self) -> None:
         while not self._ended.wait(PAUSE):
             seconds = time.monotonic() - self._started
-            self._said(f"the program works for {seconds:.0f} s and takes {megabytes_of(self._child.pid)} MB{self._far}")
+            self._said(
+                f"the program works for {seconds:.0f} s and takes {megabytes_of(self._child.pid)} MB{self._far}"
+            )
 
 
 def megabytes_of(pid: int) -> int:
@@ -118,27 +135,60 @@ def megabytes_of(pid: int) -> int:
         status = pathlib.Path(f"/proc/{pid}/status").read_text(encoding="utf-8")
     except OSError:
         return 0
-    return next((int(line.split()[1]) // 1024 for line in status.splitlines() if line.startswith("VmRSS")), 0)
+    return next(
+        (
+            int(line.split()[1]) // 1024
+            for line in status.splitlines()
+            if line.startswith("VmRSS")
+        ),
+        0,
+    )
 
 
 def program_words(program: str, fixture: Fixture, most: int) -> List[str]:
     """The command by which a program tries the schedules of a match, and visits at most `most` states. It is run in the
     folder of the match's tournament."""
-    return [program, "explore", "tournament.toml", "0", "--max-states", str(most), "--spurious-wakeups",
-            str(fixture.naps)]
+    return [
+        program,
+        "explore",
+        "tournament.toml",
+        "0",
+        "--max-states",
+        str(most),
+        "--spurious-wakeups",
+        str(fixture.naps),
+    ]
 
 
-def asked(program: str, fixture: Fixture, machines: Machines, most: int, shown: Any = NO_PROGRESS,
-          draws: Optional[SampleRequest] = None) -> ExploreAnswer:
+def asked(
+    program: str,
+    fixture: Fixture,
+    machines: Machines,
+    most: int,
+    shown: Any = NO_PROGRESS,
+    draws: Optional[SampleRequest] = None,
+) -> ExploreAnswer:
     """Lets the program try all schedules of a match, or draw some, and answers its questions. Ctrl-C stops it."""
     started, run, last = time.monotonic(), ProgramRun(machines), []
     # of modules the program says there how far it is, which nobody reads meanwhile
-    with tempfile.TemporaryDirectory(prefix="lab-") as name, tempfile.TemporaryFile() as errors:
+    with tempfile.TemporaryDirectory(
+        prefix="lab-"
+    ) as name, tempfile.TemporaryFile() as errors:
         write_tournament(fixture, pathlib.Path(name))
         words = program_words(program, fixture, most)
-        words += [it for module in machines.modules for it in ("--module", word_of(module, fixture.setup))]
+        words += [
+            it
+            for module in machines.modules
+            for it in ("--module", word_of(module, fixture.setup))
+        ]
         words += draws.words() if draws else []
-        child = subprocess.Popen(words, cwd=name, stdin=subprocess.PIPE, stdout=subprocess.PIPE, stderr=errors)
+        child = subprocess.Popen(
+            words,
+            cwd=name,
+            stdin=subprocess.PIPE,
+            stdout=subprocess.PIPE,
+            stderr=errors,
+        )
         assert child.stdin and child.stdout
         try:
             with ProgressWatch(child, shown.set_postfix_str) as watch:

@@ -15,7 +15,8 @@ def least_moves(nodes: int) -> int:
 
 def more_moves(nodes: int) -> int:
     """The most that the second bound from below gives (`more_moves` of `bhs_bounds`): k n + 3 (n - 2 - f_k) + 4 -
-    f_(k+1) moves for some k with f_k at most n - 2, where f_0, f_1, f_2, .. are 1, 2, 3, 5, 8, .. ."""
+    f_(k+1) moves for some k with f_k at most n - 2, where f_0, f_1, f_2, .. are 1, 2, 3, 5, 8, .. .
+    """
     most, this, following = 0, 1, 2
     for k in itertools.count():
         if this > nodes - 2:

@@ -47,12 +47,20 @@ class SampledProgram:
             # it has ended or travels, and says nothing more or leaves
             return
         if does != step:
-            raise NoFunction(f"after {step_number} choices of a drawn schedule agent {player.number} {does.does} "
-                             f"{does.line!r}, and it answered {step.does} {step.line!r}: it is no function of what "
-                             "it is told, or of the memory that it declares")
+            raise NoFunction(
+                f"after {step_number} choices of a drawn schedule agent {player.number} {does.does} "
+                f"{does.line!r}, and it answered {step.does} {step.line!r}: it is no function of what "
+                "it is told, or of the memory that it declares"
+            )
 
 
-def follow(fixture: Fixture, agents: List[AgentWords], machines: Machines, seed: int, seconds: float) -> int:
+def follow(
+    fixture: Fixture,
+    agents: List[AgentWords],
+    machines: Machines,
+    seed: int,
+    seconds: float,
+) -> int:
     """Plays a drawn schedule, and compares each step; gives how many there were."""
     chance, team = random.Random(seed), Together(agents, fixture, seconds)
     run = MatchRun(Rehearsal(fixture), team, fixture)

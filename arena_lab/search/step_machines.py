@@ -24,16 +24,27 @@ class StepMemory(NamedTuple):
     step: AgentStep
 
 
-START, ENDED, FAILED = name_of(None), StepMemory(OVER, b"", AgentStep(STOP)), StepMemory(OVER, b"", AgentStep(FAIL))
+START, ENDED, FAILED = (
+    name_of(None),
+    StepMemory(OVER, b"", AgentStep(STOP)),
+    StepMemory(OVER, b"", AgentStep(FAIL)),
+)
 
 
 class StepMachine:
     """The machine of all agents with the same step."""
 
-    def __init__(self, agent: AgentWords, setup: Setup, team: Team, notes: Optional[Notes] = None) -> None:
+    def __init__(
+        self, agent: AgentWords, setup: Setup, team: Team, notes: Optional[Notes] = None
+    ) -> None:
         """What the step reads and reaches is noted in these notes."""
         self.words = agent.words
-        self._agent, self._setup, self._team, self._notes = agent, setup, team, notes or Notes()
+        self._agent, self._setup, self._team, self._notes = (
+            agent,
+            setup,
+            team,
+            notes or Notes(),
+        )
         self._modules = OwnModules(0)
         self._loaded: Dict[str, Step] = {}
 
@@ -48,7 +59,9 @@ class StepMachine:
             return ENDED if before.step.does != FAIL else FAILED
         if news == DEPARTED:
             return before._replace(where=AWAY, step=AgentStep(STOP))
-        reply: Object = dict(client_module().WOKE) if news == WAKES else json.loads(news)
+        reply: Object = (
+            dict(client_module().WOKE) if news == WAKES else json.loads(news)
+        )
         if before.where == OUTSIDE and "no" in reply:
             return FAILED
         # in a greenlet, so that the team's clocks end a step that computes without end
@@ -65,7 +78,9 @@ class StepMachine:
         try:
             after, command = self._step()(memory_of(memory), reply)
             name, is_sleeping = name_of(after), command["do"] == "sleep"
-            line = b"" if is_sleeping else client.line_of(command).encode(errors="replace")
+            line = (
+                b"" if is_sleeping else client.line_of(command).encode(errors="replace")
+            )
         except (TooSlow, Exception, SystemExit):
             return FAILED
         return StepMemory(WAITS, name, AgentStep(SLEEP if is_sleeping else SAYS, line))

@@ -27,11 +27,15 @@ def table_of(text: str) -> Dict[str, Any]:
         raise WrongFile(f"it is no TOML: {fault}") from None
 
 
-def values_of(table: Mapping[str, Any], fields: Mapping[str, Field], name: str) -> Dict[str, Any]:
+def values_of(
+    table: Mapping[str, Any], fields: Mapping[str, Field], name: str
+) -> Dict[str, Any]:
     """What a table of this name says under each key. One that has another key is refused."""
     unknown = sorted(set(table) - set(fields))
     if unknown:
-        raise WrongFile(f"{name} has no key {unknown[0]}; its keys are {', '.join(sorted(fields))}")
+        raise WrongFile(
+            f"{name} has no key {unknown[0]}; its keys are {', '.join(sorted(fields))}"
+        )
     return {key: value_of(table, key, field) for key, field in fields.items()}
 
 
@@ -55,7 +59,12 @@ def is_text(value: Any) -> bool:
 
 
 def is_texts(value: Any) -> bool:
-    return isinstance(value, list) and value != [] and all(map(is_text, value)) and len(set(value)) == len(value)
+    return (
+        isinstance(value, list)
+        and value != []
+        and all(map(is_text, value))
+        and len(set(value)) == len(value)
+    )
 
 
 def is_number(value: Any) -> bool:
@@ -74,24 +83,40 @@ FLAG = Field(lambda it: isinstance(it, bool), "true or false", False)
 
 def count(usual: int, unit: str = "") -> Field:
     """A number of these."""
-    return Field(is_count, f"a whole number {f'of {unit} ' if unit else ''}from 1", usual)
+    return Field(
+        is_count, f"a whole number {f'of {unit} ' if unit else ''}from 1", usual
+    )
 
 
 def up_to(most: int, usual: int, least: int = 1) -> Field:
-    return Field(lambda it: is_number(it) and least <= it <= most, f"{least} to {most}", usual)
+    return Field(
+        lambda it: is_number(it) and least <= it <= most, f"{least} to {most}", usual
+    )
 
 
 def one_of(choices: Sequence[str], usual: Any) -> Field:
-    return Field(lambda it: it == usual or it in choices, f"one of {', '.join(choices)}", usual)
+    return Field(
+        lambda it: it == usual or it in choices, f"one of {', '.join(choices)}", usual
+    )
 
 
 def table(name: str, usual: Any) -> Field:
-    return Field(lambda it: it is usual or isinstance(it, dict), f"a table: write [{name}] and its keys below it",
-                 usual)
+    return Field(
+        lambda it: it is usual or isinstance(it, dict),
+        f"a table: write [{name}] and its keys below it",
+        usual,
+    )
 
 
 def tables(name: str, usual: Any = NEEDED) -> Field:
     """One table or more, unless none is the usual."""
+
     def is_right(value: Any) -> bool:
-        return value == usual or isinstance(value, list) and value != [] and all(isinstance(it, dict) for it in value)
+        return (
+            value == usual
+            or isinstance(value, list)
+            and value != []
+            and all(isinstance(it, dict) for it in value)
+        )
+
     return Field(is_right, f"given: write [[{name}]] and its keys below it", usual)

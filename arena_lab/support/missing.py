@@ -10,12 +10,22 @@ import arena_lab
 from arena_lab.support.faults import Fault
 
 PACKAGES = {
-    "greenlet": "python3-greenlet", "hypothesis": "python3-hypothesis", "tqdm": "python3-tqdm",
-    "networkx": "python3-networkx", "numpy": "python3-numpy", "scipy": "python3-scipy",
-    "matplotlib": "python3-matplotlib", "distributed": "python3-distributed", "aiohttp": "python3-aiohttp",
-    "jinja2": "python3-jinja2", "markupsafe": "python3-markupsafe", "django": "python3-django",
-    "rest_framework": "python3-djangorestframework", "waitress": "python3-waitress",
-    "whitenoise": "python3-whitenoise", "psycopg2": "python3-psycopg2",
+    "greenlet": "python3-greenlet",
+    "hypothesis": "python3-hypothesis",
+    "tqdm": "python3-tqdm",
+    "networkx": "python3-networkx",
+    "numpy": "python3-numpy",
+    "scipy": "python3-scipy",
+    "matplotlib": "python3-matplotlib",
+    "distributed": "python3-distributed",
+    "aiohttp": "python3-aiohttp",
+    "jinja2": "python3-jinja2",
+    "markupsafe": "python3-markupsafe",
+    "django": "python3-django",
+    "rest_framework": "python3-djangorestframework",
+    "waitress": "python3-waitress",
+    "whitenoise": "python3-whitenoise",
+    "psycopg2": "python3-psycopg2",
 }
 DEBIANS_PYTHON = "/usr/bin/python3"
 
@@ -26,7 +36,11 @@ class Missing(Fault):
     def __init__(self, modules: Iterable[str]) -> None:
         self.modules = list(dict.fromkeys(modules))
         is_one = len(self.modules) == 1
-        said = f"module {self.modules[0]} is" if is_one else f"modules {', '.join(self.modules)} are"
+        said = (
+            f"module {self.modules[0]} is"
+            if is_one
+            else f"modules {', '.join(self.modules)} are"
+        )
         how = by_pip(self.modules) if in_environment() else by_debian(self.modules)
         super().__init__(f"the Python {said} missing: {how}")
 
@@ -38,14 +52,22 @@ def in_environment() -> bool:
 
 def by_pip(modules: Sequence[str]) -> str:
     what = "it" if len(modules) == 1 else "them"
-    return f"install {what} here by `{sys.executable} -m pip install {' '.join(modules)}`"
+    return (
+        f"install {what} here by `{sys.executable} -m pip install {' '.join(modules)}`"
+    )
 
 
 def by_debian(modules: Sequence[str]) -> str:
     packages = " ".join(PACKAGES[name] for name in modules)
     said = f"install Debian's package{'' if len(modules) == 1 else 's'} by `apt-get install {packages}`"
-    is_debians = pathlib.Path(sys.executable).resolve() == pathlib.Path(DEBIANS_PYTHON).resolve()
-    return said if is_debians else f"{said}, and run the lab by `{arena_lab.called()}`, which takes Debian's Python"
+    is_debians = (
+        pathlib.Path(sys.executable).resolve() == pathlib.Path(DEBIANS_PYTHON).resolve()
+    )
+    return (
+        said
+        if is_debians
+        else f"{said}, and run the lab by `{arena_lab.called()}`, which takes Debian's Python"
+    )
 
 
 def needed(name: str) -> ModuleType:

@@ -25,7 +25,9 @@ NO_PROGRESS = NoProgress()
 
 def bar(total: Optional[int], unit: str) -> Any:
     """A bar of Debian's python3-tqdm. It is silent if standard error is no terminal."""
-    return needed("tqdm").tqdm(total=total, unit=unit, disable=not sys.stderr.isatty(), leave=False)
+    return needed("tqdm").tqdm(
+        total=total, unit=unit, disable=not sys.stderr.isatty(), leave=False
+    )
 
 
 def along(items: Iterable[Item], total: int, unit: str) -> Iterator[Item]:

@@ -15,7 +15,8 @@ class Terminated(BaseException):
 
 def end(lab: int, number: int, frame: Optional[FrameType]) -> None:
     """Interrupts the lab, the process of this number, or ends it and the processes that play for it, whose matches may
-    take minutes. A second signal does not interrupt that. A process that is forked and has not begun to play ends."""
+    take minutes. A second signal does not interrupt that. A process that is forked and has not begun to play ends.
+    """
     if os.getpid() != lab:
         os._exit(128 + number)
     if number == signal.SIGINT:
@@ -29,7 +30,9 @@ def end(lab: int, number: int, frame: Optional[FrameType]) -> None:
 def come_again(dropped: Any) -> None:
     """Has a signal come again if Python has dropped what was raised for it, as it does in what a weak reference, a fork
     or a finalizer calls."""
-    number = {KeyboardInterrupt: signal.SIGINT, Terminated: signal.SIGTERM}.get(dropped.exc_type)
+    number = {KeyboardInterrupt: signal.SIGINT, Terminated: signal.SIGTERM}.get(
+        dropped.exc_type
+    )
     if number is None:
         sys.__unraisablehook__(dropped)
         return

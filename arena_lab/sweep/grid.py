@@ -36,50 +36,99 @@ import functools
 import math
 import pathlib
 import random
-from typing import Any, Callable, Dict, Iterator, List, NamedTuple, Optional, Tuple, Union
+from typing import (
+    Any,
+    Callable,
+    Dict,
+    Iterator,
+    List,
+    NamedTuple,
+    Optional,
+    Tuple,
+    Union,
+)
 
 from arena_lab.play.agent_files import digests
-from arena_lab.play.teams import BOARD, INSIDE, OUTSIDE, QUOTA, AgentWords, agent_named, digests_of
+from arena_lab.play.teams import (
+    BOARD,
+    INSIDE,
+    OUTSIDE,
+    QUOTA,
+    AgentWords,
+    agent_named,
+    digests_of,
+)
 from arena_lab.rules import networks
 from arena_lab.rules.fixtures import Fixture, NoMatch, checked, fixture_of
 from arena_lab.rules.limits import MOST_AGENTS, MOST_BOARD, MOST_QUOTA
 from arena_lab.rules.model import Place, Setup
 from arena_lab.rules.networks import Network, NoNetwork
 from arena_lab.support import fields
-from arena_lab.support.fields import Field, WrongFile, is_count, is_number, is_text, is_texts
+from arena_lab.support.fields import (
+    Field,
+    WrongFile,
+    is_count,
+    is_number,
+    is_text,
+    is_texts,
+)
 
 BY_SEED, DRAWN, ALL, DEGREE = "by seed", "drawn", "all", "degree"
 BOUNDS: Dict[str, Callable[[float], float]] = {
     "2 n log2 n": lambda nodes: 2 * nodes * math.log2(nodes),
     "n log2 n": lambda nodes: nodes * math.log2(nodes),
-    "n^2": lambda nodes: nodes ** 2,
+    "n^2": lambda nodes: nodes**2,
 }
 HOLES_ARE = f'"{BY_SEED}", "{DRAWN}", "{ALL}", how many to draw, or a list of nodes and of lists of nodes'
 PORTS_ARE = '"shuffled:SEED" with a whole number, such as "shuffled:3"'
 
 
 def is_holes(value: Any) -> bool:
-    return value in (BY_SEED, DRAWN, ALL) or is_count(value) or isinstance(value, list) and value != [] and all(
-        is_number(it) or isinstance(it, list) and all(map(is_number, it)) for it in value)
+    return (
+        value in (BY_SEED, DRAWN, ALL)
+        or is_count(value)
+        or isinstance(value, list)
+        and value != []
+        and all(
+            is_number(it) or isinstance(it, list) and all(map(is_number, it))
+            for it in value
+        )
+    )
 
 
 def is_dark(value: Any) -> bool:
     return isinstance(value, list) and all(
-        isinstance(it, list) and len(it) == 2 and all(map(is_number, it)) for it in value)
+        isinstance(it, list) and len(it) == 2 and all(map(is_number, it))
+        for it in value
+    )
 
 
 FIELDS = {
-    "title": fields.TEXT, "networks": Field(is_texts, 'a list of names, such as ["ring:8"]'),
-    "ports": Field(lambda it: it is None or is_text(it), PORTS_ARE, None), "home": Field(is_number, "a node", 0),
+    "title": fields.TEXT,
+    "networks": Field(is_texts, 'a list of names, such as ["ring:8"]'),
+    "ports": Field(lambda it: it is None or is_text(it), PORTS_ARE, None),
+    "home": Field(is_number, "a node", 0),
     "holes": Field(is_holes, HOLES_ARE, BY_SEED),
     "dark": Field(is_dark, "a list of nodes with ports, such as [[0, 1]]", []),
-    "schedulers": Field(is_texts, 'a list of names, such as ["fair"]', ["fair"]), "seeds": fields.count(1),
-    "quota": fields.up_to(MOST_QUOTA, QUOTA), "board": fields.up_to(MOST_BOARD, BOARD, 0),
-    "bound": fields.one_of(list(BOUNDS), None), "team": fields.tables("team"),
+    "schedulers": Field(is_texts, 'a list of names, such as ["fair"]', ["fair"]),
+    "seeds": fields.count(1),
+    "quota": fields.up_to(MOST_QUOTA, QUOTA),
+    "board": fields.up_to(MOST_BOARD, BOARD, 0),
+    "bound": fields.one_of(list(BOUNDS), None),
+    "team": fields.tables("team"),
 }
-AGENTS = Field(lambda it: it == DEGREE or is_count(it) and it <= MOST_AGENTS, f'1 to {MOST_AGENTS}, or "{DEGREE}"', 2)
+AGENTS = Field(
+    lambda it: it == DEGREE or is_count(it) and it <= MOST_AGENTS,
+    f'1 to {MOST_AGENTS}, or "{DEGREE}"',
+    2,
+)
 MAY_BE_TEXT = Field(lambda it: it is None or is_text(it), "a text", None)
-TEAM = {"name": fields.TEXT, "agents": AGENTS, INSIDE: MAY_BE_TEXT, OUTSIDE: MAY_BE_TEXT}
+TEAM = {
+    "name": fields.TEXT,
+    "agents": AGENTS,
+    INSIDE: MAY_BE_TEXT,
+    OUTSIDE: MAY_BE_TEXT,
+}
 
 
 class TeamRow(NamedTuple):
@@ -133,17 +182,36 @@ class Grid(NamedTuple):
                 for team in self.teams:
                     for scheduler in self.schedulers:
                         for seed in range(self.seeds):
-                            yield Case(number, name, holes[seed % len(holes)], team, scheduler, seed)
+                            yield Case(
+                                number,
+                                name,
+                                holes[seed % len(holes)],
+                                team,
+                                scheduler,
+                                seed,
+                            )
                             number += 1
 
     def fixture(self, case: Case) -> Fixture:
         """The match of a run."""
         network, agents = self.networks[case.network], case.team.agents
-        network = network if case.ports is None else networks.shuffled(network, case.ports)
+        network = (
+            network if case.ports is None else networks.shuffled(network, case.ports)
+        )
         count = max(network.degrees()) + 1 if isinstance(agents, str) else agents
         home = self.home if case.home is None else case.home
-        return fixture_of(Setup(network.nodes, network.links, home, list(case.holes), count, self.quota, self.board,
-                                self.dark))
+        return fixture_of(
+            Setup(
+                network.nodes,
+                network.links,
+                home,
+                list(case.holes),
+                count,
+                self.quota,
+                self.board,
+                self.dark,
+            )
+        )
 
     def files(self) -> Dict[str, str]:
         """The digest of each file that the runs depend on."""
@@ -154,12 +222,25 @@ class Grid(NamedTuple):
         """The black holes of a network: each seed takes the next of these lists."""
         if isinstance(self.holes, list):
             return [[holes] for holes in self.holes]
-        others = [node for node in range(self.networks[name].nodes) if node != self.home]
+        others = [
+            node for node in range(self.networks[name].nodes) if node != self.home
+        ]
         chance = random.Random(f"{secret}{name} {self.holes}")
         if self.holes in (BY_SEED, DRAWN):
             is_drawn = secret or self.holes == DRAWN
-            return [[(hole,) for hole in (chance.sample(others, len(others)) if is_drawn else others)]]
-        drawn = others if isinstance(self.holes, str) else sorted(chance.sample(others, min(self.holes, len(others))))
+            return [
+                [
+                    (hole,)
+                    for hole in (
+                        chance.sample(others, len(others)) if is_drawn else others
+                    )
+                ]
+            ]
+        drawn = (
+            others
+            if isinstance(self.holes, str)
+            else sorted(chance.sample(others, min(self.holes, len(others))))
+        )
         return [[(hole,)] for hole in drawn]
 
 
@@ -185,17 +266,29 @@ def text_in(path: pathlib.Path) -> str:
 def grid_of(text: str) -> Grid:
     """The grid that a sweep's text says."""
     said = fields.values_of(fields.table_of(text), FIELDS, "it")
-    rows = fields.unlike([fields.values_of(row, TEAM, "a team") for row in said["team"]], "team")
+    rows = fields.unlike(
+        [fields.values_of(row, TEAM, "a team") for row in said["team"]], "team"
+    )
     return grid_in(said, list(map(team_of, rows)))
 
 
-def grid_in(said: Dict[str, Any], teams: List[TeamRow], folder: pathlib.Path = pathlib.Path()) -> Grid:
+def grid_in(
+    said: Dict[str, Any], teams: List[TeamRow], folder: pathlib.Path = pathlib.Path()
+) -> Grid:
     """The grid of these values and teams. Files of networks are looked for in the folder."""
     ports = ports_in(said["ports"])
     grid = Grid(
-        names=said["networks"], networks={name: numbered(name, ports, folder) for name in said["networks"]},
-        holes=holes_of(said["holes"]), dark=[(v, p) for v, p in said["dark"]], bound=said.get("bound"), teams=teams,
-        **{name: said[name] for name in ("title", "home", "schedulers", "seeds", "quota", "board")})
+        names=said["networks"],
+        networks={name: numbered(name, ports, folder) for name in said["networks"]},
+        holes=holes_of(said["holes"]),
+        dark=[(v, p) for v, p in said["dark"]],
+        bound=said.get("bound"),
+        teams=teams,
+        **{
+            name: said[name]
+            for name in ("title", "home", "schedulers", "seeds", "quota", "board")
+        },
+    )
     check_nodes(grid)
     return grid
 
@@ -213,20 +306,30 @@ def numbered(name: str, ports: Optional[int], folder: pathlib.Path) -> Network:
     try:
         network = networks.named(name if ":" in name else str(folder / name))
     except (KeyError, TypeError, ValueError):
-        raise WrongFile(f"networks has {name}, which is no network file: `arena check` says what is wrong") from None
+        raise WrongFile(
+            f"networks has {name}, which is no network file: `arena check` says what is wrong"
+        ) from None
     return network if ports is None else networks.shuffled(network, ports)
 
 
 def check_nodes(grid: Grid) -> None:
     """Refuses a home base or a black hole that is not in the network."""
-    listed = [hole for holes in grid.holes for hole in holes] if isinstance(grid.holes, list) else []
+    listed = (
+        [hole for holes in grid.holes for hole in holes]
+        if isinstance(grid.holes, list)
+        else []
+    )
     for name, network in grid.networks.items():
         if grid.home >= network.nodes:
-            raise WrongFile(f"home is {grid.home}, and {name} has the nodes 0 to {network.nodes - 1}")
+            raise WrongFile(
+                f"home is {grid.home}, and {name} has the nodes 0 to {network.nodes - 1}"
+            )
         for hole in listed:
             if hole >= network.nodes or hole == grid.home:
-                raise WrongFile(f"holes has {hole}, and a black hole of {name} is a node up to {network.nodes - 1} "
-                                "other than the home base")
+                raise WrongFile(
+                    f"holes has {hole}, and a black hole of {name} is a node up to {network.nodes - 1} "
+                    "other than the home base"
+                )
         check_setups(grid, name, network)
 
 
@@ -234,7 +337,18 @@ def check_setups(grid: Grid, name: str, network: Network) -> None:
     """Refuses dark links that the network does not have, and what is named twice."""
     for holes in grid.holes if isinstance(grid.holes, list) else [()]:
         try:
-            checked(Setup(network.nodes, network.links, grid.home, list(holes), 1, grid.quota, grid.board, grid.dark))
+            checked(
+                Setup(
+                    network.nodes,
+                    network.links,
+                    grid.home,
+                    list(holes),
+                    1,
+                    grid.quota,
+                    grid.board,
+                    grid.dark,
+                )
+            )
         except NoMatch as fault:
             raise WrongFile(f"{name}: {fault}") from None
 
@@ -243,10 +357,16 @@ def team_of(row: Dict[str, Any]) -> TeamRow:
     """The team of a [[team]] table."""
     kinds = [kind for kind in (INSIDE, OUTSIDE) if row[kind] is not None]
     if len(kinds) != 1:
-        raise WrongFile(f"each team needs either {INSIDE} or {OUTSIDE}, the words that play an agent")
+        raise WrongFile(
+            f"each team needs either {INSIDE} or {OUTSIDE}, the words that play an agent"
+        )
     return TeamRow(row["name"], row["agents"], agent_named(kinds[0], row[kinds[0]]))
 
 
 def holes_of(value: Any) -> Any:
     """Black holes as the grid has them: for each match all of them."""
-    return [tuple(sorted(it)) if isinstance(it, list) else (it,) for it in value] if isinstance(value, list) else value
+    return (
+        [tuple(sorted(it)) if isinstance(it, list) else (it,) for it in value]
+        if isinstance(value, list)
+        else value
+    )

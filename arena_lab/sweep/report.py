@@ -1,20 +1,61 @@
 """The report of a sweep: its summary, its plots and its page."""
 import io
-from typing import Any, Callable, Collection, Dict, List, NamedTuple, Optional, Sequence, Tuple
+from typing import (
+    Any,
+    Callable,
+    Collection,
+    Dict,
+    List,
+    NamedTuple,
+    Optional,
+    Sequence,
+    Tuple,
+)
 
 from arena_lab.pages.parts import as_is, filled
 from arena_lab.support.missing import needed
 from arena_lab.sweep.grid import BOUNDS, Grid
 from arena_lab.sweep.statistic import Confidence, spread_of
 
-HEAD = ("network", "nodes", "team", "agents", "scheduler", "runs", "different", "solved", "mean moves",
-        "confidence 95 %", "lower quartile", "median", "upper quartile", "most moves", "its run", "most lost", "bound")
+HEAD = (
+    "network",
+    "nodes",
+    "team",
+    "agents",
+    "scheduler",
+    "runs",
+    "different",
+    "solved",
+    "mean moves",
+    "confidence 95 %",
+    "lower quartile",
+    "median",
+    "upper quartile",
+    "most moves",
+    "its run",
+    "most lost",
+    "bound",
+)
 # what the summary has beside it where the program has tried every schedule, and what the report has of each match
 EVERY = ("every schedule", "its most moves", "its most lost")
-MATCHES = ("network", "team", "black hole", "every schedule", "states", "most moves", "most in runs", "most lost",
-           "most lost in runs")
+MATCHES = (
+    "network",
+    "team",
+    "black hole",
+    "every schedule",
+    "states",
+    "most moves",
+    "most in runs",
+    "most lost",
+    "most lost in runs",
+)
 # what is said of a match under every schedule; of any other word that one fails
-SAID = {"solves": "solves", "limit": "too many states", "exceeds": "may use more than its quota", "": "not tried"}
+SAID = {
+    "solves": "solves",
+    "limit": "too many states",
+    "exceeds": "may use more than its quota",
+    "": "not tried",
+}
 FAILS = "one fails"
 # how many points a curve has
 POINTS = 100
@@ -62,10 +103,26 @@ class RunGroup(NamedTuple):
         """The group as a row of the summary."""
         network, team, scheduler = self.name
         bound = "" if self.bound is None else f"{self.bound:.0f}"
-        return [network, str(self.nodes), team, str(self.agents), scheduler, str(self.runs), str(self.different),
-                str(self.solved), f"{self.moves.mean:.1f}", f"{self.moves.confidence:.1f}", f"{self.moves.low:g}",
-                f"{self.moves.median:g}", f"{self.moves.high:g}", self.worst["moves"], self.worst["run"],
-                str(self.lost), bound, *self.every_cells()]
+        return [
+            network,
+            str(self.nodes),
+            team,
+            str(self.agents),
+            scheduler,
+            str(self.runs),
+            str(self.different),
+            str(self.solved),
+            f"{self.moves.mean:.1f}",
+            f"{self.moves.confidence:.1f}",
+            f"{self.moves.low:g}",
+            f"{self.moves.median:g}",
+            f"{self.moves.high:g}",
+            self.worst["moves"],
+            self.worst["run"],
+            str(self.lost),
+            bound,
+            *self.every_cells(),
+        ]
 
     def every_cells(self) -> List[str]:
         """What is known of every schedule of its matches: nothing if none was tried."""
@@ -73,8 +130,18 @@ class RunGroup(NamedTuple):
             return []
         said = {said_of(row.get("found", "")) for row in self.every}
         if said == {SAID["solves"]}:
-            return [SAID["solves"], *(str(max(int(row[it]) for row in self.every)) for it in ("moves", "lost"))]
-        return [next(it for it in (FAILS, *list(SAID.values())[::-1]) if it in said), "", ""]
+            return [
+                SAID["solves"],
+                *(
+                    str(max(int(row[it]) for row in self.every))
+                    for it in ("moves", "lost")
+                ),
+            ]
+        return [
+            next(it for it in (FAILS, *list(SAID.values())[::-1]) if it in said),
+            "",
+            "",
+        ]
 
     def has_failed(self) -> bool:
         """Whether a run failed, or some schedule of a match fails."""
@@ -99,14 +166,22 @@ def is_solved(row: Row) -> bool:
     return row["outcome"] == "solved" and not row["fault"]
 
 
-def groups_of(rows: Sequence[Row], spec: Grid, every: Sequence[Row] = ()) -> List[RunGroup]:
+def groups_of(
+    rows: Sequence[Row], spec: Grid, every: Sequence[Row] = ()
+) -> List[RunGroup]:
     """The groups of a sweep, in the order of its file, with what was found of every schedule of their matches."""
     found: Dict[Name, List[Row]] = {}
     for row in rows:
-        found.setdefault((row["network"], row["team"], row["scheduler"]), []).append(row)
+        found.setdefault((row["network"], row["team"], row["scheduler"]), []).append(
+            row
+        )
     by_match = {match_of(row): row for row in every}
-    return [group_of(name, members, spec)._replace(every=every_of(members, by_match) if every else ())
-            for name, members in found.items()]
+    return [
+        group_of(name, members, spec)._replace(
+            every=every_of(members, by_match) if every else ()
+        )
+        for name, members in found.items()
+    ]
 
 
 def match_of(row: Row) -> Match:
@@ -124,18 +199,41 @@ def matches(rows: Sequence[Row], every: Sequence[Row]) -> List[Sequence[str]]:
     found: Dict[Match, List[Row]] = {}
     for row in rows:
         found.setdefault(match_of(row), []).append(row)
-    most = {match: [str(max(int(row[it]) for row in of)) for it in ("moves", "lost")] for match, of in found.items()}
-    return [(row["network"], row["team"], row["hole"], said_of(row["found"]), row["states"], row["moves"],
-             most[match_of(row)][0], row["lost"], most[match_of(row)][1]) for row in every]
+    most = {
+        match: [str(max(int(row[it]) for row in of)) for it in ("moves", "lost")]
+        for match, of in found.items()
+    }
+    return [
+        (
+            row["network"],
+            row["team"],
+            row["hole"],
+            said_of(row["found"]),
+            row["states"],
+            row["moves"],
+            most[match_of(row)][0],
+            row["lost"],
+            most[match_of(row)][1],
+        )
+        for row in every
+    ]
 
 
 def group_of(name: Name, rows: List[Row], spec: Grid) -> RunGroup:
     moves = [int(row["moves"]) for row in rows]
     nodes = int(rows[0]["nodes"])
-    return RunGroup(name, nodes, int(rows[0]["agents"]), len(rows), len({row["replay"] for row in rows}),
-                    sum(map(is_solved, rows)), spread_of(moves),
-                 max(rows, key=lambda row: int(row["moves"])), max(int(row["lost"]) for row in rows),
-                 BOUNDS[spec.bound](nodes) if spec.bound else None)
+    return RunGroup(
+        name,
+        nodes,
+        int(rows[0]["agents"]),
+        len(rows),
+        len({row["replay"] for row in rows}),
+        sum(map(is_solved, rows)),
+        spread_of(moves),
+        max(rows, key=lambda row: int(row["moves"])),
+        max(int(row["lost"]) for row in rows),
+        BOUNDS[spec.bound](nodes) if spec.bound else None,
+    )
 
 
 def summary(groups: Sequence[RunGroup]) -> List[Sequence[str]]:
@@ -162,7 +260,12 @@ def rank(row: Row) -> Tuple[bool, int]:
 def is_one_family(spec: Grid) -> bool:
     """Whether the networks are of one kind and differ in size, so that moves can be drawn over nodes."""
     kinds = {name.partition(":")[0] for name in spec.names}
-    return len(kinds) == 1 and len({network.nodes for network in spec.networks.values()}) == len(spec.names) > 1
+    return (
+        len(kinds) == 1
+        and len({network.nodes for network in spec.networks.values()})
+        == len(spec.names)
+        > 1
+    )
 
 
 def places(spec: Grid) -> Dict[str, float]:
@@ -177,9 +280,17 @@ def plot(spec: Grid, groups: Sequence[RunGroup]) -> str:
     figure = new_figure()
     axes = figure.add_subplot()
     spots = places(spec)
-    lines = sorted({group.name[1:] for group in groups}, key=[group.name[1:] for group in groups].index)
+    lines = sorted(
+        {group.name[1:] for group in groups},
+        key=[group.name[1:] for group in groups].index,
+    )
     for number, line in enumerate(lines):
-        draw_line(axes, [group for group in groups if group.name[1:] == line], spots, (number, len(lines), spec))
+        draw_line(
+            axes,
+            [group for group in groups if group.name[1:] == line],
+            spots,
+            (number, len(lines), spec),
+        )
     draw_bound(axes, spec, spots)
     label_axes(axes, spec, spots)
     return svg_of(figure)
@@ -189,7 +300,9 @@ def new_figure() -> Any:
     """A figure that is the same each time it is drawn."""
     matplotlib = needed("matplotlib")
     matplotlib.use("svg")
-    matplotlib.rcParams.update({"svg.hashsalt": "lab", "font.size": 9, "font.family": "DejaVu Sans"})
+    matplotlib.rcParams.update(
+        {"svg.hashsalt": "lab", "font.size": 9, "font.family": "DejaVu Sans"}
+    )
     return needed("matplotlib.figure").Figure(figsize=SIZE, layout="constrained")
 
 
@@ -200,7 +313,12 @@ def svg_of(figure: Any) -> str:
     return "".join(text.getvalue().partition("<svg")[1:])
 
 
-def draw_line(axes: Any, groups: Sequence[RunGroup], spots: Dict[str, float], style: Tuple[int, int, Grid]) -> None:
+def draw_line(
+    axes: Any,
+    groups: Sequence[RunGroup],
+    spots: Dict[str, float],
+    style: Tuple[int, int, Grid],
+) -> None:
     """Draws what one team did under one scheduler."""
     number, count, spec = style
     _, team, scheduler = groups[0].name
@@ -208,11 +326,27 @@ def draw_line(axes: Any, groups: Sequence[RunGroup], spots: Dict[str, float], st
     across = [spots[group.name[0]] + apart for group in groups]
     colour, joined = COLOURS[number % len(COLOURS)], "-" if is_one_family(spec) else ""
     name = scheduler if len(spec.teams) == 1 else f"{team}, {scheduler}"
-    axes.errorbar(across, [group.moves.mean for group in groups], color=colour,
-                  yerr=[group.moves.confidence for group in groups], linestyle=joined, marker="o", markersize=4,
-                  capsize=2, label=f"{name}: mean")
-    axes.plot(across, [int(group.worst["moves"]) for group in groups], color=colour, linestyle="", marker="^",
-              markersize=6, fillstyle="none", label=f"{name}: most")
+    axes.errorbar(
+        across,
+        [group.moves.mean for group in groups],
+        color=colour,
+        yerr=[group.moves.confidence for group in groups],
+        linestyle=joined,
+        marker="o",
+        markersize=4,
+        capsize=2,
+        label=f"{name}: mean",
+    )
+    axes.plot(
+        across,
+        [int(group.worst["moves"]) for group in groups],
+        color=colour,
+        linestyle="",
+        marker="^",
+        markersize=6,
+        fillstyle="none",
+        label=f"{name}: most",
+    )
 
 
 def draw_bound(axes: Any, spec: Grid, spots: Dict[str, float]) -> None:
@@ -224,15 +358,26 @@ def draw_bound(axes: Any, spec: Grid, spots: Dict[str, float]) -> None:
         draw_curve(axes, bound, spots.values(), **style)
     else:
         heights = [bound(spec.networks[name].nodes) for name in spec.names]
-        axes.plot([spots[name] for name in spec.names], heights, linestyle="", marker="_", linewidth=1,
-                  markersize=14, **style)
+        axes.plot(
+            [spots[name] for name in spec.names],
+            heights,
+            linestyle="",
+            marker="_",
+            linewidth=1,
+            markersize=14,
+            **style,
+        )
 
 
-def draw_curve(axes: Any, bound: Callable[[float], float], nodes: Collection[float], **style: Any) -> None:
+def draw_curve(
+    axes: Any, bound: Callable[[float], float], nodes: Collection[float], **style: Any
+) -> None:
     """Draws a bound over the numbers of nodes between the least and the greatest of these."""
     first, last = min(nodes), max(nodes)
     across = [first + (last - first) * point / POINTS for point in range(POINTS + 1)]
-    axes.plot(across, [bound(it) for it in across], linestyle="--", linewidth=1, **style)
+    axes.plot(
+        across, [bound(it) for it in across], linestyle="--", linewidth=1, **style
+    )
 
 
 def label_axes(axes: Any, spec: Grid, spots: Dict[str, float]) -> None:
@@ -258,16 +403,34 @@ def moves_up(axes: Any) -> None:
         axes.spines[side].set_visible(False)
     axes.grid(axis="y", color="#dddddd", linewidth=0.6)
     axes.set_axisbelow(True)
-    axes.legend(frameon=False, fontsize=8, ncols=3, loc="lower left", bbox_to_anchor=(0, 1))
+    axes.legend(
+        frameon=False, fontsize=8, ncols=3, loc="lower left", bbox_to_anchor=(0, 1)
+    )
 
 
-def page(spec: Grid, groups: Sequence[RunGroup], kept: Sequence[KeptRun], engine: str,
-         every: Sequence[Sequence[str]] = ()
-         ) -> str:
+def page(
+    spec: Grid,
+    groups: Sequence[RunGroup],
+    kept: Sequence[KeptRun],
+    engine: str,
+    every: Sequence[Sequence[str]] = (),
+) -> str:
     """The report as one HTML file. Runs that were kept are linked. It has what was found of every schedule of matches,
     if they were tried."""
-    runs, solved = (sum(getattr(group, name) for group in groups) for name in ("runs", "solved"))
+    runs, solved = (
+        sum(getattr(group, name) for group in groups) for name in ("runs", "solved")
+    )
     about = f"{runs} runs, played and judged by {engine}: solved {solved}, failed {runs - solved}."
-    return filled("report.html", title=spec.title, about=about, plot=as_is(plot(spec, groups)),
-                  head=head_of(groups), groups=groups, links={run.row["run"]: run.link for run in kept}, kept=kept,
-                  every_head=MATCHES, every=every, fails=FAILS)
+    return filled(
+        "report.html",
+        title=spec.title,
+        about=about,
+        plot=as_is(plot(spec, groups)),
+        head=head_of(groups),
+        groups=groups,
+        links={run.row["run"]: run.link for run in kept},
+        kept=kept,
+        every_head=MATCHES,
+        every=every,
+        fails=FAILS,
+    )

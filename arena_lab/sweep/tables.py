@@ -19,8 +19,26 @@ from arena_lab.play.parallel import own_digests
 from arena_lab.support.faults import Fault
 from arena_lab.sweep.report import FAULTS, MORE, Row
 
-COLUMNS = ("run", "network", "nodes", "links", "home", "hole", "team", "agents", "scheduler", "seed", "outcome",
-           "moves", "lost", "commands", "events", "replay", "check", "fault")
+COLUMNS = (
+    "run",
+    "network",
+    "nodes",
+    "links",
+    "home",
+    "hole",
+    "team",
+    "agents",
+    "scheduler",
+    "seed",
+    "outcome",
+    "moves",
+    "lost",
+    "commands",
+    "events",
+    "replay",
+    "check",
+    "fault",
+)
 CHECK = COLUMNS.index("check")
 RUNS, MADE = "runs.csv", "made.json"
 # in the record: what agents have read while they played
@@ -42,14 +60,14 @@ def line_of(row: Iterable[str]) -> str:
 def check_of(cells: Sequence[str], columns: Sequence[str] = COLUMNS) -> str:
     """What the column `check` has: digits of the SHA-256 of the row without it."""
     place = columns.index(COLUMNS[CHECK])
-    text = line_of([*cells[:place], *cells[place + 1:]])
+    text = line_of([*cells[:place], *cells[place + 1 :]])
     return hashlib.sha256(text.encode()).hexdigest()[:DIGITS]
 
 
 def checked(cells: Sequence[str], columns: Sequence[str] = COLUMNS) -> List[str]:
     """A row with its check."""
     place = columns.index(COLUMNS[CHECK])
-    return [*cells[:place], check_of(cells, columns), *cells[place + 1:]]
+    return [*cells[:place], check_of(cells, columns), *cells[place + 1 :]]
 
 
 def cells_in(path: pathlib.Path, columns: Sequence[str] = COLUMNS) -> List[List[str]]:
@@ -57,22 +75,33 @@ def cells_in(path: pathlib.Path, columns: Sequence[str] = COLUMNS) -> List[List[
     with path.open(encoding="utf-8", newline="") as file:
         head, *rows = list(csv.reader(file)) or [[]]
     if tuple(head) != tuple(columns):
-        raise NoTable(f"{path}: its first line has other columns than rows of this lab: name another folder")
+        raise NoTable(
+            f"{path}: its first line has other columns than rows of this lab: name another folder"
+        )
     for number, cells in enumerate(rows):
         is_whole = len(cells) >= len(columns) and cells[0] == str(number)
-        if not is_whole or cells[columns.index(COLUMNS[CHECK])] != check_of(cells, columns):
-            raise NoTable(f"{path}: line {number + 2} is not as it was written: name another folder, or remove this "
-                          "line and all below it, and start the same command again")
+        if not is_whole or cells[columns.index(COLUMNS[CHECK])] != check_of(
+            cells, columns
+        ):
+            raise NoTable(
+                f"{path}: line {number + 2} is not as it was written: name another folder, or remove this "
+                "line and all below it, and start the same command again"
+            )
     return rows
 
 
-def check_asked(path: pathlib.Path, rows: Iterable[List[str]], asked: Iterable[List[str]], other: str) -> None:
+def check_asked(
+    path: pathlib.Path,
+    rows: Iterable[List[str]],
+    asked: Iterable[List[str]],
+    other: str,
+) -> None:
     """Refuses rows of other matches than these. The first cells of a row say of which match it is; `other` ends the
     sentence on a row of another one."""
     wanted = iter(asked)
     for number, row in enumerate(rows, 2):
         cells = next(wanted, None)
-        if cells is None or row[:len(cells)] != cells:
+        if cells is None or row[: len(cells)] != cells:
             raise NoTable(f"{path}: line {number} is of another {other}")
 
 
@@ -83,7 +112,7 @@ def rows_in(path: pathlib.Path) -> List[Row]:
 
 def row_of(cells: Sequence[str]) -> Row:
     row: Row = dict(zip(COLUMNS, cells))
-    faults = [it for it in cells[len(COLUMNS) - 1:] if it]
+    faults = [it for it in cells[len(COLUMNS) - 1 :] if it]
     return {**row, FAULTS: faults, MORE: faults[1:]}
 
 
@@ -92,7 +121,7 @@ def done_in(path: pathlib.Path, columns: Sequence[str] = COLUMNS) -> int:
     if not path.exists():
         path.write_text(line_of(columns), encoding="utf-8")
     text = path.read_bytes()
-    whole = text[:text.rfind(b"\n") + 1]
+    whole = text[: text.rfind(b"\n") + 1]
     if whole != text:
         path.write_bytes(whole)
     if not whole:
@@ -102,15 +131,22 @@ def done_in(path: pathlib.Path, columns: Sequence[str] = COLUMNS) -> int:
 
 def made_by(program: Optional[str]) -> Dict[str, Any]:
     """What plays, as far as rows may depend on it: the program, the lab and Python."""
-    return {"lab": own_digests(), "program": imports.digest_of(pathlib.Path(program)) if program else "",
-            "python": sys.version}
+    return {
+        "lab": own_digests(),
+        "program": imports.digest_of(pathlib.Path(program)) if program else "",
+        "python": sys.version,
+    }
 
 
 def differences(before: Any, now: Any, name: str = "") -> List[str]:
     """The names of what differs in two records."""
     if isinstance(before, Mapping) and isinstance(now, Mapping):
         keys = sorted({*before, *now}, key=str)
-        return [it for key in keys for it in differences(before.get(key), now.get(key), str(key))]
+        return [
+            it
+            for key in keys
+            for it in differences(before.get(key), now.get(key), str(key))
+        ]
     return [] if before == now else [name]
 
 
@@ -118,7 +154,9 @@ def changed_in(folder: pathlib.Path, made: Mapping[str, Any]) -> List[str]:
     """What the rows of a folder depend on and is other now, by its names."""
     before = dict(record_in(folder))
     read: Dict[str, str] = before.pop(READ, {})
-    others = [name for name, digest in read.items() if imports.digest_named(name) != digest]
+    others = [
+        name for name, digest in read.items() if imports.digest_named(name) != digest
+    ]
     return differences(before, made) + others
 
 
@@ -131,13 +169,21 @@ def record_in(folder: pathlib.Path) -> Dict[str, Any]:
             raise ValueError
         return found
     except FileNotFoundError:
-        raise NoTable(f"{path}: it is not known of which runs the rows of {folder} are: name another folder") from None
+        raise NoTable(
+            f"{path}: it is not known of which runs the rows of {folder} are: name another folder"
+        ) from None
     except (UnicodeDecodeError, ValueError):
-        raise NoTable(f"{path}: it is not as it was written: name another folder") from None
+        raise NoTable(
+            f"{path}: it is not as it was written: name another folder"
+        ) from None
 
 
-def prepared(folder: pathlib.Path, made: Mapping[str, Any], name: str = RUNS, columns: Sequence[str] = COLUMNS
-             ) -> int:
+def prepared(
+    folder: pathlib.Path,
+    made: Mapping[str, Any],
+    name: str = RUNS,
+    columns: Sequence[str] = COLUMNS,
+) -> int:
     """Makes the folder of a table, or takes up one that was interrupted; gives how many rows are done."""
     folder.mkdir(parents=True, exist_ok=True)
     path = folder / MADE
@@ -145,8 +191,10 @@ def prepared(folder: pathlib.Path, made: Mapping[str, Any], name: str = RUNS, co
         changed = changed_in(folder, made)
         if changed:
             others = f" and {len(changed) - 1} more" if len(changed) > 1 else ""
-            raise NoTable(f"{folder} has rows that were made otherwise: {changed[0]}{others} differ; name another "
-                          "folder by --out, or remove this one")
+            raise NoTable(
+                f"{folder} has rows that were made otherwise: {changed[0]}{others} differ; name another "
+                "folder by --out, or remove this one"
+            )
     else:
         write_record(folder, made)
     return done_in(folder / name, columns)
@@ -155,10 +203,15 @@ def prepared(folder: pathlib.Path, made: Mapping[str, Any], name: str = RUNS, co
 def note_read(folder: pathlib.Path, read: Mapping[str, str]) -> None:
     """Writes down what agents have read, before their row is written; what they have read before must be the same."""
     record = record_in(folder)
-    known = {**{name: digest for name, digest in record.get("files", {}).items()}, **record.get(READ, {})}
+    known = {
+        **{name: digest for name, digest in record.get("files", {}).items()},
+        **record.get(READ, {}),
+    }
     for name, digest in read.items():
         if known.get(name, digest) != digest:
-            raise NoTable(f"{name} has changed while it was played: name another folder by --out, and start again")
+            raise NoTable(
+                f"{name} has changed while it was played: name another folder by --out, and start again"
+            )
     new = {name: digest for name, digest in read.items() if name not in known}
     if new:
         write_record(folder, {**record, READ: {**record.get(READ, {}), **new}})
@@ -182,7 +235,9 @@ def alone_in(folder: pathlib.Path, is_there: bool = False) -> Iterator[None]:
         fcntl.flock(lock, fcntl.LOCK_EX | fcntl.LOCK_NB)
         yield
     except BlockingIOError:
-        raise NoTable(f"another command writes into {folder}: wait until it has ended, or name another folder by "
-                      "--out") from None
+        raise NoTable(
+            f"another command writes into {folder}: wait until it has ended, or name another folder by "
+            "--out"
+        ) from None
     finally:
         os.close(lock)

@@ -24,15 +24,23 @@ def chosen(count: int, wanted: int) -> List[int]:
     return sorted(random.SystemRandom().sample(range(count), wanted))
 
 
-def differing(run: int, before: Sequence[str], now: Sequence[str]) -> Optional[Differing]:
+def differing(
+    run: int, before: Sequence[str], now: Sequence[str]
+) -> Optional[Differing]:
     """How a row differs from what comes out now."""
-    names = [name for name, old, new in zip(COLUMNS, before, now) if old != new and name != "check"]
+    names = [
+        name
+        for name, old, new in zip(COLUMNS, before, now)
+        if old != new and name != "check"
+    ]
     if len(before) != len(now) and "fault" not in names:
         names.append("fault")
     return Differing(run, names) if names else None
 
 
-def compared(numbers: Sequence[int], rows: Sequence[Sequence[str]], results: Iterable[Result]) -> List[Differing]:
+def compared(
+    numbers: Sequence[int], rows: Sequence[Sequence[str]], results: Iterable[Result]
+) -> List[Differing]:
     """The rows of these numbers that come out otherwise."""
     found = []
     for number, result in zip(numbers, along(results, len(numbers), "run")):
@@ -41,9 +49,14 @@ def compared(numbers: Sequence[int], rows: Sequence[Sequence[str]], results: Ite
     return [it for it in found if it]
 
 
-def report_differences(numbers: Sequence[int], total: int, found: Sequence[Differing]) -> int:
+def report_differences(
+    numbers: Sequence[int], total: int, found: Sequence[Differing]
+) -> int:
     """Says what came of it; gives the exit status."""
     for one in found:
-        print(f"run {one.run} comes out otherwise: {', '.join(one.columns)}", file=sys.stderr)
+        print(
+            f"run {one.run} comes out otherwise: {', '.join(one.columns)}",
+            file=sys.stderr,
+        )
     print(f"{len(numbers)} of {total} rows were played again: {len(found)} differ")
     return 1 if found else 0

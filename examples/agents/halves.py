@@ -12,7 +12,12 @@ from client import Agent, play
 
 
 # what an agent is about once it has left the node
-ON_LINK = {"Turns": "Returns", "GoesHome": "NearsHome", "Follows": "Passes", "ComesHome": "NearsBack"}
+ON_LINK = {
+    "Turns": "Returns",
+    "GoesHome": "NearsHome",
+    "Follows": "Passes",
+    "ComesHome": "NearsBack",
+}
 
 
 class Memory(NamedTuple):
@@ -38,7 +43,9 @@ def text_by(side: int, own: int, other: int) -> str:
     right, left = (own, other) if side == 0 else (other, own)
     if right == left == 0:
         return ""
-    return "".join(chr(32 + digit) for digit in (right // 64, right % 64, left // 64, left % 64))
+    return "".join(
+        chr(32 + digit) for digit in (right // 64, right % 64, left // 64, left % 64)
+    )
 
 
 def marks_in(side: int, board: str) -> Tuple[int, int]:
@@ -59,13 +66,21 @@ def does(n: int, m: Memory) -> tuple:
     if m.phase == "Begins":
         return ("enter",)
     if m.phase == "GoesOut" and is_done(m):
-        return ("accuse", m.port) if n - 1 - m.mine - m.theirs == 1 else ("depart", 1 - m.port)
+        return (
+            ("accuse", m.port)
+            if n - 1 - m.mine - m.theirs == 1
+            else ("depart", 1 - m.port)
+        )
     if m.phase == "Writes":
         return ("write", text_by(m.side, m.own, m.other), text_by(m.side, 1, m.other))
     if m.phase == "Tells":
         if n - 1 - m.mine - m.steps == 1:
             return ("accuse", m.port)
-        return ("write", text_by(m.side, m.own, m.other), text_by(m.side, m.own, m.mine + 2))
+        return (
+            "write",
+            text_by(m.side, m.own, m.other),
+            text_by(m.side, m.own, m.mine + 2),
+        )
     return ("depart", m.port)
 
 
@@ -118,11 +133,17 @@ def after_written(n: int, m: Memory) -> Memory:
     if m.phase == "Writes":
         return m._replace(mine=m.mine + 1).to("GoesOut", m.mine, m.port)
     left = n - 1 - m.mine - m.steps
-    return goes_back(m._replace(theirs=m.steps, target=m.mine + left // 2), m.steps, 1 - m.port)
+    return goes_back(
+        m._replace(theirs=m.steps, target=m.mine + left // 2), m.steps, 1 - m.port
+    )
 
 
 def after_changed(n: int, m: Memory, board: str) -> Memory:
-    return learned(n, m, m.port, board) if m.phase == "Writes" else follows(m, m.steps, m.port, board)
+    return (
+        learned(n, m, m.port, board)
+        if m.phase == "Writes"
+        else follows(m, m.steps, m.port, board)
+    )
 
 
 def search(agent: Agent, key: str, nodes: int, side: int) -> None:
@@ -136,7 +157,11 @@ def search(agent: Agent, key: str, nodes: int, side: int) -> None:
             return agent.accuse(step[1])
         elif step[0] == "write":
             swap = agent.write(step[1], step[2])
-            memory = after_written(nodes, memory) if swap.written else after_changed(nodes, memory, swap.board)
+            memory = (
+                after_written(nodes, memory)
+                if swap.written
+                else after_changed(nodes, memory, swap.board)
+            )
         else:
             memory = after_gone(memory)
             here = agent.depart(step[1])

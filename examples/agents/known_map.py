@@ -95,7 +95,9 @@ class Map:
             part = self._part_order(explored, left, first)
             order += part
             left -= set(part)
-            first = next((node for node in sorted(left) if explored & set(self.ports[node])), -1)
+            first = next(
+                (node for node in sorted(left) if explored & set(self.ports[node])), -1
+            )
         return order
 
     def _part_order(self, explored: Nodes, left: Nodes, first: int) -> List[int]:
@@ -113,10 +115,20 @@ class Map:
             spot = order.index(start) + 1
             order[spot:spot] = inner
 
-    def _path(self, explored: Nodes, left: Nodes, order: List[int]) -> Optional[List[int]]:
+    def _path(
+        self, explored: Nodes, left: Nodes, order: List[int]
+    ) -> Optional[List[int]]:
         """A path from a node of the order over new ones to another node of it; None if no new one is a neighbour."""
+
         def near(node: int) -> List[int]:
-            return sorted({-1 if far in explored else far for far in self.ports[node] if far in left | explored})
+            return sorted(
+                {
+                    -1 if far in explored else far
+                    for far in self.ports[node]
+                    if far in left | explored
+                }
+            )
+
         placed = set(order)
         for start in order[:-1]:
             new = next((node for node in near(start) if node not in placed), None)
@@ -135,7 +147,9 @@ class Map:
             raise NotBiconnected(f"without node {start} the network is not connected")
         return None
 
-    def crossings(self, explored: Nodes, part: Sequence[int], start: int) -> List[Crossing]:
+    def crossings(
+        self, explored: Nodes, part: Sequence[int], start: int
+    ) -> List[Crossing]:
         """How the nodes of a part are entered: as in a walk around a tree, in depth first, which begins with the start
         and prefers nodes of the part in their order."""
         rank = {node: number for number, node in enumerate(part)}
@@ -165,7 +179,10 @@ class Map:
         the one that tells begins at the start too."""
         order = self.order_of(explored, first)
         half = (len(order) + 1) // 2
-        told, teller = (tuple(self.crossings(explored, part, start)) for part in (order[:half], order[half:]))
+        told, teller = (
+            tuple(self.crossings(explored, part, start))
+            for part in (order[:half], order[half:])
+        )
         return Plan(explored, (told, teller))
 
 
@@ -259,7 +276,10 @@ class Searcher:
         if kind != "told" or nodes_of(mask) == self.plan.explored:
             return False
         self.safe |= nodes_of(mask)
-        self.plan, self.role = self.map.plan(self.safe, crossing.start, crossing.end), TOLD
+        self.plan, self.role = (
+            self.map.plan(self.safe, crossing.start, crossing.end),
+            TOLD,
+        )
         return True
 
     def divide(self) -> bool:
@@ -280,7 +300,10 @@ class Searcher:
         if self.left() == {crossing.end}:
             self.accuse(crossing.end)
             return False
-        self.plan, self.role = self.map.plan(self.safe, crossing.start, crossing.end), TELLER
+        self.plan, self.role = (
+            self.map.plan(self.safe, crossing.start, crossing.end),
+            TELLER,
+        )
         return True
 
     def left(self) -> Nodes:
@@ -304,7 +327,9 @@ class Searcher:
     def accuse(self, hole: int) -> None:
         """Accuses the black hole, from the nearest safe node beside it."""
         near = [node for node in self.map.ports[hole] if node in self.safe]
-        start = min(near, key=lambda node: (len(self.map.way(self.node, node, self.safe)), node))
+        start = min(
+            near, key=lambda node: (len(self.map.way(self.node, node, self.safe)), node)
+        )
         self.walk(start)
         self.agent.accuse(self.map.ports[start][hole])
 

@@ -64,7 +64,12 @@ class Map:
 
     def ports(self, *states: str) -> List[Place]:
         """The ports in one of these states."""
-        return [(v, p) for v, node in enumerate(self.nodes) for p, state in enumerate(node.ports) if state in states]
+        return [
+            (v, p)
+            for v, node in enumerate(self.nodes)
+            for p, state in enumerate(node.ports)
+            if state in states
+        ]
 
     def is_decided(self, nodes: int, links: int) -> bool:
         """Whether each port that is not on the map leads to the black hole."""
@@ -121,7 +126,9 @@ class Find(NamedTuple):
 class Searcher:
     """One agent of the team, at the home base, with its copy of the map."""
 
-    def __init__(self, agent: Agent, here: Here, sleep: Callable[[float], None]) -> None:
+    def __init__(
+        self, agent: Agent, here: Here, sleep: Callable[[float], None]
+    ) -> None:
         self.agent = agent
         self.sleep = sleep
         self.degree = here.ports
@@ -185,7 +192,9 @@ class Searcher:
         while True:
             now = self.map()
             decided = now.is_decided(nodes, links)
-            place = now.nearest(now.ports(UNTRIED, CLAIMED) if decided else now.ports(UNTRIED))
+            place = now.nearest(
+                now.ports(UNTRIED, CLAIMED) if decided else now.ports(UNTRIED)
+            )
             if place is None and decided:
                 return self.agent.leave()
             if place is None:
@@ -198,14 +207,22 @@ class Searcher:
                 self.try_port(place)
 
 
-def search(agent: Agent, key: str, nodes: int, links: int, sleep: Callable[[float], None] = time.sleep) -> None:
+def search(
+    agent: Agent,
+    key: str,
+    nodes: int,
+    links: int,
+    sleep: Callable[[float], None] = time.sleep,
+) -> None:
     """Enters, searches, and accuses or leaves."""
     try:
         Searcher(agent, agent.enter(key), sleep).run(nodes, links)
     except Spent:
         agent.leave()
     except TooLong:
-        print(f"{key}: the whiteboard at the home base is too small for a map of this network")
+        print(
+            f"{key}: the whiteboard at the home base is too small for a map of this network"
+        )
         agent.leave()
 
 

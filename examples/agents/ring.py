@@ -31,7 +31,10 @@ def field(board: str, side: int) -> str:
 
 def with_field(board: str, side: int, value: str) -> str:
     """The text of a whiteboard that says this of the link on this side, and of the other what it said."""
-    return ", ".join(f"{SIDES[it]} {value if it == side else field(board, it)}" for it in (RIGHT, LEFT))
+    return ", ".join(
+        f"{SIDES[it]} {value if it == side else field(board, it)}"
+        for it in (RIGHT, LEFT)
+    )
 
 
 class Walker:
@@ -111,7 +114,9 @@ class Search:
             if found.startswith("told"):
                 self.theirs = int(found.split()[1])
                 self.target = self.mine + (self.left() + 1) // 2
-            if found == value or walker.swap(with_field(walker.board, self.side, value)):
+            if found == value or walker.swap(
+                with_field(walker.board, self.side, value)
+            ):
                 return True
 
     def explore(self) -> bool:
@@ -140,7 +145,9 @@ class Search:
                 self.theirs += 1
                 continue
             last = self.left() == 1
-            if walker.swap(with_field(walker.board, other, "hole" if last else f"told {self.mine}")):
+            if walker.swap(
+                with_field(walker.board, other, "hole" if last else f"told {self.mine}")
+            ):
                 break
         if last:
             walker.accuse(other)

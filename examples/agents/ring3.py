@@ -38,8 +38,13 @@ def fields(board: str) -> Dict[str, str]:
 @lru_cache(None)
 def walks(left: int) -> int:
     """How often the safe nodes are crossed in the worst case, from a division of what is left until the end. A division
-    into halves costs a way back and a way to the other agent; one into thirds also costs a way to the box and back."""
-    return left - 1 if left < 3 else min(2 + walks((left + 1) // 2), 3 + walks((left + 2) // 3))
+    into halves costs a way back and a way to the other agent; one into thirds also costs a way to the box and back.
+    """
+    return (
+        left - 1
+        if left < 3
+        else min(2 + walks((left + 1) // 2), 3 + walks((left + 2) // 3))
+    )
 
 
 def parts(left: int) -> Tuple[int, int]:
@@ -74,7 +79,9 @@ class Walker:
     def write(self, field: str, value: str) -> bool:
         """Writes a field on the whiteboard, unless somebody wrote there since it was read; then reads it again."""
         said = {**fields(self.board), field: value}
-        swap = self._agent.write(self.board, ", ".join(f"{it} {said[it]}" for it in sorted(said)))
+        swap = self._agent.write(
+            self.board, ", ".join(f"{it} {said[it]}" for it in sorted(said))
+        )
         self.board = swap.board
         return swap.written
 

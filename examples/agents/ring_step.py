@@ -42,13 +42,17 @@ class Memory(NamedTuple):
 Next = Tuple[Memory, Command]
 
 
-def step(memory: Optional[Tuple[Any, ...]], reply: Dict[str, Any], nodes: int) -> Tuple[Tuple[Any, ...], Command]:
+def step(
+    memory: Optional[Tuple[Any, ...]], reply: Dict[str, Any], nodes: int
+) -> Tuple[Tuple[Any, ...], Command]:
     """What the agent knows and does next."""
     if "no" in reply:
         # it has used all its commands
         return memory or (), {"do": "leave"}
     known = Memory() if memory is None else seen(Memory(*memory), reply)
-    now, command = NEXT[known.doing](known._replace(board=reply.get("board", known.board)), reply, nodes)
+    now, command = NEXT[known.doing](
+        known._replace(board=reply.get("board", known.board)), reply, nodes
+    )
     return tuple(now), command
 
 
@@ -70,7 +74,11 @@ def port(at: Memory, side: int) -> int:
 
 def swap(at: Memory, put: str, doing: str) -> Next:
     """Writes on the whiteboard, unless somebody wrote there since it was read."""
-    return at._replace(doing=doing, board=put), {"do": "write", "expect": at.board, "put": put}
+    return at._replace(doing=doing, board=put), {
+        "do": "write",
+        "expect": at.board,
+        "put": put,
+    }
 
 
 def accuse(at: Memory, side: int) -> Next:
@@ -79,11 +87,17 @@ def accuse(at: Memory, side: int) -> Next:
 
 def enters(at: Memory, _reply: Dict[str, Any], nodes: int) -> Next:
     """Chooses the right side, unless the other has chosen it before."""
-    return sets_out(at._replace(side=LEFT), nodes) if at.board else swap(at, with_field("", RIGHT, "going"), "chooses")
+    return (
+        sets_out(at._replace(side=LEFT), nodes)
+        if at.board
+        else swap(at, with_field("", RIGHT, "going"), "chooses")
+    )
 
 
 def chooses(at: Memory, reply: Dict[str, Any], nodes: int) -> Next:
-    return sets_out(at._replace(side=RIGHT if reply["ok"] == "written" else LEFT), nodes)
+    return sets_out(
+        at._replace(side=RIGHT if reply["ok"] == "written" else LEFT), nodes
+    )
 
 
 def sets_out(at: Memory, nodes: int) -> Next:
@@ -107,7 +121,11 @@ def marks(at: Memory, value: str, nodes: int) -> Next:
     if found.startswith("told"):
         at = at._replace(theirs=int(found.split()[1]))
         at = at._replace(target=at.mine + (at.left(nodes) + 1) // 2)
-    return marked(at, value) if found == value else swap(at, with_field(at.board, at.side, value), value)
+    return (
+        marked(at, value)
+        if found == value
+        else swap(at, with_field(at.board, at.side, value), value)
+    )
 
 
 def marked(at: Memory, value: str) -> Next:
@@ -118,7 +136,11 @@ def marked(at: Memory, value: str) -> Next:
 
 def marks_if(value: str) -> Callable[[Memory, Dict[str, Any], int], Next]:
     """Goes on if this was written, and else tries again."""
-    return lambda at, reply, nodes: marked(at, value) if reply["ok"] == "written" else marks(at, value, nodes)
+    return (
+        lambda at, reply, nodes: marked(at, value)
+        if reply["ok"] == "written"
+        else marks(at, value, nodes)
+    )
 
 
 def crosses(at: Memory, _reply: Dict[str, Any], nodes: int) -> Next:
@@ -138,19 +160,34 @@ def tells(at: Memory, reply: Dict[str, Any], nodes: int) -> Next:
         return crosses(at, reply, nodes)
     if at.left(nodes) == 1:
         return accuse(at, 1 - at.side)
-    return returns(at._replace(target=at.mine + at.left(nodes) // 2, steps=at.theirs + at.mine), reply, nodes)
+    return returns(
+        at._replace(target=at.mine + at.left(nodes) // 2, steps=at.theirs + at.mine),
+        reply,
+        nodes,
+    )
 
 
 def returns(at: Memory, _reply: Dict[str, Any], nodes: int) -> Next:
     """Goes back to its last safe node."""
-    return walk(at._replace(steps=at.steps - 1), at.side, "returns") if at.steps else explores(at, nodes)
+    return (
+        walk(at._replace(steps=at.steps - 1), at.side, "returns")
+        if at.steps
+        else explores(at, nodes)
+    )
 
 
 NEXT: Dict[str, Callable[[Memory, Dict[str, Any], int], Next]] = {
-    "enters": enters, "chooses": chooses, "going": marks_if("going"), "safe": marks_if("safe"),
+    "enters": enters,
+    "chooses": chooses,
+    "going": marks_if("going"),
+    "safe": marks_if("safe"),
     "goes out": lambda at, _reply, _nodes: walk(at, 1 - at.side, "comes back"),
     "comes back": lambda at, _reply, nodes: marks(at, "safe", nodes),
-    "goes on": lambda at, _reply, nodes: explores(at, nodes), "crosses": crosses, "tells": tells, "returns": returns}
+    "goes on": lambda at, _reply, nodes: explores(at, nodes),
+    "crosses": crosses,
+    "tells": tells,
+    "returns": returns,
+}
 
 
 if __name__ == "__main__":

@@ -12,7 +12,9 @@ from client import Agent, Here, play
 def text_of(right: int, left: int) -> str:
     if right == left == 0:
         return ""
-    return "".join(chr(32 + digit) for digit in (right // 64, right % 64, left // 64, left % 64))
+    return "".join(
+        chr(32 + digit) for digit in (right // 64, right % 64, left // 64, left % 64)
+    )
 
 
 def numbers_in(board: str) -> "tuple[int, int]":
@@ -41,7 +43,9 @@ def search(agent: Agent, key: str, nodes: int, side: int) -> None:
         theirs = numbers_in(here.board)[1 - side]
         while True:
             old, new = (mine, theirs), (mine + 1, theirs)
-            swap = agent.write(text_of(*old[::1 - 2 * side]), text_of(*new[::1 - 2 * side]))
+            swap = agent.write(
+                text_of(*old[:: 1 - 2 * side]), text_of(*new[:: 1 - 2 * side])
+            )
             if swap.written:
                 break
             theirs = numbers_in(swap.board)[1 - side]

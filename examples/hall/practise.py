@@ -42,34 +42,57 @@ class Hall:
 
     def ask(self, path: str, body: Any = None) -> Any:
         """What the hall answers. If it is asked too often it says how long to wait."""
-        headers = {"Authorization": f"Bearer {self._token}", "Content-Type": "application/json"}
+        headers = {
+            "Authorization": f"Bearer {self._token}",
+            "Content-Type": "application/json",
+        }
         sent = None if body is None else json.dumps(body).encode()
         while True:
             try:
-                asked = urllib.request.Request(f"{self._address}/api{path}", sent, headers)
+                asked = urllib.request.Request(
+                    f"{self._address}/api{path}", sent, headers
+                )
                 with urllib.request.urlopen(asked, timeout=60) as told:
                     self._answered = time.monotonic()
                     return json.load(told)
             except urllib.error.HTTPError as fault:
                 wait = fault.headers.get("Retry-After")
                 if wait is None:
-                    raise SystemExit(f"practise: {json.load(fault).get('error', fault)}") from None
+                    raise SystemExit(
+                        f"practise: {json.load(fault).get('error', fault)}"
+                    ) from None
                 time.sleep(float(wait))
             except (OSError, http.client.HTTPException) as fault:
                 if time.monotonic() - self._answered > PATIENCE:
-                    raise SystemExit(f"practise: {self._address} does not answer: {fault}") from None
+                    raise SystemExit(
+                        f"practise: {self._address} does not answer: {fault}"
+                    ) from None
                 time.sleep(EVERY)
 
 
-def words_of(command: List[str], match: Dict[str, Any], facts: Dict[str, Any], folder: pathlib.Path) -> List[List[str]]:
+def words_of(
+    command: List[str],
+    match: Dict[str, Any],
+    facts: Dict[str, Any],
+    folder: pathlib.Path,
+) -> List[List[str]]:
     """The commands of all agents of a match."""
-    known = {"host": match["host"], "port": match["port"], "nodes": facts["nodes"], "links": facts["links"]}
+    known = {
+        "host": match["host"],
+        "port": match["port"],
+        "nodes": facts["nodes"],
+        "links": facts["links"],
+    }
     if match["map"]:
         path = folder / f"network{match['number']}.toml"
-        path.write_text(f"version = 1\nnodes = {match['map']['nodes']}\nlinks = {match['map']['links']}\n")
+        path.write_text(
+            f"version = 1\nnodes = {match['map']['nodes']}\nlinks = {match['map']['links']}\n"
+        )
         known.update(network=str(path), home=match["map"]["home"])
-    return [[word.format(key=key, agent=agent, **known) for word in command]
-            for agent, key in enumerate(match["keys"])]
+    return [
+        [word.format(key=key, agent=agent, **known) for word in command]
+        for agent, key in enumerate(match["keys"])
+    ]
 
 
 def played(hall: Hall, words: argparse.Namespace) -> Dict[str, Any]:
@@ -82,9 +105,13 @@ def played(hall: Hall, words: argparse.Namespace) -> Dict[str, Any]:
                 now = [match["keys"] for match in attempt["matches"]]
                 if now and now != keys:
                     end(agents)
-                    keys, agents = now, [subprocess.Popen(line) for match in attempt["matches"]
-                                         for line in words_of(words.command, match, attempt["facts"],
-                                                              pathlib.Path(name))]
+                    keys, agents = now, [
+                        subprocess.Popen(line)
+                        for match in attempt["matches"]
+                        for line in words_of(
+                            words.command, match, attempt["facts"], pathlib.Path(name)
+                        )
+                    ]
                 time.sleep(EVERY)
                 attempt = hall.ask(f"/matches/{attempt['id']}")
             return dict(attempt)
@@ -104,23 +131,38 @@ def said_of(verdict: Dict[str, Any]) -> str:
 
 
 def main() -> int:
-    parser = argparse.ArgumentParser(description=__doc__, formatter_class=argparse.RawDescriptionHelpFormatter)
-    parser.add_argument("--times", metavar="N", type=int, default=1, help="how many matches, one after the other (1)")
+    parser = argparse.ArgumentParser(
+        description=__doc__, formatter_class=argparse.RawDescriptionHelpFormatter
+    )
+    parser.add_argument(
+        "--times",
+        metavar="N",
+        type=int,
+        default=1,
+        help="how many matches, one after the other (1)",
+    )
     parser.add_argument("hall", metavar="HALL")
     parser.add_argument("network", metavar="NETWORK")
     parser.add_argument("command", metavar="COMMAND", nargs=argparse.REMAINDER)
     words = parser.parse_args()
     token = os.environ.get("ARENA_TOKEN")
     if not token or not words.command:
-        sys.exit("practise: set ARENA_TOKEN to your team's token, and name the command of an agent: see --help")
+        sys.exit(
+            "practise: set ARENA_TOKEN to your team's token, and name the command of an agent: see --help"
+        )
     # who is ended ends the agents too
     signal.signal(signal.SIGTERM, lambda *_: sys.exit(143))
     hall, solved = Hall(words.hall, token), 0
     for _ in range(words.times):
         attempt = played(hall, words)
         came = ", ".join(map(said_of, attempt["verdicts"]))
-        print(f"attempt {attempt['id']} on {attempt['network']}: {came or attempt['state']}", flush=True)
-        solved += attempt["state"] == "over" and attempt["solved"] == len(attempt["verdicts"])
+        print(
+            f"attempt {attempt['id']} on {attempt['network']}: {came or attempt['state']}",
+            flush=True,
+        )
+        solved += attempt["state"] == "over" and attempt["solved"] == len(
+            attempt["verdicts"]
+        )
     return 0 if solved == words.times else 1
 
 

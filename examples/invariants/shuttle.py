@@ -7,7 +7,17 @@ from typing import NamedTuple, Tuple
 
 from shuttle import numbers_in, text_of
 
-from arena_lab.search.configurations import After, At, Before, Bound, Bounds, Item, Configuration, World, held_after
+from arena_lab.search.configurations import (
+    After,
+    At,
+    Before,
+    Bound,
+    Bounds,
+    Item,
+    Configuration,
+    World,
+    held_after,
+)
 
 BEGINS, GOES_OUT, LEAVES, COMES_BACK, RETURNS, WRITES, ENDS = range(7)
 
@@ -28,17 +38,23 @@ def after(memory: Memory, item: Item) -> Memory:
     reply = item or {}
     phase, steps = memory.phase, memory.steps
     if phase == BEGINS:
-        return memory._replace(theirs=numbers_in(reply["board"])[1 - memory.side], phase=GOES_OUT)
+        return memory._replace(
+            theirs=numbers_in(reply["board"])[1 - memory.side], phase=GOES_OUT
+        )
     if phase == GOES_OUT:
         return memory._replace(phase=ENDS if reply["ok"] == "noted" else LEAVES)
     if phase == LEAVES:
-        return memory._replace(phase=COMES_BACK if steps == memory.mine else GOES_OUT, steps=steps + 1)
+        return memory._replace(
+            phase=COMES_BACK if steps == memory.mine else GOES_OUT, steps=steps + 1
+        )
     if phase == COMES_BACK:
         return memory._replace(phase=RETURNS)
     if phase == RETURNS and steps > 1:
         return memory._replace(phase=COMES_BACK, steps=steps - 1)
     if phase == RETURNS:
-        return memory._replace(theirs=numbers_in(reply["board"])[1 - memory.side], phase=WRITES, steps=0)
+        return memory._replace(
+            theirs=numbers_in(reply["board"])[1 - memory.side], phase=WRITES, steps=0
+        )
     if phase == WRITES and reply["ok"] == "written":
         return memory._replace(mine=memory.mine + 1, phase=GOES_OUT)
     if phase == WRITES:
@@ -48,7 +64,9 @@ def after(memory: Memory, item: Item) -> Memory:
 
 def memories(picture: Configuration) -> Tuple[Memory, Memory]:
     """What both agents hold."""
-    one, other = (held_after(Memory(side), after, picture.history[side]) for side in (0, 1))
+    one, other = (
+        held_after(Memory(side), after, picture.history[side]) for side in (0, 1)
+    )
     return one, other
 
 
@@ -63,7 +81,11 @@ def end_of(world: World, side: int, steps: int) -> Tuple[int, int]:
 
 def distance(world: World, side: int) -> int:
     """How many steps from the home base the black hole is on a side."""
-    return next(steps for steps in range(world.nodes) if end_of(world, side, steps)[0] in world.holes)
+    return next(
+        steps
+        for steps in range(world.nodes)
+        if end_of(world, side, steps)[0] in world.holes
+    )
 
 
 def is_placed(world: World, picture: Configuration, memory: Memory) -> bool:
@@ -72,15 +94,22 @@ def is_placed(world: World, picture: Configuration, memory: Memory) -> bool:
     position, accused = picture.position[side], picture.accused[side]
     node, ahead = end_of(world, side, steps)
     if phase == ENDS:
-        is_last = mine + 1 == distance(world, side) and mine + memory.theirs + 2 == world.nodes
+        is_last = (
+            mine + 1 == distance(world, side)
+            and mine + memory.theirs + 2 == world.nodes
+        )
         return position == After() and is_last and accused == end_of(world, side, mine)
     if accused is not None:
         return False
     if phase == BEGINS:
         return position == Before()
     if phase in (LEAVES, RETURNS):
-        is_paid = phase == RETURNS or steps < mine or mine + memory.theirs + 3 <= world.nodes
-        return position == Bound(node, ahead if phase == LEAVES else 1 - ahead) and is_paid
+        is_paid = (
+            phase == RETURNS or steps < mine or mine + memory.theirs + 3 <= world.nodes
+        )
+        return (
+            position == Bound(node, ahead if phase == LEAVES else 1 - ahead) and is_paid
+        )
     return isinstance(position, At) and position.node == node
 
 
@@ -92,17 +121,31 @@ def comes_home(memory: Memory) -> bool:
 def is_fit(world: World, picture: Configuration, memory: Memory) -> bool:
     """What holds of one agent."""
     come = memory.mine + comes_home(memory)
-    is_known = all(end_of(world, memory.side, steps)[0] in picture.reached for steps in range(1, come + 1))
+    is_known = all(
+        end_of(world, memory.side, steps)[0] in picture.reached
+        for steps in range(1, come + 1)
+    )
     most = memory.mine + (memory.phase in (COMES_BACK, RETURNS))
-    return is_placed(world, picture, memory) and come < distance(world, memory.side) and is_known \
+    return (
+        is_placed(world, picture, memory)
+        and come < distance(world, memory.side)
+        and is_known
         and memory.steps <= most
+    )
 
 
 def trip(memory: Memory) -> int:
     """How many moves an agent has made since it has written last."""
     steps, back = memory.steps, 2 * (memory.mine + 1) - memory.steps
-    return {BEGINS: 0, GOES_OUT: steps, LEAVES: steps + 1, COMES_BACK: back, RETURNS: back + 1,
-            WRITES: 2 * (memory.mine + 1), ENDS: memory.mine}[memory.phase]
+    return {
+        BEGINS: 0,
+        GOES_OUT: steps,
+        LEAVES: steps + 1,
+        COMES_BACK: back,
+        RETURNS: back + 1,
+        WRITES: 2 * (memory.mine + 1),
+        ENDS: memory.mine,
+    }[memory.phase]
 
 
 def spent(memory: Memory) -> int:
@@ -112,18 +155,28 @@ def spent(memory: Memory) -> int:
 
 def holds(world: World, picture: Configuration) -> bool:
     one, other = memories(picture)
-    return (is_fit(world, picture, one) and is_fit(world, picture, other)
-            and one.theirs <= other.mine and other.theirs <= one.mine
-            and (one.theirs == other.mine or other.theirs == one.mine)
-            and picture.shown[world.home] == text_of(one.mine, other.mine)
-            and picture.moves == spent(one) + spent(other))
+    return (
+        is_fit(world, picture, one)
+        and is_fit(world, picture, other)
+        and one.theirs <= other.mine
+        and other.theirs <= one.mine
+        and (one.theirs == other.mine or other.theirs == one.mine)
+        and picture.shown[world.home] == text_of(one.mine, other.mine)
+        and picture.moves == spent(one) + spent(other)
+    )
 
 
 def progress(memory: Memory) -> int:
     """How many turns an agent has had that moved: two a move but for the one that it is about, what it has written and
     learned, its entering and its accusing."""
     paces = 2 * spent(memory) - (memory.phase in (LEAVES, RETURNS))
-    return paces + memory.mine + memory.theirs + (memory.phase != BEGINS) + (memory.phase == ENDS)
+    return (
+        paces
+        + memory.mine
+        + memory.theirs
+        + (memory.phase != BEGINS)
+        + (memory.phase == ENDS)
+    )
 
 
 def commands_on(world: World, side: int) -> int:
@@ -134,7 +187,12 @@ def commands_on(world: World, side: int) -> int:
 def bounds(world: World) -> Bounds:
     squares = [distance(world, side) ** 2 for side in (0, 1)]
     commands = [commands_on(world, side) for side in (0, 1)]
-    return Bounds(moves=sum(squares) - 1, lost=1, commands=commands, turns=sum(commands) + sum(squares) + 2)
+    return Bounds(
+        moves=sum(squares) - 1,
+        lost=1,
+        commands=commands,
+        turns=sum(commands) + sum(squares) + 2,
+    )
 
 
 def left(world: World, picture: Configuration) -> int:

@@ -3,7 +3,16 @@
     ./arena-lab invariant examples/invariants/triangle.py --network ring:3 --agent "examples/agents/triangle.py 0" \
         --agent "examples/agents/triangle.py 1"
 """
-from arena_lab.search.configurations import After, At, Before, Bound, Bounds, Configuration, Position, World
+from arena_lab.search.configurations import (
+    After,
+    At,
+    Before,
+    Bound,
+    Bounds,
+    Configuration,
+    Position,
+    World,
+)
 
 # what an agent has made of its six turns is how much has happened to it
 TURNS = 6
@@ -12,18 +21,29 @@ TURNS = 6
 def place(world: World, side: int, turns: int) -> Position:
     """Where the agent of a side is after this number of its turns."""
     target, label = world.far(world.home, side)
-    return [Before(), At(world.home, None), Bound(world.home, side), At(target, label), Bound(target, label),
-            At(world.home, side), After()][turns]
+    return [
+        Before(),
+        At(world.home, None),
+        Bound(world.home, side),
+        At(target, label),
+        Bound(target, label),
+        At(world.home, side),
+        After(),
+    ][turns]
 
 
 def is_fit(world: World, picture: Configuration, side: int) -> bool:
     """What holds of one agent."""
     turns = len(picture.history[side])
     is_lost = world.doomed(world.home, side)
-    return (turns <= (2 if is_lost else TURNS) and picture.position[side] == place(world, side, turns)
-            and picture.used[side] == commands(turns)
-            and picture.accused[side] == ((world.home, 1 - side) if turns == TURNS else None)
-            and (turns < 3 or world.far(world.home, side)[0] in picture.reached))
+    return (
+        turns <= (2 if is_lost else TURNS)
+        and picture.position[side] == place(world, side, turns)
+        and picture.used[side] == commands(turns)
+        and picture.accused[side]
+        == ((world.home, 1 - side) if turns == TURNS else None)
+        and (turns < 3 or world.far(world.home, side)[0] in picture.reached)
+    )
 
 
 def commands(turns: int) -> int:
@@ -37,8 +57,9 @@ def moves(turns: int) -> int:
 
 
 def holds(world: World, picture: Configuration) -> bool:
-    return (all(is_fit(world, picture, side) for side in (0, 1))
-            and picture.moves == sum(moves(len(picture.history[side])) for side in (0, 1)))
+    return all(
+        is_fit(world, picture, side) for side in (0, 1)
+    ) and picture.moves == sum(moves(len(picture.history[side])) for side in (0, 1))
 
 
 def left(world: World, picture: Configuration) -> int:

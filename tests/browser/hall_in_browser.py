@@ -25,7 +25,9 @@ WIDE, PHONE = (1200, 900), (400, 850)
 class Walk:
     """A walk through a hall."""
 
-    def __init__(self, hall: halls.Served, page: webdriver.Chrome, shots: pathlib.Path) -> None:
+    def __init__(
+        self, hall: halls.Served, page: webdriver.Chrome, shots: pathlib.Path
+    ) -> None:
         self._hall, self._page, self._shots = hall, page, shots
         self._tokens = hall.tokens()
         self._address = f"http://127.0.0.1:{hall.port}"
@@ -41,19 +43,25 @@ class Walk:
 
     def until(self, says: str) -> None:
         """Waits until the page says something; it may be loaded again meanwhile."""
-        WebDriverWait(self._page, SECONDS, ignored_exceptions=[Exception]).until(lambda _: says in self.text())
+        WebDriverWait(self._page, SECONDS, ignored_exceptions=[Exception]).until(
+            lambda _: says in self.text()
+        )
 
     def wants(self, *said: str) -> None:
         for it in said:
             if it not in self.text():
-                raise SystemExit(f"{self._page.current_url} does not say {it!r}: {self.text()}")
+                raise SystemExit(
+                    f"{self._page.current_url} does not say {it!r}: {self.text()}"
+                )
 
     def shoot(self, name: str) -> None:
         """Screenshots; a page is not wider than a phone."""
         for size, (width, height) in (("phone", PHONE), ("wide", WIDE)):
             self._page.set_window_size(width, height)
             self._page.save_screenshot(str(self._shots / f"{name}-{size}.png"))
-            if self._page.execute_script("return document.documentElement.scrollWidth > window.innerWidth"):
+            if self._page.execute_script(
+                "return document.documentElement.scrollWidth > window.innerWidth"
+            ):
                 raise SystemExit(f"{name}: the page is wider than {width} pixels")
 
     def log_in(self, name: str) -> None:
@@ -67,7 +75,9 @@ class Walk:
         """Asks for a match on the first network, and plays it."""
         self.open("/matches")
         self.find("table.offers button").click()
-        WebDriverWait(self._page, SECONDS, ignored_exceptions=[Exception]).until(lambda _: self.find("code.key"))
+        WebDriverWait(self._page, SECONDS, ignored_exceptions=[Exception]).until(
+            lambda _: self.find("code.key")
+        )
         number = int(self._page.current_url.rpartition("/")[2])
         self.wants("What your agents were told", "ring of 5")
         self.shoot("running")
@@ -82,15 +92,24 @@ class Walk:
         number = self.ask()
         self.wants("Black hole: node")
         self.shoot("over")
-        page = self._hall.folder / "attempts" / str(number) / "run1" / "match0" / "m0.html"
+        page = (
+            self._hall.folder / "attempts" / str(number) / "run1" / "match0" / "m0.html"
+        )
         self._hall.wait(page.exists, "the page is made")
         self.open(f"/matches/{number}/0/page")
         self._page.execute_script("document.getElementById('speed').value = '20'")
         self.find("#play").click()
-        WebDriverWait(self._page, SECONDS).until(lambda _: self.find("#play").text == "Play")
+        WebDriverWait(self._page, SECONDS).until(
+            lambda _: self.find("#play").text == "Play"
+        )
         self.wants("Verdict: solved")
         # the page may reach nothing, not even its cookies
-        if self._page.execute_script("try { return document.cookie } catch (fault) { return 'refused' }") != "refused":
+        if (
+            self._page.execute_script(
+                "try { return document.cookie } catch (fault) { return 'refused' }"
+            )
+            != "refused"
+        ):
             raise SystemExit("the page of a match may read cookies")
         self.open(f"/matches/{number}")
 
@@ -110,7 +129,11 @@ class Walk:
         self.until("solved 1 of 1")
 
     def languages(self) -> None:
-        for language, word in (("de", "Tabelle"), ("fr", "Classement"), ("en", "Standings")):
+        for language, word in (
+            ("de", "Tabelle"),
+            ("fr", "Classement"),
+            ("en", "Standings"),
+        ):
             self.open("/")
             self.find(f"button[value={language}]").click()
             self.until(word)
@@ -120,17 +143,27 @@ class Walk:
         self._page.delete_all_cookies()
         self.open("/teacher/")
         self.find("#id_username").send_keys("teacher")
-        self.find("#id_password").send_keys((self._hall.folder / "password.txt").read_text().strip())
+        self.find("#id_password").send_keys(
+            (self._hall.folder / "password.txt").read_text().strip()
+        )
         self.find("input[type=submit]").click()
         self.until("Teams")
         self.shoot("teacher")
-        for path in ("teams/team/", "attempts/attempt/", "teams/entry/", "handins/grading/"):
+        for path in (
+            "teams/team/",
+            "attempts/attempt/",
+            "teams/entry/",
+            "handins/grading/",
+        ):
             self.open(f"/teacher/{path}")
             self.wants("amber")
 
     def check_console(self) -> None:
-        errors: List[str] = [entry["message"] for entry in self._page.get_log("browser")
-                             if entry["level"] == "SEVERE" and "document.cookie" not in entry["message"]]
+        errors: List[str] = [
+            entry["message"]
+            for entry in self._page.get_log("browser")
+            if entry["level"] == "SEVERE" and "document.cookie" not in entry["message"]
+        ]
         if errors:
             raise SystemExit(f"the console says {errors}")
 
@@ -187,5 +220,9 @@ def main(program: str, shots: pathlib.Path) -> int:
 if __name__ == "__main__":
     if len(sys.argv) not in (2, 3):
         sys.exit((__doc__ or "").strip())
-    sys.exit(main(str(pathlib.Path(sys.argv[1]).resolve()),
-                  pathlib.Path(sys.argv[2] if len(sys.argv) == 3 else tempfile.mkdtemp())))
+    sys.exit(
+        main(
+            str(pathlib.Path(sys.argv[1]).resolve()),
+            pathlib.Path(sys.argv[2] if len(sys.argv) == 3 else tempfile.mkdtemp()),
+        )
+    )

@@ -48,7 +48,10 @@ def dark_replay() -> str:
     for agent in range(5):
         match.tell(agent, {"do": "enter"})
     for agent, port in ((0, 0), (1, 1), (2, 2), (3, 0)):
-        match.tell(agent, {"do": "write", "expect": "", "put": f"port {port} was tried by {agent}"})
+        match.tell(
+            agent,
+            {"do": "write", "expect": "", "put": f"port {port} was tried by {agent}"},
+        )
         match.tell(agent, {"do": "depart", "port": port})
         match.deliver(agent)
     match.tell(0, {"do": "depart", "port": 0})
@@ -65,7 +68,9 @@ def dark_replay() -> str:
 
 def hostile_replay() -> str:
     """Whiteboards with texts that would break a careless page."""
-    match = Match(Setup(3, [(0, 0, 1, 0), (1, 1, 2, 0), (2, 1, 0, 1)], 0, [2], 2, 100, 400))
+    match = Match(
+        Setup(3, [(0, 0, 1, 0), (1, 1, 2, 0), (2, 1, 0, 1)], 0, [2], 2, 100, 400)
+    )
     match.tell(0, {"do": "enter"})
     match.tell(1, {"do": "enter"})
     board = ""
@@ -98,7 +103,9 @@ class Browser:
         self.driver.get(page.as_uri())
 
     def text(self, element: str) -> str:
-        return self.driver.execute_script("return document.getElementById(arguments[0]).textContent", element)
+        return self.driver.execute_script(
+            "return document.getElementById(arguments[0]).textContent", element
+        )
 
     def press(self, *keys: str) -> None:
         self.driver.find_element("tag name", "body").send_keys(*keys)
@@ -109,15 +116,24 @@ class Browser:
     def size(self, size: tuple, dark: bool = False) -> None:
         """A window of this size; the width is also that of the page, which a window can refuse to be."""
         width, height = size
-        values = {"width": width, "height": height, "deviceScaleFactor": 1, "mobile": width < 500}
+        values = {
+            "width": width,
+            "height": height,
+            "deviceScaleFactor": 1,
+            "mobile": width < 500,
+        }
         self.driver.execute_cdp_cmd("Emulation.setDeviceMetricsOverride", values)
-        scheme = [{"name": "prefers-color-scheme", "value": "dark" if dark else "light"}]
+        scheme = [
+            {"name": "prefers-color-scheme", "value": "dark" if dark else "light"}
+        ]
         self.driver.execute_cdp_cmd("Emulation.setEmulatedMedia", {"features": scheme})
 
     def picture(self, name: str) -> None:
         path = self.pictures / f"{name}.png"
         self.driver.save_screenshot(str(path))
-        wide = self.driver.execute_script("return document.documentElement.scrollWidth > window.innerWidth")
+        wide = self.driver.execute_script(
+            "return document.documentElement.scrollWidth > window.innerWidth"
+        )
         self.check(not wide, f"{name}: the page is wider than its window")
 
     def console(self, name: str) -> None:
@@ -130,26 +146,51 @@ def page_of(browser: Browser, name: str, replay: str, *words: str) -> pathlib.Pa
     source = browser.folder / f"{name}.jsonl"
     source.write_text(replay, encoding="utf-8", newline="\n")
     page = browser.folder / f"{name}.html"
-    tool = [sys.executable, "-m", "arena_lab", "page", str(source), "--out", str(page), *words]
+    tool = [
+        sys.executable,
+        "-m",
+        "arena_lab",
+        "page",
+        str(source),
+        "--out",
+        str(page),
+        *words,
+    ]
     subprocess.run(tool, cwd=TOP, check=True)
     return page
 
 
 def judged(browser: Browser, name: str) -> str:
-    return asked(program_at(None), "judge", str(browser.folder / f"{name}.jsonl")).strip()
+    return asked(
+        program_at(None), "judge", str(browser.folder / f"{name}.jsonl")
+    ).strip()
 
 
 def steps(browser: Browser, name: str, replay: str) -> None:
     """Each step shows the replay's line, and the page the verdict."""
     lines = replay.split("\n")[1:-2]
-    shown = browser.driver.execute_script("return arguments[0].map((line) => shown(line))", lines)
-    browser.check(browser.text("count") == f"event {len(lines)} of {len(lines)}", f"{name} opens at another event")
+    shown = browser.driver.execute_script(
+        "return arguments[0].map((line) => shown(line))", lines
+    )
+    browser.check(
+        browser.text("count") == f"event {len(lines)} of {len(lines)}",
+        f"{name} opens at another event",
+    )
     browser.press(Keys.HOME)
     for place, line in enumerate(shown, 1):
         browser.press(Keys.ARROW_RIGHT)
-        browser.check(browser.text("line") == line, f"{name}: event {place} is shown as {browser.text('line')}")
-    browser.check(browser.text("count") == f"event {len(lines)} of {len(lines)}", f"{name}: {browser.text('count')}")
-    browser.check(browser.text("verdict") == f"Verdict: {judged(browser, name)}.", f"{name}: {browser.text('verdict')}")
+        browser.check(
+            browser.text("line") == line,
+            f"{name}: event {place} is shown as {browser.text('line')}",
+        )
+    browser.check(
+        browser.text("count") == f"event {len(lines)} of {len(lines)}",
+        f"{name}: {browser.text('count')}",
+    )
+    browser.check(
+        browser.text("verdict") == f"Verdict: {judged(browser, name)}.",
+        f"{name}: {browser.text('verdict')}",
+    )
 
 
 def matches(browser: Browser, name: str, replay: str, agent: int = 1) -> None:
@@ -159,10 +200,16 @@ def matches(browser: Browser, name: str, replay: str, agent: int = 1) -> None:
     steps(browser, name, replay)
     browser.picture(f"{name}-end")
     browser.press(Keys.HOME)
-    browser.check(browser.text("count").startswith("event 0 "), f"{name}: Home leads to {browser.text('count')}")
+    browser.check(
+        browser.text("count").startswith("event 0 "),
+        f"{name}: Home leads to {browser.text('count')}",
+    )
     browser.look(agent)
     browser.press("n")
-    browser.check(browser.text("past").startswith("\u25cf"), f"{name}: N leads to {browser.text('past')}")
+    browser.check(
+        browser.text("past").startswith("\u25cf"),
+        f"{name}: N leads to {browser.text('past')}",
+    )
     browser.press(Keys.END)
     browser.picture(f"{name}-eyes")
     browser.size(PHONE, dark=True)
@@ -170,17 +217,25 @@ def matches(browser: Browser, name: str, replay: str, agent: int = 1) -> None:
     browser.picture(f"{name}-phone-eyes")
     browser.look(-1)
     browser.picture(f"{name}-phone")
-    browser.check(browser.driver.title == f"{name}.jsonl", f"{name}: the title is {browser.driver.title}")
+    browser.check(
+        browser.driver.title == f"{name}.jsonl",
+        f"{name}: the title is {browser.driver.title}",
+    )
     browser.console(name)
 
 
 def twins(browser: Browser) -> None:
     """A guess and its twin: each agent's eyes see the same in both at each step."""
-    ring = Match(Setup(8, [(v, 0, (v + 1) % 8, 1) for v in range(8)], 0, [5], 2, 100, 64))
+    ring = Match(
+        Setup(8, [(v, 0, (v + 1) % 8, 1) for v in range(8)], 0, [5], 2, 100, 64)
+    )
     for agent, port, count in ((0, 0, 3), (1, 1, 2)):
         ring.tell(agent, {"do": "enter"})
         for _ in range(count):
-            ring.tell(agent, {"do": "write", "expect": "", "put": f"{agent} went on by {port}"})
+            ring.tell(
+                agent,
+                {"do": "write", "expect": "", "put": f"{agent} went on by {port}"},
+            )
             ring.tell(agent, {"do": "depart", "port": port})
             ring.deliver(agent)
     ring.tell(0, {"do": "depart", "port": 0})
@@ -194,7 +249,10 @@ def twins(browser: Browser) -> None:
         browser.press(Keys.HOME)
         for place in range(1, last + 1):
             browser.press(Keys.ARROW_RIGHT)
-            browser.check(browser.text("same") == "Both pictures are the same.", f"twin: agent {agent} at {place}")
+            browser.check(
+                browser.text("same") == "Both pictures are the same.",
+                f"twin: agent {agent} at {place}",
+            )
     browser.picture("twin-eyes")
     browser.look(-1)
     browser.picture("twin-whole")
@@ -217,12 +275,17 @@ def largest(browser: Browser) -> None:
     opened = time.monotonic()
     chance = random.Random(1)
     places = [chance.randrange(128_129) for _ in range(100)] + list(range(5000, 5100))
-    times = sorted(browser.driver.execute_script(
-        "return arguments[0].map((to) => { const at = performance.now(); go(to); return performance.now() - at; })",
-        places))
-    print(f"largest: {page.stat().st_size} bytes, written in {written - begun:.1f} s, "
-          f"opened in {opened - written:.1f} s; 200 steps, half of them far: median {times[100]:.1f} ms, "
-          f"at most {times[-1]:.1f} ms")
+    times = sorted(
+        browser.driver.execute_script(
+            "return arguments[0].map((to) => { const at = performance.now(); go(to); return performance.now() - at; })",
+            places,
+        )
+    )
+    print(
+        f"largest: {page.stat().st_size} bytes, written in {written - begun:.1f} s, "
+        f"opened in {opened - written:.1f} s; 200 steps, half of them far: median {times[100]:.1f} ms, "
+        f"at most {times[-1]:.1f} ms"
+    )
     browser.check(opened - written < SECONDS_TO_OPEN, "largest: it opens slowly")
     browser.check(times[100] < MILLISECONDS_OF_A_STEP, "largest: it steps slowly")
     browser.picture("largest")
@@ -234,22 +297,42 @@ def largest(browser: Browser) -> None:
 def course(browser: Browser) -> None:
     """The league table of the example course and pages of its teams, all links of which lead to files."""
     out = browser.folder / "course"
-    words = [sys.executable, "-m", "arena_lab", "grade", "examples/course/course.toml", "--out", str(out)]
+    words = [
+        sys.executable,
+        "-m",
+        "arena_lab",
+        "grade",
+        "examples/course/course.toml",
+        "--out",
+        str(out),
+    ]
     subprocess.run(words, cwd=TOP, check=True, stdout=subprocess.DEVNULL)
     for name in ("league", "team-cedar", "team-amber"):
-        for view, size, dark in (("light", WIDE, False), ("dark", WIDE, True), ("phone", PHONE, False)):
+        for view, size, dark in (
+            ("light", WIDE, False),
+            ("dark", WIDE, True),
+            ("phone", PHONE, False),
+        ):
             browser.size(size, dark)
             browser.open(out / f"{name}.html")
             browser.picture(f"{name}-{view}")
-        for link in browser.driver.execute_script("return [...document.links].map((link) => link.pathname)"):
-            browser.check(pathlib.Path(link).is_file(), f"{name}: a link leads to {link}, and there is no such file")
+        for link in browser.driver.execute_script(
+            "return [...document.links].map((link) => link.pathname)"
+        ):
+            browser.check(
+                pathlib.Path(link).is_file(),
+                f"{name}: a link leads to {link}, and there is no such file",
+            )
         browser.console(name)
 
 
 def refused(browser: Browser) -> None:
     """A replay that is cut is refused with the line and the status of `arena judge`, and no page is written."""
     source = browser.folder / "cut.jsonl"
-    source.write_text("".join(line + "\n" for line in dark_replay().split("\n")[:-2]), encoding="utf-8")
+    source.write_text(
+        "".join(line + "\n" for line in dark_replay().split("\n")[:-2]),
+        encoding="utf-8",
+    )
     tool = [sys.executable, "-m", "arena_lab", "page", str(source)]
     ran = subprocess.run(tool, cwd=TOP, stderr=subprocess.PIPE, text=True)
     is_said = ran.stderr.startswith(f"{source}: end: ")
@@ -263,12 +346,21 @@ def main() -> int:
     with tempfile.TemporaryDirectory() as name:
         browser = Browser(pathlib.Path(name), pictures)
         try:
-            matches(browser, "ring", played(ring_fixture(8, 5, random.Random(1)), RING, 5).replay.decode())
+            matches(
+                browser,
+                "ring",
+                played(ring_fixture(8, 5, random.Random(1)), RING, 5).replay.decode(),
+            )
             matches(browser, "cube", cube_replay())
             matches(browser, "dark", dark_replay())
             matches(browser, "hostile", hostile_replay())
             for example in ("first0", "guess0", "triangle0"):
-                matches(browser, example, (TOP / "examples" / f"{example}.jsonl").read_text(encoding="utf-8"), agent=0)
+                matches(
+                    browser,
+                    example,
+                    (TOP / "examples" / f"{example}.jsonl").read_text(encoding="utf-8"),
+                    agent=0,
+                )
             twins(browser)
             largest(browser)
             refused(browser)

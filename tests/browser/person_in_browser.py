@@ -47,15 +47,19 @@ class Person:
         sys.exit(f"the tabulator does not lead to {name}")
 
     def sees(self, text: str, where: str = "where") -> None:
-        WebDriverWait(self._page, SECONDS).until(lambda it: text in it.find_element(By.ID, where).text,
-                                                 f"{text!r} is not seen")
+        WebDriverWait(self._page, SECONDS).until(
+            lambda it: text in it.find_element(By.ID, where).text,
+            f"{text!r} is not seen",
+        )
 
 
 def check_secrets(url: str) -> None:
     """Before the end the server tells what agents have seen, and shows no page of the match."""
     with urllib.request.urlopen(f"{url}/seen") as answer:
         seen = json.load(answer)
-    if set(seen) != {"over", "agents"} or any(set(it) != KNOWN for it in seen["agents"]):
+    if set(seen) != {"over", "agents"} or any(
+        set(it) != KNOWN for it in seen["agents"]
+    ):
         sys.exit(f"the page is told more than agents see: {seen}")
     try:
         urllib.request.urlopen(f"{url}/match")
@@ -97,8 +101,24 @@ def main() -> int:
     shots.mkdir(parents=True, exist_ok=True)
     port = free_port()
     url = f"http://127.0.0.1:{port}"
-    words = ["play", "--network", "ring:4", "--hole", "1", "--seed", "1", "--page", "--port", str(port)]
-    server = subprocess.Popen([sys.executable, "-m", "arena_lab", *words], cwd=TOP, stdout=subprocess.PIPE, text=True)
+    words = [
+        "play",
+        "--network",
+        "ring:4",
+        "--hole",
+        "1",
+        "--seed",
+        "1",
+        "--page",
+        "--port",
+        str(port),
+    ]
+    server = subprocess.Popen(
+        [sys.executable, "-m", "arena_lab", *words],
+        cwd=TOP,
+        stdout=subprocess.PIPE,
+        text=True,
+    )
     assert server.stdout is not None
     server.stdout.readline()
     page = browser()
@@ -116,8 +136,12 @@ def main() -> int:
         person.press(Keys.ENTER)
         person.sees("The match is over", "over")
         page.find_element(By.CSS_SELECTOR, "#over a").send_keys(Keys.ENTER)
-        WebDriverWait(page, SECONDS).until(lambda it: "solved moves 3 lost 1" in it.page_source, "no verdict")
-        errors = [it for it in page.get_log("browser") if "favicon" not in it["message"]]
+        WebDriverWait(page, SECONDS).until(
+            lambda it: "solved moves 3 lost 1" in it.page_source, "no verdict"
+        )
+        errors = [
+            it for it in page.get_log("browser") if "favicon" not in it["message"]
+        ]
         if errors:
             sys.exit(f"the console has {errors}")
     finally:

@@ -44,19 +44,25 @@ def browser(*more: str) -> webdriver.Chrome:
 
 def rows(page: webdriver.Chrome) -> List[List[str]]:
     """The cells of each match: number, team, network, outcome, agents, moves, lost. Headings have fewer."""
-    return page.execute_script("return [...document.querySelectorAll('#rows tr')].map(line => "
-                               "[...line.children].map(cell => cell.textContent)).filter(row => row.length === 7)")
+    return page.execute_script(
+        "return [...document.querySelectorAll('#rows tr')].map(line => "
+        "[...line.children].map(cell => cell.textContent)).filter(row => row.length === 7)"
+    )
 
 
 def shoot(page: webdriver.Chrome, folder: pathlib.Path, name: str) -> None:
     for size, (width, height) in SIZES.items():
         page.set_window_size(width, height)
         page.save_screenshot(str(folder / f"{name}-{size}.png"))
-        if page.execute_script("return document.documentElement.scrollWidth > document.documentElement.clientWidth"):
+        if page.execute_script(
+            "return document.documentElement.scrollWidth > document.documentElement.clientWidth"
+        ):
             sys.exit(f"{name}: the page is wider than {width} pixels")
     for scheme in ("dark", "light"):
-        page.execute_cdp_cmd("Emulation.setEmulatedMedia",
-                             {"features": [{"name": "prefers-color-scheme", "value": scheme}]})
+        page.execute_cdp_cmd(
+            "Emulation.setEmulatedMedia",
+            {"features": [{"name": "prefers-color-scheme", "value": scheme}]},
+        )
         page.save_screenshot(str(folder / f"{name}-{scheme}.png"))
 
 
@@ -68,11 +74,35 @@ def main() -> int:
     shots.mkdir(parents=True, exist_ok=True)
     with tempfile.TemporaryDirectory() as name:
         folder, web = pathlib.Path(name), contest.free_port()
-        subprocess.run(["cc", "-O2", "-o", folder / "ring", contest.AGENTS / "ring.c"], check=True)
-        server = Server([program, "serve", contest.TOURNAMENT, "--sessions", 100, *PLAYED, "--replay", folder / "m",
-                         "--gather", 10_000, "--early"])
-        watches = [sys.executable, "-m", "arena_lab", "watch", contest.TOURNAMENT, str(folder / "m"), "--port",
-                   str(web), *PLAYED]
+        subprocess.run(
+            ["cc", "-O2", "-o", folder / "ring", contest.AGENTS / "ring.c"], check=True
+        )
+        server = Server(
+            [
+                program,
+                "serve",
+                contest.TOURNAMENT,
+                "--sessions",
+                100,
+                *PLAYED,
+                "--replay",
+                folder / "m",
+                "--gather",
+                10_000,
+                "--early",
+            ]
+        )
+        watches = [
+            sys.executable,
+            "-m",
+            "arena_lab",
+            "watch",
+            contest.TOURNAMENT,
+            str(folder / "m"),
+            "--port",
+            str(web),
+            *PLAYED,
+        ]
         watch = subprocess.Popen(watches, cwd=TOP, stdout=subprocess.PIPE, text=True)
         assert watch.stdout is not None
         watch.stdout.readline()
@@ -81,27 +111,44 @@ def main() -> int:
             page.get(f"http://127.0.0.1:{web}/")
             WebDriverWait(page, SECONDS).until(lambda it: len(rows(it)) == 4)
             shoot(page, shots, "begins")
-            commands = [contest.command_of(agent, f"{team}-{number}", server.port, folder)
-                        for team, members in contest.TEAMS.items() for number, agent in enumerate(members)]
+            commands = [
+                contest.command_of(agent, f"{team}-{number}", server.port, folder)
+                for team, members in contest.TEAMS.items()
+                for number, agent in enumerate(members)
+            ]
             agents = [*map(subprocess.Popen, commands[:-1])]
             # the last match waits for its last agent, so that the page shows it however fast the others are
             size = len([*contest.TEAMS.values()][-1])
-            WebDriverWait(page, SECONDS).until(lambda it: any(row[4] == f"{size - 1} of {size}" for row in rows(it)))
+            WebDriverWait(page, SECONDS).until(
+                lambda it: any(row[4] == f"{size - 1} of {size}" for row in rows(it))
+            )
             shoot(page, shots, "runs")
             agents.append(subprocess.Popen(commands[-1]))
-            WebDriverWait(page, SECONDS).until(lambda it: "4 of 4" in it.find_element("id", "about").text)
+            WebDriverWait(page, SECONDS).until(
+                lambda it: "4 of 4" in it.find_element("id", "about").text
+            )
             shoot(page, shots, "over")
-            table = [line.split() for line in server.ended().texts()[1].splitlines()[1:]]
-            found = sorted([row[1], *row[3].split(), row[5], row[6]] for row in rows(page))
+            table = [
+                line.split() for line in server.ended().texts()[1].splitlines()[1:]
+            ]
+            found = sorted(
+                [row[1], *row[3].split(), row[5], row[6]] for row in rows(page)
+            )
             if found != sorted(row[1:] for row in table):
                 sys.exit(f"the page shows {found}, and the table is {table}")
             time.sleep(1)
             page.find_element("css selector", "#rows a").click()
             page.execute_script("document.getElementById('speed').value = '20'")
             page.find_element("id", "play").click()
-            WebDriverWait(page, SECONDS).until(lambda it: it.find_element("id", "play").text == "Play")
+            WebDriverWait(page, SECONDS).until(
+                lambda it: it.find_element("id", "play").text == "Play"
+            )
             shoot(page, shots, "reveal")
-            errors = [entry["message"] for entry in page.get_log("browser") if entry["level"] == "SEVERE"]
+            errors = [
+                entry["message"]
+                for entry in page.get_log("browser")
+                if entry["level"] == "SEVERE"
+            ]
             if any("favicon" not in error for error in errors):
                 sys.exit(f"the console says {errors}")
             for agent in agents:

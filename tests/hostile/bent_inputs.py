@@ -31,7 +31,17 @@ import shutil
 import subprocess
 import sys
 import tempfile
-from typing import Callable, Counter, Dict, Iterator, List, NamedTuple, Optional, Sequence, Tuple
+from typing import (
+    Callable,
+    Counter,
+    Dict,
+    Iterator,
+    List,
+    NamedTuple,
+    Optional,
+    Sequence,
+    Tuple,
+)
 
 from arena_lab.rules.model import MAX_LINE, PRESENT, Match, Object, spelled
 from tests.support.drawn_rehearsals import ScriptMaker, files_of, ready_by_chance
@@ -40,32 +50,127 @@ TOP = pathlib.Path(__file__).resolve().parents[2]
 REPLAYS, SCRIPTS, SEED, WORKERS = 10_000, 2000, 0, 2
 CUP = "cup.toml"
 LONG = 3000
-TEXTS = ("", "a", "home", "bé", "\"", "a\\b", "tab\there", "\x01", "line\nline", "x" * 31, "y" * 32, "z" * 70,
-         "ü" * LONG, "l" * LONG, "{\"at\":3}", "/", "\u007f", "\U0001f600")
+TEXTS = (
+    "",
+    "a",
+    "home",
+    "bé",
+    '"',
+    "a\\b",
+    "tab\there",
+    "\x01",
+    "line\nline",
+    "x" * 31,
+    "y" * 32,
+    "z" * 70,
+    "ü" * LONG,
+    "l" * LONG,
+    '{"at":3}',
+    "/",
+    "\u007f",
+    "\U0001f600",
+)
 BOARDS = (0, 8, 64, 4096)
 # bytes that mean something in JSON, and some that are no UTF-8
 BYTES = b'"\\{}[]:,0123456789-.eE+ntfu /\r\t\x00\x1f\x7f\x80\xc3\xff aZ'
-NUMBERS = (b"65535", b"65536", b"4294967296", b"18446744073709551615", b"18446744073709551616", b"-1", b"-0", b"1.0",
-           b"1e2", b"00", b"1e400", b"9" * 40)
-NO_UTF8 = (b"\xff", b"\xc0\x80", b"\xed\xa0\x80", b"\xf4\x90\x80\x80", b"\xc3", b"\xe2\x82")
-REPLIES = (b"null", b'{"ok":"gone"}', b'{"ok":"bye"}', b'{"ok":"over"}', b'{"ok":"noted"}', b'{"ok":"written"}',
-           b'{"no":"line"}', b'{"no":"away"}', b'{"no":"none"}', b'{"ok":"none"}', b"{}", b"[]", b'"gone"', b"7",
-           b'{"board":"a","ok":"changed"}', b'{"board":"","from":null,"ok":"here","ports":2}',
-           b'{"board":"\\u0041","from":0,"ok":"here","ports":3}', b'{"from":null,"board":"","ok":"here","ports":2}')
-EVENTS = (b'{"agent":0,"do":"enter"', b'{"agent":1,"do":"look"', b'{"agent":0,"do":"deliver"', b'{"do":"close"',
-          b'{"agent":0,"do":"leave"', b'{"agent":0,"do":"bad"', b'{"agent":0,"do":"accuse","port":0',
-          b'{"agent":0,"do":"jump"', b'{"do":"look","agent":0', b'{"agent":0,"do":"write","expect":"","put":"a"',
-          b'{"agent":9,"do":"look"', b'{"agent":0,"agent":0,"do":"look"')
+NUMBERS = (
+    b"65535",
+    b"65536",
+    b"4294967296",
+    b"18446744073709551615",
+    b"18446744073709551616",
+    b"-1",
+    b"-0",
+    b"1.0",
+    b"1e2",
+    b"00",
+    b"1e400",
+    b"9" * 40,
+)
+NO_UTF8 = (
+    b"\xff",
+    b"\xc0\x80",
+    b"\xed\xa0\x80",
+    b"\xf4\x90\x80\x80",
+    b"\xc3",
+    b"\xe2\x82",
+)
+REPLIES = (
+    b"null",
+    b'{"ok":"gone"}',
+    b'{"ok":"bye"}',
+    b'{"ok":"over"}',
+    b'{"ok":"noted"}',
+    b'{"ok":"written"}',
+    b'{"no":"line"}',
+    b'{"no":"away"}',
+    b'{"no":"none"}',
+    b'{"ok":"none"}',
+    b"{}",
+    b"[]",
+    b'"gone"',
+    b"7",
+    b'{"board":"a","ok":"changed"}',
+    b'{"board":"","from":null,"ok":"here","ports":2}',
+    b'{"board":"\\u0041","from":0,"ok":"here","ports":3}',
+    b'{"from":null,"board":"","ok":"here","ports":2}',
+)
+EVENTS = (
+    b'{"agent":0,"do":"enter"',
+    b'{"agent":1,"do":"look"',
+    b'{"agent":0,"do":"deliver"',
+    b'{"do":"close"',
+    b'{"agent":0,"do":"leave"',
+    b'{"agent":0,"do":"bad"',
+    b'{"agent":0,"do":"accuse","port":0',
+    b'{"agent":0,"do":"jump"',
+    b'{"do":"look","agent":0',
+    b'{"agent":0,"do":"write","expect":"","put":"a"',
+    b'{"agent":9,"do":"look"',
+    b'{"agent":0,"agent":0,"do":"look"',
+)
 REPLY = b',"reply":'
 INSTRUCTIONS = (
-    b"# a remark", b"", b" ", b"hex 0 ", b"hex 0 7", b"hex 0 0a", b"hex 1 7b0a7b", b"hex 1 2\n1 o", b"draw 0",
-    b"draw 0 4294967295", b"draw 0 4294967296", b"draw 1 07", b"draw 2 0", b"draw  0 0", b"end 0", b"end 256",
-    b"close 0", b"close 1", b"close", b"deliver 0 0", b"deliver 1 1", b"deliver 0 65536", b"255 {}", b"256 {}",
-    b"00 {}", b"0", b"0 ", b"0  \t", b"jump 0", b"0 \xff", b"1 [1,2]", b'0 {"do":"write","expect":"","put":""}',
-    b'1 {"do":"write","expect":"a","put":"b","put":"c"}', b'0 {"do":"write","expect":"","put":"a"} ',
-    b'0 {"do":"write","put":"a","expect":""}', b'1 {"do":"write","expect":"\\u0061","put":"a\\"b"}',
-    b'0 {"do":"write","expect":"","put":7}', b'0 {"do":"write","expect":"","put":"a"},"}',
-    b'0 {"do":"write","expect":"\x80","put":"a"}')
+    b"# a remark",
+    b"",
+    b" ",
+    b"hex 0 ",
+    b"hex 0 7",
+    b"hex 0 0a",
+    b"hex 1 7b0a7b",
+    b"hex 1 2\n1 o",
+    b"draw 0",
+    b"draw 0 4294967295",
+    b"draw 0 4294967296",
+    b"draw 1 07",
+    b"draw 2 0",
+    b"draw  0 0",
+    b"end 0",
+    b"end 256",
+    b"close 0",
+    b"close 1",
+    b"close",
+    b"deliver 0 0",
+    b"deliver 1 1",
+    b"deliver 0 65536",
+    b"255 {}",
+    b"256 {}",
+    b"00 {}",
+    b"0",
+    b"0 ",
+    b"0  \t",
+    b"jump 0",
+    b"0 \xff",
+    b"1 [1,2]",
+    b'0 {"do":"write","expect":"","put":""}',
+    b'1 {"do":"write","expect":"a","put":"b","put":"c"}',
+    b'0 {"do":"write","expect":"","put":"a"} ',
+    b'0 {"do":"write","put":"a","expect":""}',
+    b'1 {"do":"write","expect":"\\u0061","put":"a\\"b"}',
+    b'0 {"do":"write","expect":"","put":7}',
+    b'0 {"do":"write","expect":"","put":"a"},"}',
+    b'0 {"do":"write","expect":"\x80","put":"a"}',
+)
 CONN = re.compile(rb"(\d+) (.*)", re.DOTALL)
 
 Bend = Callable[[bytes, random.Random], bytes]
@@ -80,6 +185,7 @@ class Rehearsed(NamedTuple):
 
 # Replays of matches.
 
+
 def command(match: Match, number: int, chance: random.Random) -> Object:
     """A command by chance, mostly one that is taken where its agent is."""
     agent = match.agents[number]
@@ -87,17 +193,27 @@ def command(match: Match, number: int, chance: random.Random) -> Object:
     port = chance.randrange(4)
     expect = board if chance.random() < 0.7 else chance.choice(TEXTS)
     kinds: List[Tuple[int, Object]] = [
-        (6, {"do": "look"}), (8, {"do": "write", "expect": expect, "put": chance.choice(TEXTS)}),
-        (14, {"do": "depart", "port": port}), (1, {"do": "accuse", "port": port}), (1, {"do": "leave"}),
-        (2, {"do": "bad"}), (1, {"do": "enter"}),
+        (6, {"do": "look"}),
+        (8, {"do": "write", "expect": expect, "put": chance.choice(TEXTS)}),
+        (14, {"do": "depart", "port": port}),
+        (1, {"do": "accuse", "port": port}),
+        (1, {"do": "leave"}),
+        (2, {"do": "bad"}),
+        (1, {"do": "enter"}),
     ]
-    return chance.choices([kind for _, kind in kinds], [weight for weight, _ in kinds])[0]
+    return chance.choices([kind for _, kind in kinds], [weight for weight, _ in kinds])[
+        0
+    ]
 
 
 def drawn_replay(chance: random.Random) -> bytes:
     """The replay of a match that is played by chance."""
     ready = ready_by_chance(0, chance.randint(1, 5), chance)
-    match = Match(ready.match.setup._replace(board=chance.choice(BOARDS), quota=chance.randint(1, 40)))
+    match = Match(
+        ready.match.setup._replace(
+            board=chance.choice(BOARDS), quota=chance.randint(1, 40)
+        )
+    )
     agents = match.setup.agents
     for number in range(agents):
         match.tell(number, {"do": "enter"})
@@ -113,9 +229,14 @@ def drawn_replay(chance: random.Random) -> bytes:
 
 # Scripts of rehearsals.
 
+
 def write_line(conn: int, chance: random.Random) -> bytes:
     """A line by which an agent writes."""
-    write = {"do": "write", "expect": chance.choice(("", chance.choice(TEXTS))), "put": chance.choice(TEXTS)}
+    write = {
+        "do": "write",
+        "expect": chance.choice(("", chance.choice(TEXTS))),
+        "put": chance.choice(TEXTS),
+    }
     return b"%d %s" % (conn, spelled(write).encode())
 
 
@@ -124,15 +245,22 @@ def drawn_script(chance: random.Random) -> Rehearsed:
     ready = []
     for game in range(2):
         one = ready_by_chance(game, chance.randint(1, 4), chance)
-        ready.append(one._replace(match=Match(one.match.setup._replace(board=chance.choice(BOARDS)))))
+        ready.append(
+            one._replace(
+                match=Match(one.match.setup._replace(board=chance.choice(BOARDS)))
+            )
+        )
     maker = ScriptMaker(ready, chance)
     maker.all_depart()
     for _ in range(chance.randint(20, 100)):
         maker.anything(9)
-    return Rehearsed(files_of(ready), "".join(f"{line}\n" for line in maker.script).encode())
+    return Rehearsed(
+        files_of(ready), "".join(f"{line}\n" for line in maker.script).encode()
+    )
 
 
 # How they are bent.
+
 
 def place_in(text: bytes, chance: random.Random) -> int:
     return chance.randrange(len(text) + 1)
@@ -140,7 +268,7 @@ def place_in(text: bytes, chance: random.Random) -> int:
 
 def change(text: bytes, chance: random.Random) -> bytes:
     at = place_in(text, chance)
-    return text[:at] + bytes([chance.choice(BYTES)]) + text[at + 1:]
+    return text[:at] + bytes([chance.choice(BYTES)]) + text[at + 1 :]
 
 
 def insert(text: bytes, chance: random.Random) -> bytes:
@@ -150,25 +278,27 @@ def insert(text: bytes, chance: random.Random) -> bytes:
 
 def delete(text: bytes, chance: random.Random) -> bytes:
     at = place_in(text, chance)
-    return text[:at] + text[at + chance.choice((1, 1, 2, 10)):]
+    return text[:at] + text[at + chance.choice((1, 1, 2, 10)) :]
 
 
 def double(text: bytes, chance: random.Random) -> bytes:
     at, size = place_in(text, chance), chance.choice((1, 2, 20))
-    return text[:at + size] + text[at:]
+    return text[: at + size] + text[at:]
 
 
 def cut(text: bytes, chance: random.Random) -> bytes:
-    return text[:place_in(text, chance)]
+    return text[: place_in(text, chance)]
 
 
-def replaced(text: bytes, pattern: bytes, chance: random.Random, put: Callable[[bytes], bytes]) -> bytes:
+def replaced(
+    text: bytes, pattern: bytes, chance: random.Random, put: Callable[[bytes], bytes]
+) -> bytes:
     """The text with one of the places that match the pattern changed."""
     found = list(re.finditer(pattern, text))
     if not found:
         return text
     one = chance.choice(found)
-    return text[:one.start()] + put(one[0]) + text[one.end():]
+    return text[: one.start()] + put(one[0]) + text[one.end() :]
 
 
 def zero_in_front(text: bytes, chance: random.Random) -> bytes:
@@ -182,13 +312,21 @@ def other_number(text: bytes, chance: random.Random) -> bytes:
 
 def space(text: bytes, chance: random.Random) -> bytes:
     blank = chance.choice((b" ", b"\t", b"\r", b"  ", b"\n", b"\x0b", b"\xc2\xa0"))
-    return replaced(text, rb"[:,{}\[\]]", chance, lambda mark: chance.choice((mark + blank, blank + mark)))
+    return replaced(
+        text,
+        rb"[:,{}\[\]]",
+        chance,
+        lambda mark: chance.choice((mark + blank, blank + mark)),
+    )
 
 
 def escape(text: bytes, chance: random.Random) -> bytes:
     def escaped(byte: bytes) -> bytes:
         code = ord(byte)
-        return chance.choice((b"\\u%04x" % code, b"\\u%04X" % code, b"\\" + byte, b"\\/", b"\\\\"))
+        return chance.choice(
+            (b"\\u%04x" % code, b"\\u%04X" % code, b"\\" + byte, b"\\/", b"\\\\")
+        )
+
     return replaced(text, rb"[a-zA-Z/]", chance, escaped)
 
 
@@ -199,15 +337,19 @@ def no_utf8(text: bytes, chance: random.Random) -> bytes:
 
 def long_text(text: bytes, chance: random.Random) -> bytes:
     size = chance.choice((31, 32, 33, 255, 4096, 4097, 70_000))
-    return replaced(text, rb'"(put|expect|board)":"', chance, lambda key: key + b"a" * size)
+    return replaced(
+        text, rb'"(put|expect|board)":"', chance, lambda key: key + b"a" * size
+    )
 
 
 def on_lines(bend: Callable[[List[bytes], int, random.Random], None]) -> Bend:
     """A bend of a text by one of its lines, which is not its last, empty one."""
+
     def bent(text: bytes, chance: random.Random) -> bytes:
         lines = text.split(b"\n")
         bend(lines, chance.randrange(max(1, len(lines) - 1)), chance)
         return b"\n".join(lines)
+
     return bent
 
 
@@ -246,16 +388,30 @@ def new_event(lines: List[bytes], at: int, chance: random.Random) -> None:
 
 
 def head(lines: List[bytes], at: int, chance: random.Random) -> None:
-    lines[0] = chance.choice((change, delete, zero_in_front, other_number, space, escape, double))(lines[0], chance)
+    lines[0] = chance.choice(
+        (change, delete, zero_in_front, other_number, space, escape, double)
+    )(lines[0], chance)
 
 
 def end(lines: List[bytes], at: int, chance: random.Random) -> None:
-    ends = (b'{"end":%d}' % chance.randrange(100), b'{"end":007}', b'{"end": 7}', b'{"end":%d}' % 10 ** 30, b"", b"{}")
+    ends = (
+        b'{"end":%d}' % chance.randrange(100),
+        b'{"end":007}',
+        b'{"end": 7}',
+        b'{"end":%d}' % 10**30,
+        b"",
+        b"{}",
+    )
     lines[-2:] = [chance.choice(ends), chance.choice((b"", b"x", lines[-1]))]
 
 
 def new_line(lines: List[bytes], at: int, chance: random.Random) -> None:
-    lines.insert(at, chance.choice((chance.choice(INSTRUCTIONS), write_line(chance.randrange(9), chance))))
+    lines.insert(
+        at,
+        chance.choice(
+            (chance.choice(INSTRUCTIONS), write_line(chance.randrange(9), chance))
+        ),
+    )
 
 
 def long_line(lines: List[bytes], at: int, chance: random.Random) -> None:
@@ -271,18 +427,39 @@ def in_hexadecimal(lines: List[bytes], at: int, chance: random.Random) -> None:
     if found:
         text = found[2] + chance.choice((b"\n", b"\r\n", b""))
         cut = place_in(text, chance)
-        lines[at:at + 1] = [b"hex %s %s" % (found[1], piece.hex().encode()) for piece in (text[:cut], text[cut:])]
+        lines[at : at + 1] = [
+            b"hex %s %s" % (found[1], piece.hex().encode())
+            for piece in (text[:cut], text[cut:])
+        ]
 
 
 BYTE_BENDS: Sequence[Bend] = (
-    change, insert, delete, double, cut, zero_in_front, other_number, space, escape, no_utf8, long_text,
+    change,
+    insert,
+    delete,
+    double,
+    cut,
+    zero_in_front,
+    other_number,
+    space,
+    escape,
+    no_utf8,
+    long_text,
     *map(on_lines, (swap, drop, again, carriage_return)),
 )
-REPLAY_BENDS: Sequence[Bend] = (*BYTE_BENDS, *map(on_lines, (other_reply, other_event, new_event, head, end)))
-SCRIPT_BENDS: Sequence[Bend] = (*BYTE_BENDS, *map(on_lines, (new_line, new_line, long_line, in_hexadecimal)))
+REPLAY_BENDS: Sequence[Bend] = (
+    *BYTE_BENDS,
+    *map(on_lines, (other_reply, other_event, new_event, head, end)),
+)
+SCRIPT_BENDS: Sequence[Bend] = (
+    *BYTE_BENDS,
+    *map(on_lines, (new_line, new_line, long_line, in_hexadecimal)),
+)
 
 
-def bent(text: bytes, bends: Sequence[Bend], number: int, chance: random.Random) -> bytes:
+def bent(
+    text: bytes, bends: Sequence[Bend], number: int, chance: random.Random
+) -> bytes:
     """A text of this number, bent: one in forty is not bent at all."""
     for _ in range(0 if number % 40 == 0 else chance.choice((1, 1, 1, 2, 3))):
         text = chance.choice(bends)(text, chance)
@@ -305,6 +482,7 @@ def script_of(number: int, seed: int) -> Rehearsed:
 
 # What the programs say of them.
 
+
 class Said(NamedTuple):
     """What came of a run."""
 
@@ -314,7 +492,9 @@ class Said(NamedTuple):
 
 
 def said(program: str, words: Sequence[str], given: bytes = b"") -> Said:
-    ran = subprocess.run([program, *words], input=given, capture_output=True, check=False)
+    ran = subprocess.run(
+        [program, *words], input=given, capture_output=True, check=False
+    )
     return Said(ran.returncode, ran.stdout, ran.stderr)
 
 
@@ -330,11 +510,22 @@ class Compared(NamedTuple):
 
 def fault_of(one: Said) -> str:
     """The last line that was told, without the file's name and numbers."""
-    last = one.told.decode(errors="replace").strip().rpartition("\n")[2].rpartition(": ")[2]
+    last = (
+        one.told.decode(errors="replace")
+        .strip()
+        .rpartition("\n")[2]
+        .rpartition(": ")[2]
+    )
     return re.sub(r"\d+", "N", last) if one.status else "none"
 
 
-def compared(kind: str, number: int, programs: Sequence[str], runs: Dict[str, List[str]], given: bytes) -> Compared:
+def compared(
+    kind: str,
+    number: int,
+    programs: Sequence[str],
+    runs: Dict[str, List[str]],
+    given: bytes,
+) -> Compared:
     """Runs all commands on an input by both programs."""
     differing, fault = [], ""
     for name, line in runs.items():
@@ -350,8 +541,12 @@ class Comparing:
 
     def __init__(self, given: argparse.Namespace, folder: pathlib.Path) -> None:
         self.given, self.folder = given, folder
-        self.programs = [str(pathlib.Path(name).resolve()) for name in (given.program, given.other)]
-        self.examples = [path.read_bytes() for path in sorted((TOP / "examples").glob("*.jsonl"))]
+        self.programs = [
+            str(pathlib.Path(name).resolve()) for name in (given.program, given.other)
+        ]
+        self.examples = [
+            path.read_bytes() for path in sorted((TOP / "examples").glob("*.jsonl"))
+        ]
 
     def settled(self, place: pathlib.Path, found: Compared) -> Compared:
         """Keeps a folder of inputs if it makes a difference, and removes it."""
@@ -365,19 +560,26 @@ class Comparing:
         place.mkdir()
         path = place / "replay.jsonl"
         path.write_bytes(replay_of(number, self.given.seed, self.examples))
-        runs = {"judge": ["judge", str(path)], "explain": ["explain", str(path), str(chance.randrange(3))],
-                "twin": ["twin", str(path), str(chance.randrange(6))]}
+        runs = {
+            "judge": ["judge", str(path)],
+            "explain": ["explain", str(path), str(chance.randrange(3))],
+            "twin": ["twin", str(path), str(chance.randrange(6))],
+        }
         return self.settled(place, compared("replay", number, self.programs, runs, b""))
 
     def script(self, number: int) -> Compared:
-        place, (files, script) = self.folder / f"script-{number}", script_of(number, self.given.seed)
+        place, (files, script) = self.folder / f"script-{number}", script_of(
+            number, self.given.seed
+        )
         place.mkdir()
         for name, text in files.items():
             (place / name).write_text(text)
         (place / "script").write_bytes(script)
         line = ["rehearse", str(place / CUP)]
         runs = {"rehearse": line, "rehearse --interactive": [*line, "--interactive"]}
-        return self.settled(place, compared("script", number, self.programs, runs, script))
+        return self.settled(
+            place, compared("script", number, self.programs, runs, script)
+        )
 
     def all(self) -> Iterator[Compared]:
         """Makes the inputs and compares the programs on each."""
@@ -387,14 +589,41 @@ class Comparing:
 
 
 def words(given: Optional[Sequence[str]] = None) -> argparse.Namespace:
-    parser = argparse.ArgumentParser(description=__doc__, formatter_class=argparse.RawDescriptionHelpFormatter)
+    parser = argparse.ArgumentParser(
+        description=__doc__, formatter_class=argparse.RawDescriptionHelpFormatter
+    )
     parser.add_argument("program", help="a built program")
     parser.add_argument("other", help="another build of it")
-    parser.add_argument("--replays", type=int, default=REPLAYS, metavar="N", help="how many replays are made")
-    parser.add_argument("--scripts", type=int, default=SCRIPTS, metavar="N", help="how many scripts are made")
-    parser.add_argument("--seed", type=int, default=SEED, help="what the inputs are drawn from")
-    parser.add_argument("--workers", type=int, default=WORKERS, metavar="W", help="how many are tried at a time")
-    parser.add_argument("--keep", type=pathlib.Path, metavar="FOLDER", help="where inputs go that make a difference")
+    parser.add_argument(
+        "--replays",
+        type=int,
+        default=REPLAYS,
+        metavar="N",
+        help="how many replays are made",
+    )
+    parser.add_argument(
+        "--scripts",
+        type=int,
+        default=SCRIPTS,
+        metavar="N",
+        help="how many scripts are made",
+    )
+    parser.add_argument(
+        "--seed", type=int, default=SEED, help="what the inputs are drawn from"
+    )
+    parser.add_argument(
+        "--workers",
+        type=int,
+        default=WORKERS,
+        metavar="W",
+        help="how many are tried at a time",
+    )
+    parser.add_argument(
+        "--keep",
+        type=pathlib.Path,
+        metavar="FOLDER",
+        help="where inputs go that make a difference",
+    )
     return parser.parse_args(given)
 
 
@@ -409,10 +638,15 @@ def main() -> int:
             faults[found.fault] += 1
             if found.differing:
                 differences += 1
-                print(f"{found.kind} {found.number}: the programs differ in {', '.join(found.differing)}", flush=True)
+                print(
+                    f"{found.kind} {found.number}: the programs differ in {', '.join(found.differing)}",
+                    flush=True,
+                )
     for fault, count in faults.most_common():
         print(f"{fault}: {count}")
-    print(f"{given.replays} replays, {given.scripts} scripts, {differences} differences")
+    print(
+        f"{given.replays} replays, {given.scripts} scripts, {differences} differences"
+    )
     return 1 if differences else 0
 
 

@@ -12,8 +12,23 @@ from tests.support.program_rows import DONE, FAILED_STREAM, REFUSED_TEXT
 TOP = pathlib.Path(__file__).resolve().parents[2]
 
 
-__all__ = ["COMMANDS", "Command", "DONE", "FAILED_STREAM", "Lab", "NO_MEMORY", "NO_THREADS", "PATIENCE", "REFUSED_TEXT",
-           "Run", "SERVED", "TOP", "WHOLE_OF_PART", "command_named", "ended"]
+__all__ = [
+    "COMMANDS",
+    "Command",
+    "DONE",
+    "FAILED_STREAM",
+    "Lab",
+    "NO_MEMORY",
+    "NO_THREADS",
+    "PATIENCE",
+    "REFUSED_TEXT",
+    "Run",
+    "SERVED",
+    "TOP",
+    "WHOLE_OF_PART",
+    "command_named",
+    "ended",
+]
 
 NO_MEMORY, NO_THREADS = 5, 7
 # seconds within which a run must end
@@ -23,6 +38,7 @@ PATIENCE = 60
 class Command(NamedTuple):
     """The words of a command, with what stands on its standard input, the file that it reads first, how its faults name
     its standard input, and what else they may name."""
+
     name: str
     words: Sequence[str]
     script: str
@@ -36,32 +52,106 @@ PART, WHOLE_OF_PART = "examples/first0.jsonl.part", "examples/first0.jsonl"
 # a contest of one match by its tournament and its prefix, and the files of that match
 CONTEST = ["examples/appeal.toml", "--replay", "examples/appeal"]
 OF_CONTEST = ["examples/appeal0.jsonl", "examples/appeal0.jsonl.part"]
-TRIES = ["explore", "examples/version1.toml", "0", "--max-states", "10000000", "--spurious-wakeups", "2"]
+TRIES = [
+    "explore",
+    "examples/version1.toml",
+    "0",
+    "--max-states",
+    "10000000",
+    "--spurious-wakeups",
+    "2",
+]
 MODULE = "examples/agents/wasm/ring.wasm"
-DRAWS = ["--draws", "20", "--seed", "5", "--scheduler", "slow-agents", "--objective", "moves"]
+DRAWS = [
+    "--draws",
+    "20",
+    "--seed",
+    "5",
+    "--scheduler",
+    "slow-agents",
+    "--objective",
+    "moves",
+]
 # each order of the program with each of its options, but `serve`, for which the tools have runs of their own:
 # tests/test_commands.py compares
 COMMANDS = [
     Command("check", ["check", "examples/first.toml"], "", "examples/first.toml"),
-    Command("rehearse", ["rehearse", "examples/first.toml", "--replay", "kept"], "examples/first.script",
-            "examples/first.toml"),
-    Command("interactive", ["rehearse", "examples/first.toml", "--interactive", "--replay", "kept"],
-            "examples/first.script", "examples/first.toml"),
+    Command(
+        "rehearse",
+        ["rehearse", "examples/first.toml", "--replay", "kept"],
+        "examples/first.script",
+        "examples/first.toml",
+    ),
+    Command(
+        "interactive",
+        ["rehearse", "examples/first.toml", "--interactive", "--replay", "kept"],
+        "examples/first.script",
+        "examples/first.toml",
+    ),
     Command("built-in", ["rehearse"], "examples/triangle.script", None),
     Command("judge", ["judge", "examples/first0.jsonl"], "", "examples/first0.jsonl"),
-    Command("table", ["table", "red=examples/first0.jsonl", "blue=examples/guess0.jsonl"], "",
-            "examples/first0.jsonl"),
-    Command("explain", ["explain", "examples/first0.jsonl", "1"], "", "examples/first0.jsonl"),
-    Command("twin", ["twin", "examples/guess0.jsonl", "1"], "", "examples/guess0.jsonl"),
-    Command("appeal", ["judge", "examples/appeal0.jsonl", "--turns", "examples/appeal0.turns", "--tournament",
-                       "examples/appeal.toml", "--match", "0"], "", "examples/appeal0.jsonl"),
+    Command(
+        "table",
+        ["table", "red=examples/first0.jsonl", "blue=examples/guess0.jsonl"],
+        "",
+        "examples/first0.jsonl",
+    ),
+    Command(
+        "explain",
+        ["explain", "examples/first0.jsonl", "1"],
+        "",
+        "examples/first0.jsonl",
+    ),
+    Command(
+        "twin", ["twin", "examples/guess0.jsonl", "1"], "", "examples/guess0.jsonl"
+    ),
+    Command(
+        "appeal",
+        [
+            "judge",
+            "examples/appeal0.jsonl",
+            "--turns",
+            "examples/appeal0.turns",
+            "--tournament",
+            "examples/appeal.toml",
+            "--match",
+            "0",
+        ],
+        "",
+        "examples/appeal0.jsonl",
+    ),
     Command("recover", ["recover", PART], "", PART),
-    Command("contest table", ["table", *CONTEST], "", "examples/appeal.toml", beside=OF_CONTEST),
-    Command("contest recover", ["recover", *CONTEST], "", "examples/appeal.toml", beside=OF_CONTEST),
-    Command("explore", TRIES, "examples/triangle.answers", "examples/version1.toml", "host"),
-    Command("draw", [*TRIES, *DRAWS], "examples/triangle.answers", "examples/version1.toml", "host"),
-    Command("module", ["explore", "examples/appeal.toml", "0", "--module", f"{MODULE}:8"], "", "examples/appeal.toml",
-            beside=[MODULE]),
+    Command(
+        "contest table",
+        ["table", *CONTEST],
+        "",
+        "examples/appeal.toml",
+        beside=OF_CONTEST,
+    ),
+    Command(
+        "contest recover",
+        ["recover", *CONTEST],
+        "",
+        "examples/appeal.toml",
+        beside=OF_CONTEST,
+    ),
+    Command(
+        "explore", TRIES, "examples/triangle.answers", "examples/version1.toml", "host"
+    ),
+    Command(
+        "draw",
+        [*TRIES, *DRAWS],
+        "examples/triangle.answers",
+        "examples/version1.toml",
+        "host",
+    ),
+    Command(
+        "module",
+        ["explore", "examples/appeal.toml", "0", "--module", f"{MODULE}:8"],
+        "",
+        "examples/appeal.toml",
+        beside=[MODULE],
+    ),
 ]
 SERVED = "serve"
 
@@ -72,6 +162,7 @@ def command_named(name: str) -> Command:
 
 class Run(NamedTuple):
     """What came of a run."""
+
     status: int
     printed: bytes
     told: str
@@ -85,7 +176,11 @@ def ended(child: subprocess.Popen) -> Run:
         child.kill()
         child.communicate()
         return Run(-1, b"", "it did not end")
-    return Run(child.returncode, printed or b"", without_help((told or b"").decode(errors="replace")))
+    return Run(
+        child.returncode,
+        printed or b"",
+        without_help((told or b"").decode(errors="replace")),
+    )
 
 
 def without_help(told: str) -> str:
@@ -106,17 +201,38 @@ class Lab:
         (folder / PART).write_bytes(b"".join(lines[:-2]))
         self.whole = {command.name: self.run(command) for command in COMMANDS}
 
-    def run(self, command: Command, limit: Optional[Callable[[], None]] = None, **streams: Any) -> Run:
+    def run(
+        self,
+        command: Command,
+        limit: Optional[Callable[[], None]] = None,
+        **streams: Any,
+    ) -> Run:
         """Runs a command, with a limit that is set before it begins, and other streams if some are given."""
         self.runs += 1
         script = self.folder / command.script if command.script else os.devnull
         with open(script, "rb") as given:
-            plain = {"stdin": given, "stdout": subprocess.PIPE, "stderr": subprocess.PIPE}
-            child = subprocess.Popen([self.program, *command.words], cwd=self.folder, preexec_fn=limit,
-                                     **{**plain, **streams})
+            plain = {
+                "stdin": given,
+                "stdout": subprocess.PIPE,
+                "stderr": subprocess.PIPE,
+            }
+            child = subprocess.Popen(
+                [self.program, *command.words],
+                cwd=self.folder,
+                preexec_fn=limit,
+                **{**plain, **streams},
+            )
             return ended(child)
 
-    def expect(self, what: str, command: Command, found: Run, allowed: Set[str], status: int, seen: Counter) -> None:
+    def expect(
+        self,
+        what: str,
+        command: Command,
+        found: Run,
+        allowed: Set[str],
+        status: int,
+        seen: Counter,
+    ) -> None:
         """Counts a run that ended as it should: as with nothing missing, or by one of these faults with this status."""
         whole = self.whole[command.name]
         if found == whole:
@@ -126,14 +242,18 @@ class Lab:
             if not whole.printed.startswith(found.printed):
                 self.faults.append(f"{what}, {command.name}: another text was printed")
         else:
-            self.faults.append(f"{what}, {command.name}: status {found.status}, `{found.told.strip()[:100]}`")
+            self.faults.append(
+                f"{what}, {command.name}: status {found.status}, `{found.told.strip()[:100]}`"
+            )
 
     def part(self, trial: Callable[..., None], *given: Any) -> None:
         """Carries out a part. One that dies is a fault with its name, and the others are carried out."""
         try:
             trial(*given)
         except Exception as fault:
-            self.faults.append(f"{trial.__name__.replace('_', ' ')}: {type(fault).__name__}: {fault}")
+            self.faults.append(
+                f"{trial.__name__.replace('_', ' ')}: {type(fault).__name__}: {fault}"
+            )
 
     def conclude(self) -> int:
         """Prints what ended otherwise, and how many runs did; gives the exit status."""
@@ -143,4 +263,8 @@ class Lab:
         return 1 if self.faults else 0
 
     def report(self, what: str, seen: Counter) -> None:
-        print(f"{what}: " + ", ".join(f"{count} {name}" for name, count in sorted(seen.items())), flush=True)
+        print(
+            f"{what}: "
+            + ", ".join(f"{count} {name}" for name, count in sorted(seen.items())),
+            flush=True,
+        )

@@ -21,8 +21,20 @@ from typing import Callable, Counter
 
 from bench.inputs import MIB
 from tests.support.servers import Server
-from tests.hostile.commands import (COMMANDS, DONE, FAILED_STREAM, NO_MEMORY, NO_THREADS, REFUSED_TEXT, SERVED,
-                                    WHOLE_OF_PART, Lab, Run, command_named, ended)
+from tests.hostile.commands import (
+    COMMANDS,
+    DONE,
+    FAILED_STREAM,
+    NO_MEMORY,
+    NO_THREADS,
+    REFUSED_TEXT,
+    SERVED,
+    WHOLE_OF_PART,
+    Lab,
+    Run,
+    command_named,
+    ended,
+)
 
 # of a server; fewer than connections that the system keeps waiting for it
 SESSIONS = 100
@@ -38,19 +50,38 @@ def no_memory(lab: Lab) -> None:
     for command in COMMANDS:
         for most in range(8, 65):
             found = lab.run(command, limited(resource.RLIMIT_AS, most * MIB))
-            places = {"arena", "output", command.given, "twin", "kept", *(f"kept{number}.jsonl" for number in range(4)),
-                      *command.beside, *(word.rpartition("=")[2] for word in command.words[1:])}
-            places |= {f"examples/{path.name}" for path in (lab.folder / "examples").glob("*.toml")}
+            places = {
+                "arena",
+                "output",
+                command.given,
+                "twin",
+                "kept",
+                *(f"kept{number}.jsonl" for number in range(4)),
+                *command.beside,
+                *(word.rpartition("=")[2] for word in command.words[1:]),
+            }
+            places |= {
+                f"examples/{path.name}"
+                for path in (lab.folder / "examples").glob("*.toml")
+            }
             allowed = {f"{place}: memory" for place in places}
-            lab.expect(f"{most} MiB of memory", command, found, allowed, NO_MEMORY, seen)
+            lab.expect(
+                f"{most} MiB of memory", command, found, allowed, NO_MEMORY, seen
+            )
     lab.report("8 to 64 MiB of memory", seen)
 
 
 def no_stack(lab: Lab) -> None:
     seen: Counter = collections.Counter()
     for command in COMMANDS:
-        lab.expect("a stack of 256 KiB", command, lab.run(command, limited(resource.RLIMIT_STACK, 256 * 1024)), set(),
-                   DONE, seen)
+        lab.expect(
+            "a stack of 256 KiB",
+            command,
+            lab.run(command, limited(resource.RLIMIT_STACK, 256 * 1024)),
+            set(),
+            DONE,
+            seen,
+        )
     lab.report("a stack of 256 KiB", seen)
 
 
@@ -58,7 +89,14 @@ def few_files(lab: Lab) -> None:
     """One file can be open beside the three streams: the fewest with which the system starts a program."""
     seen: Counter = collections.Counter()
     for command in COMMANDS:
-        lab.expect("one open file", command, lab.run(command, limited(resource.RLIMIT_NOFILE, 4)), set(), DONE, seen)
+        lab.expect(
+            "one open file",
+            command,
+            lab.run(command, limited(resource.RLIMIT_NOFILE, 4)),
+            set(),
+            DONE,
+            seen,
+        )
     lab.report("one descriptor for files", seen)
 
 
@@ -67,12 +105,26 @@ def full_disk(lab: Lab) -> None:
     seen: Counter = collections.Counter()
     for command in COMMANDS:
         with open("/dev/full", "wb") as full:
-            lab.expect("a full disk", command, lab.run(command, stdout=full), {"output: write"}, FAILED_STREAM, seen)
+            lab.expect(
+                "a full disk",
+                command,
+                lab.run(command, stdout=full),
+                {"output: write"},
+                FAILED_STREAM,
+                seen,
+            )
     rehearse = command_named("rehearse")
     kept = lab.folder / "kept0.jsonl"
     kept.unlink()
     kept.symlink_to("/dev/full")
-    lab.expect("a replay on a full disk", rehearse, lab.run(rehearse), {"kept0.jsonl: write"}, FAILED_STREAM, seen)
+    lab.expect(
+        "a replay on a full disk",
+        rehearse,
+        lab.run(rehearse),
+        {"kept0.jsonl: write"},
+        FAILED_STREAM,
+        seen,
+    )
     kept.unlink()
     lab.report("a full disk", seen)
 
@@ -85,11 +137,27 @@ def closed_streams(lab: Lab) -> None:
         os.close(reader)
         found = lab.run(command, stdout=writer)
         os.close(writer)
-        lab.expect("a reader that is gone", command, found, {"output: write"}, FAILED_STREAM, seen)
+        lab.expect(
+            "a reader that is gone",
+            command,
+            found,
+            {"output: write"},
+            FAILED_STREAM,
+            seen,
+        )
         found = lab.run(command, lambda: os.close(1))
-        lab.expect("a closed output", command, found, {"output: write"}, FAILED_STREAM, seen)
+        lab.expect(
+            "a closed output", command, found, {"output: write"}, FAILED_STREAM, seen
+        )
         found = lab.run(command, lambda: os.close(0))
-        lab.expect("a closed input", command, found, {f"{command.given}: read"}, FAILED_STREAM, seen)
+        lab.expect(
+            "a closed input",
+            command,
+            found,
+            {f"{command.given}: read"},
+            FAILED_STREAM,
+            seen,
+        )
     lab.report("readers that are gone, and streams that are closed", seen)
 
 
@@ -103,7 +171,14 @@ def strange_files(lab: Lab) -> None:
         for name in ("folder", "none"):
             words = [word.replace(command.reads, name) for word in command.words]
             found = lab.run(command._replace(words=words))
-            lab.expect(f"{name} for a file", command, found, {f"{name}: read"}, FAILED_STREAM, seen)
+            lab.expect(
+                f"{name} for a file",
+                command,
+                found,
+                {f"{name}: read"},
+                FAILED_STREAM,
+                seen,
+            )
     judge, whole = command_named("judge"), (lab.folder / WHOLE_OF_PART).read_bytes()
     for cut in range(0, len(whole), 997):
         fifo = lab.folder / "grows.jsonl"
@@ -113,24 +188,47 @@ def strange_files(lab: Lab) -> None:
         found = lab.run(judge._replace(words=["judge", "grows.jsonl"]))
         feeder.join()
         fifo.unlink()
-        lab.expect("a replay that grows", judge, found, {"grows.jsonl: head", "grows.jsonl: end"}, REFUSED_TEXT,
-                   seen)
-    lab.report("folders, files that are not there, and replays that grow and stop", seen)
+        lab.expect(
+            "a replay that grows",
+            judge,
+            found,
+            {"grows.jsonl: head", "grows.jsonl: end"},
+            REFUSED_TEXT,
+            seen,
+        )
+    lab.report(
+        "folders, files that are not there, and replays that grow and stop", seen
+    )
 
 
 def feed(fifo: pathlib.Path, whole: bytes, cut: int) -> None:
     """Writes a front of a text, in two pieces."""
     with contextlib.suppress(BrokenPipeError), open(fifo, "wb") as out:
-        out.write(whole[:cut // 2])
+        out.write(whole[: cut // 2])
         out.flush()
-        out.write(whole[cut // 2:cut])
+        out.write(whole[cut // 2 : cut])
 
 
 def served(lab: Lab, sessions: int, limit: Callable[[], None]) -> Run:
     """Serves the first tournament with a limit, to clients that connect and close."""
     lab.runs += 1
-    server = Server([lab.program, SERVED, "examples/first.toml", "--sessions", sessions, "--turns", 10, "--pause", 1,
-                     "--replay", "served"], lab.folder, preexec_fn=limit)
+    server = Server(
+        [
+            lab.program,
+            SERVED,
+            "examples/first.toml",
+            "--sessions",
+            sessions,
+            "--turns",
+            10,
+            "--pause",
+            1,
+            "--replay",
+            "served",
+        ],
+        lab.folder,
+        preexec_fn=limit,
+    )
     with contextlib.ExitStack() as clients, contextlib.suppress(OSError):
         for _ in range(sessions if server.first else 0):
             clients.enter_context(server.connect())
@@ -139,25 +237,43 @@ def served(lab: Lab, sessions: int, limit: Callable[[], None]) -> Run:
 
 
 # each part takes a descriptor while a contest goes on; without one the replay is whole nevertheless
-NO_PART = re.compile(r"\d+:\d\d:\d\d serve: the part of match \d+ stops after \d+ events: write")
+NO_PART = re.compile(
+    r"\d+:\d\d:\d\d serve: the part of match \d+ stops after \d+ events: write"
+)
 
 
 def servers(lab: Lab) -> None:
     """A contest of many sessions with little memory, so that threads cannot start, and with few descriptors."""
     seen: Counter = collections.Counter()
-    limits = [("memory", resource.RLIMIT_AS, most * MIB) for most in (*range(8, 65, 8), 128, 256, 512, 1024)]
-    limits += [("descriptors", resource.RLIMIT_NOFILE, most) for most in (4, 5, 6, 8, 16)]
+    limits = [
+        ("memory", resource.RLIMIT_AS, most * MIB)
+        for most in (*range(8, 65, 8), 128, 256, 512, 1024)
+    ]
+    limits += [
+        ("descriptors", resource.RLIMIT_NOFILE, most) for most in (4, 5, 6, 8, 16)
+    ]
     for what, kind, most in limits:
         found = served(lab, SESSIONS, limited(kind, most))
         lines = found.printed.decode(errors="replace").splitlines()
         told = {line.rpartition(": ")[2] for line in found.told.splitlines()}
-        if found.status == DONE and len(lines) == 6 and all(map(NO_PART.fullmatch, found.told.splitlines())):
+        if (
+            found.status == DONE
+            and len(lines) == 6
+            and all(map(NO_PART.fullmatch, found.told.splitlines()))
+        ):
             seen["served without all parts" if told else "served"] += 1
-        elif (found.status, told) in ((NO_MEMORY, {"memory"}), (FAILED_STREAM, {"read"}), (FAILED_STREAM, {"listen"}),
-                                      (FAILED_STREAM, {"write"}), (NO_THREADS, {"threads"})):
+        elif (found.status, told) in (
+            (NO_MEMORY, {"memory"}),
+            (FAILED_STREAM, {"read"}),
+            (FAILED_STREAM, {"listen"}),
+            (FAILED_STREAM, {"write"}),
+            (NO_THREADS, {"threads"}),
+        ):
             seen["".join(told)] += 1
         else:
-            lab.faults.append(f"a server with {most} of {what}: status {found.status}, `{found.told.strip()[:100]}`")
+            lab.faults.append(
+                f"a server with {most} of {what}: status {found.status}, `{found.told.strip()[:100]}`"
+            )
     lab.report("a server with little memory or few descriptors", seen)
 
 
@@ -166,7 +282,15 @@ def main() -> int:
         sys.exit(__doc__.strip())
     with tempfile.TemporaryDirectory() as name:
         lab = Lab(sys.argv[1], pathlib.Path(name))
-        for trial in (no_stack, few_files, full_disk, closed_streams, strange_files, servers, no_memory):
+        for trial in (
+            no_stack,
+            few_files,
+            full_disk,
+            closed_streams,
+            strange_files,
+            servers,
+            no_memory,
+        ):
             lab.part(trial, lab)
     return lab.conclude()
 

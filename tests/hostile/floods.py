@@ -28,7 +28,9 @@ from tests.support.tournaments import match, write_cup
 from tests.support.cases import raise_descriptors
 
 # agents import their client as it stands beside them
-sys.path.insert(0, str(pathlib.Path(__file__).resolve().parents[2] / "examples" / "agents"))
+sys.path.insert(
+    0, str(pathlib.Path(__file__).resolve().parents[2] / "examples" / "agents")
+)
 
 import ring  # noqa: E402
 from client import Agent, MatchOver  # noqa: E402
@@ -44,6 +46,7 @@ AT_ONCE = struct.pack("ii", 1, 0)
 
 class Timed(Agent):
     """An agent that notes how long each answer takes, and how often it asked to enter."""
+
     slowest, tries = 0.0, 0
 
     def _ask(self, command: Dict[str, Any]) -> Dict[str, Any]:
@@ -89,20 +92,45 @@ def main(words: List[str]) -> int:
     if len(words) not in (1, 2):
         sys.exit((__doc__ or "").strip())
     raise_descriptors()
-    program, rate = os.path.abspath(words[0]), float(words[1]) if len(words) > 1 else 3000.0
+    program, rate = (
+        os.path.abspath(words[0]),
+        float(words[1]) if len(words) > 1 else 3000.0,
+    )
     with tempfile.TemporaryDirectory() as name:
         folder = pathlib.Path(name)
-        write_cup(folder, [match(f"t{team}", ring_of(NODES), [team % 7 + 1], quota=400) for team in range(TEAMS)],
-                  seed=os.urandom(32).hex())
-        words = [program, "serve", "cup.toml", "--sessions", 100, "--gather", 60_000, "--early"]
+        write_cup(
+            folder,
+            [
+                match(f"t{team}", ring_of(NODES), [team % 7 + 1], quota=400)
+                for team in range(TEAMS)
+            ],
+            seed=os.urandom(32).hex(),
+        )
+        words = [
+            program,
+            "serve",
+            "cup.toml",
+            "--sessions",
+            100,
+            "--gather",
+            60_000,
+            "--early",
+        ]
         server = Server(words, folder, stderr=subprocess.DEVNULL)
         over, count = multiprocessing.Event(), multiprocessing.Value("l", 0)
-        stranger = multiprocessing.Process(target=flood, args=(server.port, rate, over, count))
+        stranger = multiprocessing.Process(
+            target=flood, args=(server.port, rate, over, count)
+        )
         begun = time.monotonic()
         stranger.start()
         time.sleep(2)
-        agents = [threading.Thread(target=play, args=(server.port, f"t{team}-{agent}"), daemon=True)
-                  for team in range(TEAMS) for agent in (0, 1)]
+        agents = [
+            threading.Thread(
+                target=play, args=(server.port, f"t{team}-{agent}"), daemon=True
+            )
+            for team in range(TEAMS)
+            for agent in (0, 1)
+        ]
         for agent in agents:
             agent.start()
         until = time.monotonic() + PATIENCE
@@ -114,8 +142,10 @@ def main(words: List[str]) -> int:
         server.child.terminate() if any(agent.is_alive() for agent in agents) else None
         rows = server.ended().texts()[1].splitlines()[1:]
     solved = sum(row.split()[2] in ("solved", "guess") for row in rows)
-    print(f"{count.value} connections in {took:.1f} s; {solved} of {TEAMS} teams solved; {Timed.tries} tries of "
-          f"{2 * TEAMS} agents to enter; the slowest answer took {Timed.slowest:.2f} s")
+    print(
+        f"{count.value} connections in {took:.1f} s; {solved} of {TEAMS} teams solved; {Timed.tries} tries of "
+        f"{2 * TEAMS} agents to enter; the slowest answer took {Timed.slowest:.2f} s"
+    )
     return 0 if solved == TEAMS and stranger.exitcode == 0 else 1
 
 

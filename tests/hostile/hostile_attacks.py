@@ -17,8 +17,20 @@ from bench.servers import MAX_SESSIONS
 from arena_lab.rules.model import spelled
 from tests.support.counts import Wrong, require
 from tests.support.servers import Server, enter
-from tests.support.session_lines import (BYE, DEPART, HERE, LEAVE, LOOK, LOOKS, NO_ENTER, NO_KEY, NO_LATE, NO_LINE,
-                                         NO_TAKEN, WRITTEN)
+from tests.support.session_lines import (
+    BYE,
+    DEPART,
+    HERE,
+    LEAVE,
+    LOOK,
+    LOOKS,
+    NO_ENTER,
+    NO_KEY,
+    NO_LATE,
+    NO_LINE,
+    NO_TAKEN,
+    WRITTEN,
+)
 
 TOP = pathlib.Path(__file__).resolve().parents[2]
 HOST = "127.0.0.1"
@@ -182,7 +194,7 @@ class Slow(threading.Thread):
             if any(has_heard(client) for client, _ in self.clients):
                 raise Wrong("an answer or the end came before the line had ended")
             for client, _ in self.clients:
-                client.sendall(LEAVE[place:place + 1])
+                client.sendall(LEAVE[place : place + 1])
         for client, answer in self.clients:
             hear(client, answer)
 
@@ -268,7 +280,10 @@ def is_cut_off(client: socket.socket, piece: bytes, count: int) -> None:
         client.sendall(b"\n")
     with client, contextlib.suppress(OSError):
         heard = client.recv(len(NO_LATE) + 1)
-    require(heard in (b"", NO_LATE), f"who sends too much before it enters is answered {heard!r}")
+    require(
+        heard in (b"", NO_LATE),
+        f"who sends too much before it enters is answered {heard!r}",
+    )
 
 
 def flood(siege: Siege) -> str:
@@ -291,7 +306,11 @@ def flood(siege: Siege) -> str:
 
 def taken_unread(clients: Sequence[socket.socket], still: float) -> List[int]:
     """Sends looks without an end; answers how many bytes were taken of each client until no more are taken."""
-    numbered, sent, poll = {client.fileno(): client for client in clients}, [0] * len(clients), select.poll()
+    numbered, sent, poll = (
+        {client.fileno(): client for client in clients},
+        [0] * len(clients),
+        select.poll(),
+    )
     places = {number: place for place, number in enumerate(numbered)}
     for number, client in numbered.items():
         client.setblocking(False)
@@ -300,22 +319,28 @@ def taken_unread(clients: Sequence[socket.socket], still: float) -> List[int]:
         for number, _ in ready:
             place = places[number]
             with contextlib.suppress(BlockingIOError):
-                sent[place] += numbered[number].send(LOOKS[sent[place] % len(LOOK):])
+                sent[place] += numbered[number].send(LOOKS[sent[place] % len(LOOK) :])
             if sent[place] > MOST_UNREAD:
-                raise Wrong(f"{MOST_UNREAD // MIB} MiB of looks were taken of a client that reads no answer")
+                raise Wrong(
+                    f"{MOST_UNREAD // MIB} MiB of looks were taken of a client that reads no answer"
+                )
     return sent
 
 
 def deaf(siege: Siege) -> str:
     """Clients with small buffers that look at a whiteboard with the longest text, and read nothing. Half of them then
     vanish, the others stay."""
-    clients = [siege.enter(SMALL_BUFFER, vanishes=number < DEAF // 2) for number in range(DEAF)]
-    clients[0].sendall(spelled({"do": "write", "expect": "", "put": "x" * MAX_BOARD}).encode() + b"\n")
+    clients = [
+        siege.enter(SMALL_BUFFER, vanishes=number < DEAF // 2) for number in range(DEAF)
+    ]
+    clients[0].sendall(
+        spelled({"do": "write", "expect": "", "put": "x" * MAX_BOARD}).encode() + b"\n"
+    )
     hear(clients[0], HERE + WRITTEN)
     taken = taken_unread(clients, siege.sizes.still)
-    for client in clients[:DEAF // 2]:
+    for client in clients[: DEAF // 2]:
         reset(client)
-    siege.kept += clients[DEAF // 2:]
+    siege.kept += clients[DEAF // 2 :]
     return f"{DEAF} clients read nothing; of the looks of each, {min(taken)} to {max(taken)} bytes were taken"
 
 
@@ -325,7 +350,9 @@ def wrong_keys(siege: Siege) -> str:
     for number in range(count):
         is_taken = number % 10 == 0
         with siege.connect() as client:
-            client.sendall(enter(key(POLITE, number // 10 % 2) if is_taken else f"nobody-{number}"))
+            client.sendall(
+                enter(key(POLITE, number // 10 % 2) if is_taken else f"nobody-{number}")
+            )
             hear(client, NO_TAKEN if is_taken else NO_KEY)
             hear_end(client)
     return f"{count} clients with the key of nobody, or of an agent that has entered, were denied"
@@ -342,13 +369,26 @@ def beyond(siege: Siege) -> str:
             heard = answers.readlines()
     if len(heard) != 2 or not heard[0].startswith(b'{"board":') or heard[1] != BYE:
         raise Wrong(f"the client that came after them heard {heard!r}")
-    return f"{count} clients connected and closed, and one that came after them was let in"
+    return (
+        f"{count} clients connected and closed, and one that came after them was let in"
+    )
 
 
 Attack = Callable[[Siege], str]
 # the attacks on one server: each in turn, or one by as many clients as there are sessions left
 ATTACKS: Dict[str, List[Attack]] = {
-    "each": [slow_begin, half_open, resets, silent, garbage, flood, deaf, wrong_keys, beyond, slow_end],
+    "each": [
+        slow_begin,
+        half_open,
+        resets,
+        silent,
+        garbage,
+        flood,
+        deaf,
+        wrong_keys,
+        beyond,
+        slow_end,
+    ],
     "silent": [silent_all],
     "keys": [wrong_keys],
 }

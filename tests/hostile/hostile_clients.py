@@ -36,15 +36,36 @@ import threading
 import time
 from typing import Callable, Iterator, List, NamedTuple, Optional, Sequence
 
-from bench.inputs import MAX_AGENTS, MAX_BOARD, MAX_QUOTA, MIB, key, peak_of_child, peak_so_far, tournament
+from bench.inputs import (
+    MAX_AGENTS,
+    MAX_BOARD,
+    MAX_QUOTA,
+    MIB,
+    key,
+    peak_of_child,
+    peak_so_far,
+    tournament,
+)
 from bench.servers import MAX_SESSIONS, prepare, serving
 from examples.agents.client import Agent, Lines, Refused
 from arena_lab.play.server import table
 from arena_lab.rules.model import ENDED, Match, judge, played, spelled
 from arena_lab.rules.networks import ring, text_of
 from tests.support.counts import Wrong, concluded, require
-from tests.hostile.hostile_attacks import (ATTACKS, HOST, HOSTILE, LATER, PATIENCE, POLITE, PROMPT, STRANGER, Attack,
-                                           Siege, Sizes, hear)
+from tests.hostile.hostile_attacks import (
+    ATTACKS,
+    HOST,
+    HOSTILE,
+    LATER,
+    PATIENCE,
+    POLITE,
+    PROMPT,
+    STRANGER,
+    Attack,
+    Siege,
+    Sizes,
+    hear,
+)
 from tests.support.session_lines import DEPART, GONE, HERE, OVER
 
 MATCHES = 4
@@ -56,7 +77,9 @@ BASE_KIB = 64 * 1024
 EACH_KIB = 96
 END = 15.0
 LEAST_SESSIONS = LATER + 32
-QUICK = Sizes(turns=900, between_bytes=0.3, between_steps=0.05, still=0.5, flood=4 * MIB)
+QUICK = Sizes(
+    turns=900, between_bytes=0.3, between_steps=0.05, still=0.5, flood=4 * MIB
+)
 # enough for the attacks, the server and what Python needs
 FILES = 2 * MAX_SESSIONS
 
@@ -79,7 +102,8 @@ class TimedLines(Lines):
 
 class Polite(threading.Thread):
     """A client that keeps to the rules. It walks to and fro between the home base and the last node before the black
-    hole on its side, looks and writes, until the attacks are over; then it goes there and accuses."""
+    hole on its side, looks and writes, until the attacks are over; then it goes there and accuses.
+    """
 
     def __init__(self, siege: Siege, number: int) -> None:
         super().__init__(daemon=True)
@@ -107,7 +131,9 @@ class Polite(threading.Thread):
             if used + 3 > MAX_QUOTA - REACH - 1:
                 continue
             board = self.agent.look().board
-            self.agent.write(board, f"agent {self.number} was here after {used} commands")
+            self.agent.write(
+                board, f"agent {self.number} was here after {used} commands"
+            )
             is_outward = place == 0 or (is_outward and place < REACH)
             self.agent.depart(ahead if is_outward else back)
             place += 1 if is_outward else -1
@@ -155,8 +181,13 @@ def ending_of(siege: Siege, witness: Witness) -> Ending:
     late.start()
     peak = peak_of_child(siege.server.child)
     late.cancel()
-    return Ending(is_over, siege.server.child.returncode, time.monotonic() - begin, peak,
-                  siege.server.child.stdout.read().decode())
+    return Ending(
+        is_over,
+        siege.server.child.returncode,
+        time.monotonic() - begin,
+        peak,
+        siege.server.child.stdout.read().decode(),
+    )
 
 
 @functools.lru_cache(maxsize=None)
@@ -169,7 +200,10 @@ def match_of(folder: pathlib.Path, number: int) -> Match:
         match = played(text)
     except (ValueError, LookupError, TypeError) as fault:
         raise Wrong(f"the replay of match {number} is none: {fault!r}") from fault
-    require(match.replay() == text, f"the replay of match {number} is another when it is played anew")
+    require(
+        match.replay() == text,
+        f"the replay of match {number} is another when it is played anew",
+    )
     return match
 
 
@@ -195,9 +229,16 @@ def check_polite(client: Polite, match: Match) -> None:
     """One polite client was answered what the replay says, and in time."""
     name = f"client {client.number}"
     require(not client.fault, f"{name}: {client.fault}")
-    if client.lines.answers != [spelled(event["reply"]) for event in match.log if event.get("agent") == client.number]:
+    if client.lines.answers != [
+        spelled(event["reply"])
+        for event in match.log
+        if event.get("agent") == client.number
+    ]:
         raise Wrong(f"{name} was answered other lines than its replay has")
-    require(client.lines.slowest <= PROMPT, f"an answer to {name} took {client.lines.slowest:.1f} s")
+    require(
+        client.lines.slowest <= PROMPT,
+        f"an answer to {name} took {client.lines.slowest:.1f} s",
+    )
 
 
 def check_team(polite: Sequence[Polite], match: Match) -> str:
@@ -206,23 +247,31 @@ def check_team(polite: Sequence[Polite], match: Match) -> str:
     verdict = judge(match)
     if verdict.outcome != "solved" or verdict.lost:
         raise Wrong(f"their team's verdict is {verdict}")
-    count, slowest = sum(len(one.lines.answers) for one in polite), max(one.lines.slowest for one in polite)
+    count, slowest = sum(len(one.lines.answers) for one in polite), max(
+        one.lines.slowest for one in polite
+    )
     return f"{count} answers, the slowest after {slowest * 1000:.0f} ms; solved with {verdict.moves} moves"
 
 
 def check_vanished(siege: Siege, match: Match) -> str:
-    staying = [agent for agent in siege.vanished if match.agents[agent].standing != ENDED]
+    staying = [
+        agent for agent in siege.vanished if match.agents[agent].standing != ENDED
+    ]
     require(not staying, f"agents {staying} have not left")
     return f"{len(siege.vanished)} agents left when their clients were gone"
 
 
 def check_stranger(folder: pathlib.Path) -> str:
-    require(match_of(folder, HOSTILE).agents[STRANGER].standing == ENDED, "it has not left")
+    require(
+        match_of(folder, HOSTILE).agents[STRANGER].standing == ENDED, "it has not left"
+    )
     return "the client that came after all others entered and left"
 
 
 def check_table(printed: str, matches: Sequence[Match]) -> str:
-    expected = table([(f"team-{number}", judge(match)) for number, match in enumerate(matches)])
+    expected = table(
+        [(f"team-{number}", judge(match)) for number, match in enumerate(matches)]
+    )
     require(printed == expected, f"it should be\n{expected}and is\n{printed}")
     return f"{len(matches)} rows, by the verdicts on the replays"
 
@@ -248,12 +297,21 @@ class Results:
 def attack(siege: Siege, attacks: Sequence[Attack], results: Results) -> None:
     """Runs the attacks in turn."""
     for one in attacks:
-        results.add(one.__name__.replace("_", " "),
-                    lambda: f"{one(siege)}; peak {peak_so_far(siege.server.child) / 1024:.1f} MiB")
+        results.add(
+            one.__name__.replace("_", " "),
+            lambda: f"{one(siege)}; peak {peak_so_far(siege.server.child) / 1024:.1f} MiB",
+        )
 
 
-def check(siege: Siege, polite: Sequence[Polite], ending: Ending, folder: pathlib.Path, results: Results) -> None:
+def check(
+    siege: Siege,
+    polite: Sequence[Polite],
+    ending: Ending,
+    folder: pathlib.Path,
+    results: Results,
+) -> None:
     """Looks at how it ended and what was written."""
+
     def all_matches() -> List[Match]:
         return [match_of(folder, number) for number in range(MATCHES)]
 
@@ -261,7 +319,9 @@ def check(siege: Siege, polite: Sequence[Polite], ending: Ending, folder: pathli
     results.add("memory", lambda: check_memory(ending, siege.sizes))
     results.add("replays", lambda: check_replays(all_matches()))
     results.add("polite clients", lambda: check_team(polite, match_of(folder, POLITE)))
-    results.add("vanished clients", lambda: check_vanished(siege, match_of(folder, HOSTILE)))
+    results.add(
+        "vanished clients", lambda: check_vanished(siege, match_of(folder, HOSTILE))
+    )
     results.add("the client after all others", lambda: check_stranger(folder))
     results.add("table", lambda: check_table(ending.printed, all_matches()))
 
@@ -270,9 +330,13 @@ def check(siege: Siege, polite: Sequence[Polite], ending: Ending, folder: pathli
 def served(sizes: Sizes, folder: pathlib.Path) -> Iterator[Siege]:
     """A server on a tournament in this folder."""
     (folder / "ring.toml").write_text(text_of(ring(NODES)))
-    matches = tournament(str(folder / "ring.toml"), MATCHES, MAX_AGENTS, MAX_BOARD, holes=HOLES)
+    matches = tournament(
+        str(folder / "ring.toml"), MATCHES, MAX_AGENTS, MAX_BOARD, holes=HOLES
+    )
     (folder / "cup.toml").write_text(matches)
-    with serving(folder, sizes.sessions, sizes.turns, sizes.pause, "--grace", 5000) as server:
+    with serving(
+        folder, sizes.sessions, sizes.turns, sizes.pause, "--grace", 5000
+    ) as server:
         yield Siege(server, sizes)
 
 
@@ -297,21 +361,34 @@ def besiege(sizes: Sizes, attacks: Sequence[Attack], folder: pathlib.Path) -> Re
 
 
 def main() -> int:
-    parser = argparse.ArgumentParser(description=__doc__, formatter_class=argparse.RawDescriptionHelpFormatter)
-    parser.add_argument("--sessions", metavar="N", type=int, default=MAX_SESSIONS,
-                        help=f"{LEAST_SESSIONS} to {MAX_SESSIONS}")
+    parser = argparse.ArgumentParser(
+        description=__doc__, formatter_class=argparse.RawDescriptionHelpFormatter
+    )
+    parser.add_argument(
+        "--sessions",
+        metavar="N",
+        type=int,
+        default=MAX_SESSIONS,
+        help=f"{LEAST_SESSIONS} to {MAX_SESSIONS}",
+    )
     parser.add_argument("--attack", choices=list(ATTACKS), default="each")
-    parser.add_argument("--quick", action="store_true", help="shorter matches and attacks")
+    parser.add_argument(
+        "--quick", action="store_true", help="shorter matches and attacks"
+    )
     given = parser.parse_args()
     if not LEAST_SESSIONS <= given.sessions <= MAX_SESSIONS:
         parser.error(f"--sessions takes {LEAST_SESSIONS} to {MAX_SESSIONS}")
     prepare(FILES)
     with tempfile.TemporaryDirectory() as name:
         try:
-            sizes = (QUICK if given.quick else Sizes())._replace(sessions=given.sessions)
+            sizes = (QUICK if given.quick else Sizes())._replace(
+                sessions=given.sessions
+            )
             results = besiege(sizes, ATTACKS[given.attack], pathlib.Path(name))
         except (Refused, Wrong, OSError) as fault:
-            raise SystemExit(f"hostile_clients: the attack could not begin: {fault}") from fault
+            raise SystemExit(
+                f"hostile_clients: the attack could not begin: {fault}"
+            ) from fault
     return concluded(results.count - results.failed, results.failed)
 
 

@@ -33,7 +33,10 @@ from tests.support.courses import rows_of_teams, team
 from tests.support.counts import concluded
 
 TOP = pathlib.Path(__file__).resolve().parents[2]
-AGENTS, MUTANT = TOP / "examples" / "agents", TOP / "arena_lab" / "mutants" / "reads_once.py"
+AGENTS, MUTANT = (
+    TOP / "examples" / "agents",
+    TOP / "arena_lab" / "mutants" / "reads_once.py",
+)
 HEAD = """title = "A hostile course"
 networks = ["ring:24", "ring:48", "ring:64"]
 holes = 2
@@ -47,12 +50,24 @@ tries = 20
 # of a team with hostile ones, how many times as long as an honest team takes alone
 MORE = 1.5
 HONEST = {
-    "amber": ([AGENTS / "client.py", AGENTS / "ring.py"], "python3 ring.py {host} {port} {key} {nodes}"),
-    "birch": ([AGENTS / "client.py", AGENTS / "known_map.py"],
-              "python3 known_map.py {host} {port} {key} {network} {home}"),
+    "amber": (
+        [AGENTS / "client.py", AGENTS / "ring.py"],
+        "python3 ring.py {host} {port} {key} {nodes}",
+    ),
+    "birch": (
+        [AGENTS / "client.py", AGENTS / "known_map.py"],
+        "python3 known_map.py {host} {port} {key} {network} {home}",
+    ),
     "cedar": ([AGENTS / "ring.c"], "./ring {port} {key} {nodes}"),
-    "dahlia": ([AGENTS / "client.py", AGENTS / "ring.py", MUTANT, TOP / "examples" / "course" / "cedar"],
-               "python3 hasty.py {host} {port} {key} {nodes}"),
+    "dahlia": (
+        [
+            AGENTS / "client.py",
+            AGENTS / "ring.py",
+            MUTANT,
+            TOP / "examples" / "course" / "cedar",
+        ],
+        "python3 hasty.py {host} {port} {key} {nodes}",
+    ),
 }
 # what each hostile program begins with
 CONNECTS = """import json, os, socket, sys, time
@@ -143,8 +158,13 @@ def honest(folder: pathlib.Path) -> List[str]:
     """The honest teams of a course's file. One hands in a program in C, which is compiled."""
     made = folder / "cedar"
     made.mkdir()
-    subprocess.run(["cc", "-O2", "-o", str(made / "ring"), str(AGENTS / "ring.c")], check=True)
-    return [team(name, [made] if name == "cedar" else files, command) for name, (files, command) in HONEST.items()]
+    subprocess.run(
+        ["cc", "-O2", "-o", str(made / "ring"), str(AGENTS / "ring.c")], check=True
+    )
+    return [
+        team(name, [made] if name == "cedar" else files, command)
+        for name, (files, command) in HONEST.items()
+    ]
 
 
 def hostile(folder: pathlib.Path) -> List[str]:
@@ -170,25 +190,48 @@ class Grading:
         (folder / "secret").write_text("a secret of this course\n")
 
     def words(self, course: str, out: str, workers: int) -> List[str]:
-        return [sys.executable, "-m", "arena_lab", "grade", str(self.folder / course), "--out", str(self.folder / out),
-                "--secret", str(self.folder / "secret"), "--workers", str(workers), *self.engine]
+        return [
+            sys.executable,
+            "-m",
+            "arena_lab",
+            "grade",
+            str(self.folder / course),
+            "--out",
+            str(self.folder / out),
+            "--secret",
+            str(self.folder / "secret"),
+            "--workers",
+            str(workers),
+            *self.engine,
+        ]
 
     def graded(self, course: str, out: str, workers: int) -> float:
         """Grades a course; gives how many seconds it took."""
         began = time.monotonic()
-        ran = subprocess.run(self.words(course, out, workers), cwd=TOP, capture_output=True, text=True)
+        ran = subprocess.run(
+            self.words(course, out, workers), cwd=TOP, capture_output=True, text=True
+        )
         took = time.monotonic() - began
         print(ran.stdout.strip())
-        self.check(f"{out}: status {ran.returncode} in {took:.1f} s", ran.returncode == 0, ran.stderr)
+        self.check(
+            f"{out}: status {ran.returncode} in {took:.1f} s",
+            ran.returncode == 0,
+            ran.stderr,
+        )
         return took
 
     def rows(self, out: str) -> Dict[str, List[List[str]]]:
         """The rows of each team, without the numbers of matches."""
-        return {name: [[*(row[column] for column in NAMES), *row["faults"]] for row in rows]
-                for name, rows in rows_of_teams(self.folder / out).items()}
+        return {
+            name: [[*(row[column] for column in NAMES), *row["faults"]] for row in rows]
+            for name, rows in rows_of_teams(self.folder / out).items()
+        }
 
     def check(self, said: str, is_right: bool, more: str = "") -> None:
-        print(f"{'ok' if is_right else 'FAILED'}: {said}{'' if is_right else more}", flush=True)
+        print(
+            f"{'ok' if is_right else 'FAILED'}: {said}{'' if is_right else more}",
+            flush=True,
+        )
         self.passed += is_right
         self.failed += not is_right
 
@@ -196,52 +239,103 @@ class Grading:
         """Checks that the honest teams have the rows that they have alone."""
         rows = self.rows(out)
         for name in HONEST:
-            others = [(mine, own) for mine, own in zip(rows[name], alone[name]) if mine != own]
-            self.check(f"{out}: the rows of {name} are the same", rows[name] == alone[name], f" but for {others[:2]}")
+            others = [
+                (mine, own) for mine, own in zip(rows[name], alone[name]) if mine != own
+            ]
+            self.check(
+                f"{out}: the rows of {name} are the same",
+                rows[name] == alone[name],
+                f" but for {others[:2]}",
+            )
         for name in set(HOSTILE) & set(rows) - {"blind"}:
             solved = sum(row[9] == "solved" for row in rows[name])
             by_chance = len(rows[name]) // 4 if name == "guess" else 0
-            self.check(f"{out}: {name} solves {solved} of {len(rows[name])}", solved <= by_chance)
+            self.check(
+                f"{out}: {name} solves {solved} of {len(rows[name])}",
+                solved <= by_chance,
+            )
             print("   ", {fault for row in rows[name] for fault in row[15:] if fault})
 
-    def with_hostile(self, workers: int, alone: Dict[str, List[List[str]]], took_alone: float) -> None:
+    def with_hostile(
+        self, workers: int, alone: Dict[str, List[List[str]]], took_alone: float
+    ) -> None:
         """Grades all twelve teams."""
         out = f"hostile-{workers}"
-        text = (self.folder / "teams").read_text().format(team_limit=round(MORE * workers * took_alone / len(HONEST)))
+        text = (
+            (self.folder / "teams")
+            .read_text()
+            .format(team_limit=round(MORE * workers * took_alone / len(HONEST)))
+        )
         (self.folder / "all.toml").write_text(text)
         took = self.graded("all.toml", out, workers)
         self.compare(out, alone)
-        self.check(f"{out}: {took:.1f} s, {took / took_alone:.2f} times as long as alone", took < 3 * took_alone)
+        self.check(
+            f"{out}: {took:.1f} s, {took / took_alone:.2f} times as long as alone",
+            took < 3 * took_alone,
+        )
 
     def two_commands(self, alone: Dict[str, List[List[str]]]) -> None:
         """Two commands at the same time."""
         outs = ["one", "other"]
-        ran = [subprocess.Popen(self.words("honest.toml", out, 2), cwd=TOP, stdout=subprocess.DEVNULL) for out in outs]
+        ran = [
+            subprocess.Popen(
+                self.words("honest.toml", out, 2), cwd=TOP, stdout=subprocess.DEVNULL
+            )
+            for out in outs
+        ]
         for child, out in zip(ran, outs):
-            self.check(f"{out} of two commands: status {child.wait()}", child.returncode == 0)
+            self.check(
+                f"{out} of two commands: status {child.wait()}", child.returncode == 0
+            )
             self.compare(out, alone)
 
 
 def main() -> int:
-    parser = argparse.ArgumentParser(description=__doc__, formatter_class=argparse.RawDescriptionHelpFormatter)
-    parser.add_argument("--program", help="the program that plays, instead of the Python model")
-    parser.add_argument("--seeds", type=int, default=4, help="seeds of each scheduler (4)")
-    parser.add_argument("--workers", type=int, nargs="+", default=[1, 4], help="numbers of workers (1 4)")
+    parser = argparse.ArgumentParser(
+        description=__doc__, formatter_class=argparse.RawDescriptionHelpFormatter
+    )
+    parser.add_argument(
+        "--program", help="the program that plays, instead of the Python model"
+    )
+    parser.add_argument(
+        "--seeds", type=int, default=4, help="seeds of each scheduler (4)"
+    )
+    parser.add_argument(
+        "--workers",
+        type=int,
+        nargs="+",
+        default=[1, 4],
+        help="numbers of workers (1 4)",
+    )
     words = parser.parse_args()
-    with tempfile.TemporaryDirectory(prefix="course-") as place, tempfile.TemporaryDirectory() as temporary:
+    with tempfile.TemporaryDirectory(
+        prefix="course-"
+    ) as place, tempfile.TemporaryDirectory() as temporary:
         folder = pathlib.Path(place)
         tempfile.tempdir = temporary
-        engine = ["--program", words.program] if words.program else ["--engine", "model"]
+        engine = (
+            ["--program", words.program] if words.program else ["--engine", "model"]
+        )
         grading = Grading(folder, engine)
         good, bad = honest(folder), hostile(folder)
-        (folder / "honest.toml").write_text(HEAD.format(seeds=words.seeds, team_limit=10_000) + "".join(good))
-        mixed = [text for number, own in enumerate(good) for text in [*bad[2 * number:2 * number + 2], own]]
+        (folder / "honest.toml").write_text(
+            HEAD.format(seeds=words.seeds, team_limit=10_000) + "".join(good)
+        )
+        mixed = [
+            text
+            for number, own in enumerate(good)
+            for text in [*bad[2 * number : 2 * number + 2], own]
+        ]
         teams = "".join(mixed).replace("{", "{{").replace("}", "}}")
-        (folder / "teams").write_text(HEAD.format(seeds=words.seeds, team_limit="{team_limit}") + teams)
+        (folder / "teams").write_text(
+            HEAD.format(seeds=words.seeds, team_limit="{team_limit}") + teams
+        )
         for workers in words.workers:
             took = grading.graded("honest.toml", f"honest-{workers}", workers)
             alone = grading.rows(f"honest-{workers}")
-            grading.compare(f"honest-{workers}", grading.rows(f"honest-{words.workers[0]}"))
+            grading.compare(
+                f"honest-{workers}", grading.rows(f"honest-{words.workers[0]}")
+            )
             grading.with_hostile(workers, alone, took)
         grading.two_commands(alone)
         left = [path.name for path in pathlib.Path(tempfile.gettempdir()).iterdir()]

@@ -21,9 +21,13 @@ from bench.inputs import MIB, peak_of_child
 from tests.support.counts import concluded
 
 TOP = pathlib.Path(__file__).resolve().parents[2]
-HEAD = (b'{"agents":2,"board":8,"dark":[],"holes":[2],"home":0,"links":[[0,0,1,0],[0,1,2,1],[1,1,2,0]],'
-        b'"nodes":3,"quota":10,"replay":2}\n')
-ENTER = b'{"agent":0,"do":"enter","reply":{"board":"","from":null,"ok":"here","ports":2}}\n'
+HEAD = (
+    b'{"agents":2,"board":8,"dark":[],"holes":[2],"home":0,"links":[[0,0,1,0],[0,1,2,1],[1,1,2,0]],'
+    b'"nodes":3,"quota":10,"replay":2}\n'
+)
+ENTER = (
+    b'{"agent":0,"do":"enter","reply":{"board":"","from":null,"ok":"here","ports":2}}\n'
+)
 BAD = b'{"agent":0,"do":"bad","reply":{"no":"line"}}\n'
 
 
@@ -45,10 +49,21 @@ CASES = [
     Case("objects in objects", b"", b'{"a":' * 1024, "head", 3, True),
     Case("empty lines", b"", b"\n" * 4096, "head", 3, False),
     Case("an end line first", b'{"end":0}\n', BAD * 64, "head", 3, False),
-    Case("an end line behind the head", HEAD + b'{"end":0}\n', BAD * 64, "end", 3, False),
+    Case(
+        "an end line behind the head", HEAD + b'{"end":0}\n', BAD * 64, "end", 3, False
+    ),
     Case("letters behind the head", HEAD, b"a" * 4096, "end", 3, True),
-    Case("lists in lists in an event", HEAD + b'{"agent":0,"do":', b"[" * 4096, "end", 3, True),
-    Case("more events than a quota allows", HEAD + ENTER, BAD * 64, "event 13", 4, False),
+    Case(
+        "lists in lists in an event",
+        HEAD + b'{"agent":0,"do":',
+        b"[" * 4096,
+        "end",
+        3,
+        True,
+    ),
+    Case(
+        "more events than a quota allows", HEAD + ENTER, BAD * 64, "event 13", 4, False
+    ),
 ]
 
 
@@ -84,8 +99,12 @@ def feed(pipe: BinaryIO, case: Case, size: int) -> None:
 def run(program: List[str], case: Case, size: int) -> Run:
     """Judges one text."""
     begin = time.monotonic()
-    child = subprocess.Popen([*program, "judge", "/dev/stdin"], stdin=subprocess.PIPE, stdout=subprocess.DEVNULL,
-                             stderr=subprocess.PIPE)
+    child = subprocess.Popen(
+        [*program, "judge", "/dev/stdin"],
+        stdin=subprocess.PIPE,
+        stdout=subprocess.DEVNULL,
+        stderr=subprocess.PIPE,
+    )
     writer = threading.Thread(target=feed, args=(child.stdin, case, size))
     writer.start()
     peak = peak_of_child(child) / 1024
@@ -101,7 +120,9 @@ def faults_of(case: Case, size: int, whole: Run, part: Run) -> List[str]:
     found = []
     for one in (whole, part):
         if (one.fault, one.status) != (case.fault, case.status):
-            found.append(f"`{one.fault}` with status {one.status} for `{case.fault}` with status {case.status}")
+            found.append(
+                f"`{one.fault}` with status {one.status} for `{case.fault}` with status {case.status}"
+            )
     bound = 4 + (3 * size / MIB if case.is_line else 0)
     if whole.peak > bound:
         found.append(f"{whole.peak:.0f} MiB, more than {bound:.0f}")
@@ -111,7 +132,9 @@ def faults_of(case: Case, size: int, whole: Run, part: Run) -> List[str]:
 
 
 def words() -> Tuple[List[str], int]:
-    parser = argparse.ArgumentParser(description=__doc__, formatter_class=argparse.RawDescriptionHelpFormatter)
+    parser = argparse.ArgumentParser(
+        description=__doc__, formatter_class=argparse.RawDescriptionHelpFormatter
+    )
     parser.add_argument("program", nargs="?", default=str(TOP / "arena"))
     parser.add_argument("--size", type=int, default=1024 * MIB)
     given = parser.parse_args()
@@ -126,8 +149,11 @@ def main() -> int:
         found = faults_of(case, size, whole, part)
         failed += bool(found)
         wrong = "".join(f"; WRONG: {one}" for one in found)
-        print(f"{case.name}: {whole.fault}, status {whole.status}; {whole.seconds:.2f} s, {whole.peak:.0f} MiB; "
-              f"a quarter {part.seconds:.2f} s, {part.peak:.0f} MiB{wrong}", flush=True)
+        print(
+            f"{case.name}: {whole.fault}, status {whole.status}; {whole.seconds:.2f} s, {whole.peak:.0f} MiB; "
+            f"a quarter {part.seconds:.2f} s, {part.peak:.0f} MiB{wrong}",
+            flush=True,
+        )
     return concluded(len(CASES) - failed, failed)
 
 

@@ -75,15 +75,25 @@ class Team:
         for number in self.numbers:
             told = self._hall.over(self._token, number)
             if number in self.over and halls.came(told) != self.over[number]:
-                found.append(f"attempt {number} has changed: {self.over[number]} and {halls.came(told)}")
+                found.append(
+                    f"attempt {number} has changed: {self.over[number]} and {halls.came(told)}"
+                )
             for it in told["matches"] if told["state"] == "over" else []:
-                replay = self._hall.ask("GET", f"/api/matches/{number}/replays/{it['number']}", self._token).body
+                replay = self._hall.ask(
+                    "GET", f"/api/matches/{number}/replays/{it['number']}", self._token
+                ).body
                 match = played(replay.decode())
                 verdict = judge(match)._asdict()
                 told_of_it = {name: it["verdict"][name] for name in verdict}
                 is_absent = it["verdict"]["outcome"] == "absent"
-                if match.replay().encode() != replay or not is_absent and verdict != told_of_it:
-                    found.append(f"attempt {number} has the verdict {it['verdict']}, and its replay {verdict}")
+                if (
+                    match.replay().encode() != replay
+                    or not is_absent
+                    and verdict != told_of_it
+                ):
+                    found.append(
+                        f"attempt {number} has the verdict {it['verdict']}, and its replay {verdict}"
+                    )
         return found
 
 
@@ -91,24 +101,33 @@ def kill_one(hall: Served, chance: random.Random) -> str:
     """Kills a process that is drawn; gives its name."""
     servers = hall.servers()
     name = chance.choice([*NAMES, *(["a server"] if servers else [])])
-    number = chance.choice(servers) if name == "a server" else hall.processes().get(name)
+    number = (
+        chance.choice(servers) if name == "a server" else hall.processes().get(name)
+    )
     with contextlib.suppress(ProcessLookupError, TypeError):
         os.kill(number, signal.SIGKILL)
     return name
 
 
 def main() -> int:
-    parser = argparse.ArgumentParser("python3 -m tests.hostile.killed_halls", description=__doc__,
-                                     formatter_class=argparse.RawDescriptionHelpFormatter)
+    parser = argparse.ArgumentParser(
+        "python3 -m tests.hostile.killed_halls",
+        description=__doc__,
+        formatter_class=argparse.RawDescriptionHelpFormatter,
+    )
     parser.add_argument("program", metavar="PROGRAM")
-    parser.add_argument("--seconds", metavar="N", type=float, default=120, help="how long to kill (120)")
+    parser.add_argument(
+        "--seconds", metavar="N", type=float, default=120, help="how long to kill (120)"
+    )
     parser.add_argument("--seed", metavar="S", type=int, default=1)
     words = parser.parse_args()
     os.environ["ARENA_PROGRAM"] = str(pathlib.Path(words.program).resolve())
     chance, killed, is_over = random.Random(words.seed), Counter(), threading.Event()
     with halls.served(workers=2) as hall:
         teams = [Team(hall, token) for token in hall.tokens().values()]
-        threads = [threading.Thread(target=team.play, args=(is_over,)) for team in teams]
+        threads = [
+            threading.Thread(target=team.play, args=(is_over,)) for team in teams
+        ]
         for thread in threads:
             thread.start()
         limit = time.monotonic() + words.seconds
@@ -120,7 +139,11 @@ def main() -> int:
             thread.join()
         hall.wait(hall.answers, "the hall answers again")
         faults = [fault for team in teams for fault in team.faults()]
-        states = Counter(hall.over(team._token, number)["state"] for team in teams for number in team.numbers)
+        states = Counter(
+            hall.over(team._token, number)["state"]
+            for team in teams
+            for number in team.numbers
+        )
         hall.wait(lambda: not hall.servers(), "all servers have ended", 30)
     for fault in faults:
         print(f"FAILED {fault}")

@@ -43,12 +43,34 @@ import subprocess
 import sys
 import tempfile
 import time
-from typing import Callable, Dict, Iterable, Iterator, List, NamedTuple, Optional, Sequence, Set, Tuple
+from typing import (
+    Callable,
+    Dict,
+    Iterable,
+    Iterator,
+    List,
+    NamedTuple,
+    Optional,
+    Sequence,
+    Set,
+    Tuple,
+)
 
 from tests.support.counts import Wrong, require
 from tests.support.servers import Server
-from tests.hostile.commands import (COMMANDS, DONE, FAILED_STREAM, NO_MEMORY, NO_THREADS, SERVED, WHOLE_OF_PART,
-                                    Command, Lab, Run, ended)
+from tests.hostile.commands import (
+    COMMANDS,
+    DONE,
+    FAILED_STREAM,
+    NO_MEMORY,
+    NO_THREADS,
+    SERVED,
+    WHOLE_OF_PART,
+    Command,
+    Lab,
+    Run,
+    ended,
+)
 from tests.support.session_lines import HERE, OVER
 from tests.program.program_cases import CUP, REFUSED_WORDS, TRIANGLE
 
@@ -64,8 +86,10 @@ QUICK, QUICK_SERVED, MOST_SERVED = 60, 40, 2000
 QUICK_BESIDE = 20
 WORKERS = 8
 # what is told if a part could not be written on or a line could not be told, which keeps nothing else back
-CUT_PART = re.compile(r"(\d+:\d\d:\d\d serve: (the part of match 0 (stops after \d+ events: write"
-                      r"|goes on after \d+ events)|\d+ lines were dropped here, since nobody read the log)\n)+")
+CUT_PART = re.compile(
+    r"(\d+:\d\d:\d\d serve: (the part of match 0 (stops after \d+ events: write"
+    r"|goes on after \d+ events)|\d+ lines were dropped here, since nobody read the log)\n)+"
+)
 # seconds, of a server that takes a third of one
 SOON = 60
 REFUSED_TESTS = "memory::"
@@ -76,21 +100,35 @@ WANTS = re.compile("(?i)(memory|alloc)")
 # what it says if its own request is refused, and how runs of it end, one request after the other
 OWN = "after the play"
 WANTED_OF_PLAYING = re.compile(r"(begins )*own (passed )*")
-OTHERS = [Command("help", ["--help"], "", None), Command("no command", ["rehears"], "", None)]
+OTHERS = [
+    Command("help", ["--help"], "", None),
+    Command("no command", ["rehears"], "", None),
+]
 # what commands print, as files of the examples or texts
-WANTED = {"check": "first.checked", "rehearse": "first.printed", "built-in": "triangle.printed",
-          "explain": "first.explained", "twin": "guess.twin", "recover": "first0.jsonl",
-          "explore": "triangle.explored"}
+WANTED = {
+    "check": "first.checked",
+    "rehearse": "first.printed",
+    "built-in": "triangle.printed",
+    "explain": "first.explained",
+    "twin": "guess.twin",
+    "recover": "first0.jsonl",
+    "explore": "triangle.explored",
+}
 CONTEST_TABLE = b"""\
   # team             outcome     moves lost
   1 red              solved         25    1
 """
-WANTED_TEXTS = {"contest table": CONTEST_TABLE, "contest recover": CONTEST_TABLE,
-                "judge": b"solved moves 13 lost 1\n", "appeal": b"solved moves 25 lost 1\n", "table": b"""\
+WANTED_TEXTS = {
+    "contest table": CONTEST_TABLE,
+    "contest recover": CONTEST_TABLE,
+    "judge": b"solved moves 13 lost 1\n",
+    "appeal": b"solved moves 25 lost 1\n",
+    "table": b"""\
   # team             outcome     moves lost
   1 red              solved         13    1
   2 blue             guess 1         0    0
-"""}
+""",
+}
 
 SAID = [b'{"do":"enter","key":"ka"}\n{"do":"look"}\n', b'{"do":"enter","key":"zz"}\n']
 # what each of the clients may hear: the first also that the match is over, if it was closed before
@@ -108,20 +146,32 @@ class Shim:
     @classmethod
     def built(cls, folder: pathlib.Path) -> "Shim":
         library = str(folder / "shim.so")
-        subprocess.run(["gcc", "-shared", "-fPIC", "-O2", "-o", library, str(SHIM)], check=True)
+        subprocess.run(
+            ["gcc", "-shared", "-fPIC", "-O2", "-o", library, str(SHIM)], check=True
+        )
         return cls(library)
 
     @contextlib.contextmanager
-    def counting(self, numbers: Dict[str, int], mode: str = "", place: int = 0) -> Iterator[Dict[str, str]]:
+    def counting(
+        self, numbers: Dict[str, int], mode: str = "", place: int = 0
+    ) -> Iterator[Dict[str, str]]:
         """An environment in which calls are counted, and one is refused if it is named; at the end the numbers."""
         refuse = {"REFUSE": f"{mode} {place}"} if mode else {}
         with tempfile.NamedTemporaryFile() as file:
             file.write(bytes(8 * (len(COUNTED) + MARKS)))
             file.flush()
             yield {**os.environ, **self.variables, "COUNTS": file.name, **refuse}
-            found = struct.unpack(f"{len(COUNTED) + MARKS}Q", pathlib.Path(file.name).read_bytes())
+            found = struct.unpack(
+                f"{len(COUNTED) + MARKS}Q", pathlib.Path(file.name).read_bytes()
+            )
         numbers.update(zip(COUNTED, found))
-        numbers.update({f"mark {place}": mark - 1 for place, mark in enumerate(found[len(COUNTED):]) if mark})
+        numbers.update(
+            {
+                f"mark {place}": mark - 1
+                for place, mark in enumerate(found[len(COUNTED) :])
+                if mark
+            }
+        )
 
 
 # the program of the tests has its own
@@ -130,6 +180,7 @@ LINKED = Shim()
 
 class Attempt(NamedTuple):
     """What came of a run, the replays that it left, and how many calls it made."""
+
     run: Run
     replays: Dict[str, bytes]
     numbers: Dict[str, int]
@@ -140,19 +191,24 @@ class Attempt(NamedTuple):
 
 class Trials(NamedTuple):
     """The program, the library that refuses it calls, and how many runs of a kind there are and at the same time."""
+
     lab: Lab
     shim: Shim
     most: int
     most_served: int
     workers: int
 
-    def alike(self, work: Callable[[int], str], some: Iterable[int], what: str, name: str) -> None:
+    def alike(
+        self, work: Callable[[int], str], some: Iterable[int], what: str, name: str
+    ) -> None:
         """Does a piece of work for each of these places, several at the same time, and counts what came of them."""
+
         def tried(place: int) -> Tuple[str, List[str]]:
             try:
                 return work(place), []
             except Exception as why:
                 return "otherwise", [f"{name} {place}: {why}"]
+
         with concurrent.futures.ThreadPoolExecutor(self.workers) as pool:
             found = list(pool.map(tried, some))
         self.lab.runs += len(found)
@@ -183,18 +239,35 @@ def replays_in(folder: pathlib.Path) -> Dict[str, bytes]:
     return {path.name: path.read_bytes() for path in folder.glob("kept*.jsonl")}
 
 
-def plain_run(lab: Lab, words: Sequence[str], folder: pathlib.Path, script: str = "",
-              variables: Optional[Dict[str, str]] = None) -> Run:
+def plain_run(
+    lab: Lab,
+    words: Sequence[str],
+    folder: pathlib.Path,
+    script: str = "",
+    variables: Optional[Dict[str, str]] = None,
+) -> Run:
     """What came of the program with these words in a folder."""
     with open(folder / script if script else os.devnull, "rb") as given:
-        return ended(subprocess.Popen([lab.program, *words], cwd=folder, env=variables, stdin=given,
-                                      stdout=subprocess.PIPE, stderr=subprocess.PIPE))
+        return ended(
+            subprocess.Popen(
+                [lab.program, *words],
+                cwd=folder,
+                env=variables,
+                stdin=given,
+                stdout=subprocess.PIPE,
+                stderr=subprocess.PIPE,
+            )
+        )
 
 
-def attempt(trials: Trials, command: Command, mode: str = "", place: int = 0) -> Attempt:
+def attempt(
+    trials: Trials, command: Command, mode: str = "", place: int = 0
+) -> Attempt:
     """Runs a command in a folder of its own, with this call refused, or none."""
     numbers: Dict[str, int] = {}
-    with room_of(trials.lab) as room, trials.shim.counting(numbers, mode, place) as variables:
+    with room_of(trials.lab) as room, trials.shim.counting(
+        numbers, mode, place
+    ) as variables:
         run = plain_run(trials.lab, command.words, room, command.script, variables)
         replays = replays_in(room)
     return Attempt(run, replays, numbers)
@@ -213,10 +286,20 @@ def wheres(folder: pathlib.Path, command: Command, mode: str) -> Set[str]:
     named = {*(word.rpartition("=")[2] for word in command.words), *command.beside}
     files = {name for name in named if (folder / name).is_file()}
     if any(name.endswith(".toml") for name in files):
-        files |= {f"examples/{path.name}" for path in (folder / "examples").glob("*.toml")}
-    written = {"output", *(f"kept{number}.jsonl" for number in range(4) if "kept" in named)}
+        files |= {
+            f"examples/{path.name}" for path in (folder / "examples").glob("*.toml")
+        }
+    written = {
+        "output",
+        *(f"kept{number}.jsonl" for number in range(4) if "kept" in named),
+    }
     read = files | ({command.given} if command.script else set())
-    made = read | written | {"arena", *command.beside} | named & {"kept", "twin", "examples/appeal"}
+    made = (
+        read
+        | written
+        | {"arena", *command.beside}
+        | named & {"kept", "twin", "examples/appeal"}
+    )
     return {"read": read, "write": written, "memory": made}[kind_of(mode)]
 
 
@@ -224,27 +307,47 @@ def fault_of(mode: str, run: Run) -> str:
     """The place that the one fault line names, which is the fault that this refusal makes, with its status."""
     where, _, text = run.told.rstrip("\n").rpartition(": ")
     # a thread needs memory to start
-    faults = {mode: STATUSES[mode], **({"threads": NO_THREADS} if mode == "memory" else {})}
-    if run.told != f"{where}: {text}\n" or "\n" in where or run.status != faults.get(text):
+    faults = {
+        mode: STATUSES[mode],
+        **({"threads": NO_THREADS} if mode == "memory" else {}),
+    }
+    if (
+        run.told != f"{where}: {text}\n"
+        or "\n" in where
+        or run.status != faults.get(text)
+    ):
         raise Wrong(f"status {run.status}, `{run.told.strip()[:200]}`")
     return where
 
 
 def is_untold(whole: Run, found: Run) -> bool:
     """Whether all is as ever but for what is told, of which only a front could be written."""
-    return whole != found == found._replace(status=whole.status, printed=whole.printed) and \
-        whole.told.startswith(found.told)
+    return whole != found == found._replace(
+        status=whole.status, printed=whole.printed
+    ) and whole.told.startswith(found.told)
 
 
-def outcome(mode: str, may_name: Set[str], whole: Attempt, found: Attempt, accepts: Callable[[bytes], bool]) -> str:
+def outcome(
+    mode: str,
+    may_name: Set[str],
+    whole: Attempt,
+    found: Attempt,
+    accepts: Callable[[bytes], bool],
+) -> str:
     """What came of a run with a call refused."""
     run = found.run
     require(found.numbers["refused"] == 1, "the call was not made")
     if found.did_as(whole):
         return "as ever"
     told = f"status {run.status}, `{run.told.strip()[:200]}`"
-    require(not mode.startswith("short"), f"a short call made a difference: {told}, {len(run.printed)} bytes printed")
-    require(whole.run.printed.startswith(run.printed), f"another text was printed: {told}, `{run.printed[-200:]!r}`")
+    require(
+        not mode.startswith("short"),
+        f"a short call made a difference: {told}, {len(run.printed)} bytes printed",
+    )
+    require(
+        whole.run.printed.startswith(run.printed),
+        f"another text was printed: {told}, `{run.printed[-200:]!r}`",
+    )
     for name, text in found.replays.items():
         if text != whole.replays.get(name) and accepts(text):
             raise Wrong(f"{name} is the replay of another match: {told}")
@@ -257,7 +360,9 @@ def outcome(mode: str, may_name: Set[str], whole: Attempt, found: Attempt, accep
     return mode
 
 
-def wanted_fault(lab: Lab, command: Command, plain: Run, whole: Attempt) -> Optional[str]:
+def wanted_fault(
+    lab: Lab, command: Command, plain: Run, whole: Attempt
+) -> Optional[str]:
     """What is wrong with a run of a command with nothing refused, beside one without the library."""
     examples = lab.folder / "examples"
     wanted = WANTED_TEXTS.get(command.name, plain.printed)
@@ -269,7 +374,10 @@ def wanted_fault(lab: Lab, command: Command, plain: Run, whole: Attempt) -> Opti
         return f"status {plain.status}, `{plain.told.strip()[:200]}`"
     if plain.printed != wanted:
         return f"another text was printed: `{plain.printed[-200:]!r}`"
-    kept, first = whole.replays.get("kept0.jsonl"), (lab.folder / WHOLE_OF_PART).read_bytes()
+    kept, first = (
+        whole.replays.get("kept0.jsonl"),
+        (lab.folder / WHOLE_OF_PART).read_bytes(),
+    )
     if command.name in ("rehearse", "interactive") and kept != first:
         return "its replay is not examples/first0.jsonl"
     return None
@@ -280,20 +388,33 @@ def refuse_command(trials: Trials, command: Command) -> None:
     lab = trials.lab
     whole = attempt(trials, command)
     if not whole.numbers["memory"] or not whole.numbers["write"]:
-        lab.faults.append(f"{command.name}: no call was counted; is the program linked dynamically?")
+        lab.faults.append(
+            f"{command.name}: no call was counted; is the program linked dynamically?"
+        )
     accepts = functools.lru_cache()(lambda text: judged(lab, text) is not None)
     for mode in MODES:
         number = whole.numbers[kind_of(mode)]
         may_name = wheres(lab.folder, command, mode)
-        trials.alike(lambda place: outcome(mode, may_name, whole, attempt(trials, command, mode, place), accepts),
-                     places(number, trials.most), f"{command.name}, {mode} of {number}", f"{command.name}, {mode}")
+        trials.alike(
+            lambda place: outcome(
+                mode, may_name, whole, attempt(trials, command, mode, place), accepts
+            ),
+            places(number, trials.most),
+            f"{command.name}, {mode} of {number}",
+            f"{command.name}, {mode}",
+        )
 
 
 # what finishes a contest of one match, and the replay and the turns that it is to make of the match's parts
-RECOVERY, RECOVERED = ["recover", "examples/appeal.toml", "--replay", "kept"], ("appeal0.jsonl", "appeal0.turns")
+RECOVERY, RECOVERED = ["recover", "examples/appeal.toml", "--replay", "kept"], (
+    "appeal0.jsonl",
+    "appeal0.turns",
+)
 
 
-def recover_twice(trials: Trials, numbers: Dict[str, int], mode: str = "", place: int = 0) -> str:
+def recover_twice(
+    trials: Trials, numbers: Dict[str, int], mode: str = "", place: int = 0
+) -> str:
     """Finishes a contest with this call refused, or none: the replay and the turns are whole, or their parts are there.
     Then finishes it with nothing refused."""
     lab = trials.lab
@@ -306,15 +427,29 @@ def recover_twice(trials: Trials, numbers: Dict[str, int], mode: str = "", place
         with trials.shim.counting(numbers, mode, place) as variables:
             first = plain_run(lab, RECOVERY, room, variables=variables)
         if not (replay.read_bytes() == whole if replay.exists() else part.exists()):
-            raise Wrong(f"status {first.status}, and the match is lost: {os.listdir(room)}")
-        if not (turns.read_bytes() == timed if turns.exists() else part_of_turns.exists()):
-            raise Wrong(f"status {first.status}, and the turns are lost: {os.listdir(room)}")
-        is_finished = first.printed == CONTEST_TABLE and replay.exists() and turns.exists()
+            raise Wrong(
+                f"status {first.status}, and the match is lost: {os.listdir(room)}"
+            )
+        if not (
+            turns.read_bytes() == timed if turns.exists() else part_of_turns.exists()
+        ):
+            raise Wrong(
+                f"status {first.status}, and the turns are lost: {os.listdir(room)}"
+            )
+        is_finished = (
+            first.printed == CONTEST_TABLE and replay.exists() and turns.exists()
+        )
         if not (is_finished if first.status == DONE else first.told):
             raise Wrong(f"status {first.status}, printed `{first.printed[-200:]!r}`")
         again = plain_run(lab, RECOVERY, room)
-        if again != Run(DONE, CONTEST_TABLE, "") or replay.read_bytes() != whole or turns.read_bytes() != timed:
-            raise Wrong(f"once more: status {again.status}, `{again.told.strip()[:200]}`")
+        if (
+            again != Run(DONE, CONTEST_TABLE, "")
+            or replay.read_bytes() != whole
+            or turns.read_bytes() != timed
+        ):
+            raise Wrong(
+                f"once more: status {again.status}, `{again.told.strip()[:200]}`"
+            )
     return "finished at once" if first.status == DONE else "finished once more"
 
 
@@ -324,12 +459,17 @@ def refuse_recovery(trials: Trials) -> None:
     recover_twice(trials, numbers)
     for mode in MODES:
         number = numbers[kind_of(mode)]
-        trials.alike(lambda place: recover_twice(trials, {}, mode, place), places(number, trials.most),
-                     f"a contest that is finished, {mode} of {number}", f"a contest that is finished, {mode}")
+        trials.alike(
+            lambda place: recover_twice(trials, {}, mode, place),
+            places(number, trials.most),
+            f"a contest that is finished, {mode} of {number}",
+            f"a contest that is finished, {mode}",
+        )
 
 
 class Contest(NamedTuple):
     """What came of a server, what its clients heard, the replays that it left, its calls, and how long it took."""
+
     run: Run
     heard: List[bytes]
     replays: Dict[str, bytes]
@@ -340,7 +480,9 @@ class Contest(NamedTuple):
 def hears(port: int, said: bytes) -> bytes:
     """What a client hears that says this and ends its input."""
     heard = b""
-    with contextlib.suppress(OSError), socket.create_connection(("127.0.0.1", port), timeout=SOON) as client:
+    with contextlib.suppress(OSError), socket.create_connection(
+        ("127.0.0.1", port), timeout=SOON
+    ) as client:
         client.sendall(said)
         client.shutdown(socket.SHUT_WR)
         while True:
@@ -353,23 +495,46 @@ def hears(port: int, said: bytes) -> bytes:
 
 def hosted(program: str, folder: pathlib.Path, variables: Dict[str, str]) -> Contest:
     """Serves a contest in a folder to two clients, one behind the other. What is printed has N for the port."""
-    words = [program, SERVED, "cup.toml", "--sessions", 2, "--turns", 40, "--pause", 5, "--replay", "kept"]
+    words = [
+        program,
+        SERVED,
+        "cup.toml",
+        "--sessions",
+        2,
+        "--turns",
+        40,
+        "--pause",
+        5,
+        "--replay",
+        "kept",
+    ]
     server = Server(words, folder, env=variables)
-    heard = [hears(server.port, said) if server.first.endswith(b"\n") else b"" for said in SAID]
+    heard = [
+        hears(server.port, said) if server.first.endswith(b"\n") else b""
+        for said in SAID
+    ]
     run = ended(server.child)
     seconds = time.monotonic() - server.begun
-    printed = (server.first + run.printed).replace(b"listening %d\n" % server.port, b"listening N\n")
-    return Contest(run._replace(printed=printed), heard, replays_in(folder), {}, seconds)
+    printed = (server.first + run.printed).replace(
+        b"listening %d\n" % server.port, b"listening N\n"
+    )
+    return Contest(
+        run._replace(printed=printed), heard, replays_in(folder), {}, seconds
+    )
 
 
 def served(trials: Trials, mode: str = "", place: int = 0) -> Contest:
     """Serves a contest with this call refused, or none; again where another took the port meanwhile."""
     for _ in range(5):
         numbers: Dict[str, int] = {}
-        with room_of(trials.lab) as room, trials.shim.counting(numbers, mode, place) as variables:
+        with room_of(trials.lab) as room, trials.shim.counting(
+            numbers, mode, place
+        ) as variables:
             (room / "tri.toml").write_text(TRIANGLE)
             (room / "cup.toml").write_text(CUP)
-            contest = hosted(trials.lab.program, room, variables)._replace(numbers=numbers)
+            contest = hosted(trials.lab.program, room, variables)._replace(
+                numbers=numbers
+            )
         if not contest.run.told.startswith("serve: listen\n"):
             break
     return contest
@@ -378,14 +543,20 @@ def served(trials: Trials, mode: str = "", place: int = 0) -> Contest:
 def answers_of(replay: bytes) -> bytes:
     """The lines that the agents of a replay were answered."""
     events = [json.loads(line) for line in replay.splitlines()[1:-1]]
-    lines = [json.dumps(event["reply"], sort_keys=True, separators=(",", ":")) for event in events if event["reply"]]
+    lines = [
+        json.dumps(event["reply"], sort_keys=True, separators=(",", ":"))
+        for event in events
+        if event["reply"]
+    ]
     return "".join(f"{line}\n" for line in lines).encode()
 
 
 def cut_sessions(heard: Sequence[bytes]) -> int:
     """How many clients heard less than all, and nothing else."""
     for number, (text, wholes) in enumerate(zip(heard, WHOLE)):
-        if text != NO_MEMORY_LINE and not any(whole.startswith(text) for whole in wholes):
+        if text != NO_MEMORY_LINE and not any(
+            whole.startswith(text) for whole in wholes
+        ):
             raise Wrong(f"client {number} heard `{text!r}`")
     return sum(text not in wholes for text, wholes in zip(heard, WHOLE))
 
@@ -402,7 +573,10 @@ def check_replay(contest: Contest, lab: Lab, told: str) -> Optional[bytes]:
         require(not kept, f"client 0 plays and is told that there is no memory: {told}")
         return table
     answers = heard.replace(OVER, b"")
-    require(kept.startswith(answers[:answers.rfind(b"\n") + 1]), f"client 0 heard what its replay has not: {told}")
+    require(
+        kept.startswith(answers[: answers.rfind(b"\n") + 1]),
+        f"client 0 heard what its replay has not: {told}",
+    )
     return table
 
 
@@ -419,7 +593,9 @@ def served_outcome(mode: str, contest: Contest, lab: Lab) -> str:
         if cut > 1 or (cut and mode.startswith("short")):
             raise Wrong(f"{cut} clients heard too little: {told}")
         missed = "" if contest.numbers["refused"] else " (call not made)"
-        return ("a part cut" if run.told else "a session cut" if cut else "as ever") + missed
+        return (
+            "a part cut" if run.told else "a session cut" if cut else "as ever"
+        ) + missed
     require(not mode.startswith("short"), f"a short call made a difference: {told}")
     return served_fault(mode, contest, table, told)
 
@@ -427,16 +603,33 @@ def served_outcome(mode: str, contest: Contest, lab: Lab) -> str:
 def served_fault(mode: str, contest: Contest, table: Optional[bytes], told: str) -> str:
     """What came of a contest whose server tells a fault."""
     where = fault_of(mode, contest.run)
-    may_name = {"read": {"cup.toml", "tri.toml"}, "write": {"output", "kept0.jsonl", "kept0.jsonl.part"},
-                "memory": {"arena", "serve", "output", "cup.toml", "tri.toml", "kept", "kept0.jsonl",
-                           "kept0.jsonl.part"}}[mode]
+    may_name = {
+        "read": {"cup.toml", "tri.toml"},
+        "write": {"output", "kept0.jsonl", "kept0.jsonl.part"},
+        "memory": {
+            "arena",
+            "serve",
+            "output",
+            "cup.toml",
+            "tri.toml",
+            "kept",
+            "kept0.jsonl",
+            "kept0.jsonl.part",
+        },
+    }[mode]
     require(where in may_name, f"it names another place: {told}")
     lines = contest.run.printed.splitlines(keepends=True)
-    if lines[:1] not in ([], [b"listening N\n"]) and not b"listening N\n".startswith(contest.run.printed):
+    if lines[:1] not in ([], [b"listening N\n"]) and not b"listening N\n".startswith(
+        contest.run.printed
+    ):
         raise Wrong(f"another text was printed: {told}")
-    if where == "kept0.jsonl" and (len(lines) != 3 or not lines[2].startswith(b"  1 red ")):
+    if where == "kept0.jsonl" and (
+        len(lines) != 3 or not lines[2].startswith(b"  1 red ")
+    ):
         raise Wrong(f"a replay keeps the table back: {told}")
-    if table is not None and not (b"listening N\n" + table).startswith(contest.run.printed):
+    if table is not None and not (b"listening N\n" + table).startswith(
+        contest.run.printed
+    ):
         raise Wrong(f"the table is not that of the replay: {told}")
     return f"{where.rpartition('/')[2]}: {mode}"
 
@@ -445,29 +638,53 @@ def refuse_server(trials: Trials) -> None:
     """Runs a server with calls of each kind refused."""
     contest = served(trials)
     try:
-        require(served_outcome("short", contest, trials.lab) == "as ever (call not made)", str(contest))
+        require(
+            served_outcome("short", contest, trials.lab) == "as ever (call not made)",
+            str(contest),
+        )
     except Wrong as why:
         trials.lab.faults.append(f"serve with nothing refused: {why}")
     for mode in MODES:
         number = contest.numbers[kind_of(mode)]
-        trials.alike(lambda place: served_outcome(mode, served(trials, mode, place), trials.lab),
-                     places(number, trials.most_served), f"serve, {mode} of {number}", f"serve, {mode}")
+        trials.alike(
+            lambda place: served_outcome(mode, served(trials, mode, place), trials.lab),
+            places(number, trials.most_served),
+            f"serve, {mode} of {number}",
+            f"serve, {mode}",
+        )
 
 
-def run_test(program: str, name: str, folder: pathlib.Path, variables: Dict[str, str]) -> Run:
-    return ended(subprocess.Popen([program, name], env=variables, cwd=folder, stdout=subprocess.PIPE,
-                                  stderr=subprocess.STDOUT))
+def run_test(
+    program: str, name: str, folder: pathlib.Path, variables: Dict[str, str]
+) -> Run:
+    return ended(
+        subprocess.Popen(
+            [program, name],
+            env=variables,
+            cwd=folder,
+            stdout=subprocess.PIPE,
+            stderr=subprocess.STDOUT,
+        )
+    )
 
 
 def marked(numbers: Dict[str, int]) -> Set[int]:
     """The requests of the calls that a test tests: those between the first mark and the second, and so on."""
-    marks = [numbers[f"mark {place}"] for place in range(MARKS) if f"mark {place}" in numbers]
+    marks = [
+        numbers[f"mark {place}"] for place in range(MARKS) if f"mark {place}" in numbers
+    ]
     if len(marks) % 2:
         raise Wrong(f"{len(marks)} marks are set")
-    return {place for begin, end in zip(marks[::2], marks[1::2]) for place in range(begin + 1, end + 1)}
+    return {
+        place
+        for begin, end in zip(marks[::2], marks[1::2])
+        for place in range(begin + 1, end + 1)
+    }
 
 
-def outcome_of_test(trials: Trials, program: str, name: str, tested: Set[int], place: int) -> str:
+def outcome_of_test(
+    trials: Trials, program: str, name: str, tested: Set[int], place: int
+) -> str:
     """What came of a test with a request for memory refused: one of a call that it tests, or another."""
     numbers: Dict[str, int] = {}
     with LINKED.counting(numbers, "memory", place) as variables:
@@ -487,15 +704,23 @@ def outcome_of_test(trials: Trials, program: str, name: str, tested: Set[int], p
 
 def play_in_turn(trials: Trials, program: str, number: int) -> str:
     """What came of the test of a play with each request for memory refused, one after the other."""
-    outcomes = [outcome_of_test(trials, program, PLAYING, set(), place) for place in range(1, number + 1)]
-    require(WANTED_OF_PLAYING.fullmatch("".join(f"{it} " for it in outcomes)), f"playing asks for memory: {outcomes}")
+    outcomes = [
+        outcome_of_test(trials, program, PLAYING, set(), place)
+        for place in range(1, number + 1)
+    ]
+    require(
+        WANTED_OF_PLAYING.fullmatch("".join(f"{it} " for it in outcomes)),
+        f"playing asks for memory: {outcomes}",
+    )
     return "none in the play"
 
 
 def refuse_tests(trials: Trials, tests: str) -> None:
     """Runs each test with each request for memory refused."""
     program = str(pathlib.Path(tests).resolve())
-    listed = subprocess.run([program, "--list"], stdout=subprocess.PIPE, text=True, check=True).stdout.split()
+    listed = subprocess.run(
+        [program, "--list"], stdout=subprocess.PIPE, text=True, check=True
+    ).stdout.split()
     names = [word.rstrip(":") for word in listed if word.startswith(REFUSED_TESTS)]
     if PLAYING not in names:
         trials.lab.faults.append(f"{tests} lacks {PLAYING}")
@@ -505,40 +730,65 @@ def refuse_tests(trials: Trials, tests: str) -> None:
             found = run_test(program, name, trials.lab.folder, variables)
         number, what = numbers["memory"], f"{name}, memory of {numbers['memory']}"
         if found.status != DONE or not number:
-            trials.lab.faults.append(f"{what}, with nothing refused: status {found.status}")
+            trials.lab.faults.append(
+                f"{what}, with nothing refused: status {found.status}"
+            )
         elif name == PLAYING:
-            trials.alike(lambda place: play_in_turn(trials, program, place), [number], what, f"{name}, memory")
+            trials.alike(
+                lambda place: play_in_turn(trials, program, place),
+                [number],
+                what,
+                f"{name}, memory",
+            )
         else:
             refuse_calls(trials, program, name, numbers)
 
 
-def refuse_calls(trials: Trials, program: str, name: str, numbers: Dict[str, int]) -> None:
+def refuse_calls(
+    trials: Trials, program: str, name: str, numbers: Dict[str, int]
+) -> None:
     """Runs a test with each request of the calls that it tests refused, and with others."""
     tested = marked(numbers)
     if not tested:
         trials.lab.faults.append(f"{name}: no request is one of a call that is tested")
         return
     beside = [place for place in range(1, numbers["memory"] + 1) if place not in tested]
-    some = [beside[index - 1] for index in places(len(beside), trials.most and QUICK_BESIDE)]
+    some = [
+        beside[index - 1] for index in places(len(beside), trials.most and QUICK_BESIDE)
+    ]
     for kind, chosen in (("in its calls", sorted(tested)), ("beside them", some)):
-        trials.alike(lambda place: outcome_of_test(trials, program, name, tested, place), chosen,
-                     f"{name}, memory of {len(tested if kind == 'in its calls' else beside)} {kind}", f"{name}, memory")
+        trials.alike(
+            lambda place: outcome_of_test(trials, program, name, tested, place),
+            chosen,
+            f"{name}, memory of {len(tested if kind == 'in its calls' else beside)} {kind}",
+            f"{name}, memory",
+        )
 
 
 def try_command(trials: Trials, command: Command) -> None:
     """Runs a command with nothing refused, and then with each request refused."""
     plain = plain_run(trials.lab, command.words, trials.lab.folder, command.script)
     fault = wanted_fault(trials.lab, command, plain, attempt(trials, command))
-    trials.lab.faults += [f"{command.name} with nothing refused: {fault}"] if fault else []
+    trials.lab.faults += (
+        [f"{command.name} with nothing refused: {fault}"] if fault else []
+    )
     refuse_command(trials, command)
 
 
 def main() -> int:
-    parser = argparse.ArgumentParser(description=__doc__, formatter_class=argparse.RawDescriptionHelpFormatter)
+    parser = argparse.ArgumentParser(
+        description=__doc__, formatter_class=argparse.RawDescriptionHelpFormatter
+    )
     parser.add_argument("program", metavar="PROGRAM")
     parser.add_argument("tests", metavar="TESTS", nargs="?")
     parser.add_argument("--quick", action="store_true")
-    parser.add_argument("--workers", metavar="N", type=int, default=WORKERS, help="runs at the same time (%(default)s)")
+    parser.add_argument(
+        "--workers",
+        metavar="N",
+        type=int,
+        default=WORKERS,
+        help="runs at the same time (%(default)s)",
+    )
     given = parser.parse_args()
     if not shutil.which("gcc"):
         sys.exit("there is no gcc")

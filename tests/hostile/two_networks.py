@@ -42,11 +42,33 @@ def two_networks() -> Iterator[None]:
         for name in (HERE, THERE):
             ip("netns", "add", name)
             made.append(name)
-        ip("link", "add", "arena0", "netns", HERE, "type", "veth", "peer", "name", "arena1", "netns", THERE)
+        ip(
+            "link",
+            "add",
+            "arena0",
+            "netns",
+            HERE,
+            "type",
+            "veth",
+            "peer",
+            "name",
+            "arena1",
+            "netns",
+            THERE,
+        )
         for name, cable, end in ((HERE, "arena0", 0), (THERE, "arena1", 1)):
             for *addresses, bits in NETWORKS.values():
                 more = ["nodad"] if ":" in addresses[end] else []
-                ip("-n", name, "address", "add", f"{addresses[end]}/{bits}", "dev", cable, *more)
+                ip(
+                    "-n",
+                    name,
+                    "address",
+                    "add",
+                    f"{addresses[end]}/{bits}",
+                    "dev",
+                    cable,
+                    *more,
+                )
             ip("-n", name, "link", "set", "lo", "up")
             ip("-n", name, "link", "set", cable, "up")
         yield
@@ -58,13 +80,43 @@ def two_networks() -> Iterator[None]:
 def played(program: str, address: Optional[str], target: str) -> str:
     """The line of the table that the team red gets if its agents connect to this address."""
     with tempfile.TemporaryDirectory() as folder:
-        words = ["serve", "examples/contest.toml", "--port", PORT, "--sessions", 2, "--turns", 3000, "--pause", 1,
-                 "--gather", 5000, "--grace", 100, "--replay", f"{folder}/match",
-                 *(["--address", address] if address else [])]
+        words = [
+            "serve",
+            "examples/contest.toml",
+            "--port",
+            PORT,
+            "--sessions",
+            2,
+            "--turns",
+            3000,
+            "--pause",
+            1,
+            "--gather",
+            5000,
+            "--grace",
+            100,
+            "--replay",
+            f"{folder}/match",
+            *(["--address", address] if address else []),
+        ]
         with Server(within(HERE, program, *words), port=PORT) as server:
-            agents = [subprocess.Popen(within(THERE, sys.executable, "examples/agents/ring.py", target, PORT,
-                                              f"red-{number}", 8), cwd=TOP, stdout=subprocess.DEVNULL,
-                                       stderr=subprocess.DEVNULL) for number in range(2)]
+            agents = [
+                subprocess.Popen(
+                    within(
+                        THERE,
+                        sys.executable,
+                        "examples/agents/ring.py",
+                        target,
+                        PORT,
+                        f"red-{number}",
+                        8,
+                    ),
+                    cwd=TOP,
+                    stdout=subprocess.DEVNULL,
+                    stderr=subprocess.DEVNULL,
+                )
+                for number in range(2)
+            ]
             printed = server.ended().texts()[1]
             for agent in agents:
                 agent.kill()
@@ -82,7 +134,10 @@ def main() -> int:
             for address in (server, None):
                 row = played(program, address, server)
                 results.append(("solved" in row) == (address is not None))
-                print(f"{family}, listening on {address or '127.0.0.1'}: {' '.join(row.split())}", flush=True)
+                print(
+                    f"{family}, listening on {address or '127.0.0.1'}: {' '.join(row.split())}",
+                    flush=True,
+                )
     return concluded(results.count(True), results.count(False))
 
 

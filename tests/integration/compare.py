@@ -21,14 +21,33 @@ from arena_lab.play.agent_files import Script, Sleep
 from arena_lab.play.matches import play
 from arena_lab.play.players import Team
 from arena_lab.rules import networks
-from arena_lab.rules.engines import Differs, Engine, Program, EngineRefused, judged, program_at
+from arena_lab.rules.engines import (
+    Differs,
+    Engine,
+    Program,
+    EngineRefused,
+    judged,
+    program_at,
+)
 from arena_lab.rules.fixtures import Fixture
 from arena_lab.rules.model import OVER, Object, Setup, judge, played, spelled
 from arena_lab.support.progress import along
 
-TEXTS = ["", "a", "bb\u20ac", "1234567", "\\ \"\u0001"]
-GARBAGE = [b"", b" \t", b"jump", b"{", b"[]", b'{"do":"depart","port":1.0}', b'{"do":"look","x":NaN}', b"\xff\xfe",
-           b'{"do":"look"}' + b" " * 65_536, b" " * 65_537, b'{"do":"enter","key":7}', b'{"do":"look","x":"\\ud800"}']
+TEXTS = ["", "a", "bb\u20ac", "1234567", '\\ "\u0001']
+GARBAGE = [
+    b"",
+    b" \t",
+    b"jump",
+    b"{",
+    b"[]",
+    b'{"do":"depart","port":1.0}',
+    b'{"do":"look","x":NaN}',
+    b"\xff\xfe",
+    b'{"do":"look"}' + b" " * 65_536,
+    b" " * 65_537,
+    b'{"do":"enter","key":7}',
+    b'{"do":"look","x":"\\ud800"}',
+]
 AGENTS, QUOTA, BOARD, LINES = 8, 30, 6, 300
 
 
@@ -36,11 +55,19 @@ def drawn_fixture(chance: random.Random) -> Fixture:
     """A match by chance, with keys and perhaps a held link."""
     network = networks.drawn(chance)
     home, *others = chance.sample(range(network.nodes), network.nodes)
-    holes = others[:chance.randint(0, min(3, len(others)))]
+    holes = others[: chance.randint(0, min(3, len(others)))]
     ends = [(v, p) if chance.random() < 0.5 else (w, q) for v, p, w, q in network.links]
     agents = chance.randint(1, AGENTS)
-    setup = Setup(network.nodes, network.links, home, holes, agents, chance.randint(1, QUOTA),
-                  chance.randint(0, BOARD), chance.sample(ends, chance.randint(0, 2)))
+    setup = Setup(
+        network.nodes,
+        network.links,
+        home,
+        holes,
+        agents,
+        chance.randint(1, QUOTA),
+        chance.randint(0, BOARD),
+        chance.sample(ends, chance.randint(0, 2)),
+    )
     keys = [f"key {agent} \u20ac" for agent in range(agents)]
     return Fixture("lab", setup, keys, chance.sample(ends, chance.choice((0, 0, 1))))
 
@@ -48,11 +75,22 @@ def drawn_fixture(chance: random.Random) -> Fixture:
 def drawn_command(chance: random.Random, ends: float) -> Object:
     """A command by chance; how often it is one that ends the agent."""
     if chance.random() < ends:
-        return chance.choice([{"do": "leave"}, {"do": "accuse", "port": chance.randrange(4)}])
-    return chance.choice([
-        {"do": "look"}, {"do": "depart", "port": chance.randrange(4)}, {"do": "depart", "port": chance.randrange(3)},
-        {"do": "write", "expect": chance.choice(TEXTS), "put": chance.choice(TEXTS)}, {"do": "bad"},
-    ])
+        return chance.choice(
+            [{"do": "leave"}, {"do": "accuse", "port": chance.randrange(4)}]
+        )
+    return chance.choice(
+        [
+            {"do": "look"},
+            {"do": "depart", "port": chance.randrange(4)},
+            {"do": "depart", "port": chance.randrange(3)},
+            {
+                "do": "write",
+                "expect": chance.choice(TEXTS),
+                "put": chance.choice(TEXTS),
+            },
+            {"do": "bad"},
+        ]
+    )
 
 
 def play_lines(engine: Engine, fixture: Fixture, chance: random.Random) -> None:
@@ -78,8 +116,11 @@ def play_lines(engine: Engine, fixture: Fixture, chance: random.Random) -> None:
 
 def wanderer(chance: random.Random) -> Script:
     """An agent that enters and does anything, and at last may close its connection."""
+
     def wander(lines: Any, key: str, sleep: Sleep) -> None:
-        commands = [{"do": "enter", "key": key}] + [drawn_command(chance, 0.01) for _ in range(chance.randrange(60))]
+        commands = [{"do": "enter", "key": key}] + [
+            drawn_command(chance, 0.01) for _ in range(chance.randrange(60))
+        ]
         for command in commands:
             if chance.random() < 0.05:
                 sleep(1)
@@ -88,6 +129,7 @@ def wanderer(chance: random.Random) -> Script:
                 pass
             if heard == spelled(OVER):
                 return
+
     return wander
 
 
@@ -103,7 +145,10 @@ def play_one(program: str, seed: int) -> None:
         finally:
             engine.stop()
     else:
-        scripts = {number: wanderer(random.Random(f"{seed} {number}")) for number in range(len(fixture.keys))}
+        scripts = {
+            number: wanderer(random.Random(f"{seed} {number}"))
+            for number in range(len(fixture.keys))
+        }
         team = Team(fixture.keys, scripts)
         name = chance.choice(sorted(schedulers.NAMED))
         replay = play(engine, team, schedulers.NAMED[name](seed), fixture).replay
@@ -115,7 +160,9 @@ def compare_verdicts(program: str, replay: bytes) -> None:
     with tempfile.NamedTemporaryFile(suffix=".jsonl") as file:
         file.write(replay)
         file.flush()
-        found, wanted = judged(program, pathlib.Path(file.name)), judge(played(replay.decode()))
+        found, wanted = judged(program, pathlib.Path(file.name)), judge(
+            played(replay.decode())
+        )
     if found != wanted:
         raise Differs(f"the program's verdict is {found}, the Python model's {wanted}")
 
@@ -142,13 +189,26 @@ def compare(program: str, seeds: range) -> Tuple[int, List[str]]:
 
 
 def main() -> int:
-    parser = argparse.ArgumentParser("python3 -m tests.integration.compare", description=__doc__,
-                                     formatter_class=argparse.RawDescriptionHelpFormatter)
-    parser.add_argument("--matches", metavar="N", type=at_least_one, default=1000, help="how many matches (1000)")
-    parser.add_argument("--seed", metavar="S", type=int, default=0, help="the first match's seed (0)")
+    parser = argparse.ArgumentParser(
+        "python3 -m tests.integration.compare",
+        description=__doc__,
+        formatter_class=argparse.RawDescriptionHelpFormatter,
+    )
+    parser.add_argument(
+        "--matches",
+        metavar="N",
+        type=at_least_one,
+        default=1000,
+        help="how many matches (1000)",
+    )
+    parser.add_argument(
+        "--seed", metavar="S", type=int, default=0, help="the first match's seed (0)"
+    )
     add_program(parser)
     words = parser.parse_args()
-    played, faults = compare(program_at(words.program), range(words.seed, words.seed + words.matches))
+    played, faults = compare(
+        program_at(words.program), range(words.seed, words.seed + words.matches)
+    )
     for fault in faults:
         print(fault, file=sys.stderr)
     print(f"{played} matches, {len(faults)} differ")

@@ -39,9 +39,17 @@ class Pairing(NamedTuple):
 
 
 RINGS = [Pairing(f"ring:{nodes}", RING) for nodes in range(3, 65)]
-OTHERS = [Pairing(name, MAP) for name in ("hypercube:4", "torus:5x5", *(f"random:{seed}" for seed in range(50)))]
+OTHERS = [
+    Pairing(name, MAP)
+    for name in ("hypercube:4", "torus:5x5", *(f"random:{seed}" for seed in range(50)))
+]
 MAPPED = [Pairing(pairing.network, KNOWN_MAP) for pairing in [*RINGS, *OTHERS]]
-PAIRINGS = [pairing for turn in itertools.zip_longest(RINGS, OTHERS, MAPPED) for pairing in turn if pairing]
+PAIRINGS = [
+    pairing
+    for turn in itertools.zip_longest(RINGS, OTHERS, MAPPED)
+    for pairing in turn
+    if pairing
+]
 
 
 def fixture_for(pairing: Pairing, seed: int) -> Fixture:
@@ -50,7 +58,9 @@ def fixture_for(pairing: Pairing, seed: int) -> Fixture:
     agents = max(network.degrees()) + 1 if pairing.agent == MAP else 2
     home = seed % network.nodes
     hole = (home + 1 + seed // network.nodes % (network.nodes - 1)) % network.nodes
-    return fixture_of(Setup(network.nodes, network.links, home, [hole], agents, QUOTA, BOARD))
+    return fixture_of(
+        Setup(network.nodes, network.links, home, [hole], agents, QUOTA, BOARD)
+    )
 
 
 def fault_of(seed: int) -> str:
@@ -62,20 +72,35 @@ def fault_of(seed: int) -> str:
     played = play(Rehearsal(fixture), team, schedulers.NAMED[name](turn), fixture)
     if not played.has_failed():
         return ""
-    return (f"seed {seed}, {pairing.network}, {name} {turn}, home {fixture.setup.home}, holes {fixture.setup.holes}: "
-            f"{'; '.join([played.verdict().outcome, *played.faults])}")
+    return (
+        f"seed {seed}, {pairing.network}, {name} {turn}, home {fixture.setup.home}, holes {fixture.setup.holes}: "
+        f"{'; '.join([played.verdict().outcome, *played.faults])}"
+    )
 
 
 def main() -> int:
-    parser = argparse.ArgumentParser("python3 -m tests.integration.endure", description=__doc__,
-                                     formatter_class=argparse.RawDescriptionHelpFormatter)
-    parser.add_argument("--runs", metavar="N", type=at_least_one, default=RUNS, help=f"how many matches ({RUNS})")
-    parser.add_argument("--seed", metavar="S", type=int, default=0, help="the first seed (0)")
+    parser = argparse.ArgumentParser(
+        "python3 -m tests.integration.endure",
+        description=__doc__,
+        formatter_class=argparse.RawDescriptionHelpFormatter,
+    )
+    parser.add_argument(
+        "--runs",
+        metavar="N",
+        type=at_least_one,
+        default=RUNS,
+        help=f"how many matches ({RUNS})",
+    )
+    parser.add_argument(
+        "--seed", metavar="S", type=int, default=0, help="the first seed (0)"
+    )
     words = parser.parse_args()
     faults: List[str] = []
     played = 0
     try:
-        for seed in along(range(words.seed, words.seed + words.runs), words.runs, "match"):
+        for seed in along(
+            range(words.seed, words.seed + words.runs), words.runs, "match"
+        ):
             fault = fault_of(seed)
             played += 1
             if fault:

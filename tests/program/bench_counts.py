@@ -72,5 +72,7 @@ def counts(events, seed=bytes([7]) * 32):
 
 
 if __name__ == "__main__":
-    for name, count in zip(("events", "kept", "arrivals", "matches"), counts(int(sys.argv[1]))):
+    for name, count in zip(
+        ("events", "kept", "arrivals", "matches"), counts(int(sys.argv[1]))
+    ):
         print(name, count)

@@ -14,27 +14,56 @@ from tests.support.servers import Server, enter, serve
 from tests.program.killed_servers import appeal_to, kills, try_kill
 from tests.support.session_lines import HERE, LEAVE, LOOKS
 from tests.program.program_cases import MATCH, SEED, TABLE_HEAD, TRIANGLE, case, writes
-from tests.support.program_rows import DONE, FAILED_STREAM, PATIENCE, REFUSED_TEXT, Stage, expect
+from tests.support.program_rows import (
+    DONE,
+    FAILED_STREAM,
+    PATIENCE,
+    REFUSED_TEXT,
+    Stage,
+    expect,
+)
 
 TOP = pathlib.Path(__file__).resolve().parents[2]
-TWO_TEAMS = SEED + MATCH.format(network="tri.toml", key="r") + MATCH.format(network="tri.toml", key="b").replace(
-    '"red"', '"blue"')
-IN_TURNS = TWO_TEAMS.replace("version = 2\n", """version = 3
+TWO_TEAMS = (
+    SEED
+    + MATCH.format(network="tri.toml", key="r")
+    + MATCH.format(network="tri.toml", key="b").replace('"red"', '"blue"')
+)
+IN_TURNS = TWO_TEAMS.replace(
+    "version = 2\n",
+    """version = 3
 schedule = "oblivious"
 delay_scales = 0
 delay_odds = 1
-""")
+""",
+)
 # seconds: what the matches last, what sessions have left then, and within which the server is to have ended
 LASTS, GRACE, SOON = 0.2, 0.5, 5.0
 MANY = 40
 
 
-def served(stage: Stage, *more: str, cup: str = TWO_TEAMS, turns: int = 20, pause: int = 10, sessions: int = 1000,
-           grace: float = GRACE, limit: Optional[Callable[[], None]] = None) -> Server:
+def served(
+    stage: Stage,
+    *more: str,
+    cup: str = TWO_TEAMS,
+    turns: int = 20,
+    pause: int = 10,
+    sessions: int = 1000,
+    grace: float = GRACE,
+    limit: Optional[Callable[[], None]] = None,
+) -> Server:
     """A server of this tournament on the triangle, by these options. What is to limit it is called as it starts."""
     writes(stage, cup=cup, tri=TRIANGLE)
-    return serve(stage.program, stage.folder, *more, turns=turns, pause=pause, sessions=sessions,
-                 grace=int(grace * 1000), preexec_fn=limit)
+    return serve(
+        stage.program,
+        stage.folder,
+        *more,
+        turns=turns,
+        pause=pause,
+        sessions=sessions,
+        grace=int(grace * 1000),
+        preexec_fn=limit,
+    )
 
 
 def table(*rows: str) -> bytes:
@@ -42,7 +71,10 @@ def table(*rows: str) -> bytes:
 
 
 # One agent of blue accuses the black hole, and red does nothing.
-BLUE_GUESSES = table("  1 blue             guess 1         0    0", "  2 red              silent          0    0")
+BLUE_GUESSES = table(
+    "  1 blue             guess 1         0    0",
+    "  2 red              silent          0    0",
+)
 
 Attack = Callable[[Server], List[socket.socket]]
 
@@ -98,8 +130,13 @@ def deaf(stage: Stage) -> None:
 @case("a contest to which nobody comes ends by itself")
 def nobody(stage: Stage) -> None:
     with served(stage, sessions=4) as server:
-        expect(server.ended(), table("  1 blue             silent          0    0",
-                                     "  2 red              silent          0    0"))
+        expect(
+            server.ended(),
+            table(
+                "  1 blue             silent          0    0",
+                "  2 red              silent          0    0",
+            ),
+        )
         took = time.monotonic() - server.begun
     require(took <= SOON, f"the server took {took:.1f} s")
 
@@ -140,11 +177,21 @@ def early(stage: Stage) -> None:
         server.hears(enter("ba") + b'{"do":"accuse","port":1}\n')
         server.hears(enter("bb") + LEAVE)
         server.hears(enter("ra") + LEAVE)
-        with server.connect(enter("rb") + b'{"do":"depart","port":1}\n') as lost, lost.makefile("rb") as answers:
+        with server.connect(
+            enter("rb") + b'{"do":"depart","port":1}\n'
+        ) as lost, lost.makefile("rb") as answers:
             heard = [answers.readline() for _ in range(3)]
-        expect(server.ended(), table("  1 blue             guess 1         0    0",
-                                     "  2 red              silent          1    1"))
-    require(heard == [HERE, b'{"ok":"gone"}\n', b'{"ok":"over"}\n'], f"the lost agent heard {heard!r}")
+        expect(
+            server.ended(),
+            table(
+                "  1 blue             guess 1         0    0",
+                "  2 red              silent          1    1",
+            ),
+        )
+    require(
+        heard == [HERE, b'{"ok":"gone"}\n', b'{"ok":"over"}\n'],
+        f"the lost agent heard {heard!r}",
+    )
 
 
 @case("with --early a contest goes on while an agent may still act")
@@ -168,7 +215,13 @@ def gather(stage: Stage) -> None:
         begin = time.monotonic()
         run = server.ended()
         took = time.monotonic() - begin
-    expect(run, table("  1 blue             silent          0    0", "  2 red              silent          0    0"))
+    expect(
+        run,
+        table(
+            "  1 blue             silent          0    0",
+            "  2 red              silent          0    0",
+        ),
+    )
     require(took <= SOON, f"the server took {took:.1f} s")
 
 
@@ -182,22 +235,46 @@ def gather_ends(stage: Stage) -> None:
 
 # Files.
 
+
 def names(stage: Stage) -> List[str]:
-    return sorted(path.name for path in stage.folder.iterdir() if path.name.startswith("match"))
+    return sorted(
+        path.name for path in stage.folder.iterdir() if path.name.startswith("match")
+    )
 
 
 @case("files of an earlier contest get other names, and parts are gone at the end")
 def old_files(stage: Stage) -> None:
-    for name in ("match0.jsonl", "match0.turns", "match0.turns.old", "match1.jsonl.part"):
+    for name in (
+        "match0.jsonl",
+        "match0.turns",
+        "match0.turns.old",
+        "match1.jsonl.part",
+    ):
         (stage.folder / name).write_text(name)
     with served(stage, turns=100, grace=0) as server:
         begun = names(stage)
         server.ended()
-    kept = ["match0.jsonl.old", "match0.turns.old", "match0.turns.old2", "match1.jsonl.part.old"]
-    require(begun == sorted([*kept, "match0.jsonl.part", "match1.jsonl.part"]), f"at the beginning there are {begun}")
-    require(names(stage) == sorted([*kept, "match0.jsonl", "match1.jsonl"]), f"at the end there are {names(stage)}")
-    for name, was in zip(kept, ("match0.jsonl", "match0.turns.old", "match0.turns", "match1.jsonl.part")):
-        require((stage.folder / name).read_text() == was, f"the earlier file {name} is another")
+    kept = [
+        "match0.jsonl.old",
+        "match0.turns.old",
+        "match0.turns.old2",
+        "match1.jsonl.part.old",
+    ]
+    require(
+        begun == sorted([*kept, "match0.jsonl.part", "match1.jsonl.part"]),
+        f"at the beginning there are {begun}",
+    )
+    require(
+        names(stage) == sorted([*kept, "match0.jsonl", "match1.jsonl"]),
+        f"at the end there are {names(stage)}",
+    )
+    for name, was in zip(
+        kept, ("match0.jsonl", "match0.turns.old", "match0.turns", "match1.jsonl.part")
+    ):
+        require(
+            (stage.folder / name).read_text() == was,
+            f"the earlier file {name} is another",
+        )
 
 
 @case("files that appear while a contest goes on get other names at its end")
@@ -207,20 +284,29 @@ def files_meanwhile(stage: Stage) -> None:
             (stage.folder / name).write_text(name)
         server.ended()
     for name in ("match0.jsonl", "match0.turns"):
-        if (stage.folder / f"{name}.old").read_text() != name or (stage.folder / name).read_text() == name:
+        if (stage.folder / f"{name}.old").read_text() != name or (
+            stage.folder / name
+        ).read_text() == name:
             raise Wrong(f"what appeared as {name} is lost")
 
 
-@case("only their owner may read the files of a contest, whatever stood under their names")
+@case(
+    "only their owner may read the files of a contest, whatever stood under their names"
+)
 def private_files(stage: Stage) -> None:
     for name in ("match0.jsonl.new", "match1.turns.new"):
         (stage.folder / name).write_text(name)
         (stage.folder / name).chmod(0o666)
     with served(stage, cup=IN_TURNS, grace=0) as server:
-        parts = [(stage.folder / f"match{match}.{kind}.part").stat().st_mode & 0o777
-                 for match in (0, 1) for kind in ("jsonl", "turns")]
+        parts = [
+            (stage.folder / f"match{match}.{kind}.part").stat().st_mode & 0o777
+            for match in (0, 1)
+            for kind in ("jsonl", "turns")
+        ]
         server.ended()
-    modes = {name: (stage.folder / name).stat().st_mode & 0o777 for name in names(stage)}
+    modes = {
+        name: (stage.folder / name).stat().st_mode & 0o777 for name in names(stage)
+    }
     wanted = ("match0.jsonl", "match0.turns", "match1.jsonl", "match1.turns")
     if parts != [0o600] * 4 or modes != dict.fromkeys(wanted, 0o600):
         raise Wrong(f"the modes of the parts are {parts}, those of the files {modes}")
@@ -229,19 +315,46 @@ def private_files(stage: Stage) -> None:
 @case("a folder that is missing is told before the server says that it listens")
 def no_folder(stage: Stage) -> None:
     writes(stage, cup=TWO_TEAMS, tri=TRIANGLE)
-    words = ["serve", "cup.toml", "--port", str(free_port()), "--sessions", "4", "--turns", "1", "--pause", "1",
-             "--replay", "none/match"]
+    words = [
+        "serve",
+        "cup.toml",
+        "--port",
+        str(free_port()),
+        "--sessions",
+        "4",
+        "--turns",
+        "1",
+        "--pause",
+        "1",
+        "--replay",
+        "none/match",
+    ]
     expect(stage.run(words), b"", b"none/match0.jsonl.part: write\n", FAILED_STREAM)
 
 
 @case("a server on a port that is in use leaves the files of the first alone")
 def two_servers(stage: Stage) -> None:
     with served(stage, turns=LONG) as server:
-        words = ["serve", "cup.toml", "--port", str(server.port), "--sessions", "4", "--turns", "1", "--pause", "1",
-                 "--replay", "match"]
+        words = [
+            "serve",
+            "cup.toml",
+            "--port",
+            str(server.port),
+            "--sessions",
+            "4",
+            "--turns",
+            "1",
+            "--pause",
+            "1",
+            "--replay",
+            "match",
+        ]
         told = b"serve: listen\n  another program listens on this port: end it, or give another --port\n"
         expect(stage.run(words), b"", told, FAILED_STREAM)
-        require(names(stage) == ["match0.jsonl.part", "match1.jsonl.part"], f"there are {names(stage)}")
+        require(
+            names(stage) == ["match0.jsonl.part", "match1.jsonl.part"],
+            f"there are {names(stage)}",
+        )
 
 
 def wait_for(holds: Callable[[], bool]) -> bool:
@@ -262,7 +375,10 @@ def killed(stage: Stage) -> None:
     with served(stage, turns=LONG) as server:
         server.hears(enter("ba") + b'{"do":"accuse","port":1}\n')
         part = stage.folder / "match1.jsonl.part"
-        require(wait_for(lambda: part.read_bytes().count(b"\n") == 3), f"the part is {part.read_bytes()!r}")
+        require(
+            wait_for(lambda: part.read_bytes().count(b"\n") == 3),
+            f"the part is {part.read_bytes()!r}",
+        )
         server.child.kill()
     whole = part.read_bytes()
     part.write_bytes(whole + b'{"event":"tell","ag')
@@ -272,23 +388,36 @@ def killed(stage: Stage) -> None:
     expect(run, closed)
     (stage.folder / "match1.jsonl").write_bytes(run.printed)
     expect(stage.run(["judge", "match1.jsonl"]), b"guess 1 moves 0 lost 0\n")
-    if not stage.run(["recover", "match0.jsonl.part"]).printed.endswith(b"}\n" + CLOSE + b'{"end":1}\n'):
+    if not stage.run(["recover", "match0.jsonl.part"]).printed.endswith(
+        b"}\n" + CLOSE + b'{"end":1}\n'
+    ):
         raise Wrong("the match in which nothing happened is not recovered")
 
 
-@case("a contest that is still served is not recovered, and one that was killed is finished")
+@case(
+    "a contest that is still served is not recovered, and one that was killed is finished"
+)
 def finished(stage: Stage) -> None:
     words = ["recover", "cup.toml", "--replay", "match"]
     whole = ["match0.jsonl", "match0.turns", "match1.jsonl", "match1.turns"]
     with served(stage, cup=IN_TURNS, turns=LONG) as server:
         server.hears(enter("ba") + b'{"do":"accuse","port":1}\n')
         part = stage.folder / "match1.jsonl.part"
-        require(wait_for(lambda: part.read_bytes().count(b"\n") == 3), f"the part is {part.read_bytes()!r}")
+        require(
+            wait_for(lambda: part.read_bytes().count(b"\n") == 3),
+            f"the part is {part.read_bytes()!r}",
+        )
         expect(stage.run(words), b"", b"match0.jsonl.part: busy\n", FAILED_STREAM)
-        require(names(stage) == [f"{name}.part" for name in whole], f"there are {names(stage)}")
+        require(
+            names(stage) == [f"{name}.part" for name in whole],
+            f"there are {names(stage)}",
+        )
         server.child.kill()
     replay = stage.run(["recover", part.name]).printed
-    ranked = table("  1 blue             guess 1         0    0", "  2 red              silent          0    0")
+    ranked = table(
+        "  1 blue             guess 1         0    0",
+        "  2 red              silent          0    0",
+    )
     expect(stage.run(words), ranked)
     if names(stage) != whole or (stage.folder / "match1.jsonl").read_bytes() != replay:
         raise Wrong(f"there are {names(stage)}")
@@ -298,17 +427,30 @@ def finished(stage: Stage) -> None:
     expect(stage.run(appeal_to(1)), b"guess 1 moves 0 lost 0\n")
 
 
-@case("a match that is closed has its replay and turns while others go on, and they are there after a kill")
+@case(
+    "a match that is closed has its replay and turns while others go on, and they are there after a kill"
+)
 def closed_before(stage: Stage) -> None:
     with served(stage, "--early", cup=IN_TURNS, turns=LONG) as server:
         for key in ("ba", "bb"):
             server.hears(enter(key) + b'{"do":"accuse","port":1}\n')
-        wanted = ["match0.jsonl.part", "match0.turns.part", "match1.jsonl", "match1.turns"]
+        wanted = [
+            "match0.jsonl.part",
+            "match0.turns.part",
+            "match1.jsonl",
+            "match1.turns",
+        ]
         require(wait_for(lambda: names(stage) == wanted), f"there are {names(stage)}")
         server.child.kill()
-    require(stage.run(["recover", "cup.toml", "--replay", "match"]).status == DONE, "the contest is not finished")
+    require(
+        stage.run(["recover", "cup.toml", "--replay", "match"]).status == DONE,
+        "the contest is not finished",
+    )
     for match in (0, 1):
-        require(stage.run(appeal_to(match)).status == DONE, f"match {match} does not stand its appeal")
+        require(
+            stage.run(appeal_to(match)).status == DONE,
+            f"match {match} does not stand its appeal",
+        )
 
 
 @case("a text that is no part is not recovered")
@@ -330,23 +472,46 @@ def log(stage: Stage) -> None:
         server.hears(enter("zz"))
         timed = server.ended().told.decode().splitlines()
     told = [TIME.sub("", line, count=1) for line in timed]
-    found = sorted(re.sub(r"from 127\.0\.0\.1:\d+$", "from PEER", line) for line in told)
+    found = sorted(
+        re.sub(r"from 127\.0\.0\.1:\d+$", "from PEER", line) for line in told
+    )
     require(all(map(TIME.match, timed)), f"a line has no time: {timed}")
-    if found != ["serve: match 0 (red) closed: turns 20 events 1, silent moves 0 lost 0",
-                 "serve: match 1 (blue) closed: turns 20 events 3, guess 1 moves 0 lost 0",
-                 "serve: session 0 from PEER", SESSION_0_ENDED, SESSION_0_PLAYS,
-                 "serve: session 1 from PEER",
-                 "serve: session 1 played nobody: it was denied, since no agent has its key"]:
+    if found != [
+        "serve: match 0 (red) closed: turns 20 events 1, silent moves 0 lost 0",
+        "serve: match 1 (blue) closed: turns 20 events 3, guess 1 moves 0 lost 0",
+        "serve: session 0 from PEER",
+        SESSION_0_ENDED,
+        SESSION_0_PLAYS,
+        "serve: session 1 from PEER",
+        "serve: session 1 played nobody: it was denied, since no agent has its key",
+    ]:
         raise Wrong(f"told was {found}")
     if told.index(SESSION_0_PLAYS) > told.index(SESSION_0_ENDED):
         raise Wrong(f"a session is told to play once it has ended: {told}")
 
 
-@case("a contest is served on an address of IPv6, and a word that is not an address is refused")
+@case(
+    "a contest is served on an address of IPv6, and a word that is not an address is refused"
+)
 def address(stage: Stage) -> None:
     writes(stage, cup=TWO_TEAMS, tri=TRIANGLE)
-    words = ["serve", "cup.toml", "--port", str(free_port()), "--sessions", "4", "--turns", "1", "--pause", "1",
-             "--replay", "match", "--grace", "0", "--address"]
+    words = [
+        "serve",
+        "cup.toml",
+        "--port",
+        str(free_port()),
+        "--sessions",
+        "4",
+        "--turns",
+        "1",
+        "--pause",
+        "1",
+        "--replay",
+        "match",
+        "--grace",
+        "0",
+        "--address",
+    ]
     told = b"serve: listen\n  this machine has no such address: give another --address, 0.0.0.0 for all of IPv4\n"
     for address in ("localhost", "192.0.2.7"):
         expect(stage.run([*words, address]), b"", told, FAILED_STREAM)
@@ -363,22 +528,38 @@ def full_disk() -> None:
     resource.setrlimit(resource.RLIMIT_FSIZE, (ROOM, ROOM))
 
 
-@case("a part and a replay for which there is no room are told, and the others are there")
+@case(
+    "a part and a replay for which there is no room are told, and the others are there"
+)
 def no_room(stage: Stage) -> None:
     with served(stage, grace=0, limit=full_disk) as server:
         server.hears(enter("ba") + b'{"do":"look"}\n' * 9 + LEAVE)
         run = server.ended()
-        run = run._replace(told=re.sub(rb"(?m)^\d+:[0-5]\d:[0-5]\d (?=serve: )", b"", run.told))
+        run = run._replace(
+            told=re.sub(rb"(?m)^\d+:[0-5]\d:[0-5]\d (?=serve: )", b"", run.told)
+        )
     part = stage.folder / "match1.jsonl.part"
     events = part.read_bytes().count(b"\n") - 1
-    told = "serve: the part of match 1 stops after 0 events: write\nmatch1.jsonl: write\n"
-    expect(run, table("  1 blue             silent          0    0", "  2 red              silent          0    0"),
-           told.encode(), FAILED_STREAM)
+    told = (
+        "serve: the part of match 1 stops after 0 events: write\nmatch1.jsonl: write\n"
+    )
+    expect(
+        run,
+        table(
+            "  1 blue             silent          0    0",
+            "  2 red              silent          0    0",
+        ),
+        told.encode(),
+        FAILED_STREAM,
+    )
     if names(stage) != ["match0.jsonl", "match1.jsonl.part"] or not 0 < events < 11:
         raise Wrong(f"there are {names(stage)}, with {events} events")
     expect(stage.run(["judge", "match0.jsonl"]), b"silent moves 0 lost 0\n")
     recovered = stage.run(["recover", part.name]).printed
-    require(recovered.endswith(CLOSE + b'{"end":%d}\n' % (events + 1)), f"recovered is {recovered!r}")
+    require(
+        recovered.endswith(CLOSE + b'{"end":%d}\n' % (events + 1)),
+        f"recovered is {recovered!r}",
+    )
 
 
 @case("a part for which there was no room is recovered with the turns of its events")
@@ -386,10 +567,18 @@ def no_room_for_events(stage: Stage) -> None:
     with served(stage, cup=IN_TURNS, grace=0, limit=full_disk) as server:
         server.hears(enter("ba") + b'{"do":"look"}\n' * 9 + LEAVE)
         server.ended()
-    if names(stage) != ["match0.jsonl", "match0.turns", "match1.jsonl.part", "match1.turns"]:
+    if names(stage) != [
+        "match0.jsonl",
+        "match0.turns",
+        "match1.jsonl.part",
+        "match1.turns",
+    ]:
         raise Wrong(f"there are {names(stage)}")
     for match in (0, 1):
-        if match == 1 and stage.run(["recover", "cup.toml", "--replay", "match"]).status != DONE:
+        if (
+            match == 1
+            and stage.run(["recover", "cup.toml", "--replay", "match"]).status != DONE
+        ):
             raise Wrong("the contest is not finished")
         expect(stage.run(appeal_to(match)), b"silent moves 0 lost 0\n")
 

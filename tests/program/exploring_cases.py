@@ -56,26 +56,45 @@ class Host:
         else:
             agent, before = self._back[question["ask"]]
             news = WAKES if "wakes" in question else json.dumps(question["hears"])
-            history = (*before, news)[-self._keeps:]
+            history = (*before, news)[-self._keeps :]
         number = self._numbers.setdefault((agent, history), len(self._back))
         if number == len(self._back):
             self._back.append((agent, history))
         step = self._agents[agent](list(history))
-        return f"{number} {step}\n".encode() if isinstance(step, str) else f"{number} says\n".encode() + step + b"\n"
+        return (
+            f"{number} {step}\n".encode()
+            if isinstance(step, str)
+            else f"{number} says\n".encode() + step + b"\n"
+        )
 
 
 def writes_team(stage: Stage, agents: int, quota: int = 200) -> None:
     """Writes a tournament of one match on the triangle, whose black hole is node 2, from node 0."""
     keys = ", ".join(f'"k{agent}"' for agent in range(agents))
-    writes(stage, tri=TRIANGLE, team=SEED.replace("version = 2", "version = 3") + f'[[match]]\nteam = "red"\n'
-           f'network = "tri.toml"\nhome = 0\nholes = [2]\ndark = []\nquota = {quota}\nboard = 6000\nkeys = [{keys}]\n')
+    writes(
+        stage,
+        tri=TRIANGLE,
+        team=SEED.replace("version = 2", "version = 3") + f'[[match]]\nteam = "red"\n'
+        f'network = "tri.toml"\nhome = 0\nholes = [2]\ndark = []\nquota = {quota}\nboard = 6000\nkeys = [{keys}]\n',
+    )
 
 
-def explored(stage: Stage, agents: Sequence[Agent], *words: object, quota: int = 200, keeps: int = 1_000) -> Answer:
+def explored(
+    stage: Stage,
+    agents: Sequence[Agent],
+    *words: object,
+    quota: int = 200,
+    keeps: int = 1_000,
+) -> Answer:
     """Explores the match of `writes_team`, which these agents play."""
     writes_team(stage, len(agents), quota)
-    child = subprocess.Popen([stage.program, "explore", "team.toml", "0", *map(str, words)], cwd=stage.folder,
-                             stdin=subprocess.PIPE, stdout=subprocess.PIPE, stderr=subprocess.PIPE)
+    child = subprocess.Popen(
+        [stage.program, "explore", "team.toml", "0", *map(str, words)],
+        cwd=stage.folder,
+        stdin=subprocess.PIPE,
+        stdout=subprocess.PIPE,
+        stderr=subprocess.PIPE,
+    )
     assert child.stdin and child.stdout and child.stderr
     patience = threading.Timer(PATIENCE, child.kill)
     patience.start()
@@ -100,6 +119,7 @@ def explored(stage: Stage, agents: Sequence[Agent], *words: object, quota: int =
 
 # Agents.
 
+
 def in_turn(history: List[str], *steps: Step) -> Step:
     """Of these steps the one after all that has happened; an agent that has done all of them stops."""
     return steps[len(history)] if len(history) < len(steps) else STOPS
@@ -107,7 +127,9 @@ def in_turn(history: List[str], *steps: Step) -> Step:
 
 def solves(agent: int, history: List[str]) -> Step:
     """Enters, goes to node 1 and accuses the link to node 2: the match is solved in one move."""
-    return in_turn(history, enter(agent), say("depart", port=0), STOPS, say("accuse", port=1))
+    return in_turn(
+        history, enter(agent), say("depart", port=0), STOPS, say("accuse", port=1)
+    )
 
 
 def races(agent: int, history: List[str]) -> Step:
@@ -150,10 +172,16 @@ SOLVER, RACE = as_agent(0, solves), [as_agent(0, races), as_agent(1, races)]
 
 # Which schedule is told.
 
+
 @case("of drawn schedules the first that fails is told")
 def first_failing(stage: Stage) -> None:
-    first = next(it for it in (explored(stage, RACE, "--draws", n, "--seed", 3) for n in range(1, 40))
-                 if it.counts["failed"])
+    first = next(
+        it
+        for it in (
+            explored(stage, RACE, "--draws", n, "--seed", 3) for n in range(1, 40)
+        )
+        if it.counts["failed"]
+    )
     for draws in (60, 200):
         found = explored(stage, RACE, "--draws", draws, "--seed", 3).found
         require(found == first.found, draws, found, first.found)
@@ -170,7 +198,11 @@ def failing_is_told(stage: Stage) -> None:
 @case("an agent that has failed at its start has failed under the first drawn schedule")
 def fails_at_once(stage: Stage) -> None:
     told = explored(stage, [fails, as_agent(1, solves)], "--draws", 2)
-    require(told.found == {"found": "breaks", "agent": 0, "failure": "program", "schedule": []}, told)
+    require(
+        told.found
+        == {"found": "breaks", "agent": 0, "failure": "program", "schedule": []},
+        told,
+    )
 
 
 @case("an agent that sleeps and has not entered has failed under a drawn schedule")
@@ -194,24 +226,41 @@ def walks_or_is_lost(history: List[str]) -> Step:
     last = heard(history[-1]).get("ok")
     if last in ("gone", "bye"):
         return STOPS
-    return say("depart", port=0) if sum(heard(it).get("ok") == "here" for it in history) <= 6 else say("leave")
+    return (
+        say("depart", port=0)
+        if sum(heard(it).get("ok") == "here" for it in history) <= 6
+        else say("leave")
+    )
 
 
 def writes_and_solves(history: List[str]) -> Step:
-    return in_turn(history, enter(0), say("write", expect="", put="x"), say("depart", port=0), STOPS,
-                   say("accuse", port=1))
+    return in_turn(
+        history,
+        enter(0),
+        say("write", expect="", put="x"),
+        say("depart", port=0),
+        STOPS,
+        say("accuse", port=1),
+    )
 
 
-@case("a hunt for lost agents tells a schedule under which one is lost, and a hunt for moves one with the most")
+@case(
+    "a hunt for lost agents tells a schedule under which one is lost, and a hunt for moves one with the most"
+)
 def hunts(stage: Stage) -> None:
     team = [writes_and_solves, walks_or_is_lost]
     lost = explored(stage, team, "--draws", 200, "--objective", "lost")
     require(lost.found["found"] == "comes" and lost.found["lost"] == 1, lost)
     moves = explored(stage, team, "--draws", 200, "--objective", "moves")
-    require(moves.found["found"] == "comes" and moves.found["moves"] == moves.counts["moves"][-1][0] > 5, moves)
+    require(
+        moves.found["found"] == "comes"
+        and moves.found["moves"] == moves.counts["moves"][-1][0] > 5,
+        moves,
+    )
 
 
 # Which schedules are drawn.
+
 
 @case("both agents of a race come first under drawn schedules")
 def both_come(stage: Stage) -> None:
@@ -221,14 +270,18 @@ def both_come(stage: Stage) -> None:
 
 @case("other seeds draw other schedules, also those of more than 16 bits")
 def seeds(stage: Stage) -> None:
-    told = {json.dumps(explored(stage, RACE, "--draws", 200, "--seed", seed).counts)
-            for seed in (0, 1, 256, 65_536, 65_537)}
+    told = {
+        json.dumps(explored(stage, RACE, "--draws", 200, "--seed", seed).counts)
+        for seed in (0, 1, 256, 65_536, 65_537)
+    }
     require(len(told) > 3, told)
 
 
 @case("the schedules behind the first 256 are others")
 def streams(stage: Stage) -> None:
-    once, twice = (explored(stage, RACE, "--draws", draws).counts["solved"] for draws in (256, 512))
+    once, twice = (
+        explored(stage, RACE, "--draws", draws).counts["solved"] for draws in (256, 512)
+    )
     require(twice != 2 * once, once, twice)
 
 
@@ -247,7 +300,10 @@ def counted_of(stage: Stage, number: int, *words: object) -> List[int]:
 @case("every second schedule of a hunt is the one that is drawn without it")
 def every_second(stage: Stage) -> None:
     for number in range(0, 24, 2):
-        hunted, drawn = (counted_of(stage, number, *words) for words in (("--objective", "moves"), ()))
+        hunted, drawn = (
+            counted_of(stage, number, *words)
+            for words in (("--objective", "moves"), ())
+        )
         require(hunted == drawn, number, hunted, drawn)
 
 
@@ -259,16 +315,33 @@ def starved(stage: Stage) -> None:
 
 def walks_once(agent: int, history: List[str]) -> Step:
     """Goes to node 1 and writes there."""
-    return in_turn(history, enter(agent), say("depart", port=0), STOPS, say("write", expect="", put=str(agent)))
+    return in_turn(
+        history,
+        enter(agent),
+        say("depart", port=0),
+        STOPS,
+        say("write", expect="", put=str(agent)),
+    )
 
 
 @case("of two agents on links the one arrives first that departed last")
 def last_departed(stage: Stage) -> None:
     for seed in range(8):
-        schedule = explored(stage, [as_agent(0, walks_once), as_agent(1, walks_once)], "--draws", 1, "--scheduler",
-                            "last-departed", "--seed", seed).found["schedule"]
+        schedule = explored(
+            stage,
+            [as_agent(0, walks_once), as_agent(1, walks_once)],
+            "--draws",
+            1,
+            "--scheduler",
+            "last-departed",
+            "--seed",
+            seed,
+        ).found["schedule"]
         # an agent's second turn departs, and its third arrives
-        turns = [[at for at, other in enumerate(schedule) if other == agent] for agent in (0, 1)]
+        turns = [
+            [at for at, other in enumerate(schedule) if other == agent]
+            for agent in (0, 1)
+        ]
         last = max((0, 1), key=lambda agent: turns[agent][1])
         require(turns[last][2] < turns[1 - last][2], seed, schedule)
 
@@ -293,15 +366,26 @@ def sleeps_and_writes(history: List[str]) -> Step:
     return in_turn(history[6:], say("write", expect="", put="x"), say("leave"))
 
 
-@case("sleepers wake seldom beside slow agents, in some schedules ten times as seldom as in others")
+@case(
+    "sleepers wake seldom beside slow agents, in some schedules ten times as seldom as in others"
+)
 def sleepers_wake_seldom(stage: Stage) -> None:
-    told = explored(stage, [looks_and_solves, sleeps_and_writes], "--draws", 2_000, "--scheduler", "slow-agents",
-                    "--spurious-wakeups", 10)
+    told = explored(
+        stage,
+        [looks_and_solves, sleeps_and_writes],
+        "--draws",
+        2_000,
+        "--scheduler",
+        "slow-agents",
+        "--spurious-wakeups",
+        10,
+    )
     # with weight 10 in all schedules it would be some 420 of them, with weight 1 some 60
     require(150 < told.counts["failed"] < 320, told.counts)
 
 
 # Limits and lines.
+
 
 @case("a search stops at --max-states")
 def states(stage: Stage) -> None:
@@ -312,7 +396,11 @@ def states(stage: Stage) -> None:
 @case("each agent that has failed at its start is found")
 def second_fails(stage: Stage) -> None:
     told = explored(stage, [stops, fails])
-    require(told.found == {"found": "breaks", "agent": 1, "failure": "program", "schedule": []}, told)
+    require(
+        told.found
+        == {"found": "breaks", "agent": 1, "failure": "program", "schedule": []},
+        told,
+    )
 
 
 def sends(line: bytes) -> Agent:
@@ -331,12 +419,21 @@ def long_lines(stage: Stage) -> None:
 @case("a line of a host has at most 1,048,576 bytes, in whatever pieces it is read")
 def longest_answer(stage: Stage) -> None:
     writes_team(stage, 2)
-    for more, number, asked in ((0, 2, b'{"begin":0}\n{"begin":1}\n'), (1, 1, b'{"begin":0}\n')):
+    for more, number, asked in (
+        (0, 2, b'{"begin":0}\n{"begin":1}\n'),
+        (1, 1, b'{"begin":0}\n'),
+    ):
         answer = b" stops".rjust(MAX_TEXT + more, b"0") + b"\n"
-        expect(stage.run(["explore", "team.toml", "0"], answer), asked, b"host: line %d\n" % number, REFUSED_TEXT)
+        expect(
+            stage.run(["explore", "team.toml", "0"], answer),
+            asked,
+            b"host: line %d\n" % number,
+            REFUSED_TEXT,
+        )
 
 
 # Rounds, quotas and naps. These agents hold the newest thing alone that has happened to them.
+
 
 def enters_again(agent: int, _history: List[str]) -> Step:
     return enter(agent)
@@ -346,19 +443,33 @@ def looks_again(history: List[str]) -> Step:
     return say("look") if history else enter(0)
 
 
-@case("a round that may go on for ever is fair unless an agent that can move has no turn in it")
+@case(
+    "a round that may go on for ever is fair unless an agent that can move has no turn in it"
+)
 def rounds(stage: Stage) -> None:
     for other, is_fair in ((stops, True), (as_agent(1, solves), False), (sleeps, True)):
-        told = explored(stage, [as_agent(0, enters_again), other], "--spurious-wakeups", 0, keeps=1)
-        require([told.found.get(it) for it in ("found", "round", "fair")] == ["endless", [0], is_fair], told)
+        told = explored(
+            stage, [as_agent(0, enters_again), other], "--spurious-wakeups", 0, keeps=1
+        )
+        require(
+            [told.found.get(it) for it in ("found", "round", "fair")]
+            == ["endless", [0], is_fair],
+            told,
+        )
         require(told.status == FAILING, told)
 
 
-@case("a round in which an agent uses commands ends with its quota, so nothing is said of it")
+@case(
+    "a round in which an agent uses commands ends with its quota, so nothing is said of it"
+)
 def rounds_that_end(stage: Stage) -> None:
     for quota in (1, 10, 200):
         told = explored(stage, [looks_again, stops], quota=quota, keeps=1)
-        require(told.found == {"found": "exceeds", "agent": 0, "commands": quota + 1}, quota, told)
+        require(
+            told.found == {"found": "exceeds", "agent": 0, "commands": quota + 1},
+            quota,
+            told,
+        )
         require(told.status == REFUSED_TEXT, told)
 
 
@@ -379,14 +490,31 @@ def waits(patience: int, history: List[str]) -> Step:
 
 def walks_and_writes(history: List[str]) -> Step:
     """Agent 0 goes to node 1 and back, writes at home, and accuses the black hole."""
-    return in_turn(history, enter(0), say("depart", port=0), STOPS, say("depart", port=0), STOPS,
-                   say("write", expect="", put="x"), say("accuse", port=1))
+    return in_turn(
+        history,
+        enter(0),
+        say("depart", port=0),
+        STOPS,
+        say("depart", port=0),
+        STOPS,
+        say("write", expect="", put="x"),
+        say("accuse", port=1),
+    )
 
 
-@case("solves is said of agents that nap so often, and its commands and turns are theirs")
+@case(
+    "solves is said of agents that nap so often, and its commands and turns are theirs"
+)
 def naps(stage: Stage) -> None:
-    told = [explored(stage, [walks_and_writes, functools.partial(waits, 9)], "--spurious-wakeups", count).found
-            for count in range(10)]
+    told = [
+        explored(
+            stage,
+            [walks_and_writes, functools.partial(waits, 9)],
+            "--spurious-wakeups",
+            count,
+        ).found
+        for count in range(10)
+    ]
     for count, found in enumerate(told[:9]):
         require(found["found"] == "solves" and found["naps"] == count, count, found)
         # each nap is a waking and a look more, before agent 0 has written; to leave is not counted

@@ -7,8 +7,25 @@ import threading
 from typing import List, Sequence
 
 from tests.support.counts import require
-from tests.program.program_cases import CASES, ENTER, HERE, LOOK, MAX_TEXT, TOP, case, drawn_script
-from tests.support.program_rows import DONE, PATIENCE, REFUSED_TEXT, Stage, Wrong, difference, expect
+from tests.program.program_cases import (
+    CASES,
+    ENTER,
+    HERE,
+    LOOK,
+    MAX_TEXT,
+    TOP,
+    case,
+    drawn_script,
+)
+from tests.support.program_rows import (
+    DONE,
+    PATIENCE,
+    REFUSED_TEXT,
+    Stage,
+    Wrong,
+    difference,
+    expect,
+)
 
 INTERACTIVE = ["rehearse", "--interactive"]
 
@@ -21,8 +38,12 @@ def without_ends(printed: bytes) -> bytes:
 def lockstep(stage: Stage, lines: Sequence[str]) -> List[bytes]:
     """Sends each line once the answer to the one before it has ended: gives the answers. A program that keeps an answer
     back until more is sent is stopped, and the read ends."""
-    player = subprocess.Popen([stage.program, *INTERACTIVE], cwd=stage.folder, stdin=subprocess.PIPE,
-                              stdout=subprocess.PIPE)
+    player = subprocess.Popen(
+        [stage.program, *INTERACTIVE],
+        cwd=stage.folder,
+        stdin=subprocess.PIPE,
+        stdout=subprocess.PIPE,
+    )
     patience = threading.Timer(PATIENCE, player.kill)
     patience.start()
     answers = []
@@ -35,7 +56,9 @@ def lockstep(stage: Stage, lines: Sequence[str]) -> List[bytes]:
                 raise Wrong(f"no answer came to {line[:60]}")
         player.stdin.close()
         if player.wait(PATIENCE) != DONE or player.stdout.read():
-            raise Wrong(f"it ended with {player.returncode}, or printed behind the last answer")
+            raise Wrong(
+                f"it ended with {player.returncode}, or printed behind the last answer"
+            )
     finally:
         patience.cancel()
         player.kill()
@@ -52,37 +75,69 @@ def answers_at_once(seeds: Sequence[int], stage: Stage) -> None:
         expect(batch, batch.printed)
         piece = stage.run(INTERACTIVE, script.encode())
         expect(piece, piece.printed)
-        difference(f"seed {seed}, in one piece", batch.printed, without_ends(piece.printed))
+        difference(
+            f"seed {seed}, in one piece", batch.printed, without_ends(piece.printed)
+        )
         answers = lockstep(stage, script.splitlines())
-        difference(f"seed {seed}, in lockstep", piece.printed, b"".join(answer + b"\n" for answer in answers))
+        difference(
+            f"seed {seed}, in lockstep",
+            piece.printed,
+            b"".join(answer + b"\n" for answer in answers),
+        )
 
 
 for first_seed in range(0, 40, 10):
-    CASES[f"an interactive rehearsal answers each line at once, seeds from {first_seed}"] = functools.partial(
-        answers_at_once, range(first_seed, first_seed + 10))
+    CASES[
+        f"an interactive rehearsal answers each line at once, seeds from {first_seed}"
+    ] = functools.partial(answers_at_once, range(first_seed, first_seed + 10))
 
 
 @case("an interactive script may be longer than a batch, its lines not")
 def longest_line(stage: Stage) -> None:
     comment = "#" * MAX_TEXT + "\n"
     script = f"0 {ENTER}\n{comment}{comment}0 {LOOK}\n"
-    expect(stage.run(INTERACTIVE, script.encode()), (HERE + "\n\n\n" + HERE + "\n").encode())
+    expect(
+        stage.run(INTERACTIVE, script.encode()),
+        (HERE + "\n\n\n" + HERE + "\n").encode(),
+    )
     refused = f"0 {ENTER}\n#{comment}0 {LOOK}\n"
-    for text in (refused, refused[: -len(LOOK) - 4]):  # with and without the line feed behind it
-        expect(stage.run(INTERACTIVE, text.encode()), (HERE + "\n").encode(), b"script: line 2\n", REFUSED_TEXT)
+    for text in (
+        refused,
+        refused[: -len(LOOK) - 4],
+    ):  # with and without the line feed behind it
+        expect(
+            stage.run(INTERACTIVE, text.encode()),
+            (HERE + "\n").encode(),
+            b"script: line 2\n",
+            REFUSED_TEXT,
+        )
 
 
-@case("an interactive rehearsal that is refused passes on what it answered, and writes no replay")
+@case(
+    "an interactive rehearsal that is refused passes on what it answered, and writes no replay"
+)
 def refused_line(stage: Stage) -> None:
     script = f"0 {ENTER}\nclose 0\njump\n0 {LOOK}\n"
-    expect(stage.run([*INTERACTIVE, "--replay", "ended"], script.encode()), (HERE + "\n\n").encode(),
-           b"script: line 3\n", REFUSED_TEXT)
+    expect(
+        stage.run([*INTERACTIVE, "--replay", "ended"], script.encode()),
+        (HERE + "\n\n").encode(),
+        b"script: line 3\n",
+        REFUSED_TEXT,
+    )
     require(not list(stage.folder.glob("ended*")), "a replay was written")
 
 
 @case("the adversary of the examples delivers the agent that departed last")
 def adversary(stage: Stage) -> None:
-    ran = subprocess.run([sys.executable, TOP / "examples" / "last_departed.py", stage.program], timeout=PATIENCE,
-                         stdout=subprocess.PIPE, env={**os.environ, "PYTHONDONTWRITEBYTECODE": "1"})
-    difference("last_departed.py", (TOP / "examples" / "last_departed.printed").read_bytes(), ran.stdout)
+    ran = subprocess.run(
+        [sys.executable, TOP / "examples" / "last_departed.py", stage.program],
+        timeout=PATIENCE,
+        stdout=subprocess.PIPE,
+        env={**os.environ, "PYTHONDONTWRITEBYTECODE": "1"},
+    )
+    difference(
+        "last_departed.py",
+        (TOP / "examples" / "last_departed.printed").read_bytes(),
+        ran.stdout,
+    )
     require(not ran.returncode, f"it ended with {ran.returncode}")

@@ -48,6 +48,7 @@ PATIENCE = 30
 
 class Kill(NamedTuple):
     """When a server is killed, in seconds after it listens, and how many turns its matches have."""
+
     after: float
     turns: int
 
@@ -63,9 +64,13 @@ class Client(threading.Thread):
         self.answered: List[float] = []
 
     def run(self) -> None:
-        with contextlib.suppress(OSError), socket.create_connection(("127.0.0.1", self.port)) as client:
+        with contextlib.suppress(OSError), socket.create_connection(
+            ("127.0.0.1", self.port)
+        ) as client:
             answers = client.makefile("rb")
-            for line in itertools.chain([enter(f"{self.team}-0")], itertools.cycle([LOOK, LOOK, DEPART])):
+            for line in itertools.chain(
+                [enter(f"{self.team}-0")], itertools.cycle([LOOK, LOOK, DEPART])
+            ):
                 client.sendall(line)
                 if line == DEPART and answers.readline() != GONE:
                     return
@@ -80,7 +85,9 @@ def replay_of(program: str, folder: pathlib.Path, number: int) -> bytes:
     replay = folder / f"match{number}.jsonl"
     if replay.exists():
         return replay.read_bytes()
-    made = subprocess.run([program, "recover", f"{replay}.part"], capture_output=True, timeout=PATIENCE)
+    made = subprocess.run(
+        [program, "recover", f"{replay}.part"], capture_output=True, timeout=PATIENCE
+    )
     require(not made.returncode, f"recover of match {number}: {made.stderr!r}")
     return made.stdout
 
@@ -88,15 +95,30 @@ def replay_of(program: str, folder: pathlib.Path, number: int) -> bytes:
 def finish(program: str, folder: pathlib.Path) -> List[bytes]:
     """Finishes what the server has left; gives the replays."""
     replays = [replay_of(program, folder, number) for number in range(len(TEAMS))]
-    recovered = subprocess.run([program, "recover", "cup.toml", "--replay", "match"], cwd=folder, capture_output=True,
-                               timeout=PATIENCE)
+    recovered = subprocess.run(
+        [program, "recover", "cup.toml", "--replay", "match"],
+        cwd=folder,
+        capture_output=True,
+        timeout=PATIENCE,
+    )
     if recovered.returncode or recovered.stderr:
         raise Wrong(f"recover: {recovered.stderr!r}")
     names = [f"match{number}.jsonl" for number in range(len(TEAMS))]
-    require(replays == [(folder / name).read_bytes() for name in names], "recover has written other replays")
+    require(
+        replays == [(folder / name).read_bytes() for name in names],
+        "recover has written other replays",
+    )
     words = ["table", *(f"{team}={name}" for team, name in zip(TEAMS, names))]
-    if recovered.stdout != subprocess.run([program, *words], cwd=folder, capture_output=True, check=True,
-                                          timeout=PATIENCE).stdout:
+    if (
+        recovered.stdout
+        != subprocess.run(
+            [program, *words],
+            cwd=folder,
+            capture_output=True,
+            check=True,
+            timeout=PATIENCE,
+        ).stdout
+    ):
         raise Wrong(f"recover has printed {recovered.stdout!r}")
     stand_appeals(program, folder)
     return replays
@@ -104,14 +126,27 @@ def finish(program: str, folder: pathlib.Path) -> List[bytes]:
 
 def appeal_to(number: int) -> List[str]:
     """The words of an appeal to a match of cup.toml, with the turns beside its replay."""
-    return ["judge", f"match{number}.jsonl", "--turns", f"match{number}.turns", "--tournament", "cup.toml", "--match",
-            str(number)]
+    return [
+        "judge",
+        f"match{number}.jsonl",
+        "--turns",
+        f"match{number}.turns",
+        "--tournament",
+        "cup.toml",
+        "--match",
+        str(number),
+    ]
 
 
 def stand_appeals(program: str, folder: pathlib.Path) -> None:
     """Each match of what was finished has turns with which it stands its appeal, and there is no part."""
     for number in range(len(TEAMS)):
-        judged = subprocess.run([program, *appeal_to(number)], cwd=folder, capture_output=True, timeout=PATIENCE)
+        judged = subprocess.run(
+            [program, *appeal_to(number)],
+            cwd=folder,
+            capture_output=True,
+            timeout=PATIENCE,
+        )
         if judged.returncode or not judged.stdout:
             raise Wrong(f"the appeal of match {number}: {judged.stderr!r}")
     parts = sorted(path.name for path in folder.glob("match*.part"))
@@ -120,14 +155,30 @@ def stand_appeals(program: str, folder: pathlib.Path) -> None:
 
 def told_events(replay: bytes) -> int:
     """How many commands stand in a replay."""
-    events: List[Dict[str, object]] = [json.loads(line) for line in replay.splitlines()[1:]]
-    return sum("agent" in event and event.get("do") not in (None, "deliver") for event in events)
+    events: List[Dict[str, object]] = [
+        json.loads(line) for line in replay.splitlines()[1:]
+    ]
+    return sum(
+        "agent" in event and event.get("do") not in (None, "deliver")
+        for event in events
+    )
 
 
 def try_kill(program: str, kill: Kill, folder: pathlib.Path) -> None:
     """Serves a contest in this folder, kills the server, and looks at what it has left."""
-    write_cup(folder, [match(team, TRIANGLE, [2], agents=1, board=8) for team in TEAMS], Delays(3, 8))
-    with serve(program, folder, turns=kill.turns, pause=PAUSE, grace=0, stderr=subprocess.DEVNULL) as server:
+    write_cup(
+        folder,
+        [match(team, TRIANGLE, [2], agents=1, board=8) for team in TEAMS],
+        Delays(3, 8),
+    )
+    with serve(
+        program,
+        folder,
+        turns=kill.turns,
+        pause=PAUSE,
+        grace=0,
+        stderr=subprocess.DEVNULL,
+    ) as server:
         clients = [Client(server.port, team) for team in TEAMS]
         for client in clients:
             client.start()
@@ -139,7 +190,10 @@ def try_kill(program: str, kill: Kill, folder: pathlib.Path) -> None:
     for number, (client, replay) in enumerate(zip(clients, finish(program, folder))):
         found = told_events(replay)
         old = sum(moment < end - OLD for moment in client.answered)
-        require(found >= old, f"match {number} has {found} commands, and {old} were answered {OLD} s before")
+        require(
+            found >= old,
+            f"match {number} has {found} commands, and {old} were answered {OLD} s before",
+        )
 
 
 def fault_of(program: str, kill: Kill) -> Optional[str]:
@@ -154,12 +208,18 @@ def fault_of(program: str, kill: Kill) -> Optional[str]:
 def kills(count: int, seed: int) -> List[Kill]:
     """Kills that are drawn from a seed: short and long contests in turn."""
     chance = random.Random(seed)
-    return [Kill(chance.uniform(0, LONG), LONG_TURNS) if number % 2 else Kill(chance.uniform(0, SHORT), SHORT_TURNS)
-            for number in range(count)]
+    return [
+        Kill(chance.uniform(0, LONG), LONG_TURNS)
+        if number % 2
+        else Kill(chance.uniform(0, SHORT), SHORT_TURNS)
+        for number in range(count)
+    ]
 
 
 def main() -> int:
-    parser = argparse.ArgumentParser(description=__doc__, formatter_class=argparse.RawDescriptionHelpFormatter)
+    parser = argparse.ArgumentParser(
+        description=__doc__, formatter_class=argparse.RawDescriptionHelpFormatter
+    )
     parser.add_argument("program", metavar="PROGRAM", type=pathlib.Path)
     parser.add_argument("--kills", metavar="N", type=int, default=100)
     parser.add_argument("--seed", metavar="S", type=int, default=1)

@@ -10,10 +10,35 @@ from typing import Dict, List, Sequence
 
 from tests.support.counts import require
 from tests.support.servers import Run
-from tests.program.program_cases import CRAMPED, CUP, NO_MEMORY, TOP, TRIANGLE, case, writes
+from tests.program.program_cases import (
+    CRAMPED,
+    CUP,
+    NO_MEMORY,
+    TOP,
+    TRIANGLE,
+    case,
+    writes,
+)
 from tests.support.program_rows import DONE, REFUSED_TEXT, Stage, Wrong, expect
-from tests.support.wasm_encoding import Call, Function, checks, constant, in_memory, module, numeric, told_by_node
-from tests.support.wasm_encoding import I32, joined, name, sections_of, type_of, unsigned, vector
+from tests.support.wasm_encoding import (
+    Call,
+    Function,
+    checks,
+    constant,
+    in_memory,
+    module,
+    numeric,
+    told_by_node,
+)
+from tests.support.wasm_encoding import (
+    I32,
+    joined,
+    name,
+    sections_of,
+    type_of,
+    unsigned,
+    vector,
+)
 
 FAILING = 1
 RING = TOP / "examples" / "agents" / "wasm" / "ring.wasm"
@@ -22,20 +47,49 @@ CHANGED = 200
 DATA = bytes(range(7, 256, 5))
 CALL, DROP, TRAP, END = b"\x10", b"\x1a", b"\0", b"\x0b"
 LOOP, AGAIN = b"\x03\x40", b"\x0c\x00"
-SIZE, GROW, FILL, MULTIPLY, SUBTRACT = b"\x3f\x00", b"\x40\x00", b"\xfc\x0b\x00", b"\x6c", b"\x6b"
+SIZE, GROW, FILL, MULTIPLY, SUBTRACT = (
+    b"\x3f\x00",
+    b"\x40\x00",
+    b"\xfc\x0b\x00",
+    b"\x6c",
+    b"\x6b",
+)
 # where a module has the text of a whiteboard
 BOARD = 16
 LOAD64 = b"\x29\x00\x00"
 # texts of at most 8 bytes in UTF-8: the least and the greatest character of each length
-TEXTS = [it.encode() for it in ("", "\0\x7f", "\x80\u07ff", "\u0800\ud7ff", "\ue000\uffff", "\U00010000\U0010ffff")]
+TEXTS = [
+    it.encode()
+    for it in (
+        "",
+        "\0\x7f",
+        "\x80\u07ff",
+        "\u0800\ud7ff",
+        "\ue000\uffff",
+        "\U00010000\U0010ffff",
+    )
+]
 # a byte that begins no character, too many bytes for a character, a surrogate, too large a character, a part of one
-NOT_TEXTS = (b"\x80", b"\xc0\x80", b"\xe0\x80\x80", b"\xed\xa0\x80", b"\xf4\x90\x80\x80", b"a\xc3")
+NOT_TEXTS = (
+    b"\x80",
+    b"\xc0\x80",
+    b"\xe0\x80\x80",
+    b"\xed\xa0\x80",
+    b"\xf4\x90\x80\x80",
+    b"a\xc3",
+)
 # pages of 64 KiB that an agent asks for at a time
 GROWTH = 100
 STATES = '{"states":%d,"memories":%d,"stances":%d,"boards":1}\n'
 
 
-def tried(stage: Stage, agent: bytes, *words: str, arguments: str = "", front: Sequence[str] = ()) -> Run:
+def tried(
+    stage: Stage,
+    agent: bytes,
+    *words: str,
+    arguments: str = "",
+    front: Sequence[str] = (),
+) -> Run:
     """What comes of agents that run this module on a triangle."""
     writes(stage, tri=TRIANGLE, cup=CUP)
     (stage.folder / "agent.wasm").write_bytes(agent)
@@ -43,11 +97,20 @@ def tried(stage: Stage, agent: bytes, *words: str, arguments: str = "", front: S
     return stage.run(["explore", "cup.toml", "0", *words, "--module", word], b"", front)
 
 
-def explores(stage: Stage, agent: bytes, printed: str, status: int, failure: str = "", arguments: str = "") -> None:
+def explores(
+    stage: Stage,
+    agent: bytes,
+    printed: str,
+    status: int,
+    failure: str = "",
+    arguments: str = "",
+) -> None:
     """Agents that run this module on a triangle come to this, and the module is named by its digest."""
     digest = hashlib.sha256(agent).hexdigest()
     line = f'{{"module":"{digest}","arguments":[{arguments}]{failure}}}\n'
-    expect(tried(stage, agent, arguments=arguments), (printed + line).encode(), b"", status)
+    expect(
+        tried(stage, agent, arguments=arguments), (printed + line).encode(), b"", status
+    )
 
 
 def refuses(stage: Stage, agent: bytes, fault: str) -> None:
@@ -60,22 +123,37 @@ def running(body: bytes, *imports: str) -> bytes:
     return module([Function([], [], body, "run")], imports)
 
 
-SILENT = '{"found":"fails","outcome":"silent","moves":0,"lost":0,"schedule":[]}\n' + STATES % (1, 1, 1)
-BREAKS = '{"found":"breaks","agent":0,"failure":"program","schedule":[]}\n' + STATES % (1, 1, 1)
+SILENT = (
+    '{"found":"fails","outcome":"silent","moves":0,"lost":0,"schedule":[]}\n'
+    + STATES % (1, 1, 1)
+)
+BREAKS = '{"found":"breaks","agent":0,"failure":"program","schedule":[]}\n' + STATES % (
+    1,
+    1,
+    1,
+)
 
 
 @case("a module solves a ring under every schedule")
 def solved(stage: Stage) -> None:
     shutil.copy(TOP / "examples" / "ring8.toml", stage.folder / "ring8.toml")
-    writes(stage, cup=CUP.replace("tri.toml", "ring8.toml").replace("quota = 10", "quota = 100")
-           .replace("board = 8", "board = 48").replace("holes = [2]", "holes = [5]"))
+    writes(
+        stage,
+        cup=CUP.replace("tri.toml", "ring8.toml")
+        .replace("quota = 10", "quota = 100")
+        .replace("board = 8", "board = 48")
+        .replace("holes = [2]", "holes = [5]"),
+    )
     (stage.folder / "ring.wasm").write_bytes(RING.read_bytes())
     ran = stage.run(["explore", "cup.toml", "0", "--module", "ring.wasm:8"], b"")
     lines = ran.printed.decode().splitlines()
     digest = hashlib.sha256(RING.read_bytes()).hexdigest()
     if ran.status != DONE or not lines[0].startswith('{"found":"solves","moves":'):
         raise Wrong(f"{ran.status}: {lines} {ran.told!r}")
-    require(lines[2:] == [f'{{"module":"{digest}","arguments":[8]}}'], f"the last lines are {lines[2:]}")
+    require(
+        lines[2:] == [f'{{"module":"{digest}","arguments":[8]}}'],
+        f"the last lines are {lines[2:]}",
+    )
 
 
 @case("the sample module is what clang makes of its source, as far as searches tell")
@@ -83,11 +161,30 @@ def compiled(stage: Stage) -> None:
     if shutil.which("clang") is None or shutil.which("wasm-ld") is None:
         raise unittest.SkipTest("clang or lld is not installed")
     agent = stage.folder / "agent.wasm"
-    subprocess.run(["clang", "--target=wasm32", "-O1", "-nostdlib", "-Wl,--no-entry,--stack-first,-z,stack-size=1024",
-                    "-o", agent, RING.with_suffix(".c")], check=True)
-    writes(stage, tri=TRIANGLE, cup=CUP.replace("quota = 10", "quota = 100").replace("board = 8", "board = 48"))
-    found = [stage.run(["explore", "cup.toml", "0", "--module", f"{file}:3"], b"").printed.splitlines()[0]
-             for file in (agent, RING)]
+    subprocess.run(
+        [
+            "clang",
+            "--target=wasm32",
+            "-O1",
+            "-nostdlib",
+            "-Wl,--no-entry,--stack-first,-z,stack-size=1024",
+            "-o",
+            agent,
+            RING.with_suffix(".c"),
+        ],
+        check=True,
+    )
+    writes(
+        stage,
+        tri=TRIANGLE,
+        cup=CUP.replace("quota = 10", "quota = 100").replace("board = 8", "board = 48"),
+    )
+    found = [
+        stage.run(
+            ["explore", "cup.toml", "0", "--module", f"{file}:3"], b""
+        ).printed.splitlines()[0]
+        for file in (agent, RING)
+    ]
     if found[0] != found[1] or not found[0].startswith(b'{"found":"solves","moves":4,'):
         raise Wrong(f"found {found}")
 
@@ -101,47 +198,95 @@ def ends(stage: Stage) -> None:
 @case("agents that fail are told of by cause and function")
 def fails(stage: Stage) -> None:
     for cause, agent, function in (
-            ("trap", running(b"\x00"), 0), ("trap", running(b"\x00", "look"), 1),
-            ("fuel", running(LOOP + AGAIN + END), 0),
-            ("command", running(constant(I32, 65_536) + CALL + b"\x00" + DROP, "depart"), 1)):
-        explores(stage, agent, BREAKS, FAILING, f',"failure":"{cause}","function":{function}')
+        ("trap", running(b"\x00"), 0),
+        ("trap", running(b"\x00", "look"), 1),
+        ("fuel", running(LOOP + AGAIN + END), 0),
+        (
+            "command",
+            running(constant(I32, 65_536) + CALL + b"\x00" + DROP, "depart"),
+            1,
+        ),
+    ):
+        explores(
+            stage, agent, BREAKS, FAILING, f',"failure":"{cause}","function":{function}'
+        )
 
 
 @case("each agent runs its own module, and each module has a line of its own")
 def for_each(stage: Stage) -> None:
     writes(stage, tri=TRIANGLE, cup=CUP)
-    enters, leaves, departs, accuses, argument, came = (CALL + bytes([place]) for place in range(6))
+    enters, leaves, departs, accuses, argument, came = (
+        CALL + bytes([place]) for place in range(6)
+    )
     goes = constant(I32, 0) + argument + departs + DROP
     walks = goes + constant(I32, 1) + came + SUBTRACT + accuses + DROP
-    agents = {name: running(enters + DROP + body, "enter", "leave", "depart", "accuse", "argument", "came")
-              for name, body in (("walks", walks), ("leaves", leaves + DROP), ("traps", b"\0"))}
+    agents = {
+        name: running(
+            enters + DROP + body,
+            "enter",
+            "leave",
+            "depart",
+            "accuse",
+            "argument",
+            "came",
+        )
+        for name, body in (
+            ("walks", walks),
+            ("leaves", leaves + DROP),
+            ("traps", b"\0"),
+        )
+    }
     for agent, file in agents.items():
         (stage.folder / f"{agent}.wasm").write_bytes(file)
-    solves, breaks = '{"found":"solves","moves":%d,"lost":%d,', '{"found":"breaks","agent":%d,"failure":"program",'
+    solves, breaks = (
+        '{"found":"solves","moves":%d,"lost":%d,',
+        '{"found":"breaks","agent":%d,"failure":"program",',
+    )
     draws, trap = ["--draws", "4"], ',"failure":"trap","function":6'
     for first, second, found, end, failures, more in (
-            ("walks:0", "leaves", solves % (1, 0), '"commands":[2,0]}', ("", ""), []),
-            ("leaves", "walks:0", solves % (1, 0), '"commands":[0,2]}', ("", ""), []),
-            ("walks:0", "walks:1", solves % (2, 1), '"commands":[2,1]}', ("", ""), []),
-            ("walks:1", "walks:0", solves % (2, 1), '"commands":[1,2]}', ("", ""), []),
-            ("walks:1", "leaves", '{"found":"fails",', "}", ("", ""), []),
-            ("walks:0", "traps", breaks % 1, "}", ("", trap), []),
-            ("traps", "walks:0", breaks % 0, "}", (trap, ""), []),
-            ("walks:0", "leaves", '{"found":"comes","moves":1,"lost":0,', "}", ("", ""), draws),
-            ("leaves", "traps", breaks % 1, "}", ("", trap), draws)):
+        ("walks:0", "leaves", solves % (1, 0), '"commands":[2,0]}', ("", ""), []),
+        ("leaves", "walks:0", solves % (1, 0), '"commands":[0,2]}', ("", ""), []),
+        ("walks:0", "walks:1", solves % (2, 1), '"commands":[2,1]}', ("", ""), []),
+        ("walks:1", "walks:0", solves % (2, 1), '"commands":[1,2]}', ("", ""), []),
+        ("walks:1", "leaves", '{"found":"fails",', "}", ("", ""), []),
+        ("walks:0", "traps", breaks % 1, "}", ("", trap), []),
+        ("traps", "walks:0", breaks % 0, "}", (trap, ""), []),
+        (
+            "walks:0",
+            "leaves",
+            '{"found":"comes","moves":1,"lost":0,',
+            "}",
+            ("", ""),
+            draws,
+        ),
+        ("leaves", "traps", breaks % 1, "}", ("", trap), draws),
+    ):
         given = [agent.partition(":") for agent in (first, second)]
-        words = [it for agent, colon, number in given for it in ("--module", f"{agent}.wasm{colon}{number}")]
+        words = [
+            it
+            for agent, colon, number in given
+            for it in ("--module", f"{agent}.wasm{colon}{number}")
+        ]
         ran = stage.run(["explore", "cup.toml", "0", *words, *more], b"")
-        lines = [f'{{"module":"{hashlib.sha256(agents[agent]).hexdigest()}","arguments":[{number}]{failure}}}'
-                 for (agent, _, number), failure in zip(given, failures)]
+        lines = [
+            f'{{"module":"{hashlib.sha256(agents[agent]).hexdigest()}","arguments":[{number}]{failure}}}'
+            for (agent, _, number), failure in zip(given, failures)
+        ]
         printed = ran.printed.decode().splitlines()
-        if not (printed[0].startswith(found) and printed[0].endswith(end) and printed[2:] == lines):
+        if not (
+            printed[0].startswith(found)
+            and printed[0].endswith(end)
+            and printed[2:] == lines
+        ):
             raise Wrong(f"{first}, {second}: {ran.status}: {printed} {ran.told!r}")
 
 
 @case("agents write and read any text in UTF-8, and fail with bytes that are not UTF-8")
 def texts(stage: Stage) -> None:
-    for text, found in (*((it, b"silent") for it in TEXTS), *((it, b"command") for it in NOT_TEXTS)):
+    for text, found in (
+        *((it, b"silent") for it in TEXTS),
+        *((it, b"command") for it in NOT_TEXTS),
+    ):
         ran = tried(stage, writing(text))
         if ran.status != FAILING or found not in ran.printed:
             raise Wrong(f"{text!r}: {ran.status}: {ran.printed!r} {ran.told!r}")
@@ -151,9 +296,19 @@ def writing(text: bytes) -> bytes:
     """A module that writes a text, and traps if the whiteboard does not show it then."""
     enters, writes_it, looks, shows = (CALL + bytes([place]) for place in range(4))
     put = constant(I32, 0) * 3 + constant(I32, len(text)) + writes_it + DROP
-    seen = constant(I32, BOARD) * 2 + constant(I32, 8) + shows + DROP + LOAD64 + constant(I32, 0) + LOAD64
+    seen = (
+        constant(I32, BOARD) * 2
+        + constant(I32, 8)
+        + shows
+        + DROP
+        + LOAD64
+        + constant(I32, 0)
+        + LOAD64
+    )
     body = enters + DROP + put + looks + DROP + seen + b"\x52\x04\x40\x00" + END
-    return module([Function([], [], body, "run")], ["enter", "write", "look", "board"], data=text)
+    return module(
+        [Function([], [], body, "run")], ["enter", "write", "look", "board"], data=text
+    )
 
 
 @case("agents whose memory grows are explored until memory runs out, and no longer")
@@ -161,7 +316,15 @@ def grown(stage: Stage) -> None:
     enters, looks = (CALL + bytes([place]) + DROP for place in range(2))
     # what a memory has of zeros takes no room where it is saved
     first = SIZE + constant(I32, GROWTH) + SUBTRACT + constant(I32, 65_536) + MULTIPLY
-    grows = constant(I32, GROWTH) + GROW + DROP + first + constant(I32, 1) + constant(I32, GROWTH * 65_536) + FILL
+    grows = (
+        constant(I32, GROWTH)
+        + GROW
+        + DROP
+        + first
+        + constant(I32, 1)
+        + constant(I32, GROWTH * 65_536)
+        + FILL
+    )
     agent = running(enters + LOOP + grows + looks + AGAIN + END, "enter", "look")
     front = [sys.executable, "-c", CRAMPED, str(200 << 20)]
     expect(tried(stage, agent, front=front), b"", b"agent.wasm: memory\n", NO_MEMORY)
@@ -170,15 +333,20 @@ def grown(stage: Stage) -> None:
 @case("a file that is no module of agents is refused by what is wrong and where")
 def refused(stage: Stage) -> None:
     for agent, fault in (
-            (b"", "head at byte 0"), (b"\0asm\2\0\0\0", "head at byte 0"),
-            (running(b"\x43\0\0\0\0" + DROP), "float at byte 40"),
-            (running(constant(I32, 1)), "type at byte 42"),
-            (running(b"\x0c\x01"), "index at byte 40"),
-            (running(CALL + b"\x07"), "index at byte 40"),
-            (running(b"", "look", "puts"), "import arena.puts at byte 38"),
-            (module([Function([], [], b"", "run")], ["look"], "env"), "import env.look at byte 21"),
-            (running(b"", "\x1b[2J\n"), r"import arena.\u{1b}[2J\n at byte 21"),
-            (module([Function([], [], b"")]), "run at byte 38")):
+        (b"", "head at byte 0"),
+        (b"\0asm\2\0\0\0", "head at byte 0"),
+        (running(b"\x43\0\0\0\0" + DROP), "float at byte 40"),
+        (running(constant(I32, 1)), "type at byte 42"),
+        (running(b"\x0c\x01"), "index at byte 40"),
+        (running(CALL + b"\x07"), "index at byte 40"),
+        (running(b"", "look", "puts"), "import arena.puts at byte 38"),
+        (
+            module([Function([], [], b"", "run")], ["look"], "env"),
+            "import env.look at byte 21",
+        ),
+        (running(b"", "\x1b[2J\n"), r"import arena.\u{1b}[2J\n at byte 21"),
+        (module([Function([], [], b"")]), "run at byte 38"),
+    ):
         refuses(stage, agent, fault)
 
 
@@ -191,10 +359,14 @@ def many_parameters(stage: Stage) -> None:
         refuses(stage, agent, f"size at byte {agent.index(type_of(*own))}")
 
 
-@case("a file is refused whose exports, memory, data segments or types of blocks are not valid")
+@case(
+    "a file is refused whose exports, memory, data segments or types of blocks are not valid"
+)
 def invalid(stage: Stage) -> None:
     run, largest = name("run") + b"\0\0", b"\1" + unsigned(1) + unsigned(65_537)
-    lacking = [name("x") + item for item in (b"\0\1", b"\1\0", b"\2\1", b"\3\0", b"\4\0")]
+    lacking = [
+        name("x") + item for item in (b"\0\1", b"\1\0", b"\2\1", b"\3\0", b"\4\0")
+    ]
     for export, fault in ((run, "name"), *((it, "index") for it in lacking)):
         agent = with_section(7, vector([run, export]))
         refuses(stage, agent, f"{fault} at byte {agent.rindex(export)}")
@@ -223,7 +395,7 @@ def is_harmless(stage: Stage, seed: int) -> bool:
     draw, agent = random.Random(seed), bytearray(RING.read_bytes())
     for _ in range(draw.randrange(1, 4)):
         agent[draw.randrange(len(agent))] = draw.randrange(256)
-    whole_or_cut = agent[:draw.randrange(len(agent))] if seed % 5 == 0 else agent
+    whole_or_cut = agent[: draw.randrange(len(agent))] if seed % 5 == 0 else agent
     ran = tried(stage, bytes(whole_or_cut), "--max-states", "2000", arguments="3")
     return ran.status in (DONE, FAILING, REFUSED_TEXT) and bool(ran.printed or ran.told)
 
@@ -237,10 +409,21 @@ def as_node_has(stage: Stage) -> None:
         calls = told_by_node(stage.folder / "values.wasm", functions, reaches, data)
         explores(stage, checks(functions, calls, data), SILENT, FAILING)
         for call in first_traps(calls):
-            explores(stage, alone(functions[call.function], call, data), BREAKS, FAILING,
-                     ',"failure":"trap","function":0')
+            explores(
+                stage,
+                alone(functions[call.function], call, data),
+                BREAKS,
+                FAILING,
+                ',"failure":"trap","function":0',
+            )
         wrong = calls[0]._replace(result=(calls[0].result or 0) ^ 1)
-        explores(stage, checks(functions, [wrong], data), BREAKS, FAILING, ',"failure":"trap","function":1')
+        explores(
+            stage,
+            checks(functions, [wrong], data),
+            BREAKS,
+            FAILING,
+            ',"failure":"trap","function":1',
+        )
 
 
 def first_traps(calls: List[Call]) -> List[Call]:
@@ -254,5 +437,9 @@ def first_traps(calls: List[Call]) -> List[Call]:
 
 def alone(function: Function, call: Call, data: bytes) -> bytes:
     """A module that makes one call."""
-    push = b"".join(constant(of, number) for of, number in zip(function.parameters, call.operands))
-    return module([function, Function([], [], push + CALL + b"\x00" + DROP, "run")], data=data)
+    push = b"".join(
+        constant(of, number) for of, number in zip(function.parameters, call.operands)
+    )
+    return module(
+        [function, Function([], [], push + CALL + b"\x00" + DROP, "run")], data=data
+    )

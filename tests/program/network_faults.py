@@ -31,9 +31,12 @@ Made = Tuple[int, List[Link]]
 
 # What the rules say.
 
+
 def is_joined(nodes: int, links: Sequence[Link], without: Optional[int] = None) -> bool:
     """Whether paths that keep off a node join all the others."""
-    neighbours: Dict[int, Set[int]] = {node: set() for node in range(nodes) if node != without}
+    neighbours: Dict[int, Set[int]] = {
+        node: set() for node in range(nodes) if node != without
+    }
     for one, _, two, _ in links:
         if without not in (one, two):
             neighbours[one].add(two)
@@ -47,7 +50,9 @@ def is_joined(nodes: int, links: Sequence[Link], without: Optional[int] = None) 
     return len(reached) == len(neighbours)
 
 
-def first_again(links: Sequence[Link], parts: Callable[[Link], List[object]]) -> Optional[int]:
+def first_again(
+    links: Sequence[Link], parts: Callable[[Link], List[object]]
+) -> Optional[int]:
     """The first link of which a part stands in an earlier one."""
     seen: Set[object] = set()
     for place, link in enumerate(links):
@@ -63,7 +68,10 @@ def gap(nodes: int, links: Sequence[Link]) -> Optional[int]:
     for one, p, two, q in links:
         ports[one].add(p)
         ports[two].add(q)
-    return next((node for node in range(nodes) if ports[node] != set(range(len(ports[node])))), None)
+    return next(
+        (node for node in range(nodes) if ports[node] != set(range(len(ports[node])))),
+        None,
+    )
 
 
 def first(places: Sequence[bool]) -> Optional[int]:
@@ -75,10 +83,19 @@ def fault_of(nodes: int, links: Sequence[Link]) -> str:
     if not MIN_NODES <= nodes <= MAX_NODES:
         return "nodes"
     for name, place in (
-        ("node in link", lambda: first([max(link[0], link[2]) >= nodes for link in links])),
+        (
+            "node in link",
+            lambda: first([max(link[0], link[2]) >= nodes for link in links]),
+        ),
         ("loop in link", lambda: first([link[0] == link[2] for link in links])),
-        ("double link", lambda: first_again(links, lambda link: [frozenset((link[0], link[2]))])),
-        ("port twice in link", lambda: first_again(links, lambda link: [tuple(link[:2]), tuple(link[2:])])),
+        (
+            "double link",
+            lambda: first_again(links, lambda link: [frozenset((link[0], link[2]))]),
+        ),
+        (
+            "port twice in link",
+            lambda: first_again(links, lambda link: [tuple(link[:2]), tuple(link[2:])]),
+        ),
         ("port gap at node", lambda: gap(nodes, links)),
     ):
         found = place()
@@ -86,11 +103,14 @@ def fault_of(nodes: int, links: Sequence[Link]) -> str:
             return f"{name} {found}"
     if not is_joined(nodes, links):
         return "apart"
-    cut = next((node for node in range(nodes) if not is_joined(nodes, links, node)), None)
+    cut = next(
+        (node for node in range(nodes) if not is_joined(nodes, links, node)), None
+    )
     return "none" if cut is None else f"cut node {cut}"
 
 
 # Lists of links.
+
 
 def whole(chance: random.Random) -> Made:
     """A network of a ring and further links, in any order and direction, with any numbers of nodes and ports."""
@@ -99,7 +119,10 @@ def whole(chance: random.Random) -> Made:
     for _ in range(chance.choice((0, 1, nodes, nodes * nodes))):
         pairs.add(frozenset(chance.sample(range(nodes), 2)))
     names = chance.sample(range(nodes), nodes)
-    ends = [chance.sample([names[node] for node in pair], 2) for pair in sorted(pairs, key=sorted)]
+    ends = [
+        chance.sample([names[node] for node in pair], 2)
+        for pair in sorted(pairs, key=sorted)
+    ]
     chance.shuffle(ends)
     ports = [chance.sample(range(nodes), nodes) for _ in range(nodes)]
     for node in range(nodes):
@@ -112,10 +135,19 @@ def two_parts(chance: random.Random) -> Made:
     """Two networks that stand apart, or that share a node."""
     (size, links), (other, more) = whole(chance), whole(chance)
     if chance.random() < 0.5:
-        return size + other, links + [[one + size, p, two + size, q] for one, p, two, q in more]
+        return size + other, links + [
+            [one + size, p, two + size, q] for one, p, two, q in more
+        ]
     shared = sum(size - 1 in (one, two) for one, _, two, _ in links)
-    moved = [[one + size - 1, p + (shared if one == 0 else 0), two + size - 1, q + (shared if two == 0 else 0)]
-             for one, p, two, q in more]
+    moved = [
+        [
+            one + size - 1,
+            p + (shared if one == 0 else 0),
+            two + size - 1,
+            q + (shared if two == 0 else 0),
+        ]
+        for one, p, two, q in more
+    ]
     return size + other - 1, links + moved
 
 
@@ -153,8 +185,14 @@ def drawn(number: int) -> Made:
 
 # What the programs say.
 
+
 def said(program: str, folder: pathlib.Path) -> Tuple[int, str]:
-    ran = subprocess.run([program, "check", "t.toml"], cwd=folder, stdout=subprocess.PIPE, stderr=subprocess.PIPE)
+    ran = subprocess.run(
+        [program, "check", "t.toml"],
+        cwd=folder,
+        stdout=subprocess.PIPE,
+        stderr=subprocess.PIPE,
+    )
     # a line of what helps begins with two spaces
     lines = ran.stderr.decode().splitlines(keepends=True)
     return ran.returncode, "".join(line for line in lines if not line.startswith("  "))
@@ -167,23 +205,36 @@ def tried(programs: Sequence[str], number: int) -> Tuple[str, List[str]]:
     wanted = (0, "") if fault == "none" else (REFUSED, f"n.toml: {fault}\n")
     with tempfile.TemporaryDirectory() as name:
         folder = pathlib.Path(name)
-        text = f"version = 1\nnodes = {nodes}\nlinks = {[list(link) for link in links]}\n"
+        text = (
+            f"version = 1\nnodes = {nodes}\nlinks = {[list(link) for link in links]}\n"
+        )
         (folder / "n.toml").write_text(text)
         (folder / "t.toml").write_text(tournament("n.toml", 1, 1, 8, 1))
         found = [said(program, folder) for program in programs]
-    return fault, [f"list {number}: {program} says {told} with status {status}, but should say {wanted}"
-                   for program, (status, told) in zip(programs, found) if (status, told) != wanted]
+    return fault, [
+        f"list {number}: {program} says {told} with status {status}, but should say {wanted}"
+        for program, (status, told) in zip(programs, found)
+        if (status, told) != wanted
+    ]
 
 
 def main() -> int:
-    parser = argparse.ArgumentParser(description=__doc__, formatter_class=argparse.RawDescriptionHelpFormatter)
+    parser = argparse.ArgumentParser(
+        description=__doc__, formatter_class=argparse.RawDescriptionHelpFormatter
+    )
     parser.add_argument("program", metavar="PROGRAM")
     parser.add_argument("other", metavar="OTHER", nargs="?")
     parser.add_argument("--lists", metavar="N", type=int, default=LISTS)
     given = parser.parse_args()
-    programs = [str(pathlib.Path(program).resolve()) for program in (given.program, given.other) if program]
+    programs = [
+        str(pathlib.Path(program).resolve())
+        for program in (given.program, given.other)
+        if program
+    ]
     with concurrent.futures.ThreadPoolExecutor(WORKERS) as pool:
-        found = list(pool.map(lambda number: tried(programs, number), range(given.lists)))
+        found = list(
+            pool.map(lambda number: tried(programs, number), range(given.lists))
+        )
     counts = collections.Counter(fault.rstrip("0123456789 ") for fault, _ in found)
     print(", ".join(f"{name} {count}" for name, count in counts.most_common()))
     differences = [line for _, lines in found for line in lines]

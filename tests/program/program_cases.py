@@ -11,7 +11,15 @@ from typing import Callable, Dict, NamedTuple, Sequence, Tuple
 
 from tests.support.counts import require
 from tests.support.servers import enter, serve
-from tests.support.program_rows import DONE, FAILED_STREAM, REFUSED_TEXT, SOME_HELP, Stage, difference, expect
+from tests.support.program_rows import (
+    DONE,
+    FAILED_STREAM,
+    REFUSED_TEXT,
+    SOME_HELP,
+    Stage,
+    difference,
+    expect,
+)
 
 TOP = pathlib.Path(__file__).resolve().parents[2]
 MAX_LINE = 65_536
@@ -50,15 +58,24 @@ CASES: Dict[str, Trial] = {}
 
 def case(title: str) -> Callable[[Trial], Trial]:
     """Makes a function a case."""
+
     def add(trial: Trial) -> Trial:
         CASES[title] = trial
         return trial
+
     return add
 
 
-def rehearses(stage: Stage, script: str, printed: str, told: str = "", status: int = DONE) -> None:
+def rehearses(
+    stage: Stage, script: str, printed: str, told: str = "", status: int = DONE
+) -> None:
     """A script on the built-in tournament prints this, or is refused so."""
-    expect(stage.run(["rehearse"], script.encode()), printed.encode(), told.encode(), status)
+    expect(
+        stage.run(["rehearse"], script.encode()),
+        printed.encode(),
+        told.encode(),
+        status,
+    )
 
 
 def writes(stage: Stage, **texts: str) -> None:
@@ -69,29 +86,55 @@ def writes(stage: Stage, **texts: str) -> None:
 
 # Quotas and pieces.
 
+
 def spends(stage: Stage, first: Sequence[Tuple[str, str]], looks: int) -> None:
     """An agent enters, is answered so, looks this many times, and has then spent its quota."""
-    told = [(ENTER, HERE), *first, *[(LOOK, HERE)] * looks, (LOOK, '0 {"no":"spent"}\n'),
-            ('{"do":"leave"}', '0 {"ok":"bye"}\n'), (LOOK, "")]
-    rehearses(stage, "".join(f"0 {line}\n" for line, _ in told), "".join(answer for _, answer in told))
+    told = [
+        (ENTER, HERE),
+        *first,
+        *[(LOOK, HERE)] * looks,
+        (LOOK, '0 {"no":"spent"}\n'),
+        ('{"do":"leave"}', '0 {"ok":"bye"}\n'),
+        (LOOK, ""),
+    ]
+    rehearses(
+        stage,
+        "".join(f"0 {line}\n" for line, _ in told),
+        "".join(answer for _, answer in told),
+    )
 
 
 @case("each two of the most nodes are linked")
 def complete_graph(stage: Stage) -> None:
-    links = [[one, other - 1, other, one] for one in range(256) for other in range(one + 1, 256)]
+    links = [
+        [one, other - 1, other, one]
+        for one in range(256)
+        for other in range(one + 1, 256)
+    ]
     writes(stage, cup=CUP, tri=f"version = 1\nnodes = 256\nlinks = {links}\n")
-    expect(stage.run(["check", "cup.toml"]), b"match 0 red nodes 256 links 32640 agents 2\n")
+    expect(
+        stage.run(["check", "cup.toml"]),
+        b"match 0 red nodes 256 links 32640 agents 2\n",
+    )
 
 
 @case("a network of version 2 has 4,096 nodes")
 def most_nodes(stage: Stage) -> None:
     ring = [[node, 0, (node + 1) % 4096, 1] for node in range(4096)]
     writes(stage, cup=CUP, tri=f"version = 2\nnodes = 4096\nlinks = {ring}\n")
-    expect(stage.run(["check", "cup.toml"]), b"match 0 red nodes 4096 links 4096 agents 2\n")
-    ran = stage.run(["rehearse", "cup.toml", "--replay", "ring"], f"0 {ENTER}\nclose 0\n".encode())
+    expect(
+        stage.run(["check", "cup.toml"]),
+        b"match 0 red nodes 4096 links 4096 agents 2\n",
+    )
+    ran = stage.run(
+        ["rehearse", "cup.toml", "--replay", "ring"], f"0 {ENTER}\nclose 0\n".encode()
+    )
     expect(ran, HERE.encode())
     head = (stage.folder / "ring0.jsonl").read_text().partition("\n")[0]
-    require(head.endswith('"nodes":4096,"quota":10,"replay":3}'), f"the head ends with {head[-60:]}")
+    require(
+        head.endswith('"nodes":4096,"quota":10,"replay":3}'),
+        f"the head ends with {head[-60:]}",
+    )
     expect(stage.run(["judge", "ring0.jsonl"]), b"silent moves 0 lost 0\n")
 
 
@@ -110,12 +153,18 @@ def large_quota(stage: Stage) -> None:
 def large_board(stage: Stage) -> None:
     writes(stage, cup=LARGE.replace("board = 8", "board = 65535"), tri=TRIANGLE)
     text = "a" * 65_000
-    told = [(ENTER, HERE), (f'{{"do":"write","expect":"","put":"{text}"}}', '0 {"ok":"written"}\n'),
-            (LOOK, HERE.replace('""', f'"{text}"')),
-            # a line that names both texts is too long
-            (f'{{"do":"write","expect":"{text}","put":"{text}"}}', BAD),
-            (f'{{"do":"write","expect":"{text}","put":""}}', '0 {"ok":"written"}\n'), (LOOK, HERE)]
-    ran = stage.run(["rehearse", "cup.toml"], "".join(f"0 {line}\n" for line, _ in told).encode())
+    told = [
+        (ENTER, HERE),
+        (f'{{"do":"write","expect":"","put":"{text}"}}', '0 {"ok":"written"}\n'),
+        (LOOK, HERE.replace('""', f'"{text}"')),
+        # a line that names both texts is too long
+        (f'{{"do":"write","expect":"{text}","put":"{text}"}}', BAD),
+        (f'{{"do":"write","expect":"{text}","put":""}}', '0 {"ok":"written"}\n'),
+        (LOOK, HERE),
+    ]
+    ran = stage.run(
+        ["rehearse", "cup.toml"], "".join(f"0 {line}\n" for line, _ in told).encode()
+    )
     expect(ran, "".join(answer for _, answer in told).encode())
 
 
@@ -128,10 +177,19 @@ os.execv(sys.argv[2], sys.argv[2:])"""
 @case("the largest match is told to lack memory where too little may be mapped")
 def large_match(stage: Stage) -> None:
     keys = ", ".join(f'"k{agent}"' for agent in range(64))
-    writes(stage, cup=LARGE.replace("quota = 10", "quota = 65535").replace('"ka", "kb"', keys), tri=TRIANGLE)
+    writes(
+        stage,
+        cup=LARGE.replace("quota = 10", "quota = 65535").replace('"ka", "kb"', keys),
+        tri=TRIANGLE,
+    )
     expect(stage.run(["check", "cup.toml"]), b"match 0 red nodes 3 links 3 agents 64\n")
     front = [sys.executable, "-c", CRAMPED, str(400 << 20)]
-    expect(stage.run(["check", "cup.toml"], front=front), b"", b"cup.toml: memory\n", NO_MEMORY)
+    expect(
+        stage.run(["check", "cup.toml"], front=front),
+        b"",
+        b"cup.toml: memory\n",
+        NO_MEMORY,
+    )
 
 
 @case("a quota is used up by ten looks")
@@ -152,21 +210,36 @@ def quota_and_lines(stage: Stage) -> None:
 @case("bytes may come one by one")
 def one_by_one(stage: Stage) -> None:
     text = f"{ENTER}\n{LOOK}\n{LOOK}".encode()
-    rehearses(stage, "".join(f"hex 0 {byte:02x}\n" for byte in text) + "end 0\n", HERE * 2)
+    rehearses(
+        stage, "".join(f"hex 0 {byte:02x}\n" for byte in text) + "end 0\n", HERE * 2
+    )
 
 
 # of a script, and how many bytes the longest of some scripts prints at least
 INSTRUCTIONS, LONG = 60, 400
-DRAWN = [ENTER, '{"do":"enter","key":"kb"}', '{"do":"enter","key":"zz"}', LOOK, '{"do":"write","expect":"","put":"é"}',
-         '{"do":"write","expect":"é","put":"b"}', '{"do":"depart","port":0}', '{"do":"depart","port":0}',
-         '{"do":"depart","port":1}', '{"do":"accuse","port":1}', '{"do":"leave"}', ""]
+DRAWN = [
+    ENTER,
+    '{"do":"enter","key":"kb"}',
+    '{"do":"enter","key":"zz"}',
+    LOOK,
+    '{"do":"write","expect":"","put":"é"}',
+    '{"do":"write","expect":"é","put":"b"}',
+    '{"do":"depart","port":0}',
+    '{"do":"depart","port":0}',
+    '{"do":"depart","port":1}',
+    '{"do":"accuse","port":1}',
+    '{"do":"leave"}',
+    "",
+]
 
 
 def feeds(dice: random.Random, conn: int, line: str) -> Tuple[str, str]:
     """A connection sends a line: whole, and cut before about one byte in six."""
     begin = f"hex {conn} "
     digits = [f"{byte:02x}" for byte in f"{line}\n".encode()]
-    cut = digits[0] + "".join(f"\n{begin}{two}" if dice.randrange(6) == 0 else two for two in digits[1:])
+    cut = digits[0] + "".join(
+        f"\n{begin}{two}" if dice.randrange(6) == 0 else two for two in digits[1:]
+    )
     return f"{begin}{''.join(digits)}\n", f"{begin}{cut}\n"
 
 
@@ -175,7 +248,11 @@ def instruction(dice: random.Random) -> Tuple[str, str]:
     number = dice.randrange(60)
     if number >= 16:
         return feeds(dice, dice.randrange(4), dice.choice(DRAWN))
-    line = ["close 0\n", "end 0\n", "end 1\n"][number] if number < 3 else f"draw 0 {number // 12}\n"
+    line = (
+        ["close 0\n", "end 0\n", "end 1\n"][number]
+        if number < 3
+        else f"draw 0 {number // 12}\n"
+    )
     return line, line
 
 
@@ -194,17 +271,23 @@ def feeds_are_cut(seeds: Sequence[int], stage: Stage) -> None:
         whole, cut = drawn_script(seed)
         ran = stage.run(["rehearse"], whole.encode())
         expect(ran, ran.printed)
-        difference(f"seed {seed}, cut", ran.printed, stage.run(["rehearse"], cut.encode()).printed)
+        difference(
+            f"seed {seed}, cut",
+            ran.printed,
+            stage.run(["rehearse"], cut.encode()).printed,
+        )
         longest = max(longest, len(ran.printed))
     require(longest > LONG, f"the longest prints {longest} bytes")
 
 
 for first_seed in range(0, 200, 25):
     CASES[f"feeds may be cut anywhere, seeds from {first_seed}"] = functools.partial(
-        feeds_are_cut, range(first_seed, first_seed + 25))
+        feeds_are_cut, range(first_seed, first_seed + 25)
+    )
 
 
 # Long texts.
+
 
 @case("long lines are answered")
 def long_lines(stage: Stage) -> None:
@@ -222,12 +305,22 @@ def longest_script(stage: Stage) -> None:
 
 @case("a file of the greatest length, and one byte more")
 def longest_file(stage: Stage) -> None:
-    for more, fault in ((0, "version\n  version: 1, 2 or 3; of a network 1 or 2"), (1, "text")):
+    for more, fault in (
+        (0, "version\n  version: 1, 2 or 3; of a network 1 or 2"),
+        (1, "text"),
+    ):
         writes(stage, long="#" * (MAX_TEXT + more))
-        expect(stage.run(["check", "long.toml"]), b"", f"long.toml: {fault}\n".encode(), REFUSED_TEXT)
+        expect(
+            stage.run(["check", "long.toml"]),
+            b"",
+            f"long.toml: {fault}\n".encode(),
+            REFUSED_TEXT,
+        )
 
 
-@case("a file of turns of the greatest length, one byte more, and a file without an end")
+@case(
+    "a file of turns of the greatest length, one byte more, and a file without an end"
+)
 def longest_turns(stage: Stage) -> None:
     (stage.folder / "examples").symlink_to(TOP / "examples")
     turns, events = stage.folder / "long.turns", 69
@@ -238,7 +331,7 @@ def longest_turns(stage: Stage) -> None:
     expect(stage.run(words), b"", told.encode(), REFUSED_MATCH)
     turns.write_text("0" * (longest + 1))
     expect(stage.run(words), b"", b"long.turns: text\n", REFUSED_TEXT)
-    os.truncate(turns, 10 ** 12)
+    os.truncate(turns, 10**12)
     expect(stage.run(words), b"", b"long.turns: text\n", REFUSED_TEXT)
 
 
@@ -246,7 +339,11 @@ def longest_turns(stage: Stage) -> None:
 def longest_name(stage: Stage) -> None:
     name = "n" * 255
     (stage.folder / name).write_text(TRIANGLE)
-    writes(stage, cup=CUP.replace("tri.toml", name), long=CUP.replace("tri.toml", f"{name}n"))
+    writes(
+        stage,
+        cup=CUP.replace("tri.toml", name),
+        long=CUP.replace("tri.toml", f"{name}n"),
+    )
     expect(stage.run(["check", "cup.toml"]), b"match 0 red nodes 3 links 3 agents 2\n")
     told = b"long.toml: match 0 shape network\n" + SOME_HELP
     expect(stage.run(["check", "long.toml"]), b"", told, REFUSED_TEXT)
@@ -255,19 +352,34 @@ def longest_name(stage: Stage) -> None:
 @case("tournaments have 64 matches")
 def most_matches(stage: Stage) -> None:
     matches = [MATCH.format(network="tri.toml", key=number) for number in range(65)]
-    writes(stage, tri=TRIANGLE, cup=SEED + "".join(matches[:64]), long=SEED + "".join(matches))
-    lines = "".join(f"match {number} red nodes 3 links 3 agents 2\n" for number in range(64))
+    writes(
+        stage,
+        tri=TRIANGLE,
+        cup=SEED + "".join(matches[:64]),
+        long=SEED + "".join(matches),
+    )
+    lines = "".join(
+        f"match {number} red nodes 3 links 3 agents 2\n" for number in range(64)
+    )
     expect(stage.run(["check", "cup.toml"]), lines.encode())
-    expect(stage.run(["check", "long.toml"]), b"", b"long.toml: shape match\n" + SOME_HELP, REFUSED_TEXT)
+    expect(
+        stage.run(["check", "long.toml"]),
+        b"",
+        b"long.toml: shape match\n" + SOME_HELP,
+        REFUSED_TEXT,
+    )
 
 
 # Words and the help.
+
 
 @case("names in fault lines are shown")
 def names_are_shown(stage: Stage) -> None:
     expect(stage.run(["check", ""]), b"", b"'': read\n" + ABSENT, FAILED_STREAM)
     told = b"x\\ncup.toml: toml\\r\\u{1b}[2J: read\n" + ABSENT
-    expect(stage.run(["rehearse", "x\ncup.toml: toml\r\x1b[2J"]), b"", told, FAILED_STREAM)
+    expect(
+        stage.run(["rehearse", "x\ncup.toml: toml\r\x1b[2J"]), b"", told, FAILED_STREAM
+    )
 
 
 @case("words are UTF-8")
@@ -282,16 +394,23 @@ HELP_LINE = "\n  -h, --help\n          Print help (see a summary with '-h')\n"
 OUT_OF_MEMORY = "\n  5  Memory ran out\n"
 SERVE = "\n\nUsage: arena serve [OPTIONS] <TOURNAMENT>\n"
 PORT_HELP = "\n      --port <PORT>\n          The port to listen on, 1 to 65535\n"
-REHEARSE = ["\n\nUsage: arena rehearse [OPTIONS] [TOURNAMENT]\n", OUT_OF_MEMORY, """  printf '%s\\n' \\
+REHEARSE = [
+    "\n\nUsage: arena rehearse [OPTIONS] [TOURNAMENT]\n",
+    OUT_OF_MEMORY,
+    """  printf '%s\\n' \\
     '0 {"do":"enter","key":"ka"}' \\
     '0 {"do":"depart","port":0}' \\
     'draw 0 0' | arena rehearse
-"""]
+""",
+]
 PARTS = {
     "rehearse --help": REHEARSE,
     "help rehearse": REHEARSE,
-    "check --help": ["\n\nUsage: arena check <TOURNAMENT>\n", "\n  match 0 red nodes 3 links 3 agents 2\n",
-                     OUT_OF_MEMORY],
+    "check --help": [
+        "\n\nUsage: arena check <TOURNAMENT>\n",
+        "\n  match 0 red nodes 3 links 3 agents 2\n",
+        OUT_OF_MEMORY,
+    ],
     "serve --help": [SERVE, PORT_HELP, "\n  listening 4000\n", OUT_OF_MEMORY],
 }
 
@@ -315,7 +434,12 @@ def fails_on(stage: Stage, output: int) -> None:
     """Each command tells that this output fails."""
     writes(stage, cup=CUP, tri=TRIANGLE)
     for words, script in STREAMS:
-        expect(stage.run(words, script.encode(), stdout=output), b"", b"output: write\n", FAILED_STREAM)
+        expect(
+            stage.run(words, script.encode(), stdout=output),
+            b"",
+            b"output: write\n",
+            FAILED_STREAM,
+        )
 
 
 @case("an output whose reader is gone is told")
@@ -357,6 +481,7 @@ def narrow_output(stage: Stage) -> None:
 
 # The examples: the words, the script, what is printed (a file or the text itself), what is told, the file written.
 
+
 class Example(NamedTuple):
     words: str
     script: str = ""
@@ -368,37 +493,67 @@ class Example(NamedTuple):
 TEAMS = "red=examples/first0.jsonl blue=examples/guess0.jsonl green=examples/triangle0.jsonl"
 EXAMPLES = [
     Example("check examples/first.toml", printed="first.checked"),
-    Example("rehearse examples/first.toml --replay examples/first", "first.script", "first.printed",
-            replay="first0.jsonl"),
-    Example("rehearse --replay examples/guess", "guess.script", "guess.printed", replay="guess0.jsonl"),
-    Example("rehearse --replay examples/triangle", "triangle.script", "triangle.printed", replay="triangle0.jsonl"),
+    Example(
+        "rehearse examples/first.toml --replay examples/first",
+        "first.script",
+        "first.printed",
+        replay="first0.jsonl",
+    ),
+    Example(
+        "rehearse --replay examples/guess",
+        "guess.script",
+        "guess.printed",
+        replay="guess0.jsonl",
+    ),
+    Example(
+        "rehearse --replay examples/triangle",
+        "triangle.script",
+        "triangle.printed",
+        replay="triangle0.jsonl",
+    ),
     Example("judge examples/first0.jsonl", printed="solved moves 13 lost 1\n"),
     Example("judge examples/guess0.jsonl", printed="guess 1 moves 0 lost 0\n"),
     Example("judge examples/triangle0.jsonl", printed="silent moves 1 lost 0\n"),
-    Example("judge examples/appeal0.jsonl --turns examples/appeal0.turns --tournament examples/appeal.toml --match 0",
-            printed="solved moves 25 lost 1\n"),
+    Example(
+        "judge examples/appeal0.jsonl --turns examples/appeal0.turns --tournament examples/appeal.toml --match 0",
+        printed="solved moves 25 lost 1\n",
+    ),
     Example(f"table {TEAMS}", printed="table.printed"),
     Example("explain examples/first0.jsonl 1", printed="first.explained"),
     Example("twin examples/first0.jsonl 5", told="twin: same\n"),
     Example("twin examples/first0.jsonl 6", told="twin: reached 20\n"),
     Example("twin examples/guess0.jsonl 1", printed="guess.twin"),
     Example("judge examples/guess.twin", printed="wrong moves 0 lost 0\n"),
-    Example("check examples/version1.toml", printed="match 0 red nodes 3 links 3 agents 2\n"),
-    Example("explore examples/version1.toml 0", "triangle.answers", "triangle.explored"),
+    Example(
+        "check examples/version1.toml", printed="match 0 red nodes 3 links 3 agents 2\n"
+    ),
+    Example(
+        "explore examples/version1.toml 0", "triangle.answers", "triangle.explored"
+    ),
 ]
 
 
 def plays_example(example: Example, stage: Stage) -> None:
     """Plays an example on a copy of the folder, from which the file that it writes is taken."""
     folder = stage.folder / "examples"
-    shutil.copytree(TOP / "examples", folder, ignore=shutil.ignore_patterns("agents", "__pycache__"))
+    shutil.copytree(
+        TOP / "examples", folder, ignore=shutil.ignore_patterns("agents", "__pycache__")
+    )
     script = (folder / example.script).read_bytes() if example.script else b""
     printed = folder / example.printed
-    wanted = printed.read_bytes() if example.printed and printed.is_file() else example.printed.encode()
+    wanted = (
+        printed.read_bytes()
+        if example.printed and printed.is_file()
+        else example.printed.encode()
+    )
     if example.replay:
         (folder / example.replay).unlink()
-    expect(stage.run(example.words.split(), script), wanted, example.told.encode(),
-           REFUSED_MATCH if example.told else DONE)
+    expect(
+        stage.run(example.words.split(), script),
+        wanted,
+        example.told.encode(),
+        REFUSED_MATCH if example.told else DONE,
+    )
     if example.replay:
         wanted = (TOP / "examples" / example.replay).read_bytes()
         difference(example.replay, wanted, (folder / example.replay).read_bytes())
@@ -410,6 +565,7 @@ for each in EXAMPLES:
 
 # Contests.
 
+
 @case("what keeps a contest from beginning is told")
 def refused_contests(stage: Stage) -> None:
     writes(stage, cup=CUP, tri=TRIANGLE)
@@ -417,9 +573,18 @@ def refused_contests(stage: Stage) -> None:
         given = ["--port", str(taken.getsockname()[1])]
         told = b"serve: listen\n  another program listens on this port: end it, or give another --port\n"
         expect(stage.run(["serve", "cup.toml", *given]), b"", told, FAILED_STREAM)
-        expect(stage.run(["serve", "none.toml", *given]), b"", b"none.toml: read\n" + ABSENT, FAILED_STREAM)
-        expect(stage.run(["serve", "tri.toml", *given]), b"",
-               b"tri.toml: missing seed\n  seed: a text of 64 hexadecimal digits\n", REFUSED_TEXT)
+        expect(
+            stage.run(["serve", "none.toml", *given]),
+            b"",
+            b"none.toml: read\n" + ABSENT,
+            FAILED_STREAM,
+        )
+        expect(
+            stage.run(["serve", "tri.toml", *given]),
+            b"",
+            b"tri.toml: missing seed\n  seed: a text of 64 hexadecimal digits\n",
+            REFUSED_TEXT,
+        )
 
 
 # what an agent is answered that enters before the close, and after it
@@ -429,7 +594,9 @@ SIGHT, OVER = HERE.partition(" ")[2].encode(), b'{"ok":"over"}\n'
 @case("a contest is hosted")
 def contest(stage: Stage) -> None:
     writes(stage, cup=CUP, tri=TRIANGLE)
-    with serve(stage.program, stage.folder, turns=0, pause=0, sessions=1, prefix="hosted") as server:
+    with serve(
+        stage.program, stage.folder, turns=0, pause=0, sessions=1, prefix="hosted"
+    ) as server:
         heard, run = server.hears(enter("ka")), server.ended()
     row = "  1 red              silent          0    0"
     expect(run, f"{TABLE_HEAD}\n{row}\n".encode())

@@ -22,9 +22,12 @@ def are_played(numbers: Sequence[int], stage: Stage) -> None:
         difference(f"{agents} agents, told", b"", ran.told)
         expect(ran, "".join(rehearsal.printed).encode())
         interactive = "".join(f"{text}\n" for text in rehearsal.printed).encode()
-        expect(stage.run(["rehearse", "cup.toml", "--interactive"], script), interactive)
+        expect(
+            stage.run(["rehearse", "cup.toml", "--interactive"], script), interactive
+        )
 
 
 for least in range(1, MOST_AGENTS + 1, OF_A_CASE):
-    CASES[f"drawn rehearsals of {least} agents and more are played as the rules say"] = functools.partial(
-        are_played, range(least, least + OF_A_CASE))
+    CASES[
+        f"drawn rehearsals of {least} agents and more are played as the rules say"
+    ] = functools.partial(are_played, range(least, least + OF_A_CASE))

@@ -24,16 +24,23 @@ def rehearsed(stage: Stage, cup: str, script: str) -> None:
 
 @case("each of twelve matches has a replay with its own number")
 def twelve_replays(stage: Stage) -> None:
-    cup = SEED + "".join(MATCH.format(network="tri.toml", key=f"k{match}-") for match in range(12))
+    cup = SEED + "".join(
+        MATCH.format(network="tri.toml", key=f"k{match}-") for match in range(12)
+    )
     rehearsed(stage, cup, "".join(f"close {match}\n" for match in range(12)))
     names = sorted(path.name for path in stage.folder.glob("m*.jsonl"))
-    require(names == sorted(f"m{match}.jsonl" for match in range(12)), f"there are {names}")
+    require(
+        names == sorted(f"m{match}.jsonl" for match in range(12)), f"there are {names}"
+    )
 
 
 @case("a table takes a hundred replays")
 def many_words(stage: Stage) -> None:
     rehearsed(stage, SEED + MATCH.format(network="tri.toml", key="k"), "close 0\n")
-    rows = "".join(f"{place:3} {f't{place - 1:03}':16} silent          0    0\n" for place in range(1, 101))
+    rows = "".join(
+        f"{place:3} {f't{place - 1:03}':16} silent          0    0\n"
+        for place in range(1, 101)
+    )
     words = ["table", *(f"t{number:03}=m0.jsonl" for number in range(100))]
     expect(stage.run(words), f"{TABLE_HEAD}\n{rows}".encode())
 
@@ -43,13 +50,20 @@ def long_word(stage: Stage) -> None:
     folder = "/".join(letter * 200 for letter in "nmo")
     (stage.folder / folder).mkdir(parents=True)
     writes(stage, tri=TRIANGLE)
-    (stage.folder / folder / "cup.toml").write_text(SEED + MATCH.format(network="tri.toml", key="k"))
-    expect(stage.run(["check", f"{folder}/cup.toml"]), b"match 0 red nodes 3 links 3 agents 2\n")
+    (stage.folder / folder / "cup.toml").write_text(
+        SEED + MATCH.format(network="tri.toml", key="k")
+    )
+    expect(
+        stage.run(["check", f"{folder}/cup.toml"]),
+        b"match 0 red nodes 3 links 3 agents 2\n",
+    )
 
 
 @case("replays of many bytes are read to their ends")
 def long_replays(stage: Stage) -> None:
-    cup = SEED + MATCH.format(network="tri.toml", key="k").replace("quota = 10", "quota = 1000")
+    cup = SEED + MATCH.format(network="tri.toml", key="k").replace(
+        "quota = 10", "quota = 1000"
+    )
     last = '0 {"do":"accuse","port":1}\n'
     rehearsed(stage, cup, f"0 {ENTER}\n" + f"0 {LOOK}\n" * 999 + last + "close 0\n")
     text = (stage.folder / "m0.jsonl").read_bytes()
@@ -60,14 +74,26 @@ def long_replays(stage: Stage) -> None:
     expect(stage.run(["judge", "m0.jsonl"]), b"guess 1 moves 0 lost 0\n")
     table = f"{TABLE_HEAD}\n  1 red              guess 1         0    0\n"
     expect(stage.run(["table", "red=m0.jsonl"]), table.encode())
-    expect(stage.run(["explain", "m0.jsonl", "0"]),
-           b"".join(b"%d %b" % (place, line) for place, line in enumerate(lines[1:-2])))
-    expect(stage.run(["twin", "m0.jsonl", "1"]), text.replace(b'"holes":[2]', b'"holes":[1]'))
+    expect(
+        stage.run(["explain", "m0.jsonl", "0"]),
+        b"".join(b"%d %b" % (place, line) for place, line in enumerate(lines[1:-2])),
+    )
+    expect(
+        stage.run(["twin", "m0.jsonl", "1"]),
+        text.replace(b'"holes":[2]', b'"holes":[1]'),
+    )
 
 
 # Characters that control a terminal or turn the direction of a text, first and last of each kind, and those beside them
 # that do not, as far as a text may have them.
-CONTROLS = [(0x00, 0x1f), (0x7f, 0x9f), (0x61c, 0x61c), (0x200e, 0x200f), (0x202a, 0x202e), (0x2066, 0x2069)]
+CONTROLS = [
+    (0x00, 0x1F),
+    (0x7F, 0x9F),
+    (0x61C, 0x61C),
+    (0x200E, 0x200F),
+    (0x202A, 0x202E),
+    (0x2066, 0x2069),
+]
 
 
 def controls(character: str) -> bool:
@@ -76,8 +102,15 @@ def controls(character: str) -> bool:
 
 def replay_of_controls(stage: Stage) -> List[str]:
     """The event lines of a replay m0.jsonl whose agent writes each of these characters, the close left out."""
-    cup = SEED + MATCH.format(network="tri.toml", key="k").replace("quota = 10", "quota = 1000")
-    codes = [code for first, last in CONTROLS for code in range(first - 1, last + 2) if code >= 0]
+    cup = SEED + MATCH.format(network="tri.toml", key="k").replace(
+        "quota = 10", "quota = 1000"
+    )
+    codes = [
+        code
+        for first, last in CONTROLS
+        for code in range(first - 1, last + 2)
+        if code >= 0
+    ]
     texts = ["", *(f"{chr(code)}b" for code in codes)]
     said = [f"0 {ENTER}"]
     for expect_, put in zip(texts, texts[1:]):
@@ -118,19 +151,30 @@ def all_of_terminal(reader: int) -> bytes:
 @case("a program that reads a causal past gets the lines of the replay, byte for byte")
 def explained_exactly(stage: Stage) -> None:
     lines = replay_of_controls(stage)
-    expect(stage.run(["explain", "m0.jsonl", "0"]),
-           "".join(f"{place} {line}\n" for place, line in enumerate(lines)).encode())
+    expect(
+        stage.run(["explain", "m0.jsonl", "0"]),
+        "".join(f"{place} {line}\n" for place, line in enumerate(lines)).encode(),
+    )
 
 
-@case("on a terminal a causal past has no character that controls it, and is the same JSON as the replay")
+@case(
+    "on a terminal a causal past has no character that controls it, and is the same JSON as the replay"
+)
 def explained_controls(stage: Stage) -> None:
     lines = replay_of_controls(stage)
-    shown = shown_on_terminal(stage, ["explain", "m0.jsonl", "0"]).decode().split("\n")[:-1]
+    shown = (
+        shown_on_terminal(stage, ["explain", "m0.jsonl", "0"]).decode().split("\n")[:-1]
+    )
     for line in shown:
-        require(not any(map(controls, line)), f"{line!r} has a character that controls a terminal")
+        require(
+            not any(map(controls, line)),
+            f"{line!r} has a character that controls a terminal",
+        )
     parts = [line.split(" ", 1) for line in shown]
     if [int(place) for place, _ in parts] != list(range(len(lines))):
-        raise Wrong(f"the places of {len(parts)} lines of {len(lines)} are {[place for place, _ in parts]}")
+        raise Wrong(
+            f"the places of {len(parts)} lines of {len(lines)} are {[place for place, _ in parts]}"
+        )
     if [json.loads(line) for _, line in parts] != [json.loads(line) for line in lines]:
         raise Wrong("the lines are not the JSON of the replay")
     for (_, line), own in zip(parts, lines):

@@ -16,8 +16,9 @@ from tests.program.program_cases import MATCH, SEED, case
 from tests.support.program_rows import PATIENCE, Stage
 
 # one match on the triangle, whose agents may give many commands and write long texts
-ROOMY = SEED + MATCH.format(network="tri.toml", key="r").replace("quota = 10", "quota = 1000").replace(
-    "board = 8", "board = 4096")
+ROOMY = SEED + MATCH.format(network="tri.toml", key="r").replace(
+    "quota = 10", "quota = 1000"
+).replace("board = 8", "board = 4096")
 # one match in which nobody arrives by port 0 of the home base
 HELD = SEED + MATCH.format(network="tri.toml", key="r") + "held = [[0, 0]]\n"
 
@@ -29,7 +30,9 @@ def told_lines(server: Server) -> List[str]:
 
 def wants(lines: List[str], *wanted: str) -> None:
     """Each of these is the end of some line."""
-    missing = [text for text in wanted if not any(line.endswith(text) for line in lines)]
+    missing = [
+        text for text in wanted if not any(line.endswith(text) for line in lines)
+    ]
     require(not missing, f"{missing} is not told, but {lines}")
 
 
@@ -48,18 +51,27 @@ def told_so_far(server: Server, text: bytes) -> bytes:
 
 # Matches by themselves.
 
+
 def closed_line(match: int) -> bytes:
     return b"match %d (%b) closed: turns " % (match, (b"red", b"blue")[match])
 
 
 def begins_alone(stage: Stage, match: int, keys: str) -> None:
     """The match whose agents enter takes its turns and is closed; the other one still waits for its agents."""
-    with served(stage, "--gather", str(1000 * PATIENCE), "--log", turns=1, grace=0) as server:
+    with served(
+        stage, "--gather", str(1000 * PATIENCE), "--log", turns=1, grace=0
+    ) as server:
         for agent in "ab":
             server.hears(enter(keys + agent) + LEAVE)
         told = told_so_far(server, closed_line(match))
-    require(closed_line(match) in told, f"match {match} waits for more than its own agents: {told!r}")
-    require(closed_line(1 - match) not in told, f"match {1 - match} does not wait for its own agents: {told!r}")
+    require(
+        closed_line(match) in told,
+        f"match {match} waits for more than its own agents: {told!r}",
+    )
+    require(
+        closed_line(1 - match) not in told,
+        f"match {1 - match} does not wait for its own agents: {told!r}",
+    )
 
 
 @case("with --gather the first match waits for its own agents alone")
@@ -77,12 +89,17 @@ def all_turns(stage: Stage) -> None:
     with served(stage, "--log", turns=1200, pause=0, sessions=1, grace=0) as server:
         lines = told_lines(server)
     for match in (0, 1):
-        require(any(closed_line(match).decode() + "1200 " in line for line in lines), f"told was {lines}")
+        require(
+            any(closed_line(match).decode() + "1200 " in line for line in lines),
+            f"told was {lines}",
+        )
 
 
 @case("with --early a match goes on while an agent is on a link")
 def not_early_on_a_link(stage: Stage) -> None:
-    with served(stage, "--early", cup=HELD, turns=LONG) as server, server.connect(enter("ra") + DEPART) as client:
+    with served(stage, "--early", cup=HELD, turns=LONG) as server, server.connect(
+        enter("ra") + DEPART
+    ) as client:
         server.hears(enter("rb") + LEAVE)
         with client.makefile("rb") as answers:
             heard = answers.readline() + answers.readline()
@@ -91,16 +108,23 @@ def not_early_on_a_link(stage: Stage) -> None:
                 heard += answers.readline()
         has_ended = server.child.poll() is not None
     if heard != HERE + GONE or has_ended:
-        raise Wrong(f"the agent on the link heard {heard!r}; the contest has {'' if has_ended else 'not '}ended")
+        raise Wrong(
+            f"the agent on the link heard {heard!r}; the contest has {'' if has_ended else 'not '}ended"
+        )
 
 
 # Sessions past the first.
+
 
 @case("with --log the agent is told that a session plays")
 def log_second_agent(stage: Stage) -> None:
     with served(stage, "--log", sessions=1) as server:
         server.hears(enter("rb") + LEAVE)
-        wants(told_lines(server), "plays match 0 (red) agent 1", "played match 0 (red) agent 1: its agent left")
+        wants(
+            told_lines(server),
+            "plays match 0 (red) agent 1",
+            "played match 0 (red) agent 1: its agent left",
+        )
 
 
 @case("with --log each ending of a session has its own words")
@@ -113,14 +137,20 @@ def log_endings(stage: Stage) -> None:
             late.sendall(LOOK)
             answers.read()
         server.hears(b"")
-        wants(told_lines(server), "played match 0 (red) agent 0: its input ended",
-              "played match 1 (blue) agent 0: its match was over", "played nobody: its input ended")
+        wants(
+            told_lines(server),
+            "played match 0 (red) agent 0: its input ended",
+            "played match 1 (blue) agent 0: its match was over",
+            "played nobody: its input ended",
+        )
 
 
 @case("the last of 64 agents is let in")
 def last_agent(stage: Stage) -> None:
     keys = ", ".join(f'"k{agent}"' for agent in range(64))
-    cup = SEED + re.sub(r"keys = .*", f"keys = [{keys}]", MATCH.format(network="tri.toml", key="r"))
+    cup = SEED + re.sub(
+        r"keys = .*", f"keys = [{keys}]", MATCH.format(network="tri.toml", key="r")
+    )
     with served(stage, cup=cup, turns=LONG) as server:
         heard = server.hears(enter("k63") + LEAVE)
     require(heard == HERE + BYE, f"the last agent heard {heard!r}")
@@ -153,30 +183,54 @@ def descriptors_used_up(stage: Stage) -> None:
 
 # Answers past the first thousand, or past what a connection holds back.
 
+
 @case("a session is answered as many lines as its quota has")
 def long_session(stage: Stage) -> None:
     with served(stage, cup=ROOMY, turns=LONG) as server:
         heard = server.hears(enter("ra") + LOOK * 1000 + LEAVE)
-    require(heard == HERE * 1001 + BYE, f"it heard {heard.count(b'here')} sights in {len(heard)} bytes")
+    require(
+        heard == HERE * 1001 + BYE,
+        f"it heard {heard.count(b'here')} sights in {len(heard)} bytes",
+    )
 
 
 @case("more answers than a connection holds back come whole and in order")
 def answers_in_order(stage: Stage) -> None:
     text, rounds = b"x" * 400, 300
-    wrong_port, wrong_write = b'{"do":"depart","port":9}\n', b'{"do":"write","expect":"","put":""}\n'
-    lines = enter("ra") + b'{"do":"write","expect":"","put":"%b"}\n' % text + (LOOK + wrong_port + wrong_write) * rounds
-    sight, shown = HERE.replace(b'"board":""', b'"board":"%b"' % text), b'{"board":"%b","ok":"changed"}\n' % text
-    with served(stage, cup=ROOMY, turns=LONG) as server, server.connect(lines + LEAVE) as client:
+    wrong_port, wrong_write = (
+        b'{"do":"depart","port":9}\n',
+        b'{"do":"write","expect":"","put":""}\n',
+    )
+    lines = (
+        enter("ra")
+        + b'{"do":"write","expect":"","put":"%b"}\n' % text
+        + (LOOK + wrong_port + wrong_write) * rounds
+    )
+    sight, shown = (
+        HERE.replace(b'"board":""', b'"board":"%b"' % text),
+        b'{"board":"%b","ok":"changed"}\n' % text,
+    )
+    with served(stage, cup=ROOMY, turns=LONG) as server, server.connect(
+        lines + LEAVE
+    ) as client:
         time.sleep(0.5)
         with client.makefile("rb") as answers:
             heard = answers.read()
-    if heard != HERE + b'{"ok":"written"}\n' + (sight + b'{"no":"port"}\n' + shown) * rounds + BYE:
+    if (
+        heard
+        != HERE
+        + b'{"ok":"written"}\n'
+        + (sight + b'{"no":"port"}\n' + shown) * rounds
+        + BYE
+    ):
         raise Wrong(f"it heard {len(heard)} bytes, in another order")
 
 
 @case("an agent that departs is told so before it arrives")
 def told_before_it_waits(stage: Stage) -> None:
-    with served(stage, cup=HELD, turns=LONG) as server, server.connect(enter("ra") + DEPART) as client:
+    with served(stage, cup=HELD, turns=LONG) as server, server.connect(
+        enter("ra") + DEPART
+    ) as client:
         client.settimeout(5.0)
         with client.makefile("rb") as answers:
             try:
@@ -190,17 +244,24 @@ def told_before_it_waits(stage: Stage) -> None:
 def many_arrivals(stage: Stage) -> None:
     with served(stage, cup=ROOMY, turns=LONG, pause=1) as server:
         heard = server.hears(enter("ra") + DEPART * 50 + LEAVE)
-    if heard.count(GONE) != 50 or heard.count(b'"from":0') != 50 or not heard.endswith(BYE):
+    if (
+        heard.count(GONE) != 50
+        or heard.count(b'"from":0') != 50
+        or not heard.endswith(BYE)
+    ):
         raise Wrong(f"it heard {heard!r}")
 
 
 # Addresses.
 
+
 @case("a server on one address of this machine is not on another")
 def one_address(stage: Stage) -> None:
     with served(stage, "--address", "127.0.0.1", turns=LONG) as server:
         with contextlib.suppress(ConnectionRefusedError):
-            socket.create_connection(("127.0.0.2", server.port), timeout=PATIENCE).close()
+            socket.create_connection(
+                ("127.0.0.2", server.port), timeout=PATIENCE
+            ).close()
             raise Wrong("it listens on 127.0.0.2 too")
 
 
@@ -209,11 +270,14 @@ def other_address(stage: Stage) -> None:
     with served(stage, "--address", "127.0.0.2", turns=LONG) as server:
         socket.create_connection(("127.0.0.2", server.port), timeout=PATIENCE).close()
         with contextlib.suppress(ConnectionRefusedError):
-            socket.create_connection(("127.0.0.1", server.port), timeout=PATIENCE).close()
+            socket.create_connection(
+                ("127.0.0.1", server.port), timeout=PATIENCE
+            ).close()
             raise Wrong("it listens on 127.0.0.1 too")
 
 
 # Parts.
+
 
 def events_of_part(stage: Stage, match: int) -> int:
     return (stage.folder / f"match{match}.jsonl.part").read_bytes().count(b"\n") - 1
@@ -231,15 +295,24 @@ def playing_red(stage: Stage, lines: bytes) -> Iterator[Server]:
 def many_events_at_a_look(stage: Stage) -> None:
     with playing_red(stage, enter("ra") + LOOK * 998 + LEAVE):
         time.sleep(1.2)
-        require(events_of_part(stage, 0) == 1000, f"the part has {events_of_part(stage, 0)} events")
+        require(
+            events_of_part(stage, 0) == 1000,
+            f"the part has {events_of_part(stage, 0)} events",
+        )
 
 
 @case("a part is written again and again")
 def part_goes_on(stage: Stage) -> None:
-    with served(stage, cup=ROOMY, turns=LONG) as server, server.connect(enter("ra")) as client:
+    with served(stage, cup=ROOMY, turns=LONG) as server, server.connect(
+        enter("ra")
+    ) as client:
         for events in range(1, 4):
-            if not wait_for(lambda: events_of_part(stage, 0) == events):  # noqa: B023  asked at once
-                raise Wrong(f"the part has {events_of_part(stage, 0)} events, and not {events}")
+            if not wait_for(
+                lambda: events_of_part(stage, 0) == events
+            ):  # noqa: B023  asked at once
+                raise Wrong(
+                    f"the part has {events_of_part(stage, 0)} events, and not {events}"
+                )
             client.sendall(LOOK)
 
 

@@ -42,19 +42,29 @@ START = re.compile(r"^  \(start (\d+)\)", re.MULTILINE)
 FLOAT = re.compile(r"\bf(32|64)\b")
 COMPUTES = re.compile(r"\bf(?:32|64)\.|_f(?:32|64)")
 # how a text is changed before the functions in it that compute with floating-point numbers are, and behind that
-IMPORTS = tuple((re.compile(pattern, re.MULTILINE), put) for pattern, put in (
-    (r'\(import "spectest" "print\w*" (\(func .*)\)$', r"\1"),
-    (r'\(import "spectest" "memory" .*', "(memory 1 2)"),
-    (r'\(import "spectest" "table" .*', "(table 10 20 funcref)"),
-    (r'\(import "spectest" "global_i\w+" (\(global \(;\d+;\) (i\d+))\)\)$', r"\1 (\2.const 666))")))
+IMPORTS = tuple(
+    (re.compile(pattern, re.MULTILINE), put)
+    for pattern, put in (
+        (r'\(import "spectest" "print\w*" (\(func .*)\)$', r"\1"),
+        (r'\(import "spectest" "memory" .*', "(memory 1 2)"),
+        (r'\(import "spectest" "table" .*', "(table 10 20 funcref)"),
+        (
+            r'\(import "spectest" "global_i\w+" (\(global \(;\d+;\) (i\d+))\)\)$',
+            r"\1 (\2.const 666))",
+        ),
+    )
+)
 OTHERS = (
     (re.compile(r"^  \((?:export|start) .*\n?", re.MULTILINE), ""),
     (re.compile(r"^(  \(global .*\(f(?:32|64)\.const) .*", re.MULTILINE), r"\1 0))"),
-    (FLOAT, r"i\1"))
+    (FLOAT, r"i\1"),
+)
 # what the text of a valid module has if it is outside, and begins the fault of one that is refused as outside
-OUTSIDE = re.compile(r'\bf(?:32|64)\b|v128|externref|ref\.|\btable\.|memory\.init|data\.drop|\((?:import|start) |'
-                     r'\((?:param|result|local).* funcref|\(table \(;1;\)|\(elem \(;\d+;\) (?:declare )?func|'
-                     r'\(data \(;\d+;\) "|\(global\.get|\(memory \(;0;\) \d{4}')
+OUTSIDE = re.compile(
+    r"\bf(?:32|64)\b|v128|externref|ref\.|\btable\.|memory\.init|data\.drop|\((?:import|start) |"
+    r"\((?:param|result|local).* funcref|\(table \(;1;\)|\(elem \(;\d+;\) (?:declare )?func|"
+    r'\(data \(;\d+;\) "|\(global\.get|\(memory \(;0;\) \d{4}'
+)
 REFUSED_AS_OUTSIDE = re.compile(r"(float|import|start|opcode) ")
 RETURNS = ("action", "assert_return")
 CALLS = (*RETURNS, "assert_trap", "assert_exhaustion")
@@ -68,6 +78,7 @@ Command = Dict[str, Any]
 
 class Told(NamedTuple):
     """What the program says of a module: why it is refused, or how its agents fail, and in which function."""
+
     fault: str = ""
     failure: str = ""
     function: int = -1
@@ -78,7 +89,11 @@ class Told(NamedTuple):
         return not self.fault or self.fault.startswith("run at ")
 
     def __str__(self) -> str:
-        return self.fault or (f"{self.failure} in function {self.function}" if self.failure else "no fault and no trap")
+        return self.fault or (
+            f"{self.failure} in function {self.function}"
+            if self.failure
+            else "no fault and no trap"
+        )
 
 
 class Module:
@@ -87,14 +102,23 @@ class Module:
     def __init__(self, text: str) -> None:
         start = START.search(text)
         self.first = [f"call {start[1]}"] if start else []
-        self.exports = {unescaped(it[1]): (it[2], it[3]) for it in EXPORT.finditer(text)}
+        self.exports = {
+            unescaped(it[1]): (it[2], it[3]) for it in EXPORT.finditer(text)
+        }
         self.has_floats = bool(FLOAT.search(text))
         text = text.rstrip()[:-1]
         for pattern, put in IMPORTS:
             text = pattern.sub(put, text)
         functions = [it[0] for it in FUNCTION.finditer(text)]
-        self.stubs = [place for place, it in enumerate(functions) if COMPUTES.search(it)]
-        text = FUNCTION.sub(lambda it: f"  {it[1]}\n    unreachable)" if COMPUTES.search(it[2]) else it[0], text)
+        self.stubs = [
+            place for place, it in enumerate(functions) if COMPUTES.search(it)
+        ]
+        text = FUNCTION.sub(
+            lambda it: f"  {it[1]}\n    unreachable)"
+            if COMPUTES.search(it[2])
+            else it[0],
+            text,
+        )
         for pattern, put in OTHERS:
             text = pattern.sub(put, text)
         self.text, self.functions = text, len(functions)
@@ -105,7 +129,9 @@ class Module:
     def running(self, checks: Sequence[str]) -> str:
         """The text of a module that makes these checks, each in a function behind those of the module."""
         functions = "".join(f"  (func {check})\n" for check in checks)
-        calls = " ".join(f"call {self.functions + place}" for place in range(len(checks)))
+        calls = " ".join(
+            f"call {self.functions + place}" for place in range(len(checks))
+        )
         return f'{self.text}\n{functions}  (func (export "run") {calls}))\n'
 
     def check(self, command: Command) -> Optional[str]:
@@ -113,19 +139,32 @@ class Module:
         outside."""
         action = command["action"]
         given = action.get("args", ())
-        if action["field"] not in self.exports or \
-                any(it["type"] not in INTEGERS for it in (*given, *command["expected"])):
+        if action["field"] not in self.exports or any(
+            it["type"] not in INTEGERS for it in (*given, *command["expected"])
+        ):
             return None
         kind, number = self.exports[action["field"]]
         push = [f"{it['type']}.const {it['value']}" for it in given]
-        compare = [f"{it['type']}.const {it['value']} {it['type']}.ne if unreachable end" if "value" in it else "drop"
-                   for it in reversed(command["expected"])]
-        return " ".join([*push, f"call {number}" if kind == "func" else f"global.get {number}", *compare])
+        compare = [
+            f"{it['type']}.const {it['value']} {it['type']}.ne if unreachable end"
+            if "value" in it
+            else "drop"
+            for it in reversed(command["expected"])
+        ]
+        return " ".join(
+            [
+                *push,
+                f"call {number}" if kind == "func" else f"global.get {number}",
+                *compare,
+            ]
+        )
 
 
 def unescaped(name: str) -> str:
     """A name as it is written in a text."""
-    return re.sub(rb"\\([0-9a-f]{2})", lambda it: bytes.fromhex(it[1].decode()), name.encode()).decode()
+    return re.sub(
+        rb"\\([0-9a-f]{2})", lambda it: bytes.fromhex(it[1].decode()), name.encode()
+    ).decode()
 
 
 def wabt(tool: str, file: pathlib.Path, made: Optional[pathlib.Path] = None) -> bool:
@@ -145,7 +184,9 @@ class Scripts:
     def told(self, file: pathlib.Path) -> Told:
         """What the program says of agents that run this module."""
         try:
-            ran = self.stage.run(["explore", "cup.toml", "0", "--module", str(file)], b"")
+            ran = self.stage.run(
+                ["explore", "cup.toml", "0", "--module", str(file)], b""
+            )
         except Wrong as error:
             return Told(str(error))
         if ran.status == REFUSED_TEXT:
@@ -155,11 +196,25 @@ class Scripts:
         said = json.loads(ran.printed.splitlines()[-1])
         return Told("", said["failure"], said["function"])
 
-    def count(self, place: str, command: Command, is_right: bool, said: object = "", is_outside: bool = False) -> None:
+    def count(
+        self,
+        place: str,
+        command: Command,
+        is_right: bool,
+        said: object = "",
+        is_outside: bool = False,
+    ) -> None:
         """Counts an assertion, and says which failed, with what the script says of it."""
         line = f"{place}: {command['type']} {command.get('text', '')}"
-        kind = f"{command['type']} outside" if is_outside else PASSED if is_right else \
-            DIFFERS if KNOWN.match(line) else FAILED
+        kind = (
+            f"{command['type']} outside"
+            if is_outside
+            else PASSED
+            if is_right
+            else DIFFERS
+            if KNOWN.match(line)
+            else FAILED
+        )
         self.counts[kind] += 1
         if kind in (FAILED, DIFFERS):
             print(f"{'FAILED' if kind == FAILED else kind} {line}: {said}", flush=True)
@@ -168,7 +223,9 @@ class Scripts:
         """Plays a script."""
         folder = self.stage.folder / script.stem
         folder.mkdir()
-        if OF_FLOATS.match(script.stem) or not wabt("wast2json", script, folder / "script.json"):
+        if OF_FLOATS.match(script.stem) or not wabt(
+            "wast2json", script, folder / "script.json"
+        ):
             self.counts["script outside"] += 1
             print(f"{script.stem}: outside", flush=True)
             return
@@ -183,7 +240,10 @@ class Scripts:
                 by_name[""] = by_name[command.get("name", "")] = modules[-1]
             elif command["type"] == "register":
                 by_name[command.get("name", "")].is_shared = True
-            elif command["type"] in CALLS and not by_name[command["action"].get("module", "")].is_shared:
+            elif (
+                command["type"] in CALLS
+                and not by_name[command["action"].get("module", "")].is_shared
+            ):
                 by_name[command["action"].get("module", "")].calls.append(command)
             elif command["type"] in REFUSALS and command.get("module_type") == "binary":
                 self.refuse(folder / command["filename"], place, command)
@@ -191,14 +251,22 @@ class Scripts:
                 self.count(place, command, False, is_outside=True)
         for module in modules:
             self.call(script.stem, module)
-        print(f"{script.stem}: {', '.join(f'{count} {kind}' for kind, count in (self.counts - before).items())}",
-              flush=True)
+        print(
+            f"{script.stem}: {', '.join(f'{count} {kind}' for kind, count in (self.counts - before).items())}",
+            flush=True,
+        )
 
     def read(self, file: pathlib.Path, place: str, command: Command) -> Module:
         """A valid module is read, unless it is outside."""
         text = self.text.read_text() if wabt("wasm2wat", file, self.text) else ""
         said = self.told(file)
-        self.count(place, command, said.is_whole, said, not said.is_whole and (not text or bool(OUTSIDE.search(text))))
+        self.count(
+            place,
+            command,
+            said.is_whole,
+            said,
+            not said.is_whole and (not text or bool(OUTSIDE.search(text))),
+        )
         return Module(text)
 
     def refuse(self, file: pathlib.Path, place: str, command: Command) -> None:
@@ -208,29 +276,60 @@ class Scripts:
         if said.is_whole:
             self.made.write_bytes(with_run(file.read_bytes()))
             said = self.told(self.made)
-        is_outside = bool(REFUSED_AS_OUTSIDE.match(said.fault)) if said.fault else wabt("wasm-validate", file)
+        is_outside = (
+            bool(REFUSED_AS_OUTSIDE.match(said.fault))
+            if said.fault
+            else wabt("wasm-validate", file)
+        )
         self.count(place, command, bool(said.fault), said, is_outside)
 
     def run(self, module: Module, checks: Sequence[str]) -> Told:
         """What comes of these checks."""
         self.text.write_text(module.running(checks))
-        return self.told(self.made) if wabt("wat2wasm", self.text, self.made) else Told("no module")
+        return (
+            self.told(self.made)
+            if wabt("wat2wasm", self.text, self.made)
+            else Told("no module")
+        )
 
     def call(self, script: str, module: Module) -> None:
         """Makes the calls of a module."""
         checks = [module.check(it) for it in module.calls]
-        returns = [it for it, command in zip(checks, module.calls) if it and command["type"] in RETURNS]
+        returns = [
+            it
+            for it, command in zip(checks, module.calls)
+            if it and command["type"] in RETURNS
+        ]
         is_right = self.run(module, [*module.first, *returns]) == Told()
         before = list(module.first)
         for check, command in zip(checks, module.calls):
             is_return = command["type"] in RETURNS
-            said = Told() if check is None or is_right and is_return else self.run(module, [*before, check])
+            said = (
+                Told()
+                if check is None or is_right and is_return
+                else self.run(module, [*before, check])
+            )
             # types that differ in kinds of numbers alone may be alike now
-            is_lost = module.has_floats and "type mismatch" in command.get("text", "") and said == Told()
-            is_outside = check is None or said.function in module.stubs or is_lost or \
-                bool(said.fault and (not module.text or OUTSIDE.search(module.text)))
-            self.count(f"{script}:{command['line']} {command['action']['field']}", command, said == Told() if is_return
-                       else bool(said.failure) and said.function < module.functions, said, is_outside)
+            is_lost = (
+                module.has_floats
+                and "type mismatch" in command.get("text", "")
+                and said == Told()
+            )
+            is_outside = (
+                check is None
+                or said.function in module.stubs
+                or is_lost
+                or bool(said.fault and (not module.text or OUTSIDE.search(module.text)))
+            )
+            self.count(
+                f"{script}:{command['line']} {command['action']['field']}",
+                command,
+                said == Told()
+                if is_return
+                else bool(said.failure) and said.function < module.functions,
+                said,
+                is_outside,
+            )
             if check and is_return and said == Told():
                 before.append(check)
 
@@ -246,17 +345,35 @@ def scripts_in(archive: pathlib.Path, folder: pathlib.Path) -> pathlib.Path:
 
 
 def main() -> int:
-    parser = argparse.ArgumentParser("python3 -m tests.program.wasm_scripts", description=__doc__,
-                                     formatter_class=argparse.RawDescriptionHelpFormatter)
-    parser.add_argument("program", metavar="PROGRAM", help="what reads and runs the modules")
-    parser.add_argument("scripts", metavar="SCRIPT", nargs="*", help="the scripts to play, without `.wast`")
-    parser.add_argument("--scripts", dest="folder", metavar="FOLDER", type=pathlib.Path, help="where the scripts are")
+    parser = argparse.ArgumentParser(
+        "python3 -m tests.program.wasm_scripts",
+        description=__doc__,
+        formatter_class=argparse.RawDescriptionHelpFormatter,
+    )
+    parser.add_argument(
+        "program", metavar="PROGRAM", help="what reads and runs the modules"
+    )
+    parser.add_argument(
+        "scripts",
+        metavar="SCRIPT",
+        nargs="*",
+        help="the scripts to play, without `.wast`",
+    )
+    parser.add_argument(
+        "--scripts",
+        dest="folder",
+        metavar="FOLDER",
+        type=pathlib.Path,
+        help="where the scripts are",
+    )
     words = parser.parse_intermixed_args()
     with tempfile.TemporaryDirectory(prefix="scripts-") as name:
         temporary = pathlib.Path(name)
         archive = None if words.folder else packages.fetched(PACKAGE, temporary)
         if not words.folder and not archive:
-            print(f"{SKIPPED}wasm_scripts: the sources of Debian's {PACKAGE} cannot be fetched\n0 passed, 0 failed")
+            print(
+                f"{SKIPPED}wasm_scripts: the sources of Debian's {PACKAGE} cannot be fetched\n0 passed, 0 failed"
+            )
             return 0
         folder = scripts_in(archive, temporary) if archive else words.folder
         (temporary / "played").mkdir()
@@ -266,7 +383,13 @@ def main() -> int:
             if not words.scripts or script.stem in words.scripts:
                 played.play(script)
     counts = played.counts
-    print(", ".join(f"{count} {kind}" for kind, count in sorted(counts.items()) if kind not in (PASSED, FAILED)))
+    print(
+        ", ".join(
+            f"{count} {kind}"
+            for kind, count in sorted(counts.items())
+            if kind not in (PASSED, FAILED)
+        )
+    )
     print(f"{counts[PASSED]} passed, {counts[FAILED]} failed")
     return 1 if counts[FAILED] else 0
 

@@ -38,7 +38,9 @@ SOURCES, LOGS, LINES = "etc/apt/sources.list", TOP / "out" / "bare", 60
 def clone(place: pathlib.Path, program: str) -> None:
     """Puts the commit of this repository there, with what is built here."""
     shutil.rmtree(place, ignore_errors=True)
-    subprocess.run(["git", "clone", "-q", "--no-hardlinks", str(TOP), str(place)], check=True)
+    subprocess.run(
+        ["git", "clone", "-q", "--no-hardlinks", str(TOP), str(place)], check=True
+    )
     for name in BUILT:
         if (TOP / name).is_dir():
             shutil.copytree(TOP / name, place / name, symlinks=True, dirs_exist_ok=True)
@@ -52,11 +54,19 @@ def passes(title: str, words: List[str]) -> bool:
     LOGS.mkdir(parents=True, exist_ok=True)
     log = LOGS / f"{title.replace(' ', '-')}.log"
     with log.open("wb") as file:
-        ran = subprocess.run(words, stdin=subprocess.DEVNULL, stdout=file, stderr=subprocess.STDOUT)
+        ran = subprocess.run(
+            words, stdin=subprocess.DEVNULL, stdout=file, stderr=subprocess.STDOUT
+        )
     lines = log.read_text(errors="replace").splitlines()
     before = [line for line in lines[:-LINES] if FAILURE.match(line)]
-    print(*before, *lines[-LINES:], f"all lines are in {log.relative_to(TOP)}",
-          f"{'FAILED' if ran.returncode else 'ok'}: {title}", sep="\n", flush=True)
+    print(
+        *before,
+        *lines[-LINES:],
+        f"all lines are in {log.relative_to(TOP)}",
+        f"{'FAILED' if ran.returncode else 'ok'}: {title}",
+        sep="\n",
+        flush=True,
+    )
     return ran.returncode == 0
 
 
@@ -67,24 +77,64 @@ def results(root: pathlib.Path, program: str) -> List[bool]:
     within, sources = roots.inside(root, f"/{HOME}"), root / SOURCES
     with roots.mounted(root, {KIT: str(KIT).lstrip("/")}):
         archives = sources.read_text()
-        found = [passes("the tests without a package", [*within, "python3", "-m", "unittest"])]
+        found = [
+            passes(
+                "the tests without a package", [*within, "python3", "-m", "unittest"]
+            )
+        ]
         try:
             sources.write_text("")
-            subprocess.run([*within, "apt-get", "update", "-q"], stdout=subprocess.DEVNULL)
-            found.append(passes("the gate without an archive", [*within, "python3", "tools/gate", "--played"]))
+            subprocess.run(
+                [*within, "apt-get", "update", "-q"], stdout=subprocess.DEVNULL
+            )
+            found.append(
+                passes(
+                    "the gate without an archive",
+                    [*within, "python3", "tools/gate", "--played"],
+                )
+            )
         finally:
             sources.write_text(archives)
-        found.append(passes("the gate with an archive", [*within, "python3", "tools/gate", "--played"]))
+        found.append(
+            passes(
+                "the gate with an archive",
+                [*within, "python3", "tools/gate", "--played"],
+            )
+        )
         contained = roots.inside(root, f"/{HOME}", is_machine=False)
-        return [*found, passes("the lab without walls", [*contained, "python3", "-m", "tests.runners.integration_tests", PROGRAM])]
+        return [
+            *found,
+            passes(
+                "the lab without walls",
+                [
+                    *contained,
+                    "python3",
+                    "-m",
+                    "tests.runners.integration_tests",
+                    PROGRAM,
+                ],
+            ),
+        ]
 
 
 def main() -> int:
-    parser = argparse.ArgumentParser("python3 -m tests.release.bare", description=__doc__,
-                                     formatter_class=argparse.RawDescriptionHelpFormatter)
-    parser.add_argument("--root", metavar="FOLDER", type=pathlib.Path, help="a root to copy, which is not "
-                        "changed")
-    parser.add_argument("--program", metavar="PATH", default="", help="what plays in place of the proved program")
+    parser = argparse.ArgumentParser(
+        "python3 -m tests.release.bare",
+        description=__doc__,
+        formatter_class=argparse.RawDescriptionHelpFormatter,
+    )
+    parser.add_argument(
+        "--root",
+        metavar="FOLDER",
+        type=pathlib.Path,
+        help="a root to copy, which is not " "changed",
+    )
+    parser.add_argument(
+        "--program",
+        metavar="PATH",
+        default="",
+        help="what plays in place of the proved program",
+    )
     words = parser.parse_args()
     with roots.temporary() as folder:
         root = folder / "root"

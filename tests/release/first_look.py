@@ -20,46 +20,82 @@ from tests.support.counts import concluded
 from tools.prove import version
 
 TOP = pathlib.Path(__file__).resolve().parents[2]
-CONTEST, SCRIPT, PRINTED = "examples/contest.py", "examples/triangle.script", "examples/triangle.printed"
+CONTEST, SCRIPT, PRINTED = (
+    "examples/contest.py",
+    "examples/triangle.script",
+    "examples/triangle.printed",
+)
 TEAMS = 4
 Ran = subprocess.CompletedProcess
 
 
 def ran(words: Sequence[object], folder: pathlib.Path) -> "Ran[str]":
     """Runs a command without an input, as who has named no program."""
-    variables = {name: value for name, value in os.environ.items() if name not in ("ARENA", "ARENA_PROGRAM")}
-    return subprocess.run([str(word) for word in words], cwd=folder, env=variables, stdin=subprocess.DEVNULL,
-                          capture_output=True, text=True)
+    variables = {
+        name: value
+        for name, value in os.environ.items()
+        if name not in ("ARENA", "ARENA_PROGRAM")
+    }
+    return subprocess.run(
+        [str(word) for word in words],
+        cwd=folder,
+        env=variables,
+        stdin=subprocess.DEVNULL,
+        capture_output=True,
+        text=True,
+    )
 
 
 def wants(is_right: bool, found: "Ran[str]") -> None:
     """Fails with what a command said, if that is not right."""
     if not is_right:
-        raise AssertionError(f"status {found.returncode}, {found.stdout!r}, {found.stderr[-500:]!r}")
+        raise AssertionError(
+            f"status {found.returncode}, {found.stdout!r}, {found.stderr[-500:]!r}"
+        )
 
 
 def plays(folder: pathlib.Path) -> None:
     """A contest in which all teams solve their networks, by a program that says once that it is not proved."""
     found = ran([sys.executable, CONTEST], folder)
     solved = found.stdout.count(" solved its network\n")
-    wants((found.returncode, solved, found.stderr.count(f"{SAID}\n")) == (0, TEAMS, 1), found)
+    wants(
+        (found.returncode, solved, found.stderr.count(f"{SAID}\n")) == (0, TEAMS, 1),
+        found,
+    )
     wants(f"arena: {version.version()}, unproved; commit " in found.stderr, found)
 
 
 def answers(clone: pathlib.Path) -> None:
     """Two starts at once, and a third: each plays the script, and the program is compiled once."""
-    printed, words, begun = (clone / PRINTED).read_text(), ["./arena", "rehearse"], time.monotonic()
-    pipes = {"stdout": subprocess.PIPE, "stderr": subprocess.PIPE, "text": True, "cwd": clone}
+    printed, words, begun = (
+        (clone / PRINTED).read_text(),
+        ["./arena", "rehearse"],
+        time.monotonic(),
+    )
+    pipes = {
+        "stdout": subprocess.PIPE,
+        "stderr": subprocess.PIPE,
+        "text": True,
+        "cwd": clone,
+    }
     with open(clone / SCRIPT) as one, open(clone / SCRIPT) as other:
-        starts = [subprocess.Popen(words, stdin=script, **pipes) for script in (one, other)]
+        starts = [
+            subprocess.Popen(words, stdin=script, **pipes) for script in (one, other)
+        ]
         found = [Ran(words, 0, *start.communicate()) for start in starts]
     seconds, begun = time.monotonic() - begun, time.monotonic()
     with open(clone / SCRIPT) as script:
         again = subprocess.run(words, stdin=script, **pipes)
-    print(f"the first answer came after {seconds:.0f} s, the next after {time.monotonic() - begun:.2f} s", flush=True)
+    print(
+        f"the first answer came after {seconds:.0f} s, the next after {time.monotonic() - begun:.2f} s",
+        flush=True,
+    )
     for start in found:
         wants(start.stdout == printed and start.stderr.endswith(f"{SAID}\n"), start)
-    wants(sum("compiled without a proof in" in start.stderr for start in found) == 1, found[0])
+    wants(
+        sum("compiled without a proof in" in start.stderr for start in found) == 1,
+        found[0],
+    )
     wants((again.stdout, again.stderr) == (printed, f"{SAID}\n"), again)
 
 
@@ -68,14 +104,16 @@ def is_released(clone: pathlib.Path) -> None:
     folder = clone.parent
     found = ran([sys.executable, "tools/release", "--unproved", "--out", folder], clone)
     wants(found.returncode == 0, found)
-    made, = folder.glob("*-unproved.tar.gz")
+    (made,) = folder.glob("*-unproved.tar.gz")
     with tarfile.open(made) as archive:
         archive.extractall(folder)
-    unpacked = folder / made.name[:-len(".tar.gz")]
+    unpacked = folder / made.name[: -len(".tar.gz")]
     found = ran(["sha256sum", "--quiet", "-c", "SHA256SUMS"], unpacked)
     wants(found.returncode == 0, found)
     found = ran(["./arena", "--version"], unpacked)
-    wants(found.stdout.startswith(f"arena {version.version()}, unproved\ncommit "), found)
+    wants(
+        found.stdout.startswith(f"arena {version.version()}, unproved\ncommit "), found
+    )
     plays(unpacked)
 
 

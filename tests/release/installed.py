@@ -23,15 +23,30 @@ from tests.support import roots
 TOP = pathlib.Path(__file__).resolve().parents[2]
 DEBIANS_PYTHON = "/usr/bin/python3"
 EXTRAS = "hunt,page,sweep"
-RING, WRONG = "examples/agents/ring.py {nodes}", "arena_lab/mutants/reads_once.py {nodes}"
+RING, WRONG = (
+    "examples/agents/ring.py {nodes}",
+    "arena_lab/mutants/reads_once.py {nodes}",
+)
 MODULE = "examples/agents/wasm/ring.wasm:{nodes}"
 # commands of the lab's tutorial, and what each says
 TUTORIAL = (
     (["run", "--agent", RING, "--runs", "20"], 0, "20 schedules: solved 20; failed 0"),
     (["run", "--agent", MODULE, "--runs", "5"], 0, "5 schedules: solved 5; failed 0"),
-    (["hunt", "--agent", WRONG, "--keep", "small"], 1, "schedules were tried: the team fails"),
-    (["replay", "small"], 0, "the replay is the same, byte for byte: small/match0.jsonl"),
-    (["explore", "--network", "ring:4", "--agent", RING], 0, "every schedule that the lab tried solves, by"),
+    (
+        ["hunt", "--agent", WRONG, "--keep", "small"],
+        1,
+        "schedules were tried: the team fails",
+    ),
+    (
+        ["replay", "small"],
+        0,
+        "the replay is the same, byte for byte: small/match0.jsonl",
+    ),
+    (
+        ["explore", "--network", "ring:4", "--agent", RING],
+        0,
+        "every schedule that the lab tried solves, by",
+    ),
     (["explore", "--agent", RING, "--draws", "100"], 0, "drawn schedules, "),
     (["sweep", "first.toml", "--out", "first"], 0, "40 runs on "),
 )
@@ -39,10 +54,18 @@ TUTORIAL = (
 
 def ran(words: Sequence[object], folder: pathlib.Path, status: int = 0) -> str:
     """What a command says, which is to end with this status."""
-    found = subprocess.run([str(word) for word in words], cwd=folder, stdin=subprocess.DEVNULL, text=True,
-                           stdout=subprocess.PIPE, stderr=subprocess.STDOUT)
+    found = subprocess.run(
+        [str(word) for word in words],
+        cwd=folder,
+        stdin=subprocess.DEVNULL,
+        text=True,
+        stdout=subprocess.PIPE,
+        stderr=subprocess.STDOUT,
+    )
     if found.returncode != status:
-        raise Wrong(f"{' '.join(map(str, words))}: status {found.returncode}: {found.stdout[-1500:]}")
+        raise Wrong(
+            f"{' '.join(map(str, words))}: status {found.returncode}: {found.stdout[-1500:]}"
+        )
     return found.stdout
 
 
@@ -62,13 +85,25 @@ def are_alike(one: Dict[str, pathlib.Path], other: Dict[str, pathlib.Path]) -> N
     if sorted(one) != [".deb", ".gz", ".whl"] or sorted(other) != sorted(one):
         raise Wrong(f"the release has {sorted(path.name for path in one.values())}")
     for ending, path in one.items():
-        require(path.read_bytes() == other[ending].read_bytes(), f"{path.name} has other bytes when it is made again")
+        require(
+            path.read_bytes() == other[ending].read_bytes(),
+            f"{path.name} has other bytes when it is made again",
+        )
 
 
-def plays(lab: Sequence[object], arena: Sequence[object], folder: pathlib.Path, is_proved: bool) -> None:
+def plays(
+    lab: Sequence[object],
+    arena: Sequence[object],
+    folder: pathlib.Path,
+    is_proved: bool,
+) -> None:
     """The version, the tutorial and a page, by these commands, in this folder of the system where they are."""
     said = ran([*arena, "--version"], folder)
-    for wanted in (f", {'proved' if is_proved else 'unproved'}\n", "commit ", "toolchain "):
+    for wanted in (
+        f", {'proved' if is_proved else 'unproved'}\n",
+        "commit ",
+        "toolchain ",
+    ):
         wants(said, wanted)
     (folder / "first.toml").write_text((TOP / "experiments" / "first.toml").read_text())
     for words, status, wanted in TUTORIAL:
@@ -87,12 +122,28 @@ def wheel_plays(wheel: pathlib.Path, is_proved: bool, is_system: bool) -> None:
     """The wheel is installed in a virtual environment, and nothing of this repository is seen."""
     with tempfile.TemporaryDirectory() as name:
         folder = pathlib.Path(name)
-        ran([DEBIANS_PYTHON, "-m", "venv", *(["--system-site-packages"] if is_system else []), "own"], folder)
+        ran(
+            [
+                DEBIANS_PYTHON,
+                "-m",
+                "venv",
+                *(["--system-site-packages"] if is_system else []),
+                "own",
+            ],
+            folder,
+        )
         binaries = folder / "own" / "bin"
         ran([binaries / "pip", "install", "-q", f"{wheel}[{EXTRAS}]"], folder)
         plays([binaries / "arena-lab"], [binaries / "arena"], folder, is_proved)
-        for path in ("man/man1/arena-serve.1", "man/man1/arena-lab-run.1", "bash-completion/completions/arena"):
-            require((folder / "own" / "share" / path).is_file(), f"the wheel installs no share/{path}")
+        for path in (
+            "man/man1/arena-serve.1",
+            "man/man1/arena-lab-run.1",
+            "bash-completion/completions/arena",
+        ):
+            require(
+                (folder / "own" / "share" / path).is_file(),
+                f"the wheel installs no share/{path}",
+            )
 
 
 def package_plays(package: pathlib.Path, root: pathlib.Path, is_proved: bool) -> None:
@@ -103,45 +154,89 @@ def package_plays(package: pathlib.Path, root: pathlib.Path, is_proved: bool) ->
     inside = roots.inside(root, "/home")
     with roots.mounted(root):
         ran([*inside, "apt-get", "update"], TOP)
-        ran([*inside, "apt-get", "install", "-y", "--reinstall", "--allow-downgrades", f"/home/{package.name}"], TOP)
-        contest = ran([*inside, "python3", "/usr/share/doc/arena/examples/contest.py"], TOP)
+        ran(
+            [
+                *inside,
+                "apt-get",
+                "install",
+                "-y",
+                "--reinstall",
+                "--allow-downgrades",
+                f"/home/{package.name}",
+            ],
+            TOP,
+        )
+        contest = ran(
+            [*inside, "python3", "/usr/share/doc/arena/examples/contest.py"], TOP
+        )
         require(contest.count(" solved its network\n") == 4, contest)
         # commands run inside, and files are looked at from outside
         for path in ("small", "first"):
             ran([*inside, "rm", "-rf", path], TOP)
         plays_inside([*inside], home, is_proved)
-        for path in ("usr/share/man/man1/arena-serve.1.gz", "usr/share/man/man1/arena-lab-run.1.gz",
-                     "usr/share/bash-completion/completions/arena-lab", "usr/share/doc/arena/README.md"):
+        for path in (
+            "usr/share/man/man1/arena-serve.1.gz",
+            "usr/share/man/man1/arena-lab-run.1.gz",
+            "usr/share/bash-completion/completions/arena-lab",
+            "usr/share/doc/arena/README.md",
+        ):
             require((root / path).exists(), f"the package installs no {path}")
         ran([*inside, "apt-get", "remove", "-y", "arena"], TOP)
-        require(not (root / "usr" / "lib" / "arena").exists(), "/usr/lib/arena is left when the package is removed")
+        require(
+            not (root / "usr" / "lib" / "arena").exists(),
+            "/usr/lib/arena is left when the package is removed",
+        )
 
 
 def plays_inside(inside: List[object], home: pathlib.Path, is_proved: bool) -> None:
     plays([*inside, "arena-lab"], [*inside, "arena"], home, is_proved)
 
 
-def cases_of(words: argparse.Namespace, folder: pathlib.Path) -> Dict[str, Callable[[], None]]:
+def cases_of(
+    words: argparse.Namespace, folder: pathlib.Path
+) -> Dict[str, Callable[[], None]]:
     """What is tried, by name. The release is made twice before."""
     options = ["--unproved"] if words.unproved else []
     first, second = made(folder / "one", options), made(folder / "two", options)
     root = words.root or folder / "root"
-    found: Dict[str, Callable[[], None]] = {"the same bytes twice": lambda: are_alike(first, second)}
+    found: Dict[str, Callable[[], None]] = {
+        "the same bytes twice": lambda: are_alike(first, second)
+    }
     if words.only != "debian":
-        found["the wheel"] = lambda: wheel_plays(first[".whl"], not words.unproved, words.system)
+        found["the wheel"] = lambda: wheel_plays(
+            first[".whl"], not words.unproved, words.system
+        )
     if words.only != "wheel":
-        found["the Debian package"] = lambda: package_plays(first[".deb"], root, not words.unproved)
+        found["the Debian package"] = lambda: package_plays(
+            first[".deb"], root, not words.unproved
+        )
     return found
 
 
 def main() -> int:
-    parser = argparse.ArgumentParser("python3 -m tests.release.installed", description=__doc__,
-                                     formatter_class=argparse.RawDescriptionHelpFormatter)
-    parser.add_argument("--unproved", action="store_true", help="with a program without a proof")
-    parser.add_argument("--root", metavar="FOLDER", type=pathlib.Path, help="where the Debian is, or is made")
-    parser.add_argument("--system", action="store_true", help="take greenlet and others out of Debian's packages on "
-                        "this machine, if pip reaches no index")
-    parser.add_argument("--only", choices=("wheel", "debian"), help="install this one alone")
+    parser = argparse.ArgumentParser(
+        "python3 -m tests.release.installed",
+        description=__doc__,
+        formatter_class=argparse.RawDescriptionHelpFormatter,
+    )
+    parser.add_argument(
+        "--unproved", action="store_true", help="with a program without a proof"
+    )
+    parser.add_argument(
+        "--root",
+        metavar="FOLDER",
+        type=pathlib.Path,
+        help="where the Debian is, or is made",
+    )
+    parser.add_argument(
+        "--system",
+        action="store_true",
+        help="take greenlet and others out of Debian's packages on "
+        "this machine, if pip reaches no index",
+    )
+    parser.add_argument(
+        "--only", choices=("wheel", "debian"), help="install this one alone"
+    )
     words = parser.parse_args()
     # what is installed must not find this repository
     os.environ.pop("PYTHONPATH", None)

@@ -29,9 +29,13 @@ def main(given: List[str]) -> int:
     program, chosen = str(pathlib.Path(given[0]).resolve()), given[1:] or list(KITS)
     passed = failed = 0
     for language in chosen:
-        absent = packages.missing([*KITS[language].packages, *(CRATES if language == "rust" else ())])
+        absent = packages.missing(
+            [*KITS[language].packages, *(CRATES if language == "rust" else ())]
+        )
         if absent:
-            print(f"{SKIPPED}the kit of {language}: {packages.advice(absent)}", flush=True)
+            print(
+                f"{SKIPPED}the kit of {language}: {packages.advice(absent)}", flush=True
+            )
             continue
         with tempfile.TemporaryDirectory() as folder:
             try:

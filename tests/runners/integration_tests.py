@@ -22,13 +22,17 @@ from tests.runners.python_tests import SKIPPED
 
 TOP = pathlib.Path(__file__).resolve().parents[2]
 # runs tests/runners/python_tests.py and imports no `tools`: agents of the tests have modules of that name
-RUN = "import runpy; runpy.run_path('tests/runners/python_tests.py', run_name='__main__')"
+RUN = (
+    "import runpy; runpy.run_path('tests/runners/python_tests.py', run_name='__main__')"
+)
 
 
 def lacking(name: str) -> List[str]:
     """The packages that each test of a file needs and this machine lacks."""
     groups = packages.groups("gate")
-    return packages.missing([*groups["lab"], *(groups["hall"] if name.startswith("hall.") else [])])
+    return packages.missing(
+        [*groups["lab"], *(groups["hall"] if name.startswith("hall.") else [])]
+    )
 
 
 def counts_of(name: str, variables: Dict[str, str]) -> Counts:
@@ -37,15 +41,28 @@ def counts_of(name: str, variables: Dict[str, str]) -> Counts:
     begun, absent = time.monotonic(), lacking(name)
     if absent:
         more = f" and {len(absent) - 1} more" if len(absent) > 1 else ""
-        print(f"{SKIPPED}tests.integration.{name}: not installed are Debian's {absent[0]}{more}", flush=True)
+        print(
+            f"{SKIPPED}tests.integration.{name}: not installed are Debian's {absent[0]}{more}",
+            flush=True,
+        )
         return 0, 0
     words = [DEBIANS_PYTHON, "-c", RUN, f"tests.integration.{name}"]
-    ran = subprocess.run(words, cwd=TOP, env=variables, text=True, errors="replace", stdout=subprocess.PIPE,
-                         stderr=subprocess.STDOUT)
+    ran = subprocess.run(
+        words,
+        cwd=TOP,
+        env=variables,
+        text=True,
+        errors="replace",
+        stdout=subprocess.PIPE,
+        stderr=subprocess.STDOUT,
+    )
     said, _, last = ran.stdout.rstrip("\n").rpartition("\n")
     found = counts_in(last)
     passed, failed = found or (0, 1)
-    print(f"{said if found else ran.stdout.rstrip()}\n{name}: {time.monotonic() - begun:.0f} s", flush=True)
+    print(
+        f"{said if found else ran.stdout.rstrip()}\n{name}: {time.monotonic() - begun:.0f} s",
+        flush=True,
+    )
     return passed, max(failed, int(ran.returncode != 0))
 
 
@@ -54,8 +71,10 @@ def main() -> int:
         sys.exit((__doc__ or "").strip())
     program, *names = sys.argv[1:]
     variables = {**os.environ, "ARENA_PROGRAM": str(pathlib.Path(program).resolve())}
-    names = names or sorted(f"{path.parent.name}.{path.stem}" for path
-                            in (TOP / "tests" / "integration").glob("*/test_*.py"))
+    names = names or sorted(
+        f"{path.parent.name}.{path.stem}"
+        for path in (TOP / "tests" / "integration").glob("*/test_*.py")
+    )
     with concurrent.futures.ThreadPoolExecutor(len(os.sched_getaffinity(0))) as pool:
         found = list(pool.map(lambda name: counts_of(name, variables), names))
     passed, failed = map(sum, zip(*found))

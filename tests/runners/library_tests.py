@@ -21,7 +21,15 @@ import tempfile
 from typing import Iterator, List, Tuple
 
 from tests.support.counts import concluded
-from tools.prove.prover import CRATES, KIT, PARTS, TOP, Libraries, libraries_of, words_to_try
+from tools.prove.prover import (
+    CRATES,
+    KIT,
+    PARTS,
+    TOP,
+    Libraries,
+    libraries_of,
+    words_to_try,
+)
 
 TESTS = TOP / "tests" / "library"
 NAME = "library_tests"
@@ -67,16 +75,39 @@ def make_beside_all(room: pathlib.Path) -> pathlib.Path:
 def refusing(room: pathlib.Path, kept: pathlib.Path) -> pathlib.Path:
     """What is linked to the program so that it can be refused memory, and leaves itself in a file."""
     made = room / "refusing.o"
-    subprocess.run(["gcc", "-r", "-nostdlib", "-fPIC", "-O2", f'-DKEPT="{kept}"', "-Wl,--wrap=malloc,--wrap=realloc",
-                    "-o", made, SHIM, "-Wl,--whole-archive", KIT / "c" / "liblibc_c.a"], check=True)
+    subprocess.run(
+        [
+            "gcc",
+            "-r",
+            "-nostdlib",
+            "-fPIC",
+            "-O2",
+            f'-DKEPT="{kept}"',
+            "-Wl,--wrap=malloc,--wrap=realloc",
+            "-o",
+            made,
+            SHIM,
+            "-Wl,--whole-archive",
+            KIT / "c" / "liblibc_c.a",
+        ],
+        check=True,
+    )
     return made
 
 
 def run(words: List[str], folder: pathlib.Path) -> Tuple[int, int]:
     """Runs a command on the crate of the tests, and gives how many passed and how many failed."""
     passed, failed = 0, 0
-    with subprocess.Popen(words, cwd=folder, stdin=subprocess.DEVNULL, stdout=subprocess.PIPE, stderr=subprocess.STDOUT,
-                          text=True, errors="replace", env={**os.environ, "TMPDIR": str(folder)}) as child:
+    with subprocess.Popen(
+        words,
+        cwd=folder,
+        stdin=subprocess.DEVNULL,
+        stdout=subprocess.PIPE,
+        stderr=subprocess.STDOUT,
+        text=True,
+        errors="replace",
+        env={**os.environ, "TMPDIR": str(folder)},
+    ) as child:
         for line in child.stdout:
             print(line, end="", flush=True)
             result = RESULT.match(line)

@@ -17,20 +17,42 @@ import unittest
 from typing import Iterator, NamedTuple, Sequence, Union
 
 from tests.support.counts import concluded
-from tests.program import contest_cases, exploring_cases, interactive_cases, module_cases, player_cases, program_contests, program_rehearsals, replay_cases, serving_cases, traced_files
+from tests.program import (
+    contest_cases,
+    exploring_cases,
+    interactive_cases,
+    module_cases,
+    player_cases,
+    program_contests,
+    program_rehearsals,
+    replay_cases,
+    serving_cases,
+    traced_files,
+)
 from tests.program.program_cases import CASES, Trial
 from tests.support.program_rows import fault_of, play, rows_of
 from tests.runners.python_tests import SKIPPED
 
 # each adds its cases to CASES
-FILES = (contest_cases, exploring_cases, interactive_cases, module_cases, player_cases, program_contests,
-         program_rehearsals, replay_cases, serving_cases, traced_files)
+FILES = (
+    contest_cases,
+    exploring_cases,
+    interactive_cases,
+    module_cases,
+    player_cases,
+    program_contests,
+    program_rehearsals,
+    replay_cases,
+    serving_cases,
+    traced_files,
+)
 ROWS = pathlib.Path(__file__).resolve().parents[2] / "tests" / "program"
 WORKERS = 4
 
 
 class Test(NamedTuple):
     """What is tried, and where it stands."""
+
     place: str
     title: str
     trial: Trial
@@ -67,7 +89,9 @@ def try_all(program: str, tests: Sequence[Test]) -> int:
     skipped = [isinstance(it, unittest.SkipTest) for it in found]
     for test, it, is_skipped in zip(tests, found, skipped):
         if is_skipped or it:
-            print(f"{SKIPPED if is_skipped else 'FAILED '}{test.place}: {test.title}: {it}")
+            print(
+                f"{SKIPPED if is_skipped else 'FAILED '}{test.place}: {test.title}: {it}"
+            )
     failed = sum(map(bool, found)) - sum(skipped)
     concluded(len(found) - failed - sum(skipped), failed)
     return failed
@@ -77,7 +101,9 @@ def main() -> int:
     if len(sys.argv) not in (2, 3) or sys.argv[1] in ("-h", "--help"):
         sys.exit(__doc__.strip())
     program, *folders = sys.argv[1:]
-    tests = tests_of(pathlib.Path(folders[0])) if folders else (*tests_of(ROWS), *cases())
+    tests = (
+        tests_of(pathlib.Path(folders[0])) if folders else (*tests_of(ROWS), *cases())
+    )
     return 1 if try_all(program, list(tests)) else 0
 
 

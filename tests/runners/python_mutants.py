@@ -34,46 +34,133 @@ class Mutant(NamedTuple):
 MODEL, MATCHES = "tests.lab.rules.test_model", "tests.lab.play.test_schedulers"
 GRADE, SWEEP = "tests.lab.course.test_grade", "tests.lab.sweep.test_sweep"
 MUTANTS = (
-    Mutant("arena_lab/rules/model.py", '("solved", "guess", "unfinished",', '("solved", "unfinished", "guess",', MODEL),
-    Mutant("arena_lab/rules/model.py", '"silent", "wrong")', '"wrong", "silent")', MODEL),
-    Mutant("arena_lab/rules/model.py", "verdict.moves, verdict.lost, team", "verdict.lost, verdict.moves, team", MODEL),
-    Mutant("arena_lab/rules/model.py", 'return f"guess {left[0]}"', 'return f"guess {left[-1]}"', MODEL),
-    Mutant("arena_lab/rules/model.py", "agent.standing == PRESENT for agent", "agent.standing == AWAY for agent",
-           MODEL),
-    Mutant("arena_lab/rules/model.py", "if not accused or not named", "if not named", MODEL),
-    Mutant("arena_lab/play/server.py", "enumerate(ranked, 1)", "enumerate(ranked)", "tests.test_bench"),
-    Mutant("arena_lab/play/server.py", "sorted(rows, key=lambda row: rank(row[1], row[0]))", "list(rows)",
-           "tests.test_bench"),
-    Mutant("arena_lab/pages/screen.py", "return (len(RANKS),)", "return (-1,)", "tests.lab.pages.test_screen"),
-    Mutant("arena_lab/pages/contest_pages.py", "(len(RANKS), 0, 0, shown.team)", "(0, 0, 0, shown.team)",
-           "tests.integration.pages.test_contest_pages"),
-    Mutant("arena_lab/play/schedulers.py", "paces.setdefault((agent.node, agent.port), chance.choice(PACES))",
-           "chance.choice(PACES)", MATCHES),
-    Mutant("arena_lab/play/schedulers.py", "if choice.do != ARRIVE:\n            return 1",
-           "if choice.do == ARRIVE:\n            return 1", MATCHES),
-    Mutant("arena_lab/rules/networks.py", "not {(one, two), (two, one)} & set(pairs)", "(one, two) not in pairs",
-           "tests.lab.rules.test_networks"),
-    Mutant("arena_lab/rules/networks.py", "for v in path[:-1] + path[1:]:", "for v in path[:-1]:",
-           "tests.lab.rules.test_networks"),
-    Mutant("arena_lab/course/league.py", "return -self.solved, self.moves, self.lost",
-           "return -self.solved, self.lost, "
-           "self.moves", GRADE),
-    Mutant("arena_lab/course/league.py", "return -self.solved, self.moves, self.lost",
-           "return -self.solved, self.moves",
-           GRADE),
-    Mutant("arena_lab/course/league.py", 'sum(int(row["lost"]) for row in solved)',
-           'sum(int(row["lost"]) for row in own)',
-           GRADE),
-    Mutant("arena_lab/course/league.py", "place=1 + ranks.index(standing.rank())", "place=ranks.index(standing.rank())",
-           GRADE),
+    Mutant(
+        "arena_lab/rules/model.py",
+        '("solved", "guess", "unfinished",',
+        '("solved", "unfinished", "guess",',
+        MODEL,
+    ),
+    Mutant(
+        "arena_lab/rules/model.py", '"silent", "wrong")', '"wrong", "silent")', MODEL
+    ),
+    Mutant(
+        "arena_lab/rules/model.py",
+        "verdict.moves, verdict.lost, team",
+        "verdict.lost, verdict.moves, team",
+        MODEL,
+    ),
+    Mutant(
+        "arena_lab/rules/model.py",
+        'return f"guess {left[0]}"',
+        'return f"guess {left[-1]}"',
+        MODEL,
+    ),
+    Mutant(
+        "arena_lab/rules/model.py",
+        "agent.standing == PRESENT for agent",
+        "agent.standing == AWAY for agent",
+        MODEL,
+    ),
+    Mutant(
+        "arena_lab/rules/model.py", "if not accused or not named", "if not named", MODEL
+    ),
+    Mutant(
+        "arena_lab/play/server.py",
+        "enumerate(ranked, 1)",
+        "enumerate(ranked)",
+        "tests.test_bench",
+    ),
+    Mutant(
+        "arena_lab/play/server.py",
+        "sorted(rows, key=lambda row: rank(row[1], row[0]))",
+        "list(rows)",
+        "tests.test_bench",
+    ),
+    Mutant(
+        "arena_lab/pages/screen.py",
+        "return (len(RANKS),)",
+        "return (-1,)",
+        "tests.lab.pages.test_screen",
+    ),
+    Mutant(
+        "arena_lab/pages/contest_pages.py",
+        "(len(RANKS), 0, 0, shown.team)",
+        "(0, 0, 0, shown.team)",
+        "tests.integration.pages.test_contest_pages",
+    ),
+    Mutant(
+        "arena_lab/play/schedulers.py",
+        "paces.setdefault((agent.node, agent.port), chance.choice(PACES))",
+        "chance.choice(PACES)",
+        MATCHES,
+    ),
+    Mutant(
+        "arena_lab/play/schedulers.py",
+        "if choice.do != ARRIVE:\n            return 1",
+        "if choice.do == ARRIVE:\n            return 1",
+        MATCHES,
+    ),
+    Mutant(
+        "arena_lab/rules/networks.py",
+        "not {(one, two), (two, one)} & set(pairs)",
+        "(one, two) not in pairs",
+        "tests.lab.rules.test_networks",
+    ),
+    Mutant(
+        "arena_lab/rules/networks.py",
+        "for v in path[:-1] + path[1:]:",
+        "for v in path[:-1]:",
+        "tests.lab.rules.test_networks",
+    ),
+    Mutant(
+        "arena_lab/course/league.py",
+        "return -self.solved, self.moves, self.lost",
+        "return -self.solved, self.lost, " "self.moves",
+        GRADE,
+    ),
+    Mutant(
+        "arena_lab/course/league.py",
+        "return -self.solved, self.moves, self.lost",
+        "return -self.solved, self.moves",
+        GRADE,
+    ),
+    Mutant(
+        "arena_lab/course/league.py",
+        'sum(int(row["lost"]) for row in solved)',
+        'sum(int(row["lost"]) for row in own)',
+        GRADE,
+    ),
+    Mutant(
+        "arena_lab/course/league.py",
+        "place=1 + ranks.index(standing.rank())",
+        "place=ranks.index(standing.rank())",
+        GRADE,
+    ),
     Mutant("arena_lab/sweep/statistic.py", "/ math.sqrt(count)", "/ count", SWEEP),
-    Mutant("arena_lab/sweep/statistic.py", "method=\"inclusive\"", "method=\"exclusive\"", SWEEP),
-    Mutant("arena_lab/sweep/report.py", "max(rows, key=lambda row: int(row[\"moves\"]))", "max(rows, key=lambda row: "
-           "row[\"moves\"])", SWEEP),
-    Mutant("arena_lab/sweep/report.py", 'row["outcome"] == "solved" and not row["fault"]', 'row["outcome"] == "solved"',
-           SWEEP),
-    Mutant("arena_lab/sweep/tables.py", "or cells[columns.index(COLUMNS[CHECK])] != check_of(cells, columns)", "",
-           SWEEP),
+    Mutant(
+        "arena_lab/sweep/statistic.py",
+        'method="inclusive"',
+        'method="exclusive"',
+        SWEEP,
+    ),
+    Mutant(
+        "arena_lab/sweep/report.py",
+        'max(rows, key=lambda row: int(row["moves"]))',
+        "max(rows, key=lambda row: " 'row["moves"])',
+        SWEEP,
+    ),
+    Mutant(
+        "arena_lab/sweep/report.py",
+        'row["outcome"] == "solved" and not row["fault"]',
+        'row["outcome"] == "solved"',
+        SWEEP,
+    ),
+    Mutant(
+        "arena_lab/sweep/tables.py",
+        "or cells[columns.index(COLUMNS[CHECK])] != check_of(cells, columns)",
+        "",
+        SWEEP,
+    ),
 )
 
 
@@ -81,7 +168,13 @@ def run(folder: pathlib.Path, tests: List[str]) -> bool:
     """Whether these tests pass."""
     words = [DEBIANS_PYTHON, "-m", "unittest", "-f", *tests]
     try:
-        ran = subprocess.run(words, cwd=folder, stdout=subprocess.DEVNULL, stderr=subprocess.DEVNULL, timeout=SECONDS)
+        ran = subprocess.run(
+            words,
+            cwd=folder,
+            stdout=subprocess.DEVNULL,
+            stderr=subprocess.DEVNULL,
+            timeout=SECONDS,
+        )
     except subprocess.TimeoutExpired:
         return False
     return ran.returncode == 0
@@ -92,7 +185,9 @@ def is_found(folder: pathlib.Path, mutant: Mutant) -> bool:
     path = folder / mutant.file
     text = path.read_text(encoding="utf-8")
     if text.count(mutant.before) != 1:
-        sys.exit(f"{mutant.file}: `{mutant.before}` stands there {text.count(mutant.before)} times: name another text")
+        sys.exit(
+            f"{mutant.file}: `{mutant.before}` stands there {text.count(mutant.before)} times: name another text"
+        )
     path.write_text(text.replace(mutant.before, mutant.after), encoding="utf-8")
     try:
         return not run(folder, [mutant.tests])
@@ -108,14 +203,21 @@ def main(given: List[str]) -> int:
     with tempfile.TemporaryDirectory() as name:
         folder, left = pathlib.Path(name), 0
         for it in FOLDERS:
-            shutil.copytree(TOP / it, folder / it, ignore=shutil.ignore_patterns("__pycache__", "out"))
+            shutil.copytree(
+                TOP / it,
+                folder / it,
+                ignore=shutil.ignore_patterns("__pycache__", "out"),
+            )
         if not run(folder, sorted({MUTANTS[number].tests for number in chosen})):
             sys.exit("the tests fail on the files as they are: mend that first")
         for number in chosen:
             mutant = MUTANTS[number]
             found = is_found(folder, mutant)
             left += not found
-            told, shown = "found" if found else "NOT FOUND", mutant.after.strip() or mutant.before
+            told, shown = (
+                "found" if found else "NOT FOUND",
+                mutant.after.strip() or mutant.before,
+            )
             print(f"{number} {told}: {mutant.file}: {shown}", flush=True)
     print(f"{len(chosen) - left} found, {left} not found")
     return 1 if left else 0

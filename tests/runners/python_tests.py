@@ -23,7 +23,10 @@ def main(names: List[str]) -> int:
     for test, why in ran.skipped:
         print(f"{SKIPPED}{test.id()}: {why}")
     failed = len(ran.failures) + len(ran.errors) + len(ran.unexpectedSuccesses)
-    print(f"{max(0, ran.testsRun - len(ran.skipped) - failed)} passed, {failed} failed", flush=True)
+    print(
+        f"{max(0, ran.testsRun - len(ran.skipped) - failed)} passed, {failed} failed",
+        flush=True,
+    )
     return 1 if failed or not (ran.testsRun or ran.skipped) else 0
 
 

@@ -30,9 +30,11 @@ class Cases:
 
     def case(self, title: str) -> Callable[[Case], Case]:
         """Makes a function a case."""
+
         def add(one: Case) -> Case:
             self._all[title] = one
             return one
+
         return add
 
     def tried(self, program: str, title: str) -> Tuple[str, str]:
@@ -55,7 +57,12 @@ class Cases:
         chosen = [title for title in self._all if len(given) == 1 or given[1] in title]
         failed = 0
         with concurrent.futures.ThreadPoolExecutor(self._beside) as pool:
-            for title, wrong in pool.map(lambda title: self.tried(program, title), chosen):
+            for title, wrong in pool.map(
+                lambda title: self.tried(program, title), chosen
+            ):
                 failed += bool(wrong)
-                print(f"{'FAILED' if wrong else 'ok'}: {title}{': ' * bool(wrong)}{wrong}", flush=True)
+                print(
+                    f"{'FAILED' if wrong else 'ok'}: {title}{': ' * bool(wrong)}{wrong}",
+                    flush=True,
+                )
         return concluded(len(chosen) - failed, failed)

@@ -13,7 +13,11 @@ def team(name: str, files: Sequence[Any], command: str, agents: int = 2) -> str:
     return f'[[team]]\nname = "{name}"\nagents = {agents}\nfiles = {list(map(str, files))}\ncommand = "{command}"\n'
 
 
-HONEST = team("right", [AGENTS / "client.py", AGENTS / "ring.py"], "python3 ring.py {host} {port} {key} {nodes}")
+HONEST = team(
+    "right",
+    [AGENTS / "client.py", AGENTS / "ring.py"],
+    "python3 ring.py {host} {port} {key} {nodes}",
+)
 
 
 def rows_of_teams(out: pathlib.Path) -> Dict[str, Any]:

@@ -12,6 +12,7 @@ from tests.support.tournaments import cup_files
 
 class Drawn(NamedTuple):
     """A tournament's files by their names, a script, what each of its lines prints, and what was seen in it."""
+
     files: Dict[str, str]
     script: List[str]
     printed: List[str]
@@ -24,15 +25,28 @@ def ready_by_chance(game: int, agents: int, chance: random.Random) -> Ready:
     home = chance.randrange(nodes)
     holes = chance.sample([v for v in range(nodes) if v != home], chance.randrange(3))
     dark = [chance.choice(links)[:2]] if chance.random() < 0.4 else []
-    setup = Setup(nodes, links, home, holes, agents, chance.randint(1, 40), chance.randrange(9), dark)
+    setup = Setup(
+        nodes,
+        links,
+        home,
+        holes,
+        agents,
+        chance.randint(1, 40),
+        chance.randrange(9),
+        dark,
+    )
     held = chance.sample(ends, chance.randrange(3))
     return Ready(Match(setup), held, [f"k{game}-{agent}" for agent in range(agents)])
 
 
 def files_of(ready: Sequence[Ready]) -> Dict[str, str]:
     """The tournament and its networks."""
-    return cup_files([Fixture(f"t{game}", match.setup, list(keys), list(held))
-                      for game, (match, held, keys) in enumerate(ready)])
+    return cup_files(
+        [
+            Fixture(f"t{game}", match.setup, list(keys), list(held))
+            for game, (match, held, keys) in enumerate(ready)
+        ]
+    )
 
 
 class ScriptMaker:
@@ -48,25 +62,41 @@ class ScriptMaker:
     def note(self, line: str, sent: Sent) -> None:
         self.script.append(line)
         self.seen.update(reply.get("ok") or f"no {reply['no']}" for _, reply in sent)
-        self.printed.append("".join(f"{conn} {spelled(reply)}\n" for conn, reply in sorted(sent, key=lambda it: it[0])))
+        self.printed.append(
+            "".join(
+                f"{conn} {spelled(reply)}\n"
+                for conn, reply in sorted(sent, key=lambda it: it[0])
+            )
+        )
 
     def say(self, conn: int, line: bytes) -> None:
         """A connection sends a line, whole or in pieces."""
-        cut = self.chance.randrange(len(line) + 1) if self.chance.random() < 0.2 else None
+        cut = (
+            self.chance.randrange(len(line) + 1) if self.chance.random() < 0.2 else None
+        )
         if cut is None and b"\xff" not in line:
-            self.note(f"{conn} {line.decode()}", self.rehearsal.bytes_of(conn, line + b"\n"))
+            self.note(
+                f"{conn} {line.decode()}", self.rehearsal.bytes_of(conn, line + b"\n")
+            )
             return
-        for piece in (line[:cut or 0], line[cut or 0:] + b"\n"):
+        for piece in (line[: cut or 0], line[cut or 0 :] + b"\n"):
             if piece:
-                self.note(f"hex {conn} {piece.hex()}", self.rehearsal.bytes_of(conn, piece))
+                self.note(
+                    f"hex {conn} {piece.hex()}", self.rehearsal.bytes_of(conn, piece)
+                )
 
     def draw(self, game: int) -> None:
         word, (match, held, _) = self.chance.getrandbits(32), self.rehearsal.ready[game]
         self.seen[f"pool of {len(match.pool)}"] += 1
         if match.pool and not match.closed:
             agent = match.agents[match.pool[word % len(match.pool)]]
-            self.seen["held" if (agent.node, agent.port) in held else
-                      "destroyed" if match.doomed(agent.node, agent.port) else "arrival"] += 1
+            self.seen[
+                "held"
+                if (agent.node, agent.port) in held
+                else "destroyed"
+                if match.doomed(agent.node, agent.port)
+                else "arrival"
+            ] += 1
         self.note(f"draw {game} {word}", self.rehearsal.draw(game, word))
 
     def end(self, conn: int) -> None:
@@ -80,9 +110,19 @@ class ScriptMaker:
         """A line of a client, mostly one that moves it."""
         chance = self.chance
         board = ["", "a", "bé", "123456789"]
-        lines = [{"do": "look"}, {"do": "enter", "key": chance.choice(list(self.rehearsal.seats))},
-                 {"do": "write", "expect": chance.choice(board), "put": chance.choice(board)}, {"do": "leave"},
-                 {"do": "accuse", "port": chance.randrange(4)}, {"do": "enter", "key": "nobody"}, {"do": "jump"}]
+        lines = [
+            {"do": "look"},
+            {"do": "enter", "key": chance.choice(list(self.rehearsal.seats))},
+            {
+                "do": "write",
+                "expect": chance.choice(board),
+                "put": chance.choice(board),
+            },
+            {"do": "leave"},
+            {"do": "accuse", "port": chance.randrange(4)},
+            {"do": "enter", "key": "nobody"},
+            {"do": "jump"},
+        ]
         weights = [4, 1, 6, 0.2, 0.2, 0.2, 1]
         if chance.random() < 0.5:
             return spelled({"do": "depart", "port": chance.randrange(4)}).encode()
@@ -116,7 +156,10 @@ class ScriptMaker:
 def drawn(agents: int) -> Drawn:
     """A rehearsal of two matches, one of this number of agents and one of 65 less that."""
     chance = random.Random(agents)
-    ready = [ready_by_chance(0, agents, chance), ready_by_chance(1, 65 - agents, chance)]
+    ready = [
+        ready_by_chance(0, agents, chance),
+        ready_by_chance(1, 65 - agents, chance),
+    ]
     files = files_of(ready)
     maker = ScriptMaker(ready, chance)
     maker.all_depart()

@@ -76,14 +76,20 @@ def begun() -> HallFolder:
         folder = pathlib.Path(tempfile.mkdtemp(prefix="hall-"))
         atexit.register(shutil.rmtree, folder, True)
         course = folder / "trial.toml"
-        course.write_text(COURSE.format(first=4100, last=4199, minutes=1, more="freeze = \"2099-01-01 00:00\""))
+        course.write_text(
+            COURSE.format(
+                first=4100, last=4199, minutes=1, more='freeze = "2099-01-01 00:00"'
+            )
+        )
         made = HallFolder(folder / "trial.hall", course, program())
         made.write()
         from arena_lab.hall import entry
+
         entry.begin(str(made.folder))
         from django.conf import settings
         from django.core.management import call_command
         from django.test.utils import override_settings, setup_test_environment
+
         call_command("migrate", verbosity=0, interactive=False)
         setup_test_environment()
         # tests change what tables have, and look at once; and each client of a test would list all files
@@ -92,6 +98,7 @@ def begun() -> HallFolder:
         settings.WHITENOISE_AUTOREFRESH = True
         settings.PASSWORD_HASHERS = ["django.contrib.auth.hashers.MD5PasswordHasher"]
         from arena_lab.hall import keys
+
         keys.sync(made.hall())
         _place.append(made)
     return _place[0]
@@ -107,7 +114,13 @@ class Told:
         return json.loads(self.body)
 
 
-def told_by(port: int, how: str, path: str, headers: Dict[str, str], body: Optional[bytes] = None) -> Told:
+def told_by(
+    port: int,
+    how: str,
+    path: str,
+    headers: Dict[str, str],
+    body: Optional[bytes] = None,
+) -> Told:
     """What the web server on a port of this machine answers."""
     connection = http.client.HTTPConnection("127.0.0.1", port, timeout=SECONDS)
     with contextlib.closing(connection):
@@ -119,7 +132,9 @@ def told_by(port: int, how: str, path: str, headers: Dict[str, str], body: Optio
 class Served:
     """A hall that is served, with its processes."""
 
-    def __init__(self, folder: pathlib.Path, more: str = "", minutes: int = 1, workers: int = 1) -> None:
+    def __init__(
+        self, folder: pathlib.Path, more: str = "", minutes: int = 1, workers: int = 1
+    ) -> None:
         self.port = free_port()
         self._minutes = minutes
         self.course = folder / "trial.toml"
@@ -133,7 +148,11 @@ class Served:
     def write(self, more: str) -> None:
         """Writes the course's file, with more keys."""
         first = 20_000 + os.getpid() % 200 * 100
-        self.course.write_text(COURSE.format(first=first, last=first + 40, minutes=self._minutes, more=more))
+        self.course.write_text(
+            COURSE.format(
+                first=first, last=first + 40, minutes=self._minutes, more=more
+            )
+        )
 
     def words(self, *words: object) -> List[str]:
         return [sys.executable, "-m", "arena_lab", "hall", *map(str, words)]
@@ -144,8 +163,20 @@ class Served:
             raise unittest.SkipTest(f"no walls here: {cells.weakness()}")
         with self._said.open("a") as said:
             self.child = subprocess.Popen(
-                [*self.words(self.course), "--program", program(), "--port", str(self.port), *self._workers], cwd=TOP,
-                stdout=subprocess.DEVNULL, stderr=said, text=True, env={**os.environ, "ARENA_HALL_LEASE": self.lease})
+                [
+                    *self.words(self.course),
+                    "--program",
+                    program(),
+                    "--port",
+                    str(self.port),
+                    *self._workers,
+                ],
+                cwd=TOP,
+                stdout=subprocess.DEVNULL,
+                stderr=said,
+                text=True,
+                env={**os.environ, "ARENA_HALL_LEASE": self.lease},
+            )
         self.wait(self.answers, "the hall answers")
 
     def stop(self) -> None:
@@ -159,7 +190,9 @@ class Served:
             return self.ask("GET", "/login").status == 200
         return False
 
-    def wait(self, holds: Callable[[], Any], what: str, seconds: float = SECONDS) -> Any:
+    def wait(
+        self, holds: Callable[[], Any], what: str, seconds: float = SECONDS
+    ) -> Any:
         """Waits until something holds, and gives it."""
         limit = time.monotonic() + seconds
         while time.monotonic() < limit:
@@ -178,19 +211,36 @@ class Served:
         """Asks with a body in JSON, if there is one."""
         if body is None:
             return self.send(how, path, token)
-        return self.send(how, path, token, json.dumps(body).encode(), "application/json")
+        return self.send(
+            how, path, token, json.dumps(body).encode(), "application/json"
+        )
 
-    def send(self, how: str, path: str, token: str = "", body: Optional[bytes] = None, kind: str = "") -> Told:
+    def send(
+        self,
+        how: str,
+        path: str,
+        token: str = "",
+        body: Optional[bytes] = None,
+        kind: str = "",
+    ) -> Told:
         """Asks with a body of this media type, if there is one."""
         headers = {"Authorization": f"Bearer {token}"} if token else {}
-        return told_by(self.port, how, path, {**headers, **({"Content-Type": kind} if kind else {})}, body)
+        return told_by(
+            self.port,
+            how,
+            path,
+            {**headers, **({"Content-Type": kind} if kind else {})},
+            body,
+        )
 
     def hand_in(self, token: str, sent: bytes) -> Told:
         """Hands in a program, as a zip."""
         edge = b"edge"
-        front = b"Content-Disposition: form-data; name=\"file\"; filename=\"a.zip\"\r\n\r\n"
+        front = b'Content-Disposition: form-data; name="file"; filename="a.zip"\r\n\r\n'
         body = b"--" + edge + b"\r\n" + front + sent + b"\r\n--" + edge + b"--\r\n"
-        return self.send("POST", "/api/hand-ins", token, body, "multipart/form-data; boundary=edge")
+        return self.send(
+            "POST", "/api/hand-ins", token, body, "multipart/form-data; boundary=edge"
+        )
 
     def tokens(self) -> Dict[str, str]:
         with (self.folder / "keys.csv").open(encoding="utf-8", newline="") as file:
@@ -208,10 +258,14 @@ class Served:
 
     def begins(self, token: str, number: int, than: Any = None) -> Dict[str, Any]:
         """An attempt whose servers listen, with other keys than these."""
+
         def found() -> Any:
             told = self.attempt(token, number)
             keys = [it["keys"] for it in told["matches"]]
-            return told if told["state"] == "running" and keys and keys != than else None
+            return (
+                told if told["state"] == "running" and keys and keys != than else None
+            )
+
         return dict(self.wait(found, f"attempt {number} begins"))
 
     def is_left(self, attempt: int) -> bool:
@@ -222,6 +276,7 @@ class Served:
         def found() -> Any:
             told = self.attempt(token, number)
             return told if told["state"] in ("over", "lost", "cancelled") else None
+
         return dict(self.wait(found, f"attempt {number} is over"))
 
     def processes(self) -> Dict[str, int]:
@@ -230,23 +285,34 @@ class Served:
         for process in listed():
             words = words_of(process)
             if words[1:4] == ["-m", "arena_lab.hall.entry", str(self.folder)]:
-                found[" ".join(words[4:6]) if words[4] == "worker" else words[4]] = process
+                found[
+                    " ".join(words[4:6]) if words[4] == "worker" else words[4]
+                ] = process
         return found
 
     def kill(self, name: str) -> None:
         """Kills a process of the hall, as the system does where memory is short, and waits for the next."""
         before = self.processes()[name]
         os.kill(before, signal.SIGKILL)
-        self.wait(lambda: self.processes().get(name) not in (None, before), f"{name} is started again")
+        self.wait(
+            lambda: self.processes().get(name) not in (None, before),
+            f"{name} is started again",
+        )
         self.wait(self.answers, "the hall answers again")
 
     def servers(self, attempt: Any = "") -> List[int]:
         """The numbers of all servers of matches of this hall, or of an attempt, that go on."""
-        place = str(self.folder / "attempts" / f"{attempt}/") if attempt else str(self.folder)
+        place = (
+            str(self.folder / "attempts" / f"{attempt}/")
+            if attempt
+            else str(self.folder)
+        )
         found = []
         for process in listed():
             with contextlib.suppress(OSError):
-                if "serve" in words_of(process) and os.readlink(f"/proc/{process}/cwd").startswith(place):
+                if "serve" in words_of(process) and os.readlink(
+                    f"/proc/{process}/cwd"
+                ).startswith(place):
                     found.append(process)
         return found
 
@@ -275,9 +341,22 @@ class Playing(unittest.TestCase):
 
 def play(told: Dict[str, Any]) -> List["subprocess.Popen[bytes]"]:
     """Starts the sample agents of an attempt on a ring."""
-    return [subprocess.Popen([sys.executable, str(TOP / "examples/agents/ring.py"), match["host"], str(match["port"]),
-                              key, str(told["facts"]["nodes"])], stdout=subprocess.DEVNULL, stderr=subprocess.DEVNULL)
-            for match in told["matches"] for key in match["keys"]]
+    return [
+        subprocess.Popen(
+            [
+                sys.executable,
+                str(TOP / "examples/agents/ring.py"),
+                match["host"],
+                str(match["port"]),
+                key,
+                str(told["facts"]["nodes"]),
+            ],
+            stdout=subprocess.DEVNULL,
+            stderr=subprocess.DEVNULL,
+        )
+        for match in told["matches"]
+        for key in match["keys"]
+    ]
 
 
 def sample_program() -> bytes:
@@ -291,12 +370,18 @@ def sample_program() -> bytes:
 
 def came(told: Dict[str, Any]) -> Any:
     """What came of an attempt, whether its pages are made or not."""
-    return told["state"], told["verdicts"], [(it["keys"], it["after"]) for it in told["matches"]]
+    return (
+        told["state"],
+        told["verdicts"],
+        [(it["keys"], it["after"]) for it in told["matches"]],
+    )
 
 
 def said(host: str, port: int, lines: List[Dict[str, Any]]) -> List[Dict[str, Any]]:
     """What a server answers to these lines, one by one."""
-    with socket.create_connection((host, port), timeout=SECONDS) as connection, connection.makefile("rw") as file:
+    with socket.create_connection(
+        (host, port), timeout=SECONDS
+    ) as connection, connection.makefile("rw") as file:
         found = []
         for line in lines:
             file.write(json.dumps(line) + "\n")

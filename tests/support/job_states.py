@@ -1,8 +1,18 @@
 """Work as the table of the hall's machine has it, without a database."""
 from typing import Dict, List, NamedTuple, Optional
 
-from arena_lab.hall.machine import (ACTIVE, BEGIN, BY_HOLDER, CLAIM, ENDED, MOST_RUNS, TABLE, WAITING, Transition,
-                                    steps_of)
+from arena_lab.hall.machine import (
+    ACTIVE,
+    BEGIN,
+    BY_HOLDER,
+    CLAIM,
+    ENDED,
+    MOST_RUNS,
+    TABLE,
+    WAITING,
+    Transition,
+    steps_of,
+)
 
 STATES = sorted({WAITING, *ACTIVE, *ENDED})
 EVENTS = sorted({row.event for row in TABLE})
@@ -28,11 +38,20 @@ def after(work: JobState, event: str, holder: str = "") -> Optional[JobState]:
     for step in steps_of(event):
         if fits(step, work):
             runs = work.runs + (event == BEGIN)
-            kept = holder if event == CLAIM else work.holder if step.after in ACTIVE else ""
+            kept = (
+                holder
+                if event == CLAIM
+                else work.holder
+                if step.after in ACTIVE
+                else ""
+            )
             return JobState(step.after, runs, kept)
     return None
 
 
 def rows() -> Dict[str, List[str]]:
     """The table as a reader has it: of each state its events and where they lead."""
-    return {state: [f"{step.event}: {step.after}" for step in TABLE if step.state == state] for state in STATES}
+    return {
+        state: [f"{step.event}: {step.after}" for step in TABLE if step.state == state]
+        for state in STATES
+    }

@@ -39,7 +39,9 @@ directory = "/usr/share/cargo/registry"
 
 
 def here(board: str, came: Optional[int]) -> str:
-    return json.dumps({"board": board, "from": came, "ok": "here", "ports": 2}, separators=(",", ":"))
+    return json.dumps(
+        {"board": board, "from": came, "ok": "here", "ports": 2}, separators=(",", ":")
+    )
 
 
 def write(expect: str, put: str) -> Dict[str, Any]:
@@ -114,14 +116,26 @@ class Server:
         return self.fault
 
 
-def ran(folder: pathlib.Path, words: str, **variables: str) -> "subprocess.CompletedProcess[str]":
-    return subprocess.run(shlex.split(words), cwd=folder, env={**os.environ, **variables}, text=True, timeout=300,
-                          stdin=subprocess.DEVNULL, stdout=subprocess.PIPE, stderr=subprocess.STDOUT)
+def ran(
+    folder: pathlib.Path, words: str, **variables: str
+) -> "subprocess.CompletedProcess[str]":
+    return subprocess.run(
+        shlex.split(words),
+        cwd=folder,
+        env={**os.environ, **variables},
+        text=True,
+        timeout=300,
+        stdin=subprocess.DEVNULL,
+        stdout=subprocess.PIPE,
+        stderr=subprocess.STDOUT,
+    )
 
 
 def want(ran_with: "subprocess.CompletedProcess[str]", status: int = 0) -> str:
     if ran_with.returncode != status:
-        raise AssertionError(f"{ran_with.args} ended with {ran_with.returncode}:\n{ran_with.stdout}")
+        raise AssertionError(
+            f"{ran_with.args} ended with {ran_with.returncode}:\n{ran_with.stdout}"
+        )
     return ran_with.stdout
 
 
@@ -137,7 +151,13 @@ class Played:
         write_kit(language, self._folder)
 
     def run(self, words: str, **variables: str) -> "subprocess.CompletedProcess[str]":
-        return ran(self._folder, words, CARGO_HOME=str(self._home), CARGO_NET_OFFLINE="true", **variables)
+        return ran(
+            self._folder,
+            words,
+            CARGO_HOME=str(self._home),
+            CARGO_NET_OFFLINE="true",
+            **variables,
+        )
 
     def build(self) -> None:
         if self.kit.build:
@@ -154,17 +174,25 @@ class Played:
             return
         for talks, status in (((NO_ROOM, SEARCH), 0), ((OVER,), 0), ((UNKNOWN,), 1)):
             server = Server(talks)
-            by_words = f"{self.kit.play} 127.0.0.1 {server.port} {shlex.quote(ENTER['key'])} 5"
+            by_words = (
+                f"{self.kit.play} 127.0.0.1 {server.port} {shlex.quote(ENTER['key'])} 5"
+            )
             found = self.run(by_words)
             if server.ended():
                 raise AssertionError(f"{self.kit.name}: {server.fault}\n{found.stdout}")
             said = want(found, status)
             if status and "key" not in said:
-                raise AssertionError(f"{self.kit.name} does not say why it was refused: {said}")
+                raise AssertionError(
+                    f"{self.kit.name} does not say why it was refused: {said}"
+                )
         server = Server((SEARCH,))
-        found = self.run(f"{self.kit.play} 5", ARENA_PORT=str(server.port), ARENA_KEY=ENTER["key"])
+        found = self.run(
+            f"{self.kit.play} 5", ARENA_PORT=str(server.port), ARENA_KEY=ENTER["key"]
+        )
         if server.ended():
-            raise AssertionError(f"{self.kit.name} by the environment: {server.fault}\n{found.stdout}")
+            raise AssertionError(
+                f"{self.kit.name} by the environment: {server.fault}\n{found.stdout}"
+            )
         want(found)
 
     def solve(self) -> None:
@@ -172,7 +200,13 @@ class Played:
         for hole in (1, 4, 7):
             words = f"{sys.executable} -m arena_lab run --network ring:8 --hole {hole}"
             words += f" --program {self._program} --command"
-            said = want(ran(self._folder, f"{words} {shlex.quote(played(self.kit))}", PYTHONPATH=str(TOP)))
+            said = want(
+                ran(
+                    self._folder,
+                    f"{words} {shlex.quote(played(self.kit))}",
+                    PYTHONPATH=str(TOP),
+                )
+            )
             if "solved 1; failed 0" not in said:
                 raise AssertionError(f"{self.kit.name}, black hole {hole}: {said}")
 
@@ -180,7 +214,13 @@ class Played:
         """Every schedule of a module is tried, with each black hole."""
         if self.kit.is_module:
             words = f"{sys.executable} -m arena_lab explore --network ring:6 --program {self._program} --agent"
-            said = want(ran(self._folder, f"{words} {shlex.quote(played(self.kit))}", PYTHONPATH=str(TOP)))
+            said = want(
+                ran(
+                    self._folder,
+                    f"{words} {shlex.quote(played(self.kit))}",
+                    PYTHONPATH=str(TOP),
+                )
+            )
             if "every schedule solves" not in said:
                 raise AssertionError(f"{self.kit.name}: {said}")
 
@@ -189,9 +229,15 @@ class Played:
         to repeat too."""
         if cells.strongest() is not Isolation.ALL:
             return
-        handed_in, file = self._folder.parent / f"in-{self._folder.name}", self._folder.parent / "course.toml"
-        shutil.copytree(self._folder, handed_in, ignore=shutil.ignore_patterns(*NOT_HANDED_IN))
-        file.write_text(f"""title = "A kit"
+        handed_in, file = (
+            self._folder.parent / f"in-{self._folder.name}",
+            self._folder.parent / "course.toml",
+        )
+        shutil.copytree(
+            self._folder, handed_in, ignore=shutil.ignore_patterns(*NOT_HANDED_IN)
+        )
+        file.write_text(
+            f"""title = "A kit"
 networks = ["ring:6"]
 holes = 1
 schedulers = ["fair"]
@@ -200,15 +246,30 @@ proc = {str(self.kit.name == "Java").lower()}
 name = "kit"
 files = ["{handed_in.name}"]
 command = "{played(self.kit)}"
-""")
+"""
+        )
         out = self._folder.parent / f"out-{self._folder.name}"
-        said = want(ran(TOP, f"{DEBIANS_PYTHON} -m arena_lab grade {file} --out {out} --engine model --workers 1"))
+        said = want(
+            ran(
+                TOP,
+                f"{DEBIANS_PYTHON} -m arena_lab grade {file} --out {out} --engine model --workers 1",
+            )
+        )
         if "solved 1; failed 0" not in said:
-            raise AssertionError(f"{self.kit.name}, as a hand-in: {said}\n{(out / 'runs.csv').read_text()}")
+            raise AssertionError(
+                f"{self.kit.name}, as a hand-in: {said}\n{(out / 'runs.csv').read_text()}"
+            )
 
     def all(self) -> float:
         """Builds, tests and plays the kit; gives for how many seconds."""
         started = time.monotonic()
-        for step in (self.build, self.own_test, self.talk, self.solve, self.explore, self.grade):
+        for step in (
+            self.build,
+            self.own_test,
+            self.talk,
+            self.solve,
+            self.explore,
+            self.grade,
+        ):
             step()
         return time.monotonic() - started

@@ -23,7 +23,7 @@ KNOWN_MAP = AgentWords(INSIDE, str(AGENTS / "known_map.py"))
 RING3 = AgentWords(INSIDE, f"{AGENTS / 'ring3.py'} {{nodes}}")
 
 # agents with a fault each, which several tests play: the text of a file
-FAULTY = '''
+FAULTY = """
 from client import MatchOver
 
 
@@ -54,7 +54,7 @@ def crashes_when_it_is_over(agent, key, port):
         agent.depart(port)
     except MatchOver:
         raise AttributeError("nothing was seen")
-'''
+"""
 
 
 def program() -> str:
@@ -64,16 +64,27 @@ def program() -> str:
 
 def two(name: str, *words: str) -> List[AgentWords]:
     """A sample agent, once for each side."""
-    return [AgentWords(INSIDE, " ".join([str(AGENTS / name), *words, str(side)])) for side in (0, 1)]
+    return [
+        AgentWords(INSIDE, " ".join([str(AGENTS / name), *words, str(side)]))
+        for side in (0, 1)
+    ]
 
 
-def fixture(network: Network, hole: int, agents: int = 2, board: int = 4096, home: int = 0) -> Fixture:
-    return fixture_of(Setup(network.nodes, network.links, home, [hole], agents, 1000, board))
+def fixture(
+    network: Network, hole: int, agents: int = 2, board: int = 4096, home: int = 0
+) -> Fixture:
+    return fixture_of(
+        Setup(network.nodes, network.links, home, [hole], agents, 1000, board)
+    )
 
 
 def ring_fixture(nodes: int, hole: int, chance: random.Random) -> Fixture:
     """A ring whose labels agree around it, or are mixed."""
-    return fixture(ring(nodes) if chance.random() < 0.5 else flipped_ring(nodes, chance), hole, board=32)
+    return fixture(
+        ring(nodes) if chance.random() < 0.5 else flipped_ring(nodes, chance),
+        hole,
+        board=32,
+    )
 
 
 def network_fixture(chance: random.Random) -> Fixture:
@@ -83,14 +94,24 @@ def network_fixture(chance: random.Random) -> Fixture:
     return fixture(network, hole, max(network.degrees()) + 1, home=home)
 
 
-def played(given: Fixture, agent: AgentWords, seed: int, maker: schedulers.Maker = schedulers.slow_agents,
-           engine: Any = Rehearsal) -> PlayedMatch:
+def played(
+    given: Fixture,
+    agent: AgentWords,
+    seed: int,
+    maker: schedulers.Maker = schedulers.slow_agents,
+    engine: Any = Rehearsal,
+) -> PlayedMatch:
     """A match of agents that are alike."""
     return under(maker(seed), given, [agent] * given.setup.agents, engine)
 
 
-def under(scheduler: schedulers.Scheduler, given: Fixture, agents: Sequence[AgentWords], engine: Any = Rehearsal,
-          seconds: float = 5) -> PlayedMatch:
+def under(
+    scheduler: schedulers.Scheduler,
+    given: Fixture,
+    agents: Sequence[AgentWords],
+    engine: Any = Rehearsal,
+    seconds: float = 5,
+) -> PlayedMatch:
     """A match under a scheduler, by an engine that is made of a fixture."""
     return play(engine(given), Together(agents, given, seconds), scheduler, given)
 

@@ -41,11 +41,15 @@ def on_ring(explored: int) -> MutantPlan:
 
 
 def on_cube(explored: str, agents: int) -> MutantPlan:
-    return MutantPlan("{nodes} {links}", MutantMatch("hypercube:3", 4), MutantMatch(explored, agents))
+    return MutantPlan(
+        "{nodes} {links}", MutantMatch("hypercube:3", 4), MutantMatch(explored, agents)
+    )
 
 
 PLANS: Dict[str, MutantPlan] = {
-    "accuses_at_once": on_ring(4), "divides_unevenly": on_ring(6), "forgets_to_mark": on_ring(4),
+    "accuses_at_once": on_ring(4),
+    "divides_unevenly": on_ring(6),
+    "forgets_to_mark": on_ring(4),
     "reads_once": on_ring(4),
     "counts_naps": on_cube("ring:3", 3),
     "counts_nodes_alone": on_cube("complete:4", 4),
@@ -67,15 +71,26 @@ class Caught(NamedTuple):
 def hunted(name: str, program: str) -> Caught:
     """What `hunt` finds of a mutant."""
     plan, started = PLANS[name], time.monotonic()
-    found = api.hunt(plan.hunted.network, agent_of(name), count=plan.hunted.agents, engine=program)
-    return Caught(found.fails, found.tried, time.monotonic() - started, found.best.judged())
+    found = api.hunt(
+        plan.hunted.network, agent_of(name), count=plan.hunted.agents, engine=program
+    )
+    return Caught(
+        found.fails, found.tried, time.monotonic() - started, found.best.judged()
+    )
 
 
 def explored(name: str) -> Caught:
     """What the Python model's search finds of a mutant, which takes less time than that of the program."""
     plan, started = PLANS[name], time.monotonic()
-    found = api.explore(plan.explored.network, agent_of(name), count=plan.explored.agents)
-    return Caught(found.fails, found.states, time.monotonic() - started, found.worst.judged() if found.worst else None)
+    found = api.explore(
+        plan.explored.network, agent_of(name), count=plan.explored.agents
+    )
+    return Caught(
+        found.fails,
+        found.states,
+        time.monotonic() - started,
+        found.worst.judged() if found.worst else None,
+    )
 
 
 def agent_of(name: str) -> str:
@@ -89,22 +104,37 @@ def caught(name: str, program: str) -> Tuple[Caught, Caught]:
 
 
 def line_of(name: str, hunted: Caught, explored: Caught) -> str:
-    found = f"{hunted.tries} schedules, {hunted.seconds:.1f} s" if hunted.is_caught else "NOT CAUGHT"
-    tried = f"{explored.tries} states, {explored.seconds:.1f} s" if explored.is_caught else "NOT CAUGHT"
+    found = (
+        f"{hunted.tries} schedules, {hunted.seconds:.1f} s"
+        if hunted.is_caught
+        else "NOT CAUGHT"
+    )
+    tried = (
+        f"{explored.tries} states, {explored.seconds:.1f} s"
+        if explored.is_caught
+        else "NOT CAUGHT"
+    )
     verdict = str(hunted.verdict or "")
     return f"{name:<20} hunt: {found:<24} {verdict:<28} explore {PLANS[name].explored.network}: {tried}"
 
 
 def main() -> int:
-    parser = argparse.ArgumentParser("python3 -m tests.support.mutants", description=__doc__,
-                                     formatter_class=argparse.RawDescriptionHelpFormatter)
-    parser.add_argument("names", metavar="NAME", nargs="*", help="which of them; all by default")
+    parser = argparse.ArgumentParser(
+        "python3 -m tests.support.mutants",
+        description=__doc__,
+        formatter_class=argparse.RawDescriptionHelpFormatter,
+    )
+    parser.add_argument(
+        "names", metavar="NAME", nargs="*", help="which of them; all by default"
+    )
     add_program(parser)
     words = parser.parse_args()
     names: List[str] = words.names or sorted(PLANS)
     unknown = set(names) - set(PLANS)
     if unknown:
-        parser.error(f"there is no mutant {', '.join(sorted(unknown))}; there are {', '.join(sorted(PLANS))}")
+        parser.error(
+            f"there is no mutant {', '.join(sorted(unknown))}; there are {', '.join(sorted(PLANS))}"
+        )
     program, left = program_at(words.program), 0
     for name in names:
         hunted, explored = caught(name, program)

@@ -8,4 +8,6 @@ from arena_lab.support.missing import PACKAGES, missing_of
 def needs(*modules: str) -> Callable[[Any], Any]:
     """Skips a test or a class of tests if one of these modules is missing."""
     absent = missing_of(modules)
-    return unittest.skipIf(absent, f"Debian's {', '.join(PACKAGES[it] for it in absent)} is not installed")
+    return unittest.skipIf(
+        absent, f"Debian's {', '.join(PACKAGES[it] for it in absent)} is not installed"
+    )

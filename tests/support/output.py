@@ -17,7 +17,9 @@ class Ran(NamedTuple):
 
 def ran(call: Callable[..., Any], *given: Any, **more: Any) -> Ran:
     """Calls something. If it ends the process, that is its status."""
-    with contextlib.redirect_stdout(io.StringIO()) as said, contextlib.redirect_stderr(io.StringIO()) as errors:
+    with contextlib.redirect_stdout(io.StringIO()) as said, contextlib.redirect_stderr(
+        io.StringIO()
+    ) as errors:
         try:
             status = call(*given, **more)
         except SystemExit as ended:

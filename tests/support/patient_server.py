@@ -26,7 +26,10 @@ class PatientContest(server.Contest):
     def turn(self, game: int) -> None:
         match = self.matches[game]
         with self.changed:
-            self.changed.wait_for(lambda: is_over.is_set() or any(not match.agents[it].lost for it in match.pool))
+            self.changed.wait_for(
+                lambda: is_over.is_set()
+                or any(not match.agents[it].lost for it in match.pool)
+            )
             super().turn(game)
 
 

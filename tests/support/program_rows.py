@@ -37,7 +37,17 @@ import shlex
 import subprocess
 import tempfile
 import unittest
-from typing import Any, Callable, Dict, Iterator, List, NamedTuple, Sequence, Tuple, Union
+from typing import (
+    Any,
+    Callable,
+    Dict,
+    Iterator,
+    List,
+    NamedTuple,
+    Sequence,
+    Tuple,
+    Union,
+)
 
 from tests.support.counts import Wrong, require
 from tests.support.servers import Run
@@ -63,12 +73,23 @@ class Stage:
         self.program = str(pathlib.Path(program).resolve())
         self.folder = folder
 
-    def run(self, words: Sequence[Word], script: bytes = b"", front: Sequence[str] = (), **streams: Any) -> Run:
+    def run(
+        self,
+        words: Sequence[Word],
+        script: bytes = b"",
+        front: Sequence[str] = (),
+        **streams: Any,
+    ) -> Run:
         """Runs the program on a script, by a command in front of it and with other streams if some are given."""
         plain = {"stdout": subprocess.PIPE, "stderr": subprocess.PIPE}
         try:
-            ran = subprocess.run([*front, self.program, *words], cwd=self.folder, input=script, timeout=PATIENCE,
-                                 **{**plain, **streams})
+            ran = subprocess.run(
+                [*front, self.program, *words],
+                cwd=self.folder,
+                input=script,
+                timeout=PATIENCE,
+                **{**plain, **streams},
+            )
         except subprocess.TimeoutExpired:
             raise Wrong(f"it did not end in {PATIENCE} seconds") from None
         return Run(ran.returncode, ran.stdout or b"", ran.stderr or b"")
@@ -76,6 +97,7 @@ class Stage:
 
 class Step(NamedTuple):
     """What is done, with what, and what is to come of it."""
+
     mark: str
     rest: str
     given: bytes
@@ -95,7 +117,10 @@ def difference(what: str, wanted: bytes, came: bytes) -> None:
         return
     pairs = itertools.zip_longest(wanted.splitlines(True), came.splitlines(True))
     for number, (line, other) in enumerate(pairs, 1):
-        require(line == other, f"{what}, line {number}: wanted {shown(line)}, came {shown(other)}")
+        require(
+            line == other,
+            f"{what}, line {number}: wanted {shown(line)}, came {shown(other)}",
+        )
 
 
 def shown(line: Union[bytes, None]) -> str:
@@ -117,8 +142,13 @@ def expect(ran: Run, printed: bytes, told: bytes = b"", status: int = DONE) -> N
 
 def helped(wanted: bytes, came: bytes) -> bytes:
     """What is wanted, with the lines of help that came for those that may say anything."""
-    pairs = itertools.zip_longest(wanted.splitlines(True), came.splitlines(True), fillvalue=b"")
-    return b"".join(other if line == SOME_HELP and other.startswith(b"  ") else line for line, other in pairs)
+    pairs = itertools.zip_longest(
+        wanted.splitlines(True), came.splitlines(True), fillvalue=b""
+    )
+    return b"".join(
+        other if line == SOME_HELP and other.startswith(b"  ") else line
+        for line, other in pairs
+    )
 
 
 def play(row: Row, stage: Stage) -> None:
@@ -174,10 +204,16 @@ def step_of(lines: Sequence[str]) -> Step:
 
 def steps_of(lines: Sequence[str]) -> List[Step]:
     """The steps of a row without tables."""
-    heads = [place for place, line in enumerate(lines) if line.partition(" ")[0] in tuple(HEADS)]
+    heads = [
+        place
+        for place, line in enumerate(lines)
+        if line.partition(" ")[0] in tuple(HEADS)
+    ]
     if lines and heads[:1] != [0]:
         raise ValueError(f"no step: {lines[0]}")
-    return [step_of(lines[place:end]) for place, end in zip(heads, [*heads[1:], len(lines)])]
+    return [
+        step_of(lines[place:end]) for place, end in zip(heads, [*heads[1:], len(lines)])
+    ]
 
 
 def tables_of(lines: Sequence[str]) -> List[List[Dict[str, str]]]:
@@ -221,15 +257,25 @@ def changed(text: str, old: str, new: str) -> str:
     return before + new + after
 
 
-def checks(files: Dict[str, bytes], lines: Sequence[str]) -> Iterator[Tuple[str, List[Step]]]:
+def checks(
+    files: Dict[str, bytes], lines: Sequence[str]
+) -> Iterator[Tuple[str, List[Step]]]:
     """The title and the steps for each line of a table of changes."""
     source, target = lines[1].split()[1:]
     for line in lines[2:]:
         old, new, told = (text.replace("¶", "\n") for text in line.split(ARROW))
         text = changed(files[source].decode(), old, new)
         told = f"{RIGHT if told == 'right' else told}\n"
-        status = DONE if told.startswith("match") else FAILED_STREAM if told.endswith(": read\n") else REFUSED_TEXT
-        printed, fault = (told, "") if status == DONE else ("", told + help_behind(told))
+        status = (
+            DONE
+            if told.startswith("match")
+            else FAILED_STREAM
+            if told.endswith(": read\n")
+            else REFUSED_TEXT
+        )
+        printed, fault = (
+            (told, "") if status == DONE else ("", told + help_behind(told))
+        )
         yield f"{lines[0]} {line}", [
             Step("@", target, text.encode(), b"", b"", DONE),
             Step("$", "check cup.toml", b"", printed.encode(), fault.encode(), status),
@@ -244,7 +290,10 @@ def help_behind(told: str) -> str:
 def rows_of(text: str) -> List[Row]:
     """The rows of a text."""
     lines = "\n".join(line for line in text.split("\n") if not line.startswith("#"))
-    parts = [part.split("\n") for part in re.split("\n{2,}", lines.replace("\n+ ", "").strip("\n"))]
+    parts = [
+        part.split("\n")
+        for part in re.split("\n{2,}", lines.replace("\n+ ", "").strip("\n"))
+    ]
     first: List[Step] = []
     rows = []
     for part in parts:
@@ -266,5 +315,9 @@ def fault_of(program: str, trial: Callable[[Stage], None]) -> str:
         except unittest.SkipTest:
             raise
         except Exception as error:
-            return str(error) if isinstance(error, (Wrong, OSError)) else f"{type(error).__name__}: {error}"
+            return (
+                str(error)
+                if isinstance(error, (Wrong, OSError))
+                else f"{type(error).__name__}: {error}"
+            )
     return ""

@@ -21,7 +21,10 @@ def temporary() -> Iterator[pathlib.Path]:
     try:
         yield folder
     finally:
-        mounts = [line.split()[1] for line in pathlib.Path("/proc/mounts").read_text().splitlines()]
+        mounts = [
+            line.split()[1]
+            for line in pathlib.Path("/proc/mounts").read_text().splitlines()
+        ]
         left = [it for it in mounts if it.startswith(f"{folder}/")]
         if left:
             print(f"{folder} is left: {', '.join(left)} is still mounted", flush=True)
@@ -33,8 +36,11 @@ def make(root: pathlib.Path, packages: Sequence[str] = ()) -> None:
     """Makes a root by `debootstrap`, with these packages besides the fewest, if none is there."""
     if not (root / "etc" / "debian_version").exists():
         more = [f"--include={','.join(packages)}"] if packages else []
-        subprocess.run(["debootstrap", "--variant=minbase", *more, "bookworm", str(root)], check=True,
-                       stdout=subprocess.DEVNULL)
+        subprocess.run(
+            ["debootstrap", "--variant=minbase", *more, "bookworm", str(root)],
+            check=True,
+            stdout=subprocess.DEVNULL,
+        )
 
 
 @contextlib.contextmanager
@@ -44,14 +50,19 @@ def mounted(root: pathlib.Path, bound: Dict[pathlib.Path, str] = {}) -> Iterator
     places: List[pathlib.Path] = []
     LOCKS.mkdir(mode=0o700, exist_ok=True)
     try:
-        for source, name in {**{pathlib.Path("/") / name: name for name in MOUNTS}, **bound}.items():
+        for source, name in {
+            **{pathlib.Path("/") / name: name for name in MOUNTS},
+            **bound,
+        }.items():
             place = root / name
             place.mkdir(parents=True, exist_ok=True)
             subprocess.run(["mount", "--rbind", str(source), str(place)], check=True)
             places.append(place)
             subprocess.run(["mount", "--make-rslave", str(place)], check=True)
             if name in bound.values():
-                subprocess.run(["mount", "-o", "remount,ro,bind", str(place)], check=True)
+                subprocess.run(
+                    ["mount", "-o", "remount,ro,bind", str(place)], check=True
+                )
         yield
     finally:
         for place in reversed(places):
@@ -61,6 +72,20 @@ def mounted(root: pathlib.Path, bound: Dict[pathlib.Path, str] = {}) -> Iterator
 def inside(root: pathlib.Path, folder: str, is_machine: bool = True) -> List[str]:
     """The words before a command that is run in a folder of a root, as a new machine would run it, or else as many a
     container does, in which the kernel makes no namespaces for users."""
-    enter = ["unshare", "--mount", "--propagation", "private", "sh", "-c", PIVOT] if is_machine else ["chroot"]
-    return [*enter, str(root), "env", "-i", "-C", folder, "DEBIAN_FRONTEND=noninteractive", "LC_ALL=C.UTF-8",
-            "HOME=/root", "PATH=/usr/local/sbin:/usr/local/bin:/usr/sbin:/usr/bin:/sbin:/bin"]
+    enter = (
+        ["unshare", "--mount", "--propagation", "private", "sh", "-c", PIVOT]
+        if is_machine
+        else ["chroot"]
+    )
+    return [
+        *enter,
+        str(root),
+        "env",
+        "-i",
+        "-C",
+        folder,
+        "DEBIAN_FRONTEND=noninteractive",
+        "LC_ALL=C.UTF-8",
+        "HOME=/root",
+        "PATH=/usr/local/sbin:/usr/local/bin:/usr/sbin:/usr/bin:/sbin:/bin",
+    ]

@@ -11,12 +11,31 @@ from tests.support.wasm_encoding import I32, Function, constant, module
 
 MODULE = AgentWords(OUTSIDE, f"{AGENTS / 'wasm' / 'ring.wasm'}:{{nodes}}")
 # a module that sleeps once and accuses the wrong link, and the same in Python
-SLEEPER = module([Function([], [], b"\x10\0\x1a\x10\1\x1a" + constant(I32, 0) + b"\x10\2\x1a", "run")],
-                 ["enter", "sleep", "accuse"])
+SLEEPER = module(
+    [
+        Function(
+            [], [], b"\x10\0\x1a\x10\1\x1a" + constant(I32, 0) + b"\x10\2\x1a", "run"
+        )
+    ],
+    ["enter", "sleep", "accuse"],
+)
 # a module that leaves at once, and one that goes to a node that is safe and accuses the other link there
 LEAVER = module([Function([], [], b"\x10\0\x1a\x10\1\x1a", "run")], ["enter", "leave"])
-WALKER = module([Function([], [], b"\x10\0\x1a" + constant(I32, 0) + b"\x10\1\x1a" + constant(I32, 1)
-                          + b"\x10\2\x6b\x10\3\x1a", "run")], ["enter", "depart", "came", "accuse"])
+WALKER = module(
+    [
+        Function(
+            [],
+            [],
+            b"\x10\0\x1a"
+            + constant(I32, 0)
+            + b"\x10\1\x1a"
+            + constant(I32, 1)
+            + b"\x10\2\x6b\x10\3\x1a",
+            "run",
+        )
+    ],
+    ["enter", "depart", "came", "accuse"],
+)
 SLEEPS = f"""
 import sys, time
 sys.path.insert(0, {str(AGENTS)!r})

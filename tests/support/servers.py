@@ -39,14 +39,31 @@ class Server:
     """A server that says on which port it listens. It is killed in the end if it has not ended. What it tells may go to
     a file."""
 
-    def __init__(self, command: Sequence[object], folder: pathlib.Path = TOP, port: Optional[int] = None,
-                 errors: Optional[pathlib.Path] = None, **streams: Any) -> None:
+    def __init__(
+        self,
+        command: Sequence[object],
+        folder: pathlib.Path = TOP,
+        port: Optional[int] = None,
+        errors: Optional[pathlib.Path] = None,
+        **streams: Any,
+    ) -> None:
         """If the command names no port, a free one is put behind it."""
-        self.port, self.begun, self._errors = port or free_port(), time.monotonic(), errors
+        self.port, self.begun, self._errors = (
+            port or free_port(),
+            time.monotonic(),
+            errors,
+        )
         self._listens = b"listening %d\n" % self.port
         command = command if port else [*command, "--port", self.port]
-        streams = {"stdin": subprocess.DEVNULL, "stdout": subprocess.PIPE, "stderr": subprocess.PIPE, **streams}
-        with errors.open("wb") if errors else contextlib.nullcontext(streams["stderr"]) as streams["stderr"]:
+        streams = {
+            "stdin": subprocess.DEVNULL,
+            "stdout": subprocess.PIPE,
+            "stderr": subprocess.PIPE,
+            **streams,
+        }
+        with errors.open("wb") if errors else contextlib.nullcontext(
+            streams["stderr"]
+        ) as streams["stderr"]:
             self.child = subprocess.Popen([*map(str, command)], cwd=folder, **streams)
         late = threading.Timer(START, self.child.kill)
         late.start()
@@ -56,7 +73,11 @@ class Server:
     def __enter__(self) -> "Server":
         if self.first != self._listens:
             self.child.kill()
-            told = self._errors.read_bytes() if self._errors else self.child.communicate()[1]
+            told = (
+                self._errors.read_bytes()
+                if self._errors
+                else self.child.communicate()[1]
+            )
             self.__exit__()
             raise Wrong(f"the server did not start: {self.first or told!r}")
         return self
@@ -99,13 +120,41 @@ class Server:
         """Waits until the server has ended: its exit status, what it printed after the line that says where it
         listens, and what of standard error nobody has read yet."""
         printed, told = self.child.communicate(timeout=END)
-        return Run(self.child.returncode, self.first.removeprefix(self._listens) + printed, told or b"")
+        return Run(
+            self.child.returncode,
+            self.first.removeprefix(self._listens) + printed,
+            told or b"",
+        )
 
 
-def serve(program: str, folder: pathlib.Path, *options: object, turns: int = 400, pause: int = 5,
-            sessions: int = 100, grace: int = 300, prefix: str = "match", front: Sequence[object] = (),
-            **streams: Any) -> Server:
+def serve(
+    program: str,
+    folder: pathlib.Path,
+    *options: object,
+    turns: int = 400,
+    pause: int = 5,
+    sessions: int = 100,
+    grace: int = 300,
+    prefix: str = "match",
+    front: Sequence[object] = (),
+    **streams: Any,
+) -> Server:
     """The program serves the tournament of a folder, by a command in front of it if one is given."""
-    words = [*front, program, "serve", "cup.toml", "--sessions", sessions, "--turns", turns, "--pause", pause,
-             "--grace", grace, "--replay", prefix, *options]
+    words = [
+        *front,
+        program,
+        "serve",
+        "cup.toml",
+        "--sessions",
+        sessions,
+        "--turns",
+        turns,
+        "--pause",
+        pause,
+        "--grace",
+        grace,
+        "--replay",
+        prefix,
+        *options,
+    ]
     return Server(words, folder, **streams)

@@ -45,10 +45,15 @@ Description: contest server for black hole search by mobile agents
  The lab, arena-lab, plays agents under chosen schedules, shows matches, and serves a
  hall for a course.
 """
-CLAIMS = {True: "what it tells agents is proved: /usr/share/doc/arena/PROVED.txt says by what.",
-          False: "this build of it is not proved. Do not publish it."}
+CLAIMS = {
+    True: "what it tells agents is proved: /usr/share/doc/arena/PROVED.txt says by what.",
+    False: "this build of it is not proved. Do not publish it.",
+}
 # the hall as a service, which the teacher enables once there is a course
-SERVICE, SYSTEM = "arena_lab/hall/arena-hall.service", "usr/lib/systemd/system/arena-hall.service"
+SERVICE, SYSTEM = (
+    "arena_lab/hall/arena-hall.service",
+    "usr/lib/systemd/system/arena-hall.service",
+)
 POSTINST = """#!/bin/sh
 set -e
 if [ -d /run/systemd/system ]; then
@@ -71,8 +76,11 @@ class NoPackage(Exception):
 
 def files_of(released: Files, pages: Dict[str, str], completion: str) -> Files:
     """The files of the package by their paths, but for links."""
-    found = {(DOCUMENTS if path.startswith(DOCUMENTED) else HOME) + path: file for path, file in released.items()
-             if path != "SHA256SUMS"}
+    found = {
+        (DOCUMENTS if path.startswith(DOCUMENTED) else HOME) + path: file
+        for path, file in released.items()
+        if path != "SHA256SUMS"
+    }
     for name in ("PROVED.txt", "UNPROVED.txt"):
         if name in released:
             found[DOCUMENTS + name] = released[name]
@@ -80,18 +88,31 @@ def files_of(released: Files, pages: Dict[str, str], completion: str) -> Files:
     if SERVICE in released:
         found[SYSTEM] = released[SERVICE]
     for name, text in pages.items():
-        found[f"usr/share/man/man1/{name}.gz"] = File(gzip.compress(text.encode(), 9, mtime=0), READABLE)
-    found["usr/share/bash-completion/completions/arena"] = File(completion.encode(), READABLE)
+        found[f"usr/share/man/man1/{name}.gz"] = File(
+            gzip.compress(text.encode(), 9, mtime=0), READABLE
+        )
+    found["usr/share/bash-completion/completions/arena"] = File(
+        completion.encode(), READABLE
+    )
     return found
 
 
 def control(files: Files, version: str, glibc: str, is_proved: bool) -> Files:
     """What dpkg is told of the package."""
     size = sum(len(file.text) for file in files.values()) // 1024 + 1
-    text = CONTROL.format(version=version, size=size, glibc=glibc, claim=CLAIMS[is_proved])
-    sums = "".join(f"{hashlib.md5(file.text).hexdigest()}  {path}\n" for path, file in sorted(files.items()))
-    return {"DEBIAN/control": File(text.encode(), READABLE), "DEBIAN/md5sums": File(sums.encode(), READABLE),
-            "DEBIAN/prerm": File(PRERM.encode(), RUNNABLE), "DEBIAN/postinst": File(POSTINST.encode(), RUNNABLE)}
+    text = CONTROL.format(
+        version=version, size=size, glibc=glibc, claim=CLAIMS[is_proved]
+    )
+    sums = "".join(
+        f"{hashlib.md5(file.text).hexdigest()}  {path}\n"
+        for path, file in sorted(files.items())
+    )
+    return {
+        "DEBIAN/control": File(text.encode(), READABLE),
+        "DEBIAN/md5sums": File(sums.encode(), READABLE),
+        "DEBIAN/prerm": File(PRERM.encode(), RUNNABLE),
+        "DEBIAN/postinst": File(POSTINST.encode(), RUNNABLE),
+    }
 
 
 def packed(files: Files, links: Dict[str, str], seconds: int) -> bytes:
@@ -111,12 +132,29 @@ def packed(files: Files, links: Dict[str, str], seconds: int) -> bytes:
                 place.chmod(0o755)
             os.utime(place, (seconds, seconds), follow_symlinks=False)
         made = pathlib.Path(name) / "made.deb"
-        words = ["dpkg-deb", "--root-owner-group", "-Zxz", "--threads-max=1", "--build", str(top), str(made)]
+        words = [
+            "dpkg-deb",
+            "--root-owner-group",
+            "-Zxz",
+            "--threads-max=1",
+            "--build",
+            str(top),
+            str(made),
+        ]
         try:
-            subprocess.run(words, check=True, stdout=subprocess.DEVNULL, stderr=subprocess.PIPE,
-                           env={**os.environ, "SOURCE_DATE_EPOCH": str(seconds)})
+            subprocess.run(
+                words,
+                check=True,
+                stdout=subprocess.DEVNULL,
+                stderr=subprocess.PIPE,
+                env={**os.environ, "SOURCE_DATE_EPOCH": str(seconds)},
+            )
         except FileNotFoundError:
-            raise NoPackage("dpkg-deb is missing: install Debian's package dpkg") from None
+            raise NoPackage(
+                "dpkg-deb is missing: install Debian's package dpkg"
+            ) from None
         except subprocess.CalledProcessError as fault:
-            raise NoPackage(f"dpkg-deb: {fault.stderr.decode(errors='replace').strip()}") from None
+            raise NoPackage(
+                f"dpkg-deb: {fault.stderr.decode(errors='replace').strip()}"
+            ) from None
         return made.read_bytes()

@@ -30,18 +30,33 @@ class Help(NamedTuple):
 def of_program(program: str) -> List[Help]:
     """The help texts of the program and of each of its commands."""
     first = asked(program, "--help")
-    commands = [name for name in COMMAND.findall(part_of(first, "Commands")) if name != "help"]
-    found = [Help("arena", "a contest server for black hole search by mobile agents", first)]
+    commands = [
+        name for name in COMMAND.findall(part_of(first, "Commands")) if name != "help"
+    ]
+    found = [
+        Help("arena", "a contest server for black hole search by mobile agents", first)
+    ]
     for name in commands:
         about = re.search(rf"^ +{name}  (.*)$", first, re.M)
-        found.append(Help(f"arena {name}", about[1] if about else "", asked(program, name, "--help")))
+        found.append(
+            Help(
+                f"arena {name}",
+                about[1] if about else "",
+                asked(program, name, "--help"),
+            )
+        )
     return found
 
 
 def asked(program: str, *words: str) -> str:
     """What the program says for these words, without what one that is not proved says of itself."""
-    ran = subprocess.run([program, *words], stdin=subprocess.DEVNULL, stdout=subprocess.PIPE,
-                         stderr=subprocess.DEVNULL, check=True)
+    ran = subprocess.run(
+        [program, *words],
+        stdin=subprocess.DEVNULL,
+        stdout=subprocess.PIPE,
+        stderr=subprocess.DEVNULL,
+        check=True,
+    )
     return ran.stdout.decode()
 
 
@@ -55,14 +70,27 @@ def of_lab() -> List[Help]:
     """The help texts of the lab and of each of its commands."""
     from arena_lab import INSTALLED
     from arena_lab.__main__ import COMMANDS, parser
+
     before = os.environ.get("COLUMNS")
     os.environ["COLUMNS"] = str(WIDTH)
     try:
         made = parser(INSTALLED)
         commands = next(it for it in made._actions if it.dest == "command").choices
-        found = [Help(INSTALLED, "plays agents under a schedule that you choose", made.format_help())]
-        return found + [Help(f"{INSTALLED} {name}", COMMANDS[name].about, commands[name].format_help())
-                        for name in COMMANDS]
+        found = [
+            Help(
+                INSTALLED,
+                "plays agents under a schedule that you choose",
+                made.format_help(),
+            )
+        ]
+        return found + [
+            Help(
+                f"{INSTALLED} {name}",
+                COMMANDS[name].about,
+                commands[name].format_help(),
+            )
+            for name in COMMANDS
+        ]
     finally:
         del os.environ["COLUMNS"]
         if before is not None:
@@ -72,20 +100,31 @@ def of_lab() -> List[Help]:
 def escaped(text: str) -> str:
     """Text as troff takes it: no line of it is a request."""
     lines = text.replace("\\", "\\e").replace("-", "\\-").split("\n")
-    return "\n".join("\\&" + line if line.startswith((".", "'")) else line for line in lines)
+    return "\n".join(
+        "\\&" + line if line.startswith((".", "'")) else line for line in lines
+    )
 
 
 def page_of(help_text: Help, version: str, day: str, others: List[str]) -> str:
     """A man page: the help text under headings, as it is laid out."""
     parts = HEADING.split(f"DESCRIPTION:\n{help_text.text}")
-    body = "".join(f".SH {heading.upper()}\n.nf\n{escaped(text.strip(chr(10)))}\n.fi\n"
-                   for heading, text in zip(parts[1::2], parts[2::2]) if text.strip())
+    body = "".join(
+        f".SH {heading.upper()}\n.nf\n{escaped(text.strip(chr(10)))}\n.fi\n"
+        for heading, text in zip(parts[1::2], parts[2::2])
+        if text.strip()
+    )
     also = ", ".join(f".BR {name} (1)" for name in others if name != help_text.name())
-    see = "".join(f".BR {name} (1)\n" for name in others if name != help_text.name()) if also else ""
+    see = (
+        "".join(f".BR {name} (1)\n" for name in others if name != help_text.name())
+        if also
+        else ""
+    )
     about = help_text.about.rstrip(".")
-    return (f'.TH {help_text.name().upper().replace("-", chr(92) + "-")} 1 "{day}" "arena {version}"\n'
-            f".SH NAME\n{escaped(help_text.name())} \\- {escaped(about)}\n{body}"
-            + (f".SH SEE ALSO\n{see}" if see else ""))
+    return (
+        f'.TH {help_text.name().upper().replace("-", chr(92) + "-")} 1 "{day}" "arena {version}"\n'
+        f".SH NAME\n{escaped(help_text.name())} \\- {escaped(about)}\n{body}"
+        + (f".SH SEE ALSO\n{see}" if see else "")
+    )
 
 
 def pages(helps: List[Help], version: str, day: str) -> Dict[str, str]:
@@ -93,7 +132,11 @@ def pages(helps: List[Help], version: str, day: str) -> Dict[str, str]:
     found = {}
     for one in helps:
         first = one.words.split(" ")[0]
-        others = [it.name() for it in helps if it.words.split(" ")[0] == first] if one.words == first else [first]
+        others = (
+            [it.name() for it in helps if it.words.split(" ")[0] == first]
+            if one.words == first
+            else [first]
+        )
         found[f"{one.name()}.1"] = page_of(one, version, day, others)
     return found
 
@@ -104,10 +147,20 @@ def completion(helps: List[Help]) -> str:
     for first in dict.fromkeys(it.words.split(" ")[0] for it in helps):
         own = [it for it in helps if it.words.split(" ")[0] == first]
         commands = [it.words.split(" ")[1] for it in own if " " in it.words]
-        cases = "".join(f"        {it.words.split(' ')[1]}) options=\"{' '.join(it.options())}\" ;;\n"
-                        for it in own if " " in it.words)
-        tables.append(TABLE.format(name=first.replace("-", "_"), command=first, commands=" ".join(commands),
-                                   options=" ".join(own[0].options()), cases=cases))
+        cases = "".join(
+            f"        {it.words.split(' ')[1]}) options=\"{' '.join(it.options())}\" ;;\n"
+            for it in own
+            if " " in it.words
+        )
+        tables.append(
+            TABLE.format(
+                name=first.replace("-", "_"),
+                command=first,
+                commands=" ".join(commands),
+                options=" ".join(own[0].options()),
+                cases=cases,
+            )
+        )
     return HEAD + "\n".join(tables)
 
 

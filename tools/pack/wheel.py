@@ -31,13 +31,25 @@ def name_of(version: str, glibc: str) -> str:
 
 def tag_of(glibc: str) -> str:
     """The platforms on which the program runs."""
-    return f"manylinux_{glibc.replace('.', '_')}_x86_64" if glibc != "any" else "linux_x86_64"
+    return (
+        f"manylinux_{glibc.replace('.', '_')}_x86_64"
+        if glibc != "any"
+        else "linux_x86_64"
+    )
 
 
 def files_of(released: Files, extra: Files) -> Files:
     """The files of the package: those of the lab, the programs with what is said of them, examples and documents."""
-    found = {path: file for path, file in released.items() if path.startswith("arena_lab/")}
-    found.update({f"arena_lab/{path}": file for path, file in released.items() if path.startswith(BESIDE)})
+    found = {
+        path: file for path, file in released.items() if path.startswith("arena_lab/")
+    }
+    found.update(
+        {
+            f"arena_lab/{path}": file
+            for path, file in released.items()
+            if path.startswith(BESIDE)
+        }
+    )
     for path in ("bin/arena", "bin/bhs_player", "BUILD", "PROVED.txt", "UNPROVED.txt"):
         if path in released:
             found[PROGRAM + path.rpartition("/")[2]] = released[path]
@@ -47,29 +59,54 @@ def files_of(released: Files, extra: Files) -> Files:
 def metadata(project: bytes, version: str, readme: str) -> str:
     """What pip is told of the package, out of pyproject.toml."""
     table = tomllib.loads(project.decode())["project"]
-    lines = ["Metadata-Version: 2.1", f"Name: {table['name']}", f"Version: {version}",
-             f"Summary: {table['description']}", f"Requires-Python: {table['requires-python']}",
-             *(f"Requires-Dist: {it}" for it in table["dependencies"])]
+    lines = [
+        "Metadata-Version: 2.1",
+        f"Name: {table['name']}",
+        f"Version: {version}",
+        f"Summary: {table['description']}",
+        f"Requires-Python: {table['requires-python']}",
+        *(f"Requires-Dist: {it}" for it in table["dependencies"]),
+    ]
     for extra, needs in table["optional-dependencies"].items():
-        lines += [f"Provides-Extra: {extra}", *(f'Requires-Dist: {it}; extra == "{extra}"' for it in needs)]
+        lines += [
+            f"Provides-Extra: {extra}",
+            *(f'Requires-Dist: {it}; extra == "{extra}"' for it in needs),
+        ]
     return "\n".join([*lines, "Description-Content-Type: text/markdown", "", readme])
 
 
 ENTRY_POINTS = "[console_scripts]\narena = arena_lab.start:arena\narena-lab = arena_lab.start:lab\n"
 
 
-def packed(files: Files, project: bytes, version: str, glibc: str, seconds: int) -> bytes:
+def packed(
+    files: Files, project: bytes, version: str, glibc: str, seconds: int
+) -> bytes:
     """The wheel."""
     info = f"{NAME}-{version}.dist-info"
-    readme = files["arena_lab/README.md"].text.decode() if "arena_lab/README.md" in files else ""
-    whole = {**files, f"{info}/METADATA": File(metadata(project, version, readme).encode(), READABLE),
-             f"{info}/WHEEL": File(f"Wheel-Version: 1.0\nGenerator: arena\nRoot-Is-Purelib: false\n"
-                                   f"Tag: py3-none-{tag_of(glibc)}\n".encode(), READABLE),
-             f"{info}/entry_points.txt": File(ENTRY_POINTS.encode(), READABLE)}
+    readme = (
+        files["arena_lab/README.md"].text.decode()
+        if "arena_lab/README.md" in files
+        else ""
+    )
+    whole = {
+        **files,
+        f"{info}/METADATA": File(metadata(project, version, readme).encode(), READABLE),
+        f"{info}/WHEEL": File(
+            f"Wheel-Version: 1.0\nGenerator: arena\nRoot-Is-Purelib: false\n"
+            f"Tag: py3-none-{tag_of(glibc)}\n".encode(),
+            READABLE,
+        ),
+        f"{info}/entry_points.txt": File(ENTRY_POINTS.encode(), READABLE),
+    }
     record = f"{info}/RECORD"
-    rows = [f"{path},sha256={digest_of(file.text)},{len(file.text)}" for path, file in sorted(whole.items())]
+    rows = [
+        f"{path},sha256={digest_of(file.text)},{len(file.text)}"
+        for path, file in sorted(whole.items())
+    ]
     listed: List[Tuple[str, File]] = sorted(whole.items())
-    listed.append((record, File("\n".join([*rows, f"{record},,", ""]).encode(), READABLE)))
+    listed.append(
+        (record, File("\n".join([*rows, f"{record},,", ""]).encode(), READABLE))
+    )
     made, moment = io.BytesIO(), time.gmtime(max(seconds, 315_532_800))[:6]
     with zipfile.ZipFile(made, "w", zipfile.ZIP_DEFLATED, compresslevel=9) as archive:
         for path, file in listed:

@@ -23,7 +23,9 @@ from tools.prove.prover import KIT, TOP, workers
 KEPT = pathlib.Path("/opt/rattle-kept")
 PROGRAM = "bhs_main"
 # a row of `readelf --sections --wide`: the name, and behind type and address the place in the file and the size
-SECTION = re.compile(r"^ +\[ *\d+\] (\S+) +(\S+) +[0-9a-f]+ ([0-9a-f]+) ([0-9a-f]+) ", re.M)
+SECTION = re.compile(
+    r"^ +\[ *\d+\] (\S+) +(\S+) +[0-9a-f]+ ([0-9a-f]+) ([0-9a-f]+) ", re.M
+)
 # a section of this type has no bytes in the file
 ABSENT = "NOBITS"
 
@@ -31,7 +33,9 @@ ABSENT = "NOBITS"
 def cloned(commit: str, folder: pathlib.Path) -> pathlib.Path:
     """A clone of a commit without its edits."""
     clone = folder / "clone"
-    subprocess.run(["git", "clone", "-q", "--no-checkout", str(TOP), str(clone)], check=True)
+    subprocess.run(
+        ["git", "clone", "-q", "--no-checkout", str(TOP), str(clone)], check=True
+    )
     subprocess.run(["git", "checkout", "-q", commit], cwd=clone, check=True)
     for name in ("must-fail", "more-edits"):
         for edits in (clone / "crates").glob(f"*/{name}"):
@@ -45,18 +49,31 @@ def proved(clone: pathlib.Path, jobs: int) -> pathlib.Path:
     empty.mkdir()
     KEPT.mkdir(exist_ok=True)
     script = f'mount --bind "$1" {KEPT} && exec {KIT}/bin/rt ci'
-    subprocess.run(["unshare", "--mount", "sh", "-c", script, "sh", str(empty)], cwd=clone, stdout=sys.stderr,
-                   env={**os.environ, "RT_JOBS": str(jobs)}, check=True)
+    subprocess.run(
+        ["unshare", "--mount", "sh", "-c", script, "sh", str(empty)],
+        cwd=clone,
+        stdout=sys.stderr,
+        env={**os.environ, "RT_JOBS": str(jobs)},
+        check=True,
+    )
     return clone / "crates" / PROGRAM / "out" / PROGRAM
 
 
 def sections(program: pathlib.Path) -> Dict[str, bytes]:
     """The bytes of each section of a program."""
-    said = subprocess.run(["readelf", "--sections", "--wide", str(program)], stdout=subprocess.PIPE, text=True,
-                          check=True).stdout
+    said = subprocess.run(
+        ["readelf", "--sections", "--wide", str(program)],
+        stdout=subprocess.PIPE,
+        text=True,
+        check=True,
+    ).stdout
     whole = program.read_bytes()
-    return {name: b"" if kind == ABSENT else whole[int(place, 16):int(place, 16) + int(size, 16)]
-            for name, kind, place, size in SECTION.findall(said)}
+    return {
+        name: b""
+        if kind == ABSENT
+        else whole[int(place, 16) : int(place, 16) + int(size, 16)]
+        for name, kind, place, size in SECTION.findall(said)
+    }
 
 
 def differing(one: pathlib.Path, other: pathlib.Path) -> List[str]:
@@ -67,23 +84,43 @@ def differing(one: pathlib.Path, other: pathlib.Path) -> List[str]:
 
 def told(one: pathlib.Path, other: pathlib.Path) -> int:
     """Says whether two programs are the same, and where they differ."""
-    digests = [hashlib.sha256(program.read_bytes()).hexdigest() for program in (one, other)]
+    digests = [
+        hashlib.sha256(program.read_bytes()).hexdigest() for program in (one, other)
+    ]
     if digests[0] == digests[1]:
         print(f"the same program, SHA-256 {digests[0]}")
         return 0
-    print(f"they differ in {', '.join(differing(one, other)) or 'no section, but in what lies between'}")
+    print(
+        f"they differ in {', '.join(differing(one, other)) or 'no section, but in what lies between'}"
+    )
     return 1
 
 
 def main() -> int:
-    parser = argparse.ArgumentParser("python3 -m tools.prove.again", description=__doc__,
-                                     formatter_class=argparse.RawDescriptionHelpFormatter)
-    parser.add_argument("program", metavar="PROGRAM", type=pathlib.Path, help="made of the same commit")
-    parser.add_argument("--commit", metavar="COMMIT", default="HEAD", help="what to prove (HEAD)")
-    parser.add_argument("--jobs", metavar="N", type=int, default=workers(), help="how many proofs at a time")
+    parser = argparse.ArgumentParser(
+        "python3 -m tools.prove.again",
+        description=__doc__,
+        formatter_class=argparse.RawDescriptionHelpFormatter,
+    )
+    parser.add_argument(
+        "program", metavar="PROGRAM", type=pathlib.Path, help="made of the same commit"
+    )
+    parser.add_argument(
+        "--commit", metavar="COMMIT", default="HEAD", help="what to prove (HEAD)"
+    )
+    parser.add_argument(
+        "--jobs",
+        metavar="N",
+        type=int,
+        default=workers(),
+        help="how many proofs at a time",
+    )
     words = parser.parse_args()
     with tempfile.TemporaryDirectory(prefix="again-") as folder:
-        return told(words.program, proved(cloned(words.commit, pathlib.Path(folder)), words.jobs))
+        return told(
+            words.program,
+            proved(cloned(words.commit, pathlib.Path(folder)), words.jobs),
+        )
 
 
 if __name__ == "__main__":

@@ -19,7 +19,9 @@ def minutes(seconds: float) -> str:
 
 def about(seconds: float) -> str:
     """A time that is not known well."""
-    return "less than a minute" if seconds < 60 else f"about {math.ceil(seconds / 60)} min"
+    return (
+        "less than a minute" if seconds < 60 else f"about {math.ceil(seconds / 60)} min"
+    )
 
 
 def picture(share: float) -> str:
@@ -43,7 +45,9 @@ class Bar:
         line = f"arena: {picture(share)} {text}"
         if self._is_terminal:
             # a line that is wider than the terminal could not be drawn over
-            self._stream.write(f"\r{line[:shutil.get_terminal_size().columns - 1]}\x1b[K")
+            self._stream.write(
+                f"\r{line[:shutil.get_terminal_size().columns - 1]}\x1b[K"
+            )
         elif time.monotonic() >= self._until and line != self._last:
             self._stream.write(f"{line}\n")
             self._until = time.monotonic() + self._quiet

@@ -17,19 +17,41 @@ from typing import Dict, Iterable, Iterator, List, NamedTuple, Set, Tuple
 
 CRATES = pathlib.Path(__file__).resolve().parents[2] / "crates"
 HEADLINES = {
-    "a session of a contest: `contests::equal_pasts_are_sent_equal_bytes` of `bhs_theorems`":
-        ("bhs_theorems", "ContestMet", "EqualPastsAreSentEqualBytes"),
-    "calls of rehearsals: `rehearsals::equal_pasts_are_answered_alike` of `bhs_theorems`":
-        ("bhs_theorems", "Calls", "EqualPastsAreAnsweredAlike"),
-    "scripts of rehearsals: `rehearsals::equal_pasts_are_sent_equal_bytes` of `bhs_theorems`":
-        ("bhs_theorems", "ScriptHeadline", "EqualPastsAreSentEqualBytes"),
-    "turns of contests: `contests::every_arrival_in_contests` of `bhs_theorems`":
-        ("bhs_theorems", "ContestTime", "EqualWaitsInContests"),
-    "replies to agents: `equal_pasts` of `bhs_model`": ("bhs_model", "Laws", "EqualPasts"),
-    "a search of rings by halves: `laws::the_halves_solve_all_rings` of `bhs_protocols`":
-        ("bhs_protocols", "HalvesLaws", "HalvesSolveAllRings"),
-    "a search of networks with a map: `laws::two_agents_with_a_map_solve` of `bhs_mapped`":
-        ("bhs_mapped", "MapLaws", "TwoAgentsWithAMapSolve"),
+    "a session of a contest: `contests::equal_pasts_are_sent_equal_bytes` of `bhs_theorems`": (
+        "bhs_theorems",
+        "ContestMet",
+        "EqualPastsAreSentEqualBytes",
+    ),
+    "calls of rehearsals: `rehearsals::equal_pasts_are_answered_alike` of `bhs_theorems`": (
+        "bhs_theorems",
+        "Calls",
+        "EqualPastsAreAnsweredAlike",
+    ),
+    "scripts of rehearsals: `rehearsals::equal_pasts_are_sent_equal_bytes` of `bhs_theorems`": (
+        "bhs_theorems",
+        "ScriptHeadline",
+        "EqualPastsAreSentEqualBytes",
+    ),
+    "turns of contests: `contests::every_arrival_in_contests` of `bhs_theorems`": (
+        "bhs_theorems",
+        "ContestTime",
+        "EqualWaitsInContests",
+    ),
+    "replies to agents: `equal_pasts` of `bhs_model`": (
+        "bhs_model",
+        "Laws",
+        "EqualPasts",
+    ),
+    "a search of rings by halves: `laws::the_halves_solve_all_rings` of `bhs_protocols`": (
+        "bhs_protocols",
+        "HalvesLaws",
+        "HalvesSolveAllRings",
+    ),
+    "a search of networks with a map: `laws::two_agents_with_a_map_solve` of `bhs_mapped`": (
+        "bhs_mapped",
+        "MapLaws",
+        "TwoAgentsWithAMapSolve",
+    ),
 }
 WORD = re.compile(r"[^\W\d][\w'-]*(?:\.[^\W\d][\w'-]*)*")
 BEGINS = re.compile(r"(\s*)(?:abbrev |pub |data |record )+([^\W\d][\w'-]*)")
@@ -47,7 +69,9 @@ class Definition(NamedTuple):
 
 class Module(NamedTuple):
     definitions: Dict[str, Definition]
-    owners: Dict[str, str]  # of each name the definition that it belongs to, as a constructor does
+    owners: Dict[
+        str, str
+    ]  # of each name the definition that it belongs to, as a constructor does
     imports: Dict[str, Place]
 
 
@@ -71,7 +95,11 @@ def blocks(lines: Iterable[str]) -> Iterator[Tuple[str, List[str]]]:
     name, block = "", []
     for line in lines:
         begins = BEGINS.match(line)
-        if line.startswith("module _") or begins and len(begins[1]) <= (2 if head else 0):
+        if (
+            line.startswith("module _")
+            or begins
+            and len(begins[1]) <= (2 if head else 0)
+        ):
             if name:
                 yield name, block
             name, block = (begins[2], [*head, line]) if begins else ("", [])
@@ -90,8 +118,14 @@ def blocks(lines: Iterable[str]) -> Iterator[Tuple[str, List[str]]]:
 @functools.lru_cache(maxsize=None)
 def read(crate: str, module: str) -> Module:
     """A file of the specs of a crate."""
-    text = (CRATES / crate / "specs" / f"{module.replace('.', '/')}.antt").read_text(encoding="utf-8")
-    lines = [line for line in map(without_comment, text.splitlines()) if line and not line.startswith("use ")]
+    text = (CRATES / crate / "specs" / f"{module.replace('.', '/')}.antt").read_text(
+        encoding="utf-8"
+    )
+    lines = [
+        line
+        for line in map(without_comment, text.splitlines())
+        if line and not line.startswith("use ")
+    ]
     definitions, owners = {}, {}
     for name, block in blocks(lines):
         definitions[name] = Definition(block, set(WORD.findall("\n".join(block))))
@@ -132,9 +166,14 @@ def table(names_too: bool = False) -> str:
     for title, headline in HEADLINES.items():
         found = reached(headline)
         lines = sum(lines_of(place, names) for place, names in found.items())
-        rows.append(f"| {title} | {sum(map(len, found.values()))} | {len(found)} | {lines} |")
+        rows.append(
+            f"| {title} | {sum(map(len, found.values()))} | {len(found)} | {lines} |"
+        )
         if names_too:
-            rows += [f"    {place[0]}/{place[1]}: {', '.join(sorted(names))}" for place, names in sorted(found.items())]
+            rows += [
+                f"    {place[0]}/{place[1]}: {', '.join(sorted(names))}"
+                for place, names in sorted(found.items())
+            ]
     return "\n".join(rows) + "\n"
 
 

@@ -29,6 +29,7 @@ NAMES = re.compile(r"(?:(?P<trait>[\w:]+)(?:<.*>)? for )?&?(?P<type>\w+)")
 class Function(NamedTuple):
     """A function: its crate, its file, its name behind its type's, its clauses, and the ghost members beside it that
     are always true."""
+
     crate: str
     file: str
     name: str
@@ -45,7 +46,7 @@ def without_parameters(head: str) -> str:
     for place, letter in enumerate(head):
         depth += (letter == "<") - (letter == ">" and head[place - 1] != "-")
         if letter == ">" and depth == 0:
-            return head[place + 1:].strip()
+            return head[place + 1 :].strip()
     return head.strip()
 
 
@@ -56,8 +57,14 @@ def contract_of(lines: List[str], at: int) -> str:
     for line in lines[at:]:
         found.append(line)
         text = line.rstrip()
-        opens = text.endswith("{") and not text.lstrip().startswith(("ensures", "requires"))
-        if (opens or text.endswith("{}")) and len(line) - len(line.lstrip()) == indent or text.endswith(";"):
+        opens = text.endswith("{") and not text.lstrip().startswith(
+            ("ensures", "requires")
+        )
+        if (
+            (opens or text.endswith("{}"))
+            and len(line) - len(line.lstrip()) == indent
+            or text.endswith(";")
+        ):
             break
     return "\n".join(found)
 
@@ -78,7 +85,11 @@ def functions_in(crate: str, path: pathlib.Path) -> Iterator[Function]:
             head = without_parameters(block[2])
             named = NAMES.match(head)
             is_trait = block[1] != "impl"
-            trait = head.split("{")[0].split(":")[0].split("<")[0].strip() if is_trait else named and named["trait"]
+            trait = (
+                head.split("{")[0].split(":")[0].split("<")[0].strip()
+                if is_trait
+                else named and named["trait"]
+            )
             kind = "" if is_trait else (named["type"] if named else "")
             kind = trait if is_trait else kind
             empty = always_true(lines, at)
@@ -87,14 +98,24 @@ def functions_in(crate: str, path: pathlib.Path) -> Iterator[Function]:
         head = HEAD.match(line)
         if head:
             owner = kind if head[1] else ""
-            yield Function(crate, path.stem, f"{owner}::{head[2]}" if owner else head[2], trait if head[1] else None,
-                           contract_of(lines, at).split("ensures")[1:], empty)
+            yield Function(
+                crate,
+                path.stem,
+                f"{owner}::{head[2]}" if owner else head[2],
+                trait if head[1] else None,
+                contract_of(lines, at).split("ensures")[1:],
+                empty,
+            )
 
 
 def all_functions(crates: List[str]) -> List[Function]:
     """The functions of these crates."""
-    return [one for crate in crates for path in sorted((CRATES / crate / "src").rglob("*.rt"))
-            for one in functions_in(crate, path)]
+    return [
+        one
+        for crate in crates
+        for path in sorted((CRATES / crate / "src").rglob("*.rt"))
+        for one in functions_in(crate, path)
+    ]
 
 
 def says_something(one: Function, promised: Dict[str, List[str]]) -> bool:
@@ -104,19 +125,36 @@ def says_something(one: Function, promised: Dict[str, List[str]]) -> bool:
     if one.trait in WITH_GHOSTS:
         return not one.empty
     method = f"{(one.trait or '').rpartition('::')[2]}::{one.name.rpartition('::')[2]}"
-    return any(one.empty.isdisjoint(re.findall(r"\w+", clause)) for clause in promised.get(method, []))
+    return any(
+        one.empty.isdisjoint(re.findall(r"\w+", clause))
+        for clause in promised.get(method, [])
+    )
 
 
 def without_clause(crates: List[str]) -> List[Function]:
     """Those of the functions that have no clause, neither of their own nor of a trait of this repository."""
-    everywhere = all_functions(sorted(path.name for path in CRATES.iterdir() if (path / "src").is_dir()))
-    promised = {one.name: one.clauses for one in everywhere if one.trait and one.name.startswith(f"{one.trait}::")}
-    return [one for one in everywhere if one.crate in crates and not says_something(one, promised)]
+    everywhere = all_functions(
+        sorted(path.name for path in CRATES.iterdir() if (path / "src").is_dir())
+    )
+    promised = {
+        one.name: one.clauses
+        for one in everywhere
+        if one.trait and one.name.startswith(f"{one.trait}::")
+    }
+    return [
+        one
+        for one in everywhere
+        if one.crate in crates and not says_something(one, promised)
+    ]
 
 
 def crates_given(given: List[str]) -> List[str]:
     """The crates that are named, or all but those that are programs by themselves."""
-    return given or [it.name for it in sorted(CRATES.iterdir()) if (it / "src").is_dir() and it.name not in LEFT_OUT]
+    return given or [
+        it.name
+        for it in sorted(CRATES.iterdir())
+        if (it / "src").is_dir() and it.name not in LEFT_OUT
+    ]
 
 
 def main(given: List[str]) -> int:

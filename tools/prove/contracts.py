@@ -21,7 +21,16 @@ import sys
 import tomllib
 from typing import Dict, Iterator, List, NamedTuple, Set
 
-from tools.prove.clauses import BLOCK, CRATES, HEAD, NAMES, TOP, contract_of, crates_given, without_parameters
+from tools.prove.clauses import (
+    BLOCK,
+    CRATES,
+    HEAD,
+    NAMES,
+    TOP,
+    contract_of,
+    crates_given,
+    without_parameters,
+)
 
 TESTED = TOP / "tools" / "prove" / "tested.toml"
 CLAUSE = re.compile(r"^\s*ensures(?: (\w+))? \{", re.MULTILINE)
@@ -30,10 +39,14 @@ OF_ERRORS = re.compile(r"\b(?:IfErr|OnErr|OnFailure|IfFault)\b")
 ENUM = re.compile(r"enum (\w+)[^{]*\{(.*?)\n\}", re.DOTALL)
 STRUCT = re.compile(r"^pub struct (\w+)[^;{(]*\{(.*?)\n\}", re.DOTALL | re.MULTILINE)
 OPEN_FIELD = re.compile(r"^    pub \w+: (.*),$", re.MULTILINE)
-VARIANT = re.compile(r"^    (\w+)(?:\((.*?)\)| \{(.*?)\n    \}| = \d+)?,?$", re.DOTALL | re.MULTILINE)
+VARIANT = re.compile(
+    r"^    (\w+)(?:\((.*?)\)| \{(.*?)\n    \}| = \d+)?,?$", re.DOTALL | re.MULTILINE
+)
 # a runtime that waits, a stream, or who answers
-WAITS = re.compile(r"\w: (?:[\w:]+ \+ )*(?:io::)?"
-                   r"(?:Wait|Threads|Read|BufRead|Write|Input|Output|Files|Team|Port|Connection|Machine)\b")
+WAITS = re.compile(
+    r"\w: (?:[\w:]+ \+ )*(?:io::)?"
+    r"(?:Wait|Threads|Read|BufRead|Write|Input|Output|Files|Team|Port|Connection|Machine)\b"
+)
 ALLOCATOR = re.compile(r"\balloc: Global\b")
 PASSED_ON = re.compile(r"^pub use ([^;]+);", re.MULTILINE)
 OPEN_MODULE = re.compile(r"^pub mod (\w+);", re.MULTILINE)
@@ -44,6 +57,7 @@ MEMORY = {"Memory", "AllocError"}
 
 class Contract(NamedTuple):
     """A public function: its name with that of its type, its `///` lines, its signature, and its clauses by name."""
+
     name: str
     words: str
     signature: str
@@ -66,9 +80,11 @@ def clauses_in(contract: str) -> Dict[str, str]:
     """The clauses of a contract, each by its name; those without one are `-`, `-2`, .."""
     found: Dict[str, str] = {}
     places = list(CLAUSE.finditer(contract))
-    for place, after in zip(places, [*(it.start() for it in places[1:]), len(contract)]):
+    for place, after in zip(
+        places, [*(it.start() for it in places[1:]), len(contract)]
+    ):
         name = place[1] or ("-" if "-" not in found else f"-{len(found) + 1}")
-        found[name] = contract[place.end():after]
+        found[name] = contract[place.end() : after]
     return found
 
 
@@ -81,28 +97,57 @@ def contracts_in(path: pathlib.Path) -> Iterator[Contract]:
             head = without_parameters(block[2])
             is_open = block[1] == "pub trait"
             named = NAMES.match(head)
-            kind = re.split(r"[:<{ ]", head)[0] if block[1] != "impl" else named["type"] if named else ""
+            kind = (
+                re.split(r"[:<{ ]", head)[0]
+                if block[1] != "impl"
+                else named["type"]
+                if named
+                else ""
+            )
         elif line.startswith("}"):
             kind, is_open = "", False
         head_of = HEAD.match(line)
-        if head_of and (line.lstrip().startswith("pub fn") or line.lstrip().startswith("pub const fn") or is_open):
+        if head_of and (
+            line.lstrip().startswith("pub fn")
+            or line.lstrip().startswith("pub const fn")
+            or is_open
+        ):
             contract = contract_of(lines, at)
             signature = re.split(r"\n\s*(?:ensures|requires|where)\b", contract)[0]
             name = f"{kind}::{head_of[2]}" if head_of[1] and kind else head_of[2]
-            yield Contract(name, words_above(lines, at), re.sub(r"\s+", " ", signature).strip(" {;"),
-                           clauses_in(contract))
+            yield Contract(
+                name,
+                words_above(lines, at),
+                re.sub(r"\s+", " ", signature).strip(" {;"),
+                clauses_in(contract),
+            )
 
 
 def contracts_of(crate: str) -> List[Contract]:
     """The functions that a crate passes on, of its own and of its types, file by file: those of its head, of its open
     modules, and those that the head names."""
     root = CRATES / crate / "src"
-    head = "".join(path.read_text(encoding="utf-8") for path in (root / "lib.rt", root / "main.rt") if path.exists())
-    names = {name for found in PASSED_ON.findall(head) for name in re.findall(r"\w+", found)}
+    head = "".join(
+        path.read_text(encoding="utf-8")
+        for path in (root / "lib.rt", root / "main.rt")
+        if path.exists()
+    )
+    names = {
+        name for found in PASSED_ON.findall(head) for name in re.findall(r"\w+", found)
+    }
     open_modules = set(OPEN_MODULE.findall(head))
-    found = [(path.stem, one) for path in sorted(root.rglob("*.rt")) for one in contracts_in(path)]
-    return [one._replace(name=f"{module}::{one.name}") if module in open_modules and "::" not in one.name else one
-            for module, one in found if module in {"lib", *open_modules} or one.name.partition("::")[0] in names]
+    found = [
+        (path.stem, one)
+        for path in sorted(root.rglob("*.rt"))
+        for one in contracts_in(path)
+    ]
+    return [
+        one._replace(name=f"{module}::{one.name}")
+        if module in open_modules and "::" not in one.name
+        else one
+        for module, one in found
+        if module in {"lib", *open_modules} or one.name.partition("::")[0] in names
+    ]
 
 
 def memory_types() -> Set[str]:
@@ -110,13 +155,28 @@ def memory_types() -> Set[str]:
     structs with an open field that does."""
     texts = [path.read_text(encoding="utf-8") for path in CRATES.glob("*/src/**/*.rt")]
     enums = [found for text in texts for found in ENUM.findall(text)]
-    structs = [(name, OPEN_FIELD.findall(body)) for text in texts for name, body in STRUCT.findall(text)]
+    structs = [
+        (name, OPEN_FIELD.findall(body))
+        for text in texts
+        for name, body in STRUCT.findall(text)
+    ]
     found, grown = set(MEMORY), True
     while grown:
-        more = {name for name, body in enums if name not in found and any(
-            variant[1] in MEMORY or found & set(re.findall(r"\w+", f"{variant[2]} {variant[3]}"))
-            for variant in VARIANT.finditer(body))}
-        more |= {name for name, kinds in structs if name not in found and found & set(re.findall(r"\w+", str(kinds)))}
+        more = {
+            name
+            for name, body in enums
+            if name not in found
+            and any(
+                variant[1] in MEMORY
+                or found & set(re.findall(r"\w+", f"{variant[2]} {variant[3]}"))
+                for variant in VARIANT.finditer(body)
+            )
+        }
+        more |= {
+            name
+            for name, kinds in structs
+            if name not in found and found & set(re.findall(r"\w+", str(kinds)))
+        }
         grown = bool(more)
         found |= more
     return found
@@ -133,7 +193,11 @@ def wants_memory(types: Set[str], signature: str) -> str:
     is_command = "u8" in words and re.search(r"\berrors: &mut", signature)
     if types & words:
         return "yes"
-    return "by its status" if is_command and (ALLOCATOR.search(signature) or "Memory>" in signature) else "no"
+    return (
+        "by its status"
+        if is_command and (ALLOCATOR.search(signature) or "Memory>" in signature)
+        else "no"
+    )
 
 
 def contract_lines(crate: str) -> Iterator[str]:
@@ -147,13 +211,21 @@ def memory_rows(crates: List[str]) -> Iterator[str]:
     types = memory_types()
     for crate in crates:
         for one in contracts_of(crate):
-            wants, waits = wants_memory(types, one.signature), bool(WAITS.search(one.signature))
+            wants, waits = wants_memory(types, one.signature), bool(
+                WAITS.search(one.signature)
+            )
             if wants == "no" and not waits and not ALLOCATOR.search(one.signature):
                 continue
-            changed = ", ".join(f"`{name or this}`" for name, this in CHANGED.findall(one.signature))
-            speak = ", ".join(name for name, text in one.clauses.items() if OF_ERRORS.search(text))
-            yield (f"| `{crate}` | `{one.name}` | {wants} | {'may' if waits else 'no'} | {changed} "
-                   f"| {speak} |")
+            changed = ", ".join(
+                f"`{name or this}`" for name, this in CHANGED.findall(one.signature)
+            )
+            speak = ", ".join(
+                name for name, text in one.clauses.items() if OF_ERRORS.search(text)
+            )
+            yield (
+                f"| `{crate}` | `{one.name}` | {wants} | {'may' if waits else 'no'} | {changed} "
+                f"| {speak} |"
+            )
 
 
 def edits_of(crate: str) -> List[str]:
@@ -167,16 +239,31 @@ def page(crates: List[str]) -> Iterator[str]:
     yield "# Contracts"
     for crate in crates:
         yield from ("", f"## `{crate}`", "", *contract_lines(crate))
-    yield from ("", "## What want of memory leaves", "",
-                "| crate | call | can say that memory ran out | waits | may have changed | clauses of errors |",
-                "|---|---|---|---|---|---|", *memory_rows(crates))
-    yield from ("", "## Functions without a clause", "", "| crate | functions | what fails for a wrong body |",
-                "|---|---|---|")
+    yield from (
+        "",
+        "## What want of memory leaves",
+        "",
+        "| crate | call | can say that memory ran out | waits | may have changed | clauses of errors |",
+        "|---|---|---|---|---|---|",
+        *memory_rows(crates),
+    )
+    yield from (
+        "",
+        "## Functions without a clause",
+        "",
+        "| crate | functions | what fails for a wrong body |",
+        "|---|---|---|",
+    )
     for row in tested["without_clause"]:
         if row["crate"] in crates:
             yield f"| `{row['crate']}` | {', '.join(f'`{name}`' for name in row['functions'])} | {row['fails']} |"
-    yield from ("", "## Wrong bodies that the contracts let through", "",
-                "| crate | body | why it is right, or what refuses it |", "|---|---|---|")
+    yield from (
+        "",
+        "## Wrong bodies that the contracts let through",
+        "",
+        "| crate | body | why it is right, or what refuses it |",
+        "|---|---|---|",
+    )
     for row in tested["let_through"]:
         if set(row["crates"]) & set(crates):
             yield f"| {', '.join(f'`{name}`' for name in row['crates'])} | {row['body']} | {row['why']} |"
@@ -184,7 +271,11 @@ def page(crates: List[str]) -> Iterator[str]:
     for crate in crates:
         if edits_of(crate):
             yield f"- `{crate}`: {', '.join(f'`{name}`' for name in edits_of(crate))}"
-    yield from ("", "Refused by the form of a proof before a clause is asked, so they say less than the others:", "")
+    yield from (
+        "",
+        "Refused by the form of a proof before a clause is asked, so they say less than the others:",
+        "",
+    )
     for crate, names in tested["refused_by_form"].items():
         if crate in crates:
             yield f"- `{crate}`: {', '.join(f'`{name}`' for name in names)}"

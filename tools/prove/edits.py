@@ -22,13 +22,24 @@ import tempfile
 from typing import Dict, Iterator, List, NamedTuple, Optional, Sequence, Tuple
 
 from tests.support.counts import concluded
-from tools.prove.prover import CRATES, PARTS, Libraries, below, libraries_of, may_be_used, words_of, workers
+from tools.prove.prover import (
+    CRATES,
+    PARTS,
+    Libraries,
+    below,
+    libraries_of,
+    may_be_used,
+    words_of,
+    workers,
+)
 
 # what a check of a crate that is proved ends with, and one that is not
 PROVED, NOT_PROVED = "logic=proved", "logic=not-proved"
 SOME_PROVED = re.compile(r"only=(\d+) proved=(\d+)")
 # names that a text of the code or of a definition lacks: the edit was not tried
-UNREAD = re.compile(r"(\./)?(src|specs)/\S+ error: .*(is not in scope|has no field|is missing|expected the end)")
+UNREAD = re.compile(
+    r"(\./)?(src|specs)/\S+ error: .*(is not in scope|has no field|is missing|expected the end)"
+)
 FUNCTION = re.compile(r"( *)(pub(\([a-z]+\))? )?(const )?fn (\w+)")
 HEAD = re.compile(r"impl(?:<(.*?)>)? (?:([\w:]+)(?:<(.*)>)? for )?(\w+)")
 # what the prover says of a function that a crate lacks
@@ -42,6 +53,7 @@ class BadEdit(Exception):
 class Edit(NamedTuple):
     """What an edit changes, as files, texts in them and other texts, and the function that it changes, if it changes
     one."""
+
     name: str
     changes: List[Tuple[str, str, str]]
     function: Optional[str]
@@ -51,11 +63,14 @@ class Edit(NamedTuple):
         for file, old, new in self.changes:
             text = texts.get(file) or (folder / file).read_text()
             if text.count(old) != 1:
-                raise BadEdit(f"an old text stands {text.count(old)} times in {file}, and not once: {old}")
+                raise BadEdit(
+                    f"an old text stands {text.count(old)} times in {file}, and not once: {old}"
+                )
             texts[file] = text.replace(old, new)
 
 
 # The function that a line stands in.
+
 
 def module_of(path: str) -> List[str]:
     """The module that a file of src/ is."""
@@ -72,15 +87,25 @@ def type_of(head: str) -> Optional[Tuple[str, str]]:
     parameters, trait, of, name = found.groups()
     if trait is None:
         return name, name
-    words = [it for it in re.findall(r"(?<!')\b\w+", of or "") if it not in re.findall(r"\w+", parameters or "")]
-    return name, name + trait.rpartition("::")[2] + "".join(it[0].upper() + it[1:] for it in words)
+    words = [
+        it
+        for it in re.findall(r"(?<!')\b\w+", of or "")
+        if it not in re.findall(r"\w+", parameters or "")
+    ]
+    return name, name + trait.rpartition("::")[2] + "".join(
+        it[0].upper() + it[1:] for it in words
+    )
 
 
 def module_of_type(folder: pathlib.Path, name: str, path: str) -> List[str]:
     """The module of a crate that declares a type, by which the prover names the type's methods wherever they stand. If
     not just one does, it is that of a file."""
-    declared = re.compile(rf"^(?:pub(?:\(.*?\))? )?(?:struct|enum|union) {name}\b", re.M)
-    files = [it for it in (folder / "src").rglob("*.rt") if declared.search(it.read_text())]
+    declared = re.compile(
+        rf"^(?:pub(?:\(.*?\))? )?(?:struct|enum|union) {name}\b", re.M
+    )
+    files = [
+        it for it in (folder / "src").rglob("*.rt") if declared.search(it.read_text())
+    ]
     return module_of(str(files[0].relative_to(folder)) if len(files) == 1 else path)
 
 
@@ -93,7 +118,9 @@ def function_at(folder: pathlib.Path, path: str, place: int) -> Optional[str]:
             name, depth = found[5], len(found[1])
         elif name is not None and line.startswith("impl") and depth:
             named = type_of(line)
-            module = module_of_type(folder, named[0], path) if named else module_of(path)
+            module = (
+                module_of_type(folder, named[0], path) if named else module_of(path)
+            )
             return "::".join([*module, *(named or [])[1:], name])
         elif line.startswith("}") and name is None:
             return None
@@ -128,8 +155,10 @@ def read_edit(path: pathlib.Path, folder: pathlib.Path) -> Edit:
 
 # Checks.
 
+
 class Prover(NamedTuple):
     """How a crate is checked: the words of the check, and where it keeps its work."""
+
     name: str
     words: Sequence[str]
     kept: str
@@ -146,11 +175,20 @@ class Prover(NamedTuple):
             for path, text in texts.items():
                 pathlib.Path(room, path).write_text(text)
             only = [word for function in functions for word in ("--only", function)]
-            ran = subprocess.run([*self.words, "--incremental", self.kept, *only], cwd=room, stdin=subprocess.DEVNULL,
-                                 stdout=subprocess.PIPE, stderr=subprocess.STDOUT, text=True, errors="replace")
+            ran = subprocess.run(
+                [*self.words, "--incremental", self.kept, *only],
+                cwd=room,
+                stdin=subprocess.DEVNULL,
+                stdout=subprocess.PIPE,
+                stderr=subprocess.STDOUT,
+                text=True,
+                errors="replace",
+            )
         lines = ran.stdout.rstrip("\n").split("\n")
         if NO_FUNCTION.match(lines[-1]):
-            raise BadEdit(f"a line `only: PATH` must name the function that it changes: {lines[-1]}")
+            raise BadEdit(
+                f"a line `only: PATH` must name the function that it changes: {lines[-1]}"
+            )
         unread = next((line for line in lines if UNREAD.match(line)), None)
         if unread:
             raise BadEdit(f"the edited text can't be read: {unread}")
@@ -159,11 +197,18 @@ class Prover(NamedTuple):
 
 def first_told(lines: Sequence[str]) -> str:
     """The first line on what is not proved, with its place if it has one. Remarks are no reason."""
-    begins = (r"(note: )?\S+:\d+:\d+: (?!note: |warning: )", r"fn \S+: (no proof|not proved)")
-    return next((line for begin in begins for line in lines if re.match(begin, line)), "")
+    begins = (
+        r"(note: )?\S+:\d+:\d+: (?!note: |warning: )",
+        r"fn \S+: (no proof|not proved)",
+    )
+    return next(
+        (line for begin in begins for line in lines if re.match(begin, line)), ""
+    )
 
 
-def together(edits: Sequence[Edit], folder: pathlib.Path) -> Tuple[List[Edit], List[Edit]]:
+def together(
+    edits: Sequence[Edit], folder: pathlib.Path
+) -> Tuple[List[Edit], List[Edit]]:
     """Edits of different functions that can be made at once, and the others."""
     texts: Dict[str, str] = {}
     chosen: List[Edit] = []
@@ -182,7 +227,9 @@ def together(edits: Sequence[Edit], folder: pathlib.Path) -> Tuple[List[Edit], L
 def own_error(lines: Sequence[str], function: str) -> str:
     """The first error in a function's own proof files, but for one that says no more than that another proof is not
     admitted."""
-    begin = re.compile(rf"(\./)?proofs/{function.replace('::', '/')}/\w+\.antt:\d+:\d+: error: (?!.*not admitted)")
+    begin = re.compile(
+        rf"(\./)?proofs/{function.replace('::', '/')}/\w+\.antt:\d+:\d+: error: (?!.*not admitted)"
+    )
     return next((line for line in lines if begin.match(line)), "")
 
 
@@ -197,13 +244,20 @@ def refused_together(prover: Prover, edits: Sequence[Edit]) -> Dict[str, str]:
         lines = [""]
     if not SOME_PROVED.match(lines[-1]):
         half = len(edits) // 2
-        return {**refused_together(prover, edits[:half]), **refused_together(prover, edits[half:])}
+        return {
+            **refused_together(prover, edits[:half]),
+            **refused_together(prover, edits[half:]),
+        }
     refused = {}
     for edit in edits:
         begin = f"fn {prover.name}::{edit.function}: "
-        told = next((line[len(begin):] for line in lines if line.startswith(begin)), "")
+        told = next(
+            (line[len(begin) :] for line in lines if line.startswith(begin)), ""
+        )
         own = own_error(lines, edit.function or "")
-        if told.startswith(("no proof", "not proved")) and ("did not prove" in told or "it calls" not in told or own):
+        if told.startswith(("no proof", "not proved")) and (
+            "did not prove" in told or "it calls" not in told or own
+        ):
             refused[edit.name] = f"{edit.function}: {own or told}"
     return refused
 
@@ -223,7 +277,9 @@ def refusal(prover: Prover, edit: Edit) -> Optional[str]:
     raise BadEdit(f"it did not come to a proof: {first_told(lines) or lines[-1]}")
 
 
-def answers_of(prover: Prover, edits: Sequence[Edit]) -> Iterator[Tuple[str, Optional[str], str]]:
+def answers_of(
+    prover: Prover, edits: Sequence[Edit]
+) -> Iterator[Tuple[str, Optional[str], str]]:
     """The name of each edit of a crate, what the prover says against it, and the line that is printed."""
     left = list(edits)
     while left:
@@ -233,13 +289,19 @@ def answers_of(prover: Prover, edits: Sequence[Edit]) -> Iterator[Tuple[str, Opt
         for edit in chosen:
             try:
                 told = refused.get(edit.name) or refusal(prover, edit)
-                text = f"refused: {told[:200]}" if told else "NOT REFUSED: the crate is still proved"
+                text = (
+                    f"refused: {told[:200]}"
+                    if told
+                    else "NOT REFUSED: the crate is still proved"
+                )
             except (BadEdit, OSError) as fault:
                 told, text = None, f"BAD EDIT: {fault}"
             yield edit.name, told, text
 
 
-def tried(libraries: Libraries, name: str, paths: Sequence[pathlib.Path]) -> Iterator[bool]:
+def tried(
+    libraries: Libraries, name: str, paths: Sequence[pathlib.Path]
+) -> Iterator[bool]:
     """Tries the edits of a crate, each check over what earlier ones kept, and prints a line for each edit."""
     edits = []
     for path in paths:
@@ -249,13 +311,17 @@ def tried(libraries: Libraries, name: str, paths: Sequence[pathlib.Path]) -> Ite
             print(f"edit {name}/{path.stem}: BAD EDIT: {fault}", flush=True)
             yield False
     with tempfile.TemporaryDirectory(prefix="edits-") as kept:
-        for edit, told, text in answers_of(Prover(name, words_of(libraries, "check", name), kept), edits):
+        for edit, told, text in answers_of(
+            Prover(name, words_of(libraries, "check", name), kept), edits
+        ):
             print(f"edit {name}/{edit}: {text}", flush=True)
             yield told is not None
 
 
 def edits_of(name: str, folders: Sequence[str]) -> List[pathlib.Path]:
-    return sorted(it for folder in folders for it in (CRATES / name / folder).glob("*.edit"))
+    return sorted(
+        it for folder in folders for it in (CRATES / name / folder).glob("*.edit")
+    )
 
 
 def main(words: List[str]) -> int:
@@ -271,15 +337,25 @@ def main(words: List[str]) -> int:
     folders = ["must-fail", "more-edits"] if "--all" in words else ["must-fail"]
     edits = {name: edits_of(name, folders) for name in names or libraries}
     for name in libraries:
-        is_needed = any(name in below(libraries, it) for it, found in edits.items() if found)
+        is_needed = any(
+            name in below(libraries, it) for it, found in edits.items() if found
+        )
         if is_needed and not may_be_used(libraries, name):
-            print(f"edits: {name} is not built, or older than its sources: run tools/build",
-                  file=sys.stderr)
+            print(
+                f"edits: {name} is not built, or older than its sources: run tools/build",
+                file=sys.stderr,
+            )
             return 1
     with concurrent.futures.ThreadPoolExecutor(workers()) as pool:
         # those with the most edits first, since a crate's are tried in turn
-        longest = sorted((it for it in edits.items() if it[1]), key=lambda it: -len(it[1]))
-        answers = [it for found in pool.map(lambda it: list(tried(libraries, *it)), longest) for it in found]
+        longest = sorted(
+            (it for it in edits.items() if it[1]), key=lambda it: -len(it[1])
+        )
+        answers = [
+            it
+            for found in pool.map(lambda it: list(tried(libraries, *it)), longest)
+            for it in found
+        ]
     return concluded(sum(answers), len(answers) - sum(answers))
 
 

@@ -14,24 +14,39 @@ TRUST = 60.0
 
 def seconds_of(text: str) -> Dict[str, float]:
     """The seconds of each crate, by the lines of the file."""
-    rows = [line.split() for line in text.splitlines() if line and not line.startswith("#")]
+    rows = [
+        line.split() for line in text.splitlines() if line and not line.startswith("#")
+    ]
     return {name: float(seconds) for name, seconds in rows}
 
 
 def text_of(seconds: Dict[str, float], before: str) -> str:
     """The file with these seconds, under the comment that it had before."""
-    head = "".join(line for line in before.splitlines(keepends=True) if line.startswith("#"))
-    return head + "".join(f"{name} {value:.0f}\n" for name, value in sorted(seconds.items()))
+    head = "".join(
+        line for line in before.splitlines(keepends=True) if line.startswith("#")
+    )
+    return head + "".join(
+        f"{name} {value:.0f}\n" for name, value in sorted(seconds.items())
+    )
 
 
 class Forecast:
     """How far a build is. Times are those of one clock, in seconds."""
 
-    def __init__(self, libraries: Libraries, crates: Set[str], seconds: Dict[str, float], workers: int) -> None:
+    def __init__(
+        self,
+        libraries: Libraries,
+        crates: Set[str],
+        seconds: Dict[str, float],
+        workers: int,
+    ) -> None:
         """A build of these crates by `workers` workers. A crate without an earlier time gets the median."""
         other = statistics.median(seconds.values()) if seconds else 1.0
         self._seconds = {name: seconds.get(name, other) for name in crates}
-        self._needs = {name: [it for it in below(libraries, name) if it in crates] for name in crates}
+        self._needs = {
+            name: [it for it in below(libraries, name) if it in crates]
+            for name in crates
+        }
         self._workers = workers
         self._begun: Dict[str, float] = {}
         self._took: Dict[str, float] = {}
@@ -52,7 +67,9 @@ class Forecast:
         pace, left = self._pace(), {}
         for name, seconds in self._seconds.items():
             past = (now - self._begun[name]) / pace if name in self._begun else 0.0
-            left[name] = 0.0 if name in self._took else max(seconds - past, LAST_PART * seconds)
+            left[name] = (
+                0.0 if name in self._took else max(seconds - past, LAST_PART * seconds)
+            )
         return left
 
     def share(self, now: float) -> float:
@@ -65,5 +82,9 @@ class Forecast:
         on that many workers."""
         left, chain = self._left(now), {}
         for name in sorted(left, key=lambda it: len(self._needs[it])):
-            chain[name] = left[name] + max((chain[it] for it in self._needs[name]), default=0.0)
-        return self._pace() * max(sum(left.values()) / self._workers, max(chain.values(), default=0.0))
+            chain[name] = left[name] + max(
+                (chain[it] for it in self._needs[name]), default=0.0
+            )
+        return self._pace() * max(
+            sum(left.values()) / self._workers, max(chain.values(), default=0.0)
+        )

@@ -25,19 +25,28 @@ ALL_OF = "# all of "
 
 def digests(top: pathlib.Path, paths: Iterable[pathlib.Path]) -> str:
     """A line for each file, with its path from the top."""
-    return "".join(f"{hashlib.sha256(path.read_bytes()).hexdigest()}  {os.path.relpath(path, top)}\n" for path in paths)
+    return "".join(
+        f"{hashlib.sha256(path.read_bytes()).hexdigest()}  {os.path.relpath(path, top)}\n"
+        for path in paths
+    )
 
 
 def sources(top: pathlib.Path, name: str, parts: Iterable[str] = PARTS) -> str:
     """The lines of a crate's sources, contracts and proofs."""
     folders = [top / "crates" / name / part for part in parts]
-    files = digests(top, sorted(it for folder in folders for it in folder.rglob("*") if it.is_file()))
+    files = digests(
+        top,
+        sorted(it for folder in folders for it in folder.rglob("*") if it.is_file()),
+    )
     return f"{ALL_OF}{' '.join(os.path.relpath(it, top) for it in folders)}\n{files}"
 
 
 def head(is_proved: bool) -> str:
     """The lines that say which arena a record is of."""
-    return "".join(f"# {line}\n" for line in version.lines(is_proved, version.installed()).splitlines())
+    return "".join(
+        f"# {line}\n"
+        for line in version.lines(is_proved, version.installed()).splitlines()
+    )
 
 
 def write(record: pathlib.Path, text: str) -> None:
@@ -47,15 +56,28 @@ def write(record: pathlib.Path, text: str) -> None:
     new.replace(record)
 
 
-def record_crate(top: pathlib.Path, libraries: Libraries, name: str, proved: str) -> None:
+def record_crate(
+    top: pathlib.Path, libraries: Libraries, name: str, proved: str
+) -> None:
     """Records that a crate was proved, of sources with these lines, and built, once those below it are recorded."""
-    made, records = record_of(top / "crates", name), [record_of(top / "crates", it) for it in below(libraries, name)]
+    made, records = record_of(top / "crates", name), [
+        record_of(top / "crates", it) for it in below(libraries, name)
+    ]
     if name in PROGRAMS:
-        record_program(top, name, "".join(ALL_OF + it.read_text().partition(ALL_OF)[2] for it in records) + proved)
+        record_program(
+            top,
+            name,
+            "".join(ALL_OF + it.read_text().partition(ALL_OF)[2] for it in records)
+            + proved,
+        )
         return
     library = made.parent / "rlib" / f"{name}.rlib"
     # of a library that is a folder, this file has the checksum of all the others
-    write(made, digests(top, [library / "format" if library.is_dir() else library, *records]) + proved)
+    write(
+        made,
+        digests(top, [library / "format" if library.is_dir() else library, *records])
+        + proved,
+    )
 
 
 def record_program(top: pathlib.Path, name: str, proved: str) -> None:
@@ -75,10 +97,16 @@ def below_programs(libraries: Libraries, programs: Iterable[str]) -> List[str]:
     return list(dict.fromkeys(it for name in programs for it in below(libraries, name)))
 
 
-def record_all(top: pathlib.Path, libraries: Libraries, programs: Sequence[str]) -> None:
+def record_all(
+    top: pathlib.Path, libraries: Libraries, programs: Sequence[str]
+) -> None:
     """Records that these programs and their crates, which stand there as they were proved, are proved and built."""
     for name in programs:
-        record_program(top, name, "".join(sources(top, it) for it in [*below(libraries, name), name]))
+        record_program(
+            top,
+            name,
+            "".join(sources(top, it) for it in [*below(libraries, name), name]),
+        )
     for name in below_programs(libraries, programs):
         # without its library a crate has no record, and tools/build proves it again
         with contextlib.suppress(FileNotFoundError):

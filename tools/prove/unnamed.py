@@ -27,14 +27,30 @@ KNOWN = TOP / "tools" / "prove" / "known_unnamed"
 WORD = re.compile(r"[\w'◌-]+")
 MARKS = re.compile(r"(?:abbrev |unfoldable |pub )*(?:data |record )?")
 HEAD = re.compile(r"[A-Za-z][\w'-]* (?::|\{|\()")
-USE = re.compile(r"^ *(?:ghost )?use Rattle\.([\w.]+?)(?:\.\{([^}]*)\}| as (\w+))", re.MULTILINE)
+USE = re.compile(
+    r"^ *(?:ghost )?use Rattle\.([\w.]+?)(?:\.\{([^}]*)\}| as (\w+))", re.MULTILINE
+)
 RENAMED = re.compile(r"(\S+) as (\S+)")
 # a lemma or definition that an attribute of a function names
 ATTRIBUTE = re.compile(r"crate::((?:specs|proofs)(?:::\w+)*)::([\w'-]+)")
 ROW = "_row"
 # what a library calls by its name
-CALLED = re.compile(r"__\w+__|test\w*|setUp\w*|tearDown\w*|visit_\w+|do_[A-Z]+|has_\w+_permission")
-TEXTS = (".py", ".md", ".rs", ".sh", ".html", ".js", ".toml", ".ipynb", ".rows", ".service", "")
+CALLED = re.compile(
+    r"__\w+__|test\w*|setUp\w*|tearDown\w*|visit_\w+|do_[A-Z]+|has_\w+_permission"
+)
+TEXTS = (
+    ".py",
+    ".md",
+    ".rs",
+    ".sh",
+    ".html",
+    ".js",
+    ".toml",
+    ".ipynb",
+    ".rows",
+    ".service",
+    "",
+)
 
 # characters of a definition that is too short to be taken out of a crate below
 SHORT = 150
@@ -45,7 +61,9 @@ Place = Tuple[str, str]
 
 def text_of(path: pathlib.Path) -> str:
     """The text of a file, without comments."""
-    return re.sub(r"(?:--|//).*", "", path.read_text(encoding="utf-8", errors="replace"))
+    return re.sub(
+        r"(?:--|//).*", "", path.read_text(encoding="utf-8", errors="replace")
+    )
 
 
 def module_of(path: pathlib.Path) -> str:
@@ -56,7 +74,11 @@ def blocks(text: str) -> Iterator[Tuple[str, str]]:
     """The definitions of a file: the first word of each, which is its name, and its lines."""
     name, lines = "", []
     for line in text.splitlines():
-        first = MARKS.sub("", line, count=1).split(" ")[0] if line and line[0] not in " )]}|" else name
+        first = (
+            MARKS.sub("", line, count=1).split(" ")[0]
+            if line and line[0] not in " )]}|"
+            else name
+        )
         if first != name:
             yield name, "\n".join(lines)
             name, lines = first, []
@@ -67,12 +89,19 @@ def blocks(text: str) -> Iterator[Tuple[str, str]]:
 def definitions(path: pathlib.Path) -> Iterator[str]:
     """The names that a file defines, that none of its other definitions has, and that something has to name."""
     found = list(blocks(text_of(path)))
-    counts = collections.Counter(word for _, text in found for word in set(WORD.findall(text)))
+    counts = collections.Counter(
+        word for _, text in found for word in set(WORD.findall(text))
+    )
     is_of_a_function = path.parent.name not in ("specs", "proofs")
     for name, text in found:
         marks = MARKS.match(text)[0]
         is_goal = is_of_a_function and "pub " in marks
-        if HEAD.match(text[len(marks):]) and counts[name] == 1 and not is_goal and not name.endswith(ROW):
+        if (
+            HEAD.match(text[len(marks) :])
+            and counts[name] == 1
+            and not is_goal
+            and not name.endswith(ROW)
+        ):
             yield name
 
 
@@ -103,25 +132,38 @@ def named_in(path: pathlib.Path) -> Iterator[Place]:
 
 def lemmas() -> Iterator[str]:
     """The lemmas and definitions that nothing names."""
-    files = [path for crate in libraries_of() for path in sources_of(crate) if path.suffix in (".rt", ".antt")]
+    files = [
+        path
+        for crate in libraries_of()
+        for path in sources_of(crate)
+        if path.suffix in (".rt", ".antt")
+    ]
     named = {place for path in files for place in named_in(path)}
     for path in files:
         if path.suffix == ".antt":
-            yield from (f"{path.relative_to(TOP)} {name}" for name in definitions(path)
-                        if (module_of(path), name) not in named)
+            yield from (
+                f"{path.relative_to(TOP)} {name}"
+                for name in definitions(path)
+                if (module_of(path), name) not in named
+            )
 
 
 def twice() -> Iterator[str]:
     """The lemmas and definitions that stand in more than one crate."""
     places: Dict[str, List[str]] = collections.defaultdict(list)
-    for path in sorted(CRATES.glob("*/specs/*.antt")) + sorted(CRATES.glob("*/proofs/*.antt")):
+    for path in sorted(CRATES.glob("*/specs/*.antt")) + sorted(
+        CRATES.glob("*/proofs/*.antt")
+    ):
         for name, text in blocks(text_of(path)):
             own = re.compile(rf"(?<![\w'-]){re.escape(name)}(?![\w'-])")
             body = " ".join(own.sub("@", MARKS.sub("", text, count=1)).split())
             if name != "use" and len(body) > SHORT:
                 places[body].append(f"{path.relative_to(TOP)} {name}")
-    yield from (" = ".join(all_places) for all_places in places.values()
-                if len({place.split("/")[1] for place in all_places}) > 1)
+    yield from (
+        " = ".join(all_places)
+        for all_places in places.values()
+        if len({place.split("/")[1] for place in all_places}) > 1
+    )
 
 
 def dependencies() -> Iterator[str]:
@@ -129,21 +171,42 @@ def dependencies() -> Iterator[str]:
     for crate, libraries in libraries_of().items():
         words: Set[str] = set()
         for path in sources_of(crate):
-            words.update(re.findall(r"\w+", path.read_text(encoding="utf-8", errors="replace")))
-        yield from (f"crates.txt {crate} {library}" for library in libraries if library not in words)
+            words.update(
+                re.findall(r"\w+", path.read_text(encoding="utf-8", errors="replace"))
+            )
+        yield from (
+            f"crates.txt {crate} {library}"
+            for library in libraries
+            if library not in words
+        )
 
 
 def kept_files() -> List[pathlib.Path]:
     """The files of the repository, without those of the crates."""
-    listed = subprocess.run(["git", "ls-files", "-co", "--exclude-standard"], cwd=TOP, capture_output=True, text=True,
-                            check=True).stdout.split("\n")
-    return [TOP / name for name in listed if name and not name.startswith("crates/") and (TOP / name).is_file()]
+    listed = subprocess.run(
+        ["git", "ls-files", "-co", "--exclude-standard"],
+        cwd=TOP,
+        capture_output=True,
+        text=True,
+        check=True,
+    ).stdout.split("\n")
+    return [
+        TOP / name
+        for name in listed
+        if name and not name.startswith("crates/") and (TOP / name).is_file()
+    ]
 
 
 def is_called_by_name(node: ast.AST) -> bool:
     """Whether a library finds a function, a method or a class by itself: by a decorator, or as a class of tests."""
-    return bool(node.decorator_list) or isinstance(node, ast.ClassDef) and any(
-        isinstance(part, ast.FunctionDef) and part.name.startswith("test") for part in node.body)
+    return (
+        bool(node.decorator_list)
+        or isinstance(node, ast.ClassDef)
+        and any(
+            isinstance(part, ast.FunctionDef) and part.name.startswith("test")
+            for part in node.body
+        )
+    )
 
 
 def functions() -> Iterator[str]:
@@ -155,7 +218,9 @@ def functions() -> Iterator[str]:
             text = path.read_text(encoding="utf-8", errors="replace")
             words.update(re.findall(r"\w+", text))
             for node in ast.walk(ast.parse(text)) if path.suffix == ".py" else ():
-                if isinstance(node, (ast.FunctionDef, ast.AsyncFunctionDef, ast.ClassDef)):
+                if isinstance(
+                    node, (ast.FunctionDef, ast.AsyncFunctionDef, ast.ClassDef)
+                ):
                     if not is_called_by_name(node) and not CALLED.fullmatch(node.name):
                         places[node.name] = f"{path.relative_to(TOP)} {node.name}"
     yield from (place for name, place in places.items() if words[name] == 1)
@@ -167,7 +232,11 @@ def unnamed() -> List[str]:
 
 def known() -> List[str]:
     """The rows of the file of those that are known."""
-    return [line for line in KNOWN.read_text(encoding="utf-8").splitlines() if line and not line.startswith("#")]
+    return [
+        line
+        for line in KNOWN.read_text(encoding="utf-8").splitlines()
+        if line and not line.startswith("#")
+    ]
 
 
 if __name__ == "__main__":

@@ -22,7 +22,9 @@ KIT = pathlib.Path("/opt/rattle")
 # what a release says of itself
 BUILD = "BUILD"
 UNKNOWN = "not known"
-HOW_TO_PROVE = "no proved program of these sources is built: tools/build proves and builds it"
+HOW_TO_PROVE = (
+    "no proved program of these sources is built: tools/build proves and builds it"
+)
 
 
 def version() -> str:
@@ -33,7 +35,11 @@ def version() -> str:
 def asked_of_git(*words: str) -> Optional[str]:
     """What git says of this tree, or None if it is no repository."""
     try:
-        ran = subprocess.run(["git", "-C", str(TOP), *words], stdout=subprocess.PIPE, stderr=subprocess.DEVNULL)
+        ran = subprocess.run(
+            ["git", "-C", str(TOP), *words],
+            stdout=subprocess.PIPE,
+            stderr=subprocess.DEVNULL,
+        )
     except FileNotFoundError:
         return None
     return ran.stdout.decode(errors="replace").strip() if ran.returncode == 0 else None
@@ -41,7 +47,9 @@ def asked_of_git(*words: str) -> Optional[str]:
 
 def commit() -> str:
     """The commit of this tree, and whether it has changed since."""
-    head, changes = asked_of_git("rev-parse", "HEAD"), asked_of_git("status", "--porcelain")
+    head, changes = asked_of_git("rev-parse", "HEAD"), asked_of_git(
+        "status", "--porcelain"
+    )
     if head is None or changes is None:
         return f"commit {UNKNOWN}: this is no git repository"
     return f"commit {head}, {'tree changed' if changes else 'tree clean'}"
@@ -56,7 +64,9 @@ def installed() -> str:
 def recorded() -> str:
     """The toolchain that built the proved program, as its record says."""
     record = built.ARENA.proved.with_name(built.RECORD)
-    found = re.search(r"^# (toolchain .*)$", record.read_text() if record.exists() else "", re.M)
+    found = re.search(
+        r"^# (toolchain .*)$", record.read_text() if record.exists() else "", re.M
+    )
     return found[1] if found else f"toolchain {UNKNOWN}"
 
 

@@ -17,12 +17,24 @@ class Attempts(Made):
     list_display = ("pk", "team", "network", "state", "asked", "outcomes", "link")
     list_filter = ("state", "network", "team")
     list_select_related = ("team",)
-    fields = readonly_fields = ("team", "network", "state", "asked", "begun", "ended", "fault")
+    fields = readonly_fields = (
+        "team",
+        "network",
+        "state",
+        "asked",
+        "begun",
+        "ended",
+        "fault",
+    )
     actions = ("close",)
 
     @admin.display(description=_("outcome"))
     def outcomes(self, attempt: Attempt) -> str:
-        return ", ".join(it.outcome for it in attempt.matches.all()) if attempt.is_over else ""
+        return (
+            ", ".join(it.outcome for it in attempt.matches.all())
+            if attempt.is_over
+            else ""
+        )
 
     @admin.display(description="")
     def link(self, attempt: Attempt) -> str:

@@ -20,8 +20,17 @@ class Networks(APIView):
     """What a team may ask for."""
 
     def get(self, request: Any) -> Response:
-        return Response([{"name": it.net.name, "open": it.is_open, "map": it.net.has_map, **facts(it.net.name)}
-                         for it in asking.offers()])
+        return Response(
+            [
+                {
+                    "name": it.net.name,
+                    "open": it.is_open,
+                    "map": it.net.has_map,
+                    **facts(it.net.name),
+                }
+                for it in asking.offers()
+            ]
+        )
 
 
 class Attempts(ViewSet):
@@ -34,7 +43,11 @@ class Attempts(ViewSet):
         wanted = AttemptRequest(data=request.data)
         wanted.is_valid(raise_exception=True)
         made = asking.ask(request.user, wanted.validated_data["network"])
-        return Response(shown.attempt(made), status=201, headers={"Location": f"/api/matches/{made.pk}"})
+        return Response(
+            shown.attempt(made),
+            status=201,
+            headers={"Location": f"/api/matches/{made.pk}"},
+        )
 
     def retrieve(self, request: Any, number: int) -> Response:
         return Response(shown.attempt(views.own(request, number)))

@@ -59,30 +59,51 @@ def check_limits(team: Team) -> None:
     """Refuses what is more than a team may ask for."""
     limits = settings.HALL.limits
     own = Attempt.objects.filter(team=team)
-    if own.filter(state__in=(machine.WAITING, *machine.ACTIVE)).count() >= limits.at_once:
-        raise RequestRefused(429, _("%(count)s matches of your team wait or run already: wait for one, or close it") % {
-            "count": limits.at_once})
+    if (
+        own.filter(state__in=(machine.WAITING, *machine.ACTIVE)).count()
+        >= limits.at_once
+    ):
+        raise RequestRefused(
+            429,
+            _(
+                "%(count)s matches of your team wait or run already: wait for one, or close it"
+            )
+            % {"count": limits.at_once},
+        )
     if own.filter(asked__gte=today()).count() >= limits.a_day:
-        raise RequestRefused(429, _("your team has asked for %(count)s matches today") % {"count": limits.a_day})
+        raise RequestRefused(
+            429,
+            _("your team has asked for %(count)s matches today")
+            % {"count": limits.a_day},
+        )
 
 
 def make_room(team: Team) -> None:
     """Removes the oldest files of practice of a team that has too many; refuses if that is not enough."""
     most = settings.HALL.limits.disk << 20
     used = own_bytes(team)
-    old = Attempt.objects.filter(team=team, size__gt=0, state=machine.OVER).order_by("pk")
+    old = Attempt.objects.filter(team=team, size__gt=0, state=machine.OVER).order_by(
+        "pk"
+    )
     while used > most:
         attempt: Optional[Attempt] = old.first()
         if attempt is None:
-            raise RequestRefused(429, _("the files of your team take more than %(count)s MB: ask your teacher") % {
-                "count": settings.HALL.limits.disk})
+            raise RequestRefused(
+                429,
+                _(
+                    "the files of your team take more than %(count)s MB: ask your teacher"
+                )
+                % {"count": settings.HALL.limits.disk},
+            )
         used -= attempt.size
         forget(attempt)
 
 
 def own_bytes(team: Team) -> int:
     """The bytes of all files of attempts of a team."""
-    found = Attempt.objects.filter(team=team).aggregate(found=models.Sum("size"))["found"]
+    found = Attempt.objects.filter(team=team).aggregate(found=models.Sum("size"))[
+        "found"
+    ]
     return int(found or 0)
 
 
@@ -92,4 +113,8 @@ def close(attempt: Attempt) -> bool:
     only = models.Q(state__in=(machine.WAITING, machine.HELD))
     if step(attempt, machine.CANCEL, "", only):
         return True
-    return bool(Attempt.objects.filter(pk=attempt.pk, state=machine.RUNNING).update(closing=True))
+    return bool(
+        Attempt.objects.filter(pk=attempt.pk, state=machine.RUNNING).update(
+            closing=True
+        )
+    )

@@ -26,12 +26,22 @@ def drawn(net: Net, team: str) -> Draw:
     """Draws a match of a team."""
     chance = secrets.SystemRandom()
     nodes = net.network.nodes
-    network = networks.shuffled(net.network, secrets.randbits(128)) if net.labels == DRAWN else net.network
+    network = (
+        networks.shuffled(net.network, secrets.randbits(128))
+        if net.labels == DRAWN
+        else net.network
+    )
     home = chance.randrange(nodes)
-    holes = sorted(chance.sample([node for node in range(nodes) if node != home], net.holes))
+    holes = sorted(
+        chance.sample([node for node in range(nodes) if node != home], net.holes)
+    )
     keys = [f"{team}-{secrets.token_urlsafe(12)}" for _ in range(net.agents)]
     setup = Setup(nodes, network.links, home, holes, net.agents, net.quota, net.board)
-    known = {"nodes": nodes, "links": [list(link) for link in network.links], "home": home} if net.has_map else None
+    known = (
+        {"nodes": nodes, "links": [list(link) for link in network.links], "home": home}
+        if net.has_map
+        else None
+    )
     return Draw(Fixture(team, setup, keys), known)
 
 
@@ -39,6 +49,10 @@ def write(draw: Draw, folder: pathlib.Path) -> None:
     """Writes the tournament of a match, which has its black holes, into a folder that nobody else may look into."""
     folder.mkdir(mode=0o700, parents=True)
     setup = draw.fixture.setup
-    write_whole(folder / NETWORK, networks.text_of(networks.Network(setup.nodes, setup.links)))
-    text = tournament_text(secrets.token_hex(32), [(draw.fixture, NETWORK)], Delays(SCALES, ODDS))
+    write_whole(
+        folder / NETWORK, networks.text_of(networks.Network(setup.nodes, setup.links))
+    )
+    text = tournament_text(
+        secrets.token_hex(32), [(draw.fixture, NETWORK)], Delays(SCALES, ODDS)
+    )
     write_whole(folder / TOURNAMENT, text)

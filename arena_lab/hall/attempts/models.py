@@ -88,6 +88,15 @@ class Pages(Work):
 def facts(network: str) -> Dict[str, Any]:
     """What each team knows of a network of the hall."""
     net = settings.HALL.nets.get(network)
-    return {} if net is None else {
-        "nodes": net.network.nodes, "links": len(net.network.links), "agents": net.agents, "holes": net.holes,
-        "quota": net.quota, "board": net.board}
+    return (
+        {}
+        if net is None
+        else {
+            "nodes": net.network.nodes,
+            "links": len(net.network.links),
+            "agents": net.agents,
+            "holes": net.holes,
+            "quota": net.quota,
+            "board": net.board,
+        }
+    )

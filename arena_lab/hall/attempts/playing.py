@@ -54,7 +54,12 @@ class Playing:
             shutil.rmtree(self._folder, ignore_errors=True)
             draw, hall = draws.drawn(self._net, self._attempt.team.name), settings.HALL
             draws.write(draw, self._folder)
-            server = servers.start(settings.PLACE.program, self._folder, self._times, (hall.address, hall.ports))
+            server = servers.start(
+                settings.PLACE.program,
+                self._folder,
+                self._times,
+                (hall.address, hall.ports),
+            )
             try:
                 self._wait(server, self._told(draw, server))
             finally:
@@ -63,11 +68,18 @@ class Playing:
 
     def _told(self, draw: draws.Draw, server: Server) -> Match:
         """Notes where the server listens, so that the team may begin."""
-        told = {"run": self._attempt.runs, "host": os.environ.get(HOST, settings.HALL.host), "port": server.port,
-                "keys": draw.fixture.keys, "map": draw.map}
+        told = {
+            "run": self._attempt.runs,
+            "host": os.environ.get(HOST, settings.HALL.host),
+            "port": server.port,
+            "keys": draw.fixture.keys,
+            "map": draw.map,
+        }
         with transaction.atomic():
             self._lease.renew()
-            match, _ = Match.objects.update_or_create(attempt=self._attempt, number=0, defaults=told)
+            match, _ = Match.objects.update_or_create(
+                attempt=self._attempt, number=0, defaults=told
+            )
         return match
 
     def _wait(self, server: Server, match: Match) -> None:
@@ -75,7 +87,9 @@ class Playing:
         began, is_closing = time.monotonic(), False
         while not server.has_ended():
             self._lease.wait()
-            if not is_closing and (self._attempt.closing or self._is_late(time.monotonic() - began, match)):
+            if not is_closing and (
+                self._attempt.closing or self._is_late(time.monotonic() - began, match)
+            ):
                 is_closing = True
                 server.close()
 
@@ -88,19 +102,31 @@ class Playing:
 
     def _finish(self) -> None:
         """Notes the verdict, and that the page is to be made, wholly or not at all."""
-        verdicts = {match: judged(settings.PLACE.program, match.replay) for match in self._attempt.matches.all()}
+        verdicts = {
+            match: judged(settings.PLACE.program, match.replay)
+            for match in self._attempt.matches.all()
+        }
         with transaction.atomic():
-            if not step(self._attempt, machine.FINISH, self._holder, size=size_of(self._attempt.folder)):
+            if not step(
+                self._attempt,
+                machine.FINISH,
+                self._holder,
+                size=size_of(self._attempt.folder),
+            ):
                 raise WorkLost
             for match, verdict in verdicts.items():
                 outcome = verdict.outcome if has_entered(match.replay) else ABSENT
-                Match.objects.filter(pk=match.pk).update(outcome=outcome, moves=verdict.moves, lost=verdict.lost)
+                Match.objects.filter(pk=match.pk).update(
+                    outcome=outcome, moves=verdict.moves, lost=verdict.lost
+                )
             Pages.objects.get_or_create(attempt=self._attempt)
 
 
 def has_entered(replay: pathlib.Path) -> bool:
     """Whether an agent has entered a match."""
-    with contextlib.suppress(FileNotFoundError), replay.open(encoding="utf-8", newline="\n") as lines:
+    with contextlib.suppress(FileNotFoundError), replay.open(
+        encoding="utf-8", newline="\n"
+    ) as lines:
         return any('"do":"enter"' in line for line in lines)
     return False
 
@@ -116,9 +142,13 @@ def make_pages(number: int, holder: str) -> None:
         for match in work.attempt.matches.all() if work else ():
             if match.replay.exists():
                 title = f"{work.attempt.network}, {work.attempt_id}.{match.number}"
-                page.write_page(settings.PLACE.program, match.replay, match.page, None, title)
+                page.write_page(
+                    settings.PLACE.program, match.replay, match.page, None, title
+                )
         if work:
-            Attempt.objects.filter(pk=work.attempt_id).update(size=size_of(work.attempt.folder))
+            Attempt.objects.filter(pk=work.attempt_id).update(
+                size=size_of(work.attempt.folder)
+            )
             step(work, machine.FINISH, holder)
 
 

@@ -23,7 +23,12 @@ class Agent:
         self.lines: Deque[Dict[str, Any]] = collections.deque(maxlen=LINES)
 
     def shown(self, number: int) -> Dict[str, Any]:
-        return {"agent": number, "entered": self.said > 0, "commands": self.said, "lines": list(self.lines)}
+        return {
+            "agent": number,
+            "entered": self.said > 0,
+            "commands": self.said,
+            "lines": list(self.lines),
+        }
 
 
 class Part:
@@ -61,7 +66,9 @@ class Part:
         if is_told and event["agent"] < len(self._agents):
             agent = self._agents[event["agent"]]
             agent.said += event["do"] != "deliver"
-            agent.lines.append(shortened({name: it for name, it in event.items() if name != "agent"}))
+            agent.lines.append(
+                shortened({name: it for name, it in event.items() if name != "agent"})
+            )
 
 
 def shortened(value: Any) -> Any:
@@ -119,7 +126,21 @@ def read_ended(replay: pathlib.Path) -> Ended:
             if event.get("do") == "depart":
                 departed[event["agent"]] = event["port"]
             if event.get("do") == "deliver" and reply is None:
-                lost.append({"agent": event["agent"], "port": departed.get(event["agent"], 0), "event": place + 1})
+                lost.append(
+                    {
+                        "agent": event["agent"],
+                        "port": departed.get(event["agent"], 0),
+                        "event": place + 1,
+                    }
+                )
             if isinstance(reply, dict) and "no" in reply and len(refused) < 50:
-                refused.append(shortened({"event": place + 1, **event, "meaning": MEANINGS.get(reply["no"], "")}))
+                refused.append(
+                    shortened(
+                        {
+                            "event": place + 1,
+                            **event,
+                            "meaning": MEANINGS.get(reply["no"], ""),
+                        }
+                    )
+                )
     return Ended(refused, lost, holes)

@@ -38,7 +38,9 @@ class Times(NamedTuple):
 class Server:
     """A server that goes on, in the folder of its match."""
 
-    def __init__(self, child: "subprocess.Popen[bytes]", folder: pathlib.Path, port: int) -> None:
+    def __init__(
+        self, child: "subprocess.Popen[bytes]", folder: pathlib.Path, port: int
+    ) -> None:
         self.port = port
         self._child = child
         self._folder = folder
@@ -70,16 +72,29 @@ def tell_log(folder: pathlib.Path) -> None:
     """Writes a server's last line to the worker's log, for the teacher. Teams never see it: it counts events that no
     agent can observe."""
     with contextlib.suppress(OSError, IndexError):
-        last = (folder / "log.txt").read_text(encoding="utf-8", errors="replace").splitlines()[-1]
+        last = (
+            (folder / "log.txt")
+            .read_text(encoding="utf-8", errors="replace")
+            .splitlines()[-1]
+        )
         tell(f"{folder}: {last[:200]}")
 
 
 def bound(words: Sequence[object]) -> List[str]:
     """A command that is killed with the thread that starts it."""
-    return ["setpriv", "--pdeathsig", "KILL", *BOUND, str(os.getpid()), *map(str, words)]
+    return [
+        "setpriv",
+        "--pdeathsig",
+        "KILL",
+        *BOUND,
+        str(os.getpid()),
+        *map(str, words),
+    ]
 
 
-def start(program: str, folder: pathlib.Path, times: Times, place: Tuple[str, Tuple[int, int]]) -> Server:
+def start(
+    program: str, folder: pathlib.Path, times: Times, place: Tuple[str, Tuple[int, int]]
+) -> Server:
     """Starts the server of the match of a folder, on an address and on a port of a range that nobody uses."""
     address, (first, last) = place
     for port in random.sample(range(first, last + 1), last + 1 - first):
@@ -102,14 +117,41 @@ def is_free(address: str, port: int) -> bool:
     return True
 
 
-def started(program: str, folder: pathlib.Path, times: Times, place: Tuple[str, int]) -> Optional[Server]:
+def started(
+    program: str, folder: pathlib.Path, times: Times, place: Tuple[str, int]
+) -> Optional[Server]:
     """The server on this port, or nothing if another was faster."""
     address, port = place
-    words = [program, "serve", TOURNAMENT, "--address", address, "--port", port, "--replay", "m", "--turns",
-             times.turns, "--pause", times.pause, "--gather", times.gather, "--grace", GRACE, "--log", "--early"]
+    words = [
+        program,
+        "serve",
+        TOURNAMENT,
+        "--address",
+        address,
+        "--port",
+        port,
+        "--replay",
+        "m",
+        "--turns",
+        times.turns,
+        "--pause",
+        times.pause,
+        "--gather",
+        times.gather,
+        "--grace",
+        GRACE,
+        "--log",
+        "--early",
+    ]
     with (folder / "log.txt").open("wb") as log:
-        child = subprocess.Popen(bound(words), cwd=folder, stdin=subprocess.PIPE, stdout=subprocess.PIPE, stderr=log,
-                                 env={"PATH": os.environ.get("PATH", "/usr/bin:/bin")})
+        child = subprocess.Popen(
+            bound(words),
+            cwd=folder,
+            stdin=subprocess.PIPE,
+            stdout=subprocess.PIPE,
+            stderr=log,
+            env={"PATH": os.environ.get("PATH", "/usr/bin:/bin")},
+        )
     server = Server(child, folder, port)
     out = cast(IO[bytes], child.stdout)
     said = out.readline() if is_ready(out, SECONDS_TO_BEGIN) else b""

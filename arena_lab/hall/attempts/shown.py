@@ -12,17 +12,34 @@ from arena_lab.hall.attempts.models import Attempt, Match, facts
 
 def attempt(it: Attempt) -> Dict[str, Any]:
     """An attempt with its matches."""
-    matches = list(it.matches.all()) if it.state in (machine.RUNNING, machine.OVER) else []
-    shown = [match(found, it) for found in matches if it.is_over or found.run == it.runs]
-    return {**brief(it), "facts": facts(it.network), "minutes": settings.HALL.minutes, "matches": shown}
+    matches = (
+        list(it.matches.all()) if it.state in (machine.RUNNING, machine.OVER) else []
+    )
+    shown = [
+        match(found, it) for found in matches if it.is_over or found.run == it.runs
+    ]
+    return {
+        **brief(it),
+        "facts": facts(it.network),
+        "minutes": settings.HALL.minutes,
+        "matches": shown,
+    }
 
 
 def brief(it: Attempt) -> Dict[str, Any]:
     """An attempt in a line."""
     verdicts = [verdict(found) for found in it.matches.all()] if it.is_over else []
-    return {"id": it.pk, "network": it.network, "state": it.state, "asked": time_of(it.asked),
-            "begun": time_of(it.begun), "ended": time_of(it.ended), "fault": it.fault,
-            "solved": sum(found["outcome"] == "solved" for found in verdicts), "verdicts": verdicts}
+    return {
+        "id": it.pk,
+        "network": it.network,
+        "state": it.state,
+        "asked": time_of(it.asked),
+        "begun": time_of(it.begun),
+        "ended": time_of(it.ended),
+        "fault": it.fault,
+        "solved": sum(found["outcome"] == "solved" for found in verdicts),
+        "verdicts": verdicts,
+    }
 
 
 def verdict(it: Match) -> Dict[str, Any]:
@@ -31,8 +48,17 @@ def verdict(it: Match) -> Dict[str, Any]:
 
 def match(it: Match, of: Attempt) -> Dict[str, Any]:
     """A match: how one plays it, what its agents were told, and once it is over what came of it."""
-    found: Dict[str, Any] = {"number": it.number, "host": it.host, "port": it.port, "keys": it.keys, "map": it.map,
-                             "verdict": None, "agents": None, "after": None, "page": None}
+    found: Dict[str, Any] = {
+        "number": it.number,
+        "host": it.host,
+        "port": it.port,
+        "keys": it.keys,
+        "map": it.map,
+        "verdict": None,
+        "agents": None,
+        "after": None,
+        "page": None,
+    }
     if of.is_over:
         told = seen.ended(it.replay)
         page = f"/matches/{of.pk}/{it.number}/page" if it.page.exists() else None
@@ -43,9 +69,16 @@ def match(it: Match, of: Attempt) -> Dict[str, Any]:
 
 
 def time_of(moment: Any) -> Optional[str]:
-    return None if moment is None else timezone.localtime(moment).isoformat(timespec="seconds")
+    return (
+        None
+        if moment is None
+        else timezone.localtime(moment).isoformat(timespec="seconds")
+    )
 
 
 def attempts(team: Any) -> List[Dict[str, Any]]:
     """The newest attempts of a team, at most fifty."""
-    return [brief(it) for it in Attempt.objects.filter(team=team).prefetch_related("matches")[:50]]
+    return [
+        brief(it)
+        for it in Attempt.objects.filter(team=team).prefetch_related("matches")[:50]
+    ]

@@ -20,7 +20,11 @@ def own(request: Any, number: int, right: str = "attempts.view_attempt") -> Atte
 @for_teams
 def listed(request: Any, refusal: str = "", status: int = 200) -> HttpResponse:
     """What a team may ask for, and its attempts."""
-    given = {"offers": asking.offers(), "attempts": shown.attempts(request.team), "refusal": refusal}
+    given = {
+        "offers": asking.offers(),
+        "attempts": shown.attempts(request.team),
+        "refusal": refusal,
+    }
     return render(request, "attempts.html", given, status=status)
 
 
@@ -40,9 +44,17 @@ def one(request: Any, number: int) -> HttpResponse:
     """An attempt: how one plays it, and what came of it."""
     attempt = own(request, number)
     told = shown.attempt(attempt)
-    goes_on, pages = attempt.state not in machine.ENDED, sum(it["page"] is not None for it in told["matches"])
-    is_watched = goes_on or attempt.is_over and pages < len(told["matches"]) and attempt.size > 0
-    return render(request, "attempt.html", {"told": told, "goes_on": goes_on, "is_watched": is_watched, "pages": pages})
+    goes_on, pages = attempt.state not in machine.ENDED, sum(
+        it["page"] is not None for it in told["matches"]
+    )
+    is_watched = (
+        goes_on or attempt.is_over and pages < len(told["matches"]) and attempt.size > 0
+    )
+    return render(
+        request,
+        "attempt.html",
+        {"told": told, "goes_on": goes_on, "is_watched": is_watched, "pages": pages},
+    )
 
 
 @require_POST
@@ -62,7 +74,11 @@ def match_of(request: Any, number: int, match: int) -> Match:
 
 def replay(request: Any, number: int, match: int) -> FileResponse:
     """The replay of a match that is over."""
-    return sent(match_of(request, number, match).replay, "text/plain; charset=utf-8", f"match{number}-{match}.jsonl")
+    return sent(
+        match_of(request, number, match).replay,
+        "text/plain; charset=utf-8",
+        f"match{number}-{match}.jsonl",
+    )
 
 
 def page(request: Any, number: int, match: int) -> FileResponse:

@@ -18,8 +18,19 @@ from arena_lab.hall.teams.admin import Made
 class Gradings(Made):
     """All gradings, newest first."""
 
-    list_display = ("pk", "team", "hand_in", "is_secret", "state", "solved", "matches", "moves", "lost", "fault",
-                    "link")
+    list_display = (
+        "pk",
+        "team",
+        "hand_in",
+        "is_secret",
+        "state",
+        "solved",
+        "matches",
+        "moves",
+        "lost",
+        "fault",
+        "link",
+    )
     list_filter = ("state", "is_secret", "hand_in__contest", "hand_in__team")
     list_select_related = ("hand_in", "hand_in__team")
     fields = readonly_fields = list_display[1:-1]
@@ -31,7 +42,9 @@ class Gradings(Made):
 
     @admin.display(description="")
     def link(self, grading: Grading) -> str:
-        return format_html('<a href="/hand-ins/{}/result/">{}</a>', grading.hand_in_id, _("look"))
+        return format_html(
+            '<a href="/hand-ins/{}/result/">{}</a>', grading.hand_in_id, _("look")
+        )
 
     @admin.action(description=_("Grade again"), permissions=["change"])
     def again(self, request: Any, chosen: Any) -> None:
@@ -39,7 +52,11 @@ class Gradings(Made):
             hand_in, is_secret = grading.hand_in, grading.is_secret
             grading.delete()
             made = Grading.objects.create(hand_in=hand_in, is_secret=is_secret)
-            self.log_change(request, made, f"hand-in {hand_in.pk} of {hand_in.team.name} is graded again")
+            self.log_change(
+                request,
+                made,
+                f"hand-in {hand_in.pk} of {hand_in.team.name} is graded again",
+            )
 
 
 @admin.register(HandIn)
@@ -49,7 +66,15 @@ class HandIns(Made):
     list_display = ("pk", "team", "contest", "at", "name", "files", "size", "link")
     list_filter = ("contest", "team")
     list_select_related = ("team", "contest")
-    fields = readonly_fields = ("team", "contest", "at", "name", "files", "size", "digest")
+    fields = readonly_fields = (
+        "team",
+        "contest",
+        "at",
+        "name",
+        "files",
+        "size",
+        "digest",
+    )
 
     @admin.display(description="")
     def link(self, hand_in: HandIn) -> str:
@@ -59,12 +84,16 @@ class HandIns(Made):
 class ContestForm(forms.ModelForm):
     """The form of a contest, whose networks are chosen."""
 
-    networks = forms.MultipleChoiceField(label=_("networks"), widget=forms.CheckboxSelectMultiple)
+    networks = forms.MultipleChoiceField(
+        label=_("networks"), widget=forms.CheckboxSelectMultiple
+    )
 
     def __init__(self, *given: Any, **named: Any) -> None:
         super().__init__(*given, **named)
         if "networks" in self.fields:
-            self.fields["networks"].choices = [(name, name) for name in settings.HALL.nets]
+            self.fields["networks"].choices = [
+                (name, name) for name in settings.HALL.nets
+            ]
 
 
 @admin.register(Contest)
@@ -75,7 +104,11 @@ class Contests(admin.ModelAdmin):
     list_display = ("name", "start", "end", "freeze")
 
     def get_readonly_fields(self, request: Any, contest: Any = None) -> Sequence[str]:
-        return ("networks", "start") if contest is not None and contest.start <= timezone.now() else ()
+        return (
+            ("networks", "start")
+            if contest is not None and contest.start <= timezone.now()
+            else ()
+        )
 
 
 @admin.register(Extension)

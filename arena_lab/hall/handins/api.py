@@ -13,21 +13,31 @@ class Sent(serializers.Serializer):
     """What a script hands in."""
 
     file = serializers.FileField(max_length=80, allow_empty_file=True)
-    contest = serializers.IntegerField(default=None, allow_null=True, min_value=1, max_value=999_999_999)
+    contest = serializers.IntegerField(
+        default=None, allow_null=True, min_value=1, max_value=999_999_999
+    )
 
 
 class HandIns(ViewSet):
     """The hand-ins of a team."""
 
     def list(self, request: Any) -> Response:
-        return Response([taking.shown(it) for it in HandIn.objects.filter(team=request.user)[:50]])
+        return Response(
+            [taking.shown(it) for it in HandIn.objects.filter(team=request.user)[:50]]
+        )
 
     def create(self, request: Any) -> Response:
         sent = Sent(data=request.data)
         sent.is_valid(raise_exception=True)
         file = sent.validated_data["file"]
-        made = taking.take(request.user, file.name, file, sent.validated_data["contest"])
-        return Response(taking.shown(made), status=201, headers={"Location": f"/api/hand-ins/{made.pk}"})
+        made = taking.take(
+            request.user, file.name, file, sent.validated_data["contest"]
+        )
+        return Response(
+            taking.shown(made),
+            status=201,
+            headers={"Location": f"/api/hand-ins/{made.pk}"},
+        )
 
     def retrieve(self, request: Any, number: int) -> Response:
         return Response(taking.shown(views.own(request, number)))

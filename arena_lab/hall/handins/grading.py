@@ -53,20 +53,39 @@ def grade(number: int, holder: str) -> None:
 
 def prepare(work: Grading, folder: pathlib.Path) -> None:
     """Writes the file of a course that has this team alone, and the secret of its draws."""
-    given, team, window = settings.HALL.hand_ins, work.hand_in.team, window_of(work.hand_in.contest)
+    given, team, window = (
+        settings.HALL.hand_ins,
+        work.hand_in.team,
+        window_of(work.hand_in.contest),
+    )
     names = window and (window.secret if work.is_secret else window.public)
     if not names:
-        raise Fault("the hall takes no hand-ins any more, or has no network of this contest")
+        raise Fault(
+            "the hall takes no hand-ins any more, or has no network of this contest"
+        )
     folder.mkdir(mode=0o700)
     shutil.copytree(work.hand_in.folder / FILES, folder / FILES)
     rows: Dict[str, Any] = {
-        "title": settings.HALL.title, "networks": list(names),
-        "holes": given.holes, "schedulers": given.schedulers, "seeds": given.seeds}
-    own = {"name": team.name, "agents": given.agents, "files": [FILES], "command": given.command}
+        "title": settings.HALL.title,
+        "networks": list(names),
+        "holes": given.holes,
+        "schedulers": given.schedulers,
+        "seeds": given.seeds,
+    }
+    own = {
+        "name": team.name,
+        "agents": given.agents,
+        "files": [FILES],
+        "command": given.command,
+    }
     text = "".join(f"{name} = {toml_of(value)}\n" for name, value in rows.items())
-    text += "\n[[team]]\n" + "".join(f"{name} = {toml_of(value)}\n" for name, value in own.items())
+    text += "\n[[team]]\n" + "".join(
+        f"{name} = {toml_of(value)}\n" for name, value in own.items()
+    )
     write_whole(folder / COURSE, text)
-    write_whole(folder / SECRET, hashlib.sha256(drawn_from(work).encode()).hexdigest() + "\n")
+    write_whole(
+        folder / SECRET, hashlib.sha256(drawn_from(work).encode()).hexdigest() + "\n"
+    )
 
 
 def drawn_from(work: Grading) -> str:
@@ -79,12 +98,35 @@ def drawn_from(work: Grading) -> str:
 
 def run(work: Grading, holder: str, folder: pathlib.Path) -> None:
     """Runs `grade`. It ends with this worker, and its cells with it. One that was killed is run again, once."""
-    words = [sys.executable, "-m", "arena_lab", "grade", COURSE, "--out", OUT, "--secret", SECRET, "--workers", "1",
-             "--program", settings.PLACE.program]
-    variables = {"PATH": os.environ.get("PATH", "/usr/bin:/bin"), "PYTHONPATH": str(TOP), "PYTHONHASHSEED": "0"}
+    words = [
+        sys.executable,
+        "-m",
+        "arena_lab",
+        "grade",
+        COURSE,
+        "--out",
+        OUT,
+        "--secret",
+        SECRET,
+        "--workers",
+        "1",
+        "--program",
+        settings.PLACE.program,
+    ]
+    variables = {
+        "PATH": os.environ.get("PATH", "/usr/bin:/bin"),
+        "PYTHONPATH": str(TOP),
+        "PYTHONHASHSEED": "0",
+    }
     with (folder / LOG).open("wb") as log:
-        child = subprocess.Popen(bound(words), cwd=folder, stdin=subprocess.DEVNULL, stdout=log,
-                                 stderr=log, env=variables)
+        child = subprocess.Popen(
+            bound(words),
+            cwd=folder,
+            stdin=subprocess.DEVNULL,
+            stdout=log,
+            stderr=log,
+            env=variables,
+        )
     lease = Lease(work, holder)
     try:
         while child.poll() is None:
@@ -113,8 +155,16 @@ def finish(work: Grading, holder: str, folder: pathlib.Path) -> None:
         networks[row["network"]][0] += row["solved"]
         networks[row["network"]][1] += 1
     with transaction.atomic():
-        if not step(work, machine.FINISH, holder, solved=len(solved), matches=len(rows), networks=networks,
-                    moves=sum(row["moves"] for row in solved), lost=sum(row["lost"] for row in solved)):
+        if not step(
+            work,
+            machine.FINISH,
+            holder,
+            solved=len(solved),
+            matches=len(rows),
+            networks=networks,
+            moves=sum(row["moves"] for row in solved),
+            lost=sum(row["lost"] for row in solved),
+        ):
             raise WorkLost
         for earlier in set(folder.parent.glob(f"{work.folder.name}*")) - {folder}:
             shutil.rmtree(earlier, ignore_errors=True)
@@ -124,26 +174,48 @@ def finish(work: Grading, holder: str, folder: pathlib.Path) -> None:
 def rows_of(out: pathlib.Path, team: str) -> List[Dict[str, Any]]:
     """The matches of the results. A match that does not repeat is not solved."""
     repeats: Dict[str, str] = {}
-    with contextlib.suppress(FileNotFoundError), (out / "repeats.csv").open(encoding="utf-8", newline="") as file:
+    with contextlib.suppress(FileNotFoundError), (out / "repeats.csv").open(
+        encoding="utf-8", newline=""
+    ) as file:
         repeats = {row["run"]: row["fault"] for row in csv.DictReader(file)}
     with (out / "runs.csv").open(encoding="utf-8", newline="") as file:
-        return [{"network": row["network"], "moves": int(row["moves"]), "lost": int(row["lost"]),
-                 "solved": row["outcome"] == SOLVED and not row["fault"] and not repeats.get(row["run"])}
-                for row in csv.DictReader(file) if row["team"] == team]
+        return [
+            {
+                "network": row["network"],
+                "moves": int(row["moves"]),
+                "lost": int(row["lost"]),
+                "solved": row["outcome"] == SOLVED
+                and not row["fault"]
+                and not repeats.get(row["run"]),
+            }
+            for row in csv.DictReader(file)
+            if row["team"] == team
+        ]
 
 
 def due(most: int) -> List[Grading]:
     """The gradings that may begin, up to this number: of each team one at a time, first those of teams whose last
-    grading took the shortest time, so that a program that hangs keeps few waiting, and then the least lately graded."""
+    grading took the shortest time, so that a program that hangs keeps few waiting, and then the least lately graded.
+    """
     waiting = Grading.objects.filter(state=machine.WAITING)
-    busy = set(Grading.objects.filter(state__in=machine.ACTIVE).values_list("hand_in__team", flat=True))
+    busy = set(
+        Grading.objects.filter(state__in=machine.ACTIVE).values_list(
+            "hand_in__team", flat=True
+        )
+    )
     ended = Grading.objects.exclude(begun=None).exclude(ended=None).order_by("ended")
-    last = {team: (ended - begun, ended) for team, begun, ended in ended.filter(
-        ended__gt=timezone.now() - RECENT).values_list("hand_in__team", "begun", "ended")}
+    last = {
+        team: (ended - begun, ended)
+        for team, begun, ended in ended.filter(
+            ended__gt=timezone.now() - RECENT
+        ).values_list("hand_in__team", "begun", "ended")
+    }
     never = (datetime.timedelta(0), timezone.now() - RECENT)
     first: Dict[int, Grading] = {}
     for work in waiting.select_related("hand_in").order_by("pk"):
         if work.hand_in.team_id not in busy:
             first.setdefault(work.hand_in.team_id, work)
-    found = sorted(first.values(), key=lambda it: (*last.get(it.hand_in.team_id, never), it.pk))
-    return found[:max(0, most - len(busy))]
+    found = sorted(
+        first.values(), key=lambda it: (*last.get(it.hand_in.team_id, never), it.pk)
+    )
+    return found[: max(0, most - len(busy))]

@@ -25,8 +25,14 @@ class Contest(models.Model):
     networks = models.JSONField(_("networks"))
     start = models.DateTimeField(_("start"))
     end = models.DateTimeField(_("end"))
-    freeze = models.DateTimeField(_("freeze"), null=True, blank=True, help_text=_(
-        "from then on its table does not change for teams until you unveil it"))
+    freeze = models.DateTimeField(
+        _("freeze"),
+        null=True,
+        blank=True,
+        help_text=_(
+            "from then on its table does not change for teams until you unveil it"
+        ),
+    )
 
     class Meta:
         verbose_name, verbose_name_plural = _("contest"), _("contests")
@@ -40,13 +46,22 @@ class Contest(models.Model):
         faults: Dict[str, Any] = {}
         unknown = sorted(set(self.networks or []) - set(settings.HALL.nets))
         if unknown or not self.networks:
-            faults["networks"] = _("name networks of the course: %(names)s") % {"names": ", ".join(settings.HALL.nets)}
-        before = Contest.objects.filter(pk=self.pk).values_list("start", flat=True).first()
+            faults["networks"] = _("name networks of the course: %(names)s") % {
+                "names": ", ".join(settings.HALL.nets)
+            }
+        before = (
+            Contest.objects.filter(pk=self.pk).values_list("start", flat=True).first()
+        )
         if self.start and self.start != before and self.start < timezone.now() - LATE:
             faults["start"] = _("the start has passed")
         if self.start and self.end and self.end <= self.start:
             faults["end"] = _("the end comes before the start")
-        if self.freeze and self.start and self.end and not self.start <= self.freeze <= self.end:
+        if (
+            self.freeze
+            and self.start
+            and self.end
+            and not self.start <= self.freeze <= self.end
+        ):
             faults["freeze"] = _("the freeze is not between the start and the end")
         if faults:
             raise ValidationError(faults)
@@ -56,12 +71,19 @@ class Extension(models.Model):
     """A deadline of a team's own."""
 
     team = models.ForeignKey(Team, models.CASCADE)
-    contest = models.ForeignKey(Contest, models.CASCADE, null=True, blank=True, help_text=_(
-        "empty for the deadline of the course"))
+    contest = models.ForeignKey(
+        Contest,
+        models.CASCADE,
+        null=True,
+        blank=True,
+        help_text=_("empty for the deadline of the course"),
+    )
     until = models.DateTimeField(_("deadline"))
 
     class Meta:
-        verbose_name, verbose_name_plural = _("deadline of a team"), _("deadlines of teams")
+        verbose_name, verbose_name_plural = _("deadline of a team"), _(
+            "deadlines of teams"
+        )
         ordering = ["-until"]
 
     def __str__(self) -> str:
@@ -72,7 +94,9 @@ class HandIn(models.Model):
     """A program that a team has handed in, for the course or for a contest. Its files never change."""
 
     team = models.ForeignKey(Team, models.CASCADE, related_name="hand_ins")
-    contest = models.ForeignKey(Contest, models.PROTECT, null=True, blank=True, related_name="hand_ins")
+    contest = models.ForeignKey(
+        Contest, models.PROTECT, null=True, blank=True, related_name="hand_ins"
+    )
     at = models.DateTimeField(default=timezone.now)
     name = models.CharField(max_length=80)
     size = models.PositiveIntegerField()

@@ -16,7 +16,13 @@ from arena_lab.hall.attempts.shown import time_of
 from arena_lab.hall.handins import unpacking
 from arena_lab.hall.handins.grading import FILES
 from arena_lab.hall.handins.models import Contest, Grading, HandIn
-from arena_lab.hall.handins.windows import Window, ends, last_of_teams, window_of, windows
+from arena_lab.hall.handins.windows import (
+    Window,
+    ends,
+    last_of_teams,
+    window_of,
+    windows,
+)
 from arena_lab.hall.place import tell
 from arena_lab.hall.teams.guards import Buckets
 from arena_lab.hall.teams.models import Team, note, today
@@ -33,10 +39,17 @@ def take(team: Team, name: str, file: Any, number: Optional[int] = None) -> Hand
     window = None if contest is None and number is not None else window_of(contest)
     check(team, file.size, window)
     if sent.wait(team.name, A_MINUTE):
-        raise RequestRefused(429, _("your team has handed in %(count)s times this minute: wait for it to pass") % {
-            "count": A_MINUTE})
+        raise RequestRefused(
+            429,
+            _(
+                "your team has handed in %(count)s times this minute: wait for it to pass"
+            )
+            % {"count": A_MINUTE},
+        )
     try:
-        files = unpacking.files_of(file.read(unpacking.MOST_SENT + 1), settings.HALL.hand_ins.file)
+        files = unpacking.files_of(
+            file.read(unpacking.MOST_SENT + 1), settings.HALL.hand_ins.file
+        )
     except unpacking.NoHandIn as fault:
         raise RequestRefused(400, str(fault)) from None
     digest = hashlib.sha256()
@@ -46,8 +59,13 @@ def take(team: Team, name: str, file: Any, number: Optional[int] = None) -> Hand
         team = Team.objects.select_for_update().get(pk=team.pk)
         check(team, file.size, window)
         made = HandIn.objects.create(
-            team=team, contest=contest, name=plain(name)[:80], size=sum(map(len, files.values())), files=len(files),
-            digest=digest.hexdigest())
+            team=team,
+            contest=contest,
+            name=plain(name)[:80],
+            size=sum(map(len, files.values())),
+            files=len(files),
+            digest=digest.hexdigest(),
+        )
         write(files, made.folder)
         Grading.objects.create(hand_in=made)
         note(team.name, f"hands in {made.pk}: {made.files} files, {made.size} bytes")
@@ -61,7 +79,9 @@ def write(files: Dict[str, bytes], folder: pathlib.Path) -> None:
     except OSError as fault:
         shutil.rmtree(folder, ignore_errors=True)
         tell(f"{folder}: {fault}")
-        raise RequestRefused(503, _("the hall cannot write this now: tell your teacher")) from None
+        raise RequestRefused(
+            503, _("the hall cannot write this now: tell your teacher")
+        ) from None
 
 
 def check(team: Team, size: int, window: Optional[Window]) -> None:
@@ -75,17 +95,42 @@ def check(team: Team, size: int, window: Optional[Window]) -> None:
     if end is not None and timezone.now() > end:
         raise RequestRefused(403, _("the deadline has passed"))
     if size > unpacking.MOST_SENT:
-        raise RequestRefused(413, _("a hand-in has at most %(count)s MB") % {"count": unpacking.MOST_SENT >> 20})
+        raise RequestRefused(
+            413,
+            _("a hand-in has at most %(count)s MB")
+            % {"count": unpacking.MOST_SENT >> 20},
+        )
     if window.contest is None and not left_today(team):
-        raise RequestRefused(429, _("your team has handed in %(count)s times today") % {
-            "count": settings.HALL.hand_ins.a_day})
-    if Grading.objects.filter(hand_in__team=team, state=machine.WAITING, is_secret=False).count() >= MOST_WAITING:
-        raise RequestRefused(429, _("%(count)s hand-ins of your team wait to be graded: wait for one") % {
-            "count": MOST_WAITING})
-    used = own_bytes(team) + int(HandIn.objects.filter(team=team).aggregate(all=models.Sum("size"))["all"] or 0) * 2
+        raise RequestRefused(
+            429,
+            _("your team has handed in %(count)s times today")
+            % {"count": settings.HALL.hand_ins.a_day},
+        )
+    if (
+        Grading.objects.filter(
+            hand_in__team=team, state=machine.WAITING, is_secret=False
+        ).count()
+        >= MOST_WAITING
+    ):
+        raise RequestRefused(
+            429,
+            _("%(count)s hand-ins of your team wait to be graded: wait for one")
+            % {"count": MOST_WAITING},
+        )
+    used = (
+        own_bytes(team)
+        + int(
+            HandIn.objects.filter(team=team).aggregate(all=models.Sum("size"))["all"]
+            or 0
+        )
+        * 2
+    )
     if used + size > settings.HALL.limits.disk << 20:
-        raise RequestRefused(429, _("the files of your team take more than %(count)s MB: ask your teacher") % {
-            "count": settings.HALL.limits.disk})
+        raise RequestRefused(
+            429,
+            _("the files of your team take more than %(count)s MB: ask your teacher")
+            % {"count": settings.HALL.limits.disk},
+        )
 
 
 def left_today(team: Team) -> int:
@@ -97,29 +142,48 @@ def left_today(team: Team) -> int:
 def shown(hand_in: HandIn) -> Dict[str, Any]:
     """What a team is told of a hand-in. What came of the secret draw is told when the teacher shows it."""
     public = next((it for it in hand_in.gradings.all() if not it.is_secret), None)
-    return {"id": hand_in.pk, "contest": hand_in.contest_id, "at": time_of(hand_in.at), "name": hand_in.name,
-            "size": hand_in.size, "files": hand_in.files, "sha256": hand_in.digest,
-            "state": public.state if public else "", "fault": public.fault if public else "",
-            "result": result_of(public)}
+    return {
+        "id": hand_in.pk,
+        "contest": hand_in.contest_id,
+        "at": time_of(hand_in.at),
+        "name": hand_in.name,
+        "size": hand_in.size,
+        "files": hand_in.files,
+        "sha256": hand_in.digest,
+        "state": public.state if public else "",
+        "fault": public.fault if public else "",
+        "result": result_of(public),
+    }
 
 
 def result_of(grading: Optional[Grading]) -> Optional[Dict[str, Any]]:
     """What came of a grading, once it is over."""
     if grading is None or not grading.is_over:
         return None
-    return {"solved": grading.solved, "matches": grading.matches, "moves": grading.moves, "lost": grading.lost,
-            "networks": grading.networks}
+    return {
+        "solved": grading.solved,
+        "matches": grading.matches,
+        "moves": grading.moves,
+        "lost": grading.lost,
+        "networks": grading.networks,
+    }
 
 
 def grade_secretly(now: datetime.datetime) -> int:
     """Asks for the grading of each team's last hand-in by the secret draw, once the window has ended for that team;
     gives how many were asked for."""
     teams = list(Team.objects.all())
-    graded = set(Grading.objects.filter(is_secret=True).values_list("hand_in", flat=True))
+    graded = set(
+        Grading.objects.filter(is_secret=True).values_list("hand_in", flat=True)
+    )
     new: List[int] = []
     for window in windows():
         last, until = last_of_teams(window), ends(window, teams)
-        new += [pk for team, pk in last.items() if pk not in graded and (end := until[team]) is not None and now > end]
+        new += [
+            pk
+            for team, pk in last.items()
+            if pk not in graded and (end := until[team]) is not None and now > end
+        ]
     for pk in new:
         Grading.objects.get_or_create(hand_in_id=pk, is_secret=True)
     return len(new)

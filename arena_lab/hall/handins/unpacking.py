@@ -44,11 +44,20 @@ def unzipped(sent: bytes) -> Dict[str, bytes]:
             if len(entries) > MOST_FILES:
                 raise NoHandIn(f"it has more than {MOST_FILES} files")
             return contents(archive, entries)
-    except (zipfile.BadZipFile, zlib.error, NotImplementedError, RuntimeError, EOFError, ValueError) as fault:
+    except (
+        zipfile.BadZipFile,
+        zlib.error,
+        NotImplementedError,
+        RuntimeError,
+        EOFError,
+        ValueError,
+    ) as fault:
         raise NoHandIn(f"the zip cannot be read: {str(fault)[:100]}") from None
 
 
-def contents(archive: zipfile.ZipFile, entries: List[zipfile.ZipInfo]) -> Dict[str, bytes]:
+def contents(
+    archive: zipfile.ZipFile, entries: List[zipfile.ZipInfo]
+) -> Dict[str, bytes]:
     """What these entries have, by their names."""
     found: Dict[str, bytes] = {}
     left = MOST_BYTES
@@ -73,8 +82,13 @@ def checked(entry: zipfile.ZipInfo) -> str:
         raise NoHandIn(f"its folders are more than {MOST_DEPTH} deep")
     if any(part in ("", ".", "..") or not PART.fullmatch(part) for part in parts):
         raise NoHandIn(f"the zip has {name[:60]!r}, which is no name of a file inside")
-    if max(map(len, map(str.encode, parts))) > MOST_NAME or len(name.encode()) > MOST_PATH:
-        raise NoHandIn(f"{name[:60]!r} is too long: a name has at most {MOST_NAME} bytes, and a path {MOST_PATH}")
+    if (
+        max(map(len, map(str.encode, parts))) > MOST_NAME
+        or len(name.encode()) > MOST_PATH
+    ):
+        raise NoHandIn(
+            f"{name[:60]!r} is too long: a name has at most {MOST_NAME} bytes, and a path {MOST_PATH}"
+        )
     if (entry.external_attr >> 16) & 0o170000 == 0o120000:
         raise NoHandIn(f"{name[:60]} is a link: hand in what it leads to")
     return name

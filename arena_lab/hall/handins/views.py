@@ -31,11 +31,23 @@ KINDS = {".html": "text/html; charset=utf-8"}
 @for_teams
 def listed(request: Any, refusal: str = "", status: int = 200) -> HttpResponse:
     """What a team has handed in, and a form for more."""
-    own = HandIn.objects.filter(team=request.team).select_related("contest").prefetch_related("gradings")[:50]
-    open_now = [{"contest": it.contest, "end": end} for it in windows() if it.has_begun()
-                and ((end := it.end_for(request.team)) is None or end >= timezone.now())]
-    given = {"hand_ins": [{**taking.shown(it), "of": it.contest or ""} for it in own], "open": open_now,
-             "left": taking.left_today(request.team) if settings.HALL.hand_ins else 0, "refusal": refusal}
+    own = (
+        HandIn.objects.filter(team=request.team)
+        .select_related("contest")
+        .prefetch_related("gradings")[:50]
+    )
+    open_now = [
+        {"contest": it.contest, "end": end}
+        for it in windows()
+        if it.has_begun()
+        and ((end := it.end_for(request.team)) is None or end >= timezone.now())
+    ]
+    given = {
+        "hand_ins": [{**taking.shown(it), "of": it.contest or ""} for it in own],
+        "open": open_now,
+        "left": taking.left_today(request.team) if settings.HALL.hand_ins else 0,
+        "refusal": refusal,
+    }
     return render(request, "hand_ins.html", given, status=status)
 
 
@@ -62,19 +74,27 @@ def own(request: Any, number: int) -> HandIn:
 def one(request: Any, number: int) -> HttpResponse:
     """A hand-in with its sources, as far as they are texts that a page takes."""
     hand_in = own(request, number)
-    return render(request, "hand_in.html", {"told": taking.shown(hand_in), "of": hand_in, "files": sources(hand_in)})
+    return render(
+        request,
+        "hand_in.html",
+        {"told": taking.shown(hand_in), "of": hand_in, "files": sources(hand_in)},
+    )
 
 
 def sources(hand_in: HandIn) -> List[Dict[str, Any]]:
     """The files of a hand-in, each with its text."""
     place, left, found = hand_in.folder / FILES, MOST_SHOWN, []
-    for path in sorted(it for it in place.rglob("*") if it.is_file() and not it.is_symlink()):
+    for path in sorted(
+        it for it in place.rglob("*") if it.is_file() and not it.is_symlink()
+    ):
         size, text = path.stat().st_size, None
         if size <= left:
             with contextlib.suppress(UnicodeDecodeError):
                 text = as_seen(path.read_text(encoding="utf-8"))
                 left -= size
-        found.append({"name": as_seen(str(path.relative_to(place))), "size": size, "text": text})
+        found.append(
+            {"name": as_seen(str(path.relative_to(place))), "size": size, "text": text}
+        )
     return found
 
 

@@ -14,7 +14,8 @@ Moment = Optional[datetime.datetime]
 
 class Window(NamedTuple):
     """A window: the contest, or None for the course; the networks of a grading at once and of the last one, each by the
-    word that names it to `grade`, with its name on pages; and when it begins, ends and freezes, if ever."""
+    word that names it to `grade`, with its name on pages; and when it begins, ends and freezes, if ever.
+    """
 
     contest: Optional[Contest]
     public: Dict[str, str]
@@ -37,9 +38,15 @@ def window_of(contest: Optional[Contest]) -> Optional[Window]:
     if given is None:
         return None
     if contest is None:
-        public, secret = ({name: name for name in names} for names in (given.networks, given.secret))
+        public, secret = (
+            {name: name for name in names} for names in (given.networks, given.secret)
+        )
         return Window(None, public, secret, None, given.deadline, settings.HALL.freeze)
-    nets = [settings.HALL.nets[name] for name in contest.networks if name in settings.HALL.nets]
+    nets = [
+        settings.HALL.nets[name]
+        for name in contest.networks
+        if name in settings.HALL.nets
+    ]
     names = {net.word: net.name for net in nets}
     return Window(contest, names, names, contest.start, contest.end, contest.freeze)
 
@@ -52,10 +59,19 @@ def windows() -> List[Window]:
 
 def ends(window: Window, teams: List[Team]) -> Dict[int, Moment]:
     """When a window ends for each of these teams."""
-    own = Extension.objects.filter(contest=window.contest, team__in=teams).order_by("pk")
-    return {**{team.pk: window.end for team in teams}, **dict(own.values_list("team", "until"))}
+    own = Extension.objects.filter(contest=window.contest, team__in=teams).order_by(
+        "pk"
+    )
+    return {
+        **{team.pk: window.end for team in teams},
+        **dict(own.values_list("team", "until")),
+    }
 
 
 def last_of_teams(window: Window) -> Dict[int, int]:
     """Of each team its last hand-in in a window."""
-    return dict(HandIn.objects.filter(contest=window.contest).order_by("pk").values_list("team", "pk"))
+    return dict(
+        HandIn.objects.filter(contest=window.contest)
+        .order_by("pk")
+        .values_list("team", "pk")
+    )

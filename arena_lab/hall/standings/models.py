@@ -11,10 +11,23 @@ class Reveal(models.Model):
     the secret draw."""
 
     FREEZE, SECRET = "freeze", "secret"
-    contest = models.ForeignKey(Contest, models.CASCADE, null=True, blank=True, verbose_name=_("contest"),
-                                help_text=_("empty for the table of the course"))
-    what = models.CharField(_("what is shown"), max_length=10, default=FREEZE, choices=[
-        (FREEZE, _("what the freeze hides")), (SECRET, _("what came of the secret draw"))])
+    contest = models.ForeignKey(
+        Contest,
+        models.CASCADE,
+        null=True,
+        blank=True,
+        verbose_name=_("contest"),
+        help_text=_("empty for the table of the course"),
+    )
+    what = models.CharField(
+        _("what is shown"),
+        max_length=10,
+        default=FREEZE,
+        choices=[
+            (FREEZE, _("what the freeze hides")),
+            (SECRET, _("what came of the secret draw")),
+        ],
+    )
     at = models.DateTimeField(default=timezone.now, editable=False)
 
     class Meta:

@@ -30,18 +30,33 @@ def is_shown(window: Window, what: str, since: Moment = None) -> bool:
 
 def frozen_at(window: Window) -> Moment:
     """Since when a table is frozen; None if it is not. An unveiling ends the freezes before it, and none after it."""
-    if window.freeze is None or timezone.now() < window.freeze or is_shown(window, Reveal.FREEZE, window.freeze):
+    if (
+        window.freeze is None
+        or timezone.now() < window.freeze
+        or is_shown(window, Reveal.FREEZE, window.freeze)
+    ):
         return None
     return window.freeze
 
 
 def tables(window: Window, for_teacher: bool) -> List[StandingsTable]:
     """The table that a team sees: that of the secret draw once it is shown, before that the one of what each hand-in
-    came to at once. The teacher sees both, with hidden teams and with what is frozen."""
-    secret = {"hand_in__contest": window.contest, "is_secret": True, "state": machine.OVER}
+    came to at once. The teacher sees both, with hidden teams and with what is frozen.
+    """
+    secret = {
+        "hand_in__contest": window.contest,
+        "is_secret": True,
+        "state": machine.OVER,
+    }
     is_shown_to = for_teacher or is_shown(window, Reveal.SECRET)
-    found = [table(window, True, for_teacher)] if is_shown_to and Grading.objects.filter(**secret).exists() else []
-    return found + ([table(window, False, for_teacher)] if for_teacher or not found else [])
+    found = (
+        [table(window, True, for_teacher)]
+        if is_shown_to and Grading.objects.filter(**secret).exists()
+        else []
+    )
+    return found + (
+        [table(window, False, for_teacher)] if for_teacher or not found else []
+    )
 
 
 def table(window: Window, is_secret: bool, for_teacher: bool) -> StandingsTable:
@@ -50,14 +65,39 @@ def table(window: Window, is_secret: bool, for_teacher: bool) -> StandingsTable:
     teams = Team.objects.all() if for_teacher else Team.objects.filter(hidden=False)
     names = window.secret if is_secret else window.public
     found = graded(window, is_secret, frozen)
-    places = rules.league([found[team.pk]._replace(team=team.name) for team in teams if team.pk in found])
+    places = rules.league(
+        [found[team.pk]._replace(team=team.name) for team in teams if team.pk in found]
+    )
     shown = {team.name: str(team) for team in teams}
-    rows = [{"place": place, "team": it.team, "name": shown.pop(it.team), "absent": False, "solved": it.solved,
-             "matches": it.matches, "moves": it.moves, "lost": it.lost,
-             "cells": [cell(it.networks.get(word)) for word in names]} for place, it in places]
+    rows = [
+        {
+            "place": place,
+            "team": it.team,
+            "name": shown.pop(it.team),
+            "absent": False,
+            "solved": it.solved,
+            "matches": it.matches,
+            "moves": it.moves,
+            "lost": it.lost,
+            "cells": [cell(it.networks.get(word)) for word in names],
+        }
+        for place, it in places
+    ]
     last = 1 + len(rows)
-    rows += [{"place": last, "team": team, "name": name, "absent": True, "solved": 0, "matches": 0, "moves": 0,
-              "lost": 0, "cells": [None] * len(names)} for team, name in shown.items()]
+    rows += [
+        {
+            "place": last,
+            "team": team,
+            "name": name,
+            "absent": True,
+            "solved": 0,
+            "matches": 0,
+            "moves": 0,
+            "lost": 0,
+            "cells": [None] * len(names),
+        }
+        for team, name in shown.items()
+    ]
     return StandingsTable(list(names.values()), rows, is_secret, frozen)
 
 
@@ -66,11 +106,21 @@ def cell(found: Any) -> Any:
     return None if found is None else {"solved": found[0], "matches": found[1]}
 
 
-def graded(window: Window, is_secret: bool, before: Moment) -> Dict[int, rules.GradedTeam]:
+def graded(
+    window: Window, is_secret: bool, before: Moment
+) -> Dict[int, rules.GradedTeam]:
     """What came of each team's last hand-in that is graded. A freeze hides what was handed in later."""
-    rows = Grading.objects.filter(hand_in__contest=window.contest, is_secret=is_secret, state=machine.OVER).order_by()
+    rows = Grading.objects.filter(
+        hand_in__contest=window.contest, is_secret=is_secret, state=machine.OVER
+    ).order_by()
     if before is not None:
         rows = rows.filter(hand_in__at__lt=before)
-    last = rows.values("hand_in__team").annotate(last=models.Max("hand_in")).values("last")
-    return {it.hand_in.team_id: rules.GradedTeam("", it.solved, it.matches, it.moves, it.lost, it.networks)
-            for it in rows.filter(hand_in__in=last).select_related("hand_in")}
+    last = (
+        rows.values("hand_in__team").annotate(last=models.Max("hand_in")).values("last")
+    )
+    return {
+        it.hand_in.team_id: rules.GradedTeam(
+            "", it.solved, it.matches, it.moves, it.lost, it.networks
+        )
+        for it in rows.filter(hand_in__in=last).select_related("hand_in")
+    }

@@ -28,7 +28,9 @@ SEES_ALL = "handins.view_grading"
 
 def may_see(request: Any) -> bool:
     """Whether one may see the standings."""
-    return bool(settings.HALL.public or request.team is not None or request.user.is_staff)
+    return bool(
+        settings.HALL.public or request.team is not None or request.user.is_staff
+    )
 
 
 def is_teacher(request: Any) -> bool:
@@ -38,7 +40,11 @@ def is_teacher(request: Any) -> bool:
 
 def begun(number: Optional[int]) -> Optional[Window]:
     """The window of a contest that has begun, or of the course."""
-    return window_of(None if number is None else get_object_or_404(Contest, pk=number, start__lte=timezone.now()))
+    return window_of(
+        None
+        if number is None
+        else get_object_or_404(Contest, pk=number, start__lte=timezone.now())
+    )
 
 
 def shown(window: Optional[Window], for_teacher: bool) -> List[tables.StandingsTable]:
@@ -46,7 +52,9 @@ def shown(window: Optional[Window], for_teacher: bool) -> List[tables.StandingsT
     if window is None or for_teacher:
         return [] if window is None else tables.tables(window, True)
     name = f"tables-{0 if window.contest is None else window.contest.pk}"
-    found: List[tables.StandingsTable] = cache.get_or_set(name, lambda: tables.tables(window, False), SECONDS)
+    found: List[tables.StandingsTable] = cache.get_or_set(
+        name, lambda: tables.tables(window, False), SECONDS
+    )
     return found
 
 
@@ -55,10 +63,19 @@ def page(request: Any, number: Optional[int] = None) -> HttpResponse:
     if not may_see(request):
         return redirect("/login")
     window = begun(number)
-    contests = Contest.objects.filter(start__lte=timezone.now()) if number is None else []
-    return render(request, "standings.html", {
-        "tables": shown(window, is_teacher(request)), "is_teacher": is_teacher(request), "contests": contests,
-        "contest": window and window.contest})
+    contests = (
+        Contest.objects.filter(start__lte=timezone.now()) if number is None else []
+    )
+    return render(
+        request,
+        "standings.html",
+        {
+            "tables": shown(window, is_teacher(request)),
+            "is_teacher": is_teacher(request),
+            "contests": contests,
+            "contest": window and window.contest,
+        },
+    )
 
 
 def screen(request: Any, number: Optional[int] = None) -> HttpResponse:
@@ -66,17 +83,48 @@ def screen(request: Any, number: Optional[int] = None) -> HttpResponse:
     if not may_see(request):
         return redirect("/login")
     window = begun(number)
-    return render(request, "screen.html", {"tables": shown(window, False), "contest": window and window.contest})
+    return render(
+        request,
+        "screen.html",
+        {"tables": shown(window, False), "contest": window and window.contest},
+    )
 
 
 def as_rows(table: tables.StandingsTable) -> List[List[Any]]:
     """The standings as a table of texts."""
-    rows: List[List[Any]] = [["place", "team", "name", "solved", "matches", "moves", "lost", *(
-        f"{name}: {what}" for name in table.networks for what in ("solved", "matches"))]]
+    rows: List[List[Any]] = [
+        [
+            "place",
+            "team",
+            "name",
+            "solved",
+            "matches",
+            "moves",
+            "lost",
+            *(
+                f"{name}: {what}"
+                for name in table.networks
+                for what in ("solved", "matches")
+            ),
+        ]
+    ]
     for row in table.rows:
-        cells = [cell[what] if cell else "" for cell in row["cells"] for what in ("solved", "matches")]
+        cells = [
+            cell[what] if cell else ""
+            for cell in row["cells"]
+            for what in ("solved", "matches")
+        ]
         place = "absent" if row["absent"] else row["place"]
-        rows.append([place, *(row[name] for name in ("team", "name", "solved", "matches", "moves", "lost")), *cells])
+        rows.append(
+            [
+                place,
+                *(
+                    row[name]
+                    for name in ("team", "name", "solved", "matches", "moves", "lost")
+                ),
+                *cells,
+            ]
+        )
     return rows
 
 
@@ -118,8 +166,14 @@ class Standings(APIView):
     def get(self, request: Any, number: Optional[int] = None) -> Response:
         found = shown(begun(number), False)
         table = found[0] if found else tables.StandingsTable([], [], False, None)
-        return Response({"networks": table.networks, "teams": table.rows, "secret": table.is_secret,
-                         "frozen": time_of(table.frozen)})
+        return Response(
+            {
+                "networks": table.networks,
+                "teams": table.rows,
+                "secret": table.is_secret,
+                "frozen": time_of(table.frozen),
+            }
+        )
 
 
 class Contests(APIView):
@@ -129,5 +183,15 @@ class Contests(APIView):
 
     def get(self, request: Any) -> Response:
         now = timezone.now()
-        return Response([{"id": it.pk, "name": it.name, "start": time_of(it.start), "end": time_of(it.end),
-                          "networks": it.networks if it.start <= now else []} for it in Contest.objects.all()])
+        return Response(
+            [
+                {
+                    "id": it.pk,
+                    "name": it.name,
+                    "start": time_of(it.start),
+                    "end": time_of(it.end),
+                    "networks": it.networks if it.start <= now else [],
+                }
+                for it in Contest.objects.all()
+            ]
+        )

@@ -31,9 +31,14 @@ class Teams(admin.ModelAdmin):
     search_fields = ("name", "display")
     actions = ("draw_tokens",)
 
-    @admin.action(description=_("New key sheets (earlier tokens end)"), permissions=["change"])
+    @admin.action(
+        description=_("New key sheets (earlier tokens end)"), permissions=["change"]
+    )
     def draw_tokens(self, request: Any, chosen: Any) -> HttpResponse:
-        rows: List[List[Any]] = [list(HEAD), *(list(row) for row in new_tokens(list(chosen), request.user))]
+        rows: List[List[Any]] = [
+            list(HEAD),
+            *(list(row) for row in new_tokens(list(chosen), request.user)),
+        ]
         return attached(as_csv(rows), "keys.csv")
 
 

@@ -14,7 +14,11 @@ def error_response(fault: Exception, context: Dict[str, Any]) -> Optional[Respon
         fault = exceptions.ParseError()
     response = exception_handler(fault, context)
     if response is not None:
-        said = fault.detail if isinstance(fault, exceptions.APIException) else _("there is no such thing")
+        said = (
+            fault.detail
+            if isinstance(fault, exceptions.APIException)
+            else _("there is no such thing")
+        )
         response.data = {"error": first_of(said)}
     return response
 

@@ -16,14 +16,23 @@ from django.http import HttpRequest, HttpResponse, JsonResponse
 from django.utils.connection import ConnectionProxy
 from django.utils.translation import gettext as _
 
-STRICT = ("default-src 'none'; style-src 'self'; script-src 'self'; img-src 'self' data:; font-src 'self'; "
-          "connect-src 'self'; form-action 'self'; base-uri 'none'; frame-ancestors 'none'")
+STRICT = (
+    "default-src 'none'; style-src 'self'; script-src 'self'; img-src 'self' data:; font-src 'self'; "
+    "connect-src 'self'; form-action 'self'; base-uri 'none'; frame-ancestors 'none'"
+)
 # pages that are made of what strangers said have their scripts in them, and may reach nothing, not even cookies
-BOXED = ("sandbox allow-scripts; default-src 'none'; style-src 'unsafe-inline'; script-src 'unsafe-inline'; "
-         "base-uri 'none'; form-action 'none'; frame-ancestors 'none'")
+BOXED = (
+    "sandbox allow-scripts; default-src 'none'; style-src 'unsafe-inline'; script-src 'unsafe-inline'; "
+    "base-uri 'none'; form-action 'none'; frame-ancestors 'none'"
+)
 # what each answer has: nothing is taken from elsewhere, framed or kept
-HEADERS = {"Content-Security-Policy": STRICT, "X-Content-Type-Options": "nosniff", "Cache-Control": "no-store",
-           "Referrer-Policy": "same-origin", "Cross-Origin-Resource-Policy": "same-origin"}
+HEADERS = {
+    "Content-Security-Policy": STRICT,
+    "X-Content-Type-Options": "nosniff",
+    "Cache-Control": "no-store",
+    "Referrer-Policy": "same-origin",
+    "Cross-Origin-Resource-Policy": "same-origin",
+}
 # requests a minute of an address that nobody has logged in from, or of a teacher; and wrong tries of a team's token or
 # of a teacher's password in ten minutes, from one address: others of a class behind it are not kept out
 STRANGERS, TRIES = 600, 10
@@ -44,7 +53,9 @@ class Buckets:
 
     def __init__(self, seconds: float) -> None:
         self._seconds = seconds
-        self._left: "collections.OrderedDict[str, Tuple[float, float]]" = collections.OrderedDict()
+        self._left: "collections.OrderedDict[str, Tuple[float, float]]" = (
+            collections.OrderedDict()
+        )
         self._lock = threading.Lock()
 
     def wait(self, key: str, most: int) -> float:
@@ -98,19 +109,28 @@ def token_in(request: HttpRequest) -> Optional[str]:
     """The token that a program sends with a request of REST. Pages read none."""
     said = str(request.META.get("HTTP_AUTHORIZATION", ""))
     is_token = request.path.startswith(REST) and said.lower().startswith(BEARER)
-    return said[len(BEARER):].strip() if is_token else None
+    return said[len(BEARER) :].strip() if is_token else None
 
 
 def credential_of(request: HttpRequest) -> Optional[str]:
     """The digest of the token or of the session by which one asks: of the one that the hall will look at."""
-    token, session = token_in(request), request.COOKIES.get(settings.SESSION_COOKIE_NAME)
-    said = f"token {token}" if token is not None else f"session {session}" if session else ""
+    token, session = token_in(request), request.COOKIES.get(
+        settings.SESSION_COOKIE_NAME
+    )
+    said = (
+        f"token {token}"
+        if token is not None
+        else f"session {session}"
+        if session
+        else ""
+    )
     return hashlib.sha256(said.encode(errors="replace")).hexdigest() if said else None
 
 
 def has_tried_too_often(request: HttpRequest, name: str) -> bool:
     """Whether no token or password of this name is tried any more from this address: too many were wrong. A right one
-    costs no try, however often it is tried at once. So each thread of the hall may look at one more wrong one."""
+    costs no try, however often it is tried at once. So each thread of the hall may look at one more wrong one.
+    """
     return tried.is_empty(f"{address_of(request)} {name[:40]}", TRIES)
 
 
@@ -141,11 +161,18 @@ class Guards:
         if wait:
             return too_many(wait)
         # what comes with a token is read once the token is found right
-        if length_of(request) > (MOST_SENT if name or token_in(request) else MOST_OF_STRANGERS):
+        if length_of(request) > (
+            MOST_SENT if name or token_in(request) else MOST_OF_STRANGERS
+        ):
             return refusal(413, _("that is too much"))
         if any(word in request.GET for word in ("token", "key", "password")):
             # what stands in an address is kept by browsers, servers and logs
-            return refusal(400, _("a token belongs into the header Authorization, and never into an address"))
+            return refusal(
+                400,
+                _(
+                    "a token belongs into the header Authorization, and never into an address"
+                ),
+            )
         return None
 
 
@@ -165,4 +192,8 @@ def refusal(status: int, text: str, **more: str) -> HttpResponse:
 
 def too_many(wait: float) -> HttpResponse:
     seconds = str(int(wait) + 1)
-    return refusal(429, _("too many requests: wait %(seconds)s seconds") % {"seconds": seconds}, Retry_After=seconds)
+    return refusal(
+        429,
+        _("too many requests: wait %(seconds)s seconds") % {"seconds": seconds},
+        Retry_After=seconds,
+    )

@@ -31,14 +31,19 @@ def tried(request: HttpRequest, token: str) -> Optional[Team]:
 def log_in(request: Any, team: Team) -> None:
     """Begins a session of a team, in the place of any before it."""
     request.session.flush()
-    request.session[SESSION_TEAM], request.session[SESSION_GENERATION] = team.pk, team.generation
+    request.session[SESSION_TEAM], request.session[SESSION_GENERATION] = (
+        team.pk,
+        team.generation,
+    )
 
 
 def team_in(request: Any) -> Optional[Team]:
     """The team of a session, unless its token was drawn anew meanwhile."""
     number = request.session.get(SESSION_TEAM)
     team = Team.objects.filter(pk=number).first() if number is not None else None
-    is_new = team is not None and request.session.get(SESSION_GENERATION) == team.generation
+    is_new = (
+        team is not None and request.session.get(SESSION_GENERATION) == team.generation
+    )
     return team if is_new else None
 
 
@@ -103,11 +108,15 @@ class IsTeam(BasePermission):
 class Teachers(ModelBackend):
     """The teacher's password, whose tries are limited."""
 
-    def authenticate(self, request: Any, username: Any = None, password: Any = None, **given: Any) -> Any:
+    def authenticate(
+        self, request: Any, username: Any = None, password: Any = None, **given: Any
+    ) -> Any:
         name = f"{guards.STAFF}{username}"
         if request is not None and guards.has_tried_too_often(request, name):
             return None
-        user = super().authenticate(request, username=username, password=password, **given)
+        user = super().authenticate(
+            request, username=username, password=password, **given
+        )
         if user is None and request is not None:
             guards.was_wrong(request, name)
         return user
@@ -116,4 +125,8 @@ class Teachers(ModelBackend):
 def shown(request: Any) -> Dict[str, Any]:
     """What each page has."""
     hall = settings.HALL
-    return {"hall": hall, "team": getattr(request, "team", None), "takes_hand_ins": hall.hand_ins is not None}
+    return {
+        "hall": hall,
+        "team": getattr(request, "team", None),
+        "takes_hand_ins": hall.hand_ins is not None,
+    }

@@ -20,10 +20,19 @@ DOT = "."
 class Team(models.Model):
     """A team. Of its token the hall keeps a digest."""
 
-    name = models.CharField(_("name"), max_length=16, unique=True, validators=[RegexValidator(f"^{TEAM.pattern}$")],
-                            help_text=_("1 to 16 characters out of a to z, 0 to 9 and -, which does not come first"))
+    name = models.CharField(
+        _("name"),
+        max_length=16,
+        unique=True,
+        validators=[RegexValidator(f"^{TEAM.pattern}$")],
+        help_text=_(
+            "1 to 16 characters out of a to z, 0 to 9 and -, which does not come first"
+        ),
+    )
     display = models.CharField(_("display name"), max_length=80, blank=True)
-    hidden = models.BooleanField(_("hidden"), default=False, help_text=_("is in no standings that teams see"))
+    hidden = models.BooleanField(
+        _("hidden"), default=False, help_text=_("is in no standings that teams see")
+    )
     digest = models.CharField(max_length=64, blank=True, editable=False)
     # sessions of an earlier token are no sessions any more
     generation = models.PositiveIntegerField(default=0, editable=False)
@@ -49,13 +58,19 @@ class Team(models.Model):
 
 def digest_of(token: str) -> str:
     """What is kept of a token. It has 144 bits by chance, so nobody can try them all."""
-    return hmac.new(settings.SECRET_KEY.encode(), token.encode(), hashlib.sha256).hexdigest()
+    return hmac.new(
+        settings.SECRET_KEY.encode(), token.encode(), hashlib.sha256
+    ).hexdigest()
 
 
 def team_of(token: str) -> Optional[Team]:
     """The team of a token, or nothing. How long the answer takes does not depend on how much of it is right."""
     name = token.partition(DOT)[0]
-    team = Team.objects.filter(name=name).first() if TEAM.fullmatch(name.lstrip("-")) else None
+    team = (
+        Team.objects.filter(name=name).first()
+        if TEAM.fullmatch(name.lstrip("-"))
+        else None
+    )
     is_right = hmac.compare_digest(team.digest if team else "", digest_of(token))
     return team if is_right else None
 
@@ -63,12 +78,21 @@ def team_of(token: str) -> Optional[Team]:
 class Message(models.Model):
     """An announcement to all teams, or a question of one of them with its answer."""
 
-    team = models.ForeignKey(Team, models.CASCADE, null=True, blank=True, help_text=_("empty for an announcement"))
+    team = models.ForeignKey(
+        Team,
+        models.CASCADE,
+        null=True,
+        blank=True,
+        help_text=_("empty for an announcement"),
+    )
     at = models.DateTimeField(default=timezone.now, editable=False)
     text = models.TextField(_("text"), max_length=2_000)
     answer = models.TextField(_("answer"), max_length=2_000, blank=True)
-    is_public = models.BooleanField(_("for all"), default=False, help_text=_(
-        "all teams see the question once it has an answer"))
+    is_public = models.BooleanField(
+        _("for all"),
+        default=False,
+        help_text=_("all teams see the question once it has an answer"),
+    )
 
     class Meta:
         verbose_name, verbose_name_plural = _("message"), _("messages")

@@ -21,8 +21,13 @@ MOST_WAITING = 5
 class Token(forms.Form):
     """The form of a token."""
 
-    token = forms.CharField(label=_("Token"), max_length=100, widget=forms.PasswordInput(attrs={
-        "autocomplete": "current-password", "autofocus": True}))
+    token = forms.CharField(
+        label=_("Token"),
+        max_length=100,
+        widget=forms.PasswordInput(
+            attrs={"autocomplete": "current-password", "autofocus": True}
+        ),
+    )
 
 
 @sensitive_post_parameters()
@@ -50,8 +55,10 @@ def logout(request: Any) -> HttpResponse:
 
 def for_teams(view: Callable[..., HttpResponse]) -> Callable[..., HttpResponse]:
     """A page for teams alone."""
+
     def shown(request: Any, *words: Any, **given: Any) -> HttpResponse:
         return view(request, *words, **given) if request.team else redirect("/login")
+
     return shown
 
 
@@ -74,19 +81,29 @@ def messages(request: Any) -> HttpResponse:
             Team.objects.select_for_update().get(pk=request.team.pk)
             waiting = Message.objects.filter(team=request.team, answer="").count()
             if waiting < MOST_WAITING and form.is_valid():
-                Message.objects.create(team=request.team, text=form.cleaned_data["text"])
+                Message.objects.create(
+                    team=request.team, text=form.cleaned_data["text"]
+                )
                 return redirect("/messages")
         status = 400 if waiting < MOST_WAITING else 429
         if status == 429:
             form.add_error("text", _("your questions wait for answers: wait for one"))
-    found = Message.objects.filter(Q(team=None) | Q(team=request.team) | Q(is_public=True) & ~Q(answer=""))
-    return render(request, "messages.html", {"messages": found[:100], "form": form}, status=status)
+    found = Message.objects.filter(
+        Q(team=None) | Q(team=request.team) | Q(is_public=True) & ~Q(answer="")
+    )
+    return render(
+        request, "messages.html", {"messages": found[:100], "form": form}, status=status
+    )
 
 
 def owned(request: Any, kind: Any, number: int, right: str) -> Any:
     """What the team that asks has under this number, or any team if a teacher or tutor asks who has a right. Another
     team's is as if there were none."""
     found = get_object_or_404(kind.objects.select_related("team"), pk=number)
-    if request.team == found.team or request.user.is_staff and request.user.has_perm(right):
+    if (
+        request.team == found.team
+        or request.user.is_staff
+        and request.user.has_perm(right)
+    ):
         return found
     raise Http404

@@ -76,7 +76,12 @@ def words_of(given: List[str]) -> List[str]:
     """HOST, PORT, KEY and NODES. Of the first three, those that are not given are taken from the environment."""
     if len(given) == 1:
         known = os.environ.get
-        return [known("ARENA_HOST", "127.0.0.1"), known("ARENA_PORT", "4000"), known("ARENA_KEY", ""), *given]
+        return [
+            known("ARENA_HOST", "127.0.0.1"),
+            known("ARENA_PORT", "4000"),
+            known("ARENA_KEY", ""),
+            *given,
+        ]
     return given
 
 

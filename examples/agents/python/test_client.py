@@ -42,7 +42,9 @@ class TestClient(unittest.TestCase):
         self.assertEqual(Here(2, 1, "3 1"), agent.depart(0))
         agent.close()
         server.end()
-        self.assertEqual([{"do": "enter", "key": "ka"}, {"do": "depart", "port": 0}], server.heard)
+        self.assertEqual(
+            [{"do": "enter", "key": "ka"}, {"do": "depart", "port": 0}], server.heard
+        )
 
 
 if __name__ == "__main__":

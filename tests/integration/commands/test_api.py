@@ -29,7 +29,9 @@ def accuser(agent: Any, key: str) -> None:
     agent.accuse(1)
 
 
-def waiter(agent: Any, key: str, nodes: int, home: int, sleep: Any, more: int = 3) -> None:
+def waiter(
+    agent: Any, key: str, nodes: int, home: int, sleep: Any, more: int = 3
+) -> None:
     """Sleeps without end once it has entered."""
     agent.enter(key)
     assert (nodes, home, more) == (3, 0, 3)
@@ -61,10 +63,20 @@ class Api(InFolder):
         self.assertEqual([row["seed"] for row in rows], list(range(6)))
         self.assertEqual({row["outcome"] for row in rows}, {"solved"})
         self.assertEqual(json.loads(rows[2].line()), rows[2])
-        self.assertEqual(lab.play("ring:8", RING.words, "slow-agents", [4], workers=2), rows[4:5])
-        self.assertEqual(lab.play("ring:8", RING.words, "slow-agents", 6, workers=3), rows)
-        self.assertEqual(lab.play("ring:8", RING.words, "slow-agents", range(2), engine=program()), rows[:2])
-        self.assertEqual(hashlib.sha256(rows[3].match().replay.encode()).hexdigest(), rows[3]["replay"])
+        self.assertEqual(
+            lab.play("ring:8", RING.words, "slow-agents", [4], workers=2), rows[4:5]
+        )
+        self.assertEqual(
+            lab.play("ring:8", RING.words, "slow-agents", 6, workers=3), rows
+        )
+        self.assertEqual(
+            lab.play("ring:8", RING.words, "slow-agents", range(2), engine=program()),
+            rows[:2],
+        )
+        self.assertEqual(
+            hashlib.sha256(rows[3].match().replay.encode()).hexdigest(),
+            rows[3]["replay"],
+        )
 
     def test_pandas_takes_rows(self) -> None:
         try:
@@ -79,8 +91,13 @@ class Api(InFolder):
         rows = lab.play("ring:3", accuser, holes=[1], count=1, seeds=2)
         self.assertEqual([row["outcome"] for row in rows], ["solved", "solved"])
         row = lab.play("ring:3", [accuser, waiter], holes=[1])[0]
-        self.assertEqual(row["faults"], ["agent 1: sleeps, and nothing changes any more"])
-        with self.assertRaisesRegex(NoAgent, "it has a parameter width; behind the agent and its key stand nodes"):
+        self.assertEqual(
+            row["faults"], ["agent 1: sleeps, and nothing changes any more"]
+        )
+        with self.assertRaisesRegex(
+            NoAgent,
+            "it has a parameter width; behind the agent and its key stand nodes",
+        ):
             lab.play("ring:3", needy)
         with self.assertRaisesRegex(NoAgent, "3 agents are named, and the match has 2"):
             lab.play("ring:3", [accuser] * 3, count=2)
@@ -95,27 +112,51 @@ class Api(InFolder):
     def test_a_network_is_a_graph(self) -> None:
         graph = networkx.petersen_graph()
         network = of_graph(graph)
-        self.assertEqual((network.nodes, len(network.links), set(network.degrees())), (10, 15, {3}))
+        self.assertEqual(
+            (network.nodes, len(network.links), set(network.degrees())), (10, 15, {3})
+        )
         cycle = networkx.cycle_graph(["a", "b", "c", "d"])
-        self.assertEqual({frozenset((v, w)) for v, _, w, _ in of_graph(cycle).links},
-                         {frozenset((v, w)) for v, _, w, _ in ring(4).links})
-        rows = lab.play(graph, f"{TOP}/examples/agents/map.py {{nodes}} {{links}}", count=4, seeds=2)
-        self.assertEqual([(row["network"], row["outcome"]) for row in rows], [("Petersen Graph", "solved")] * 2)
-        for wrong in (networkx.DiGraph([(0, 1), (1, 2), (2, 0)]), networkx.path_graph(2),
-                      networkx.MultiGraph([(0, 1), (0, 1), (1, 2)])):
+        self.assertEqual(
+            {frozenset((v, w)) for v, _, w, _ in of_graph(cycle).links},
+            {frozenset((v, w)) for v, _, w, _ in ring(4).links},
+        )
+        rows = lab.play(
+            graph, f"{TOP}/examples/agents/map.py {{nodes}} {{links}}", count=4, seeds=2
+        )
+        self.assertEqual(
+            [(row["network"], row["outcome"]) for row in rows],
+            [("Petersen Graph", "solved")] * 2,
+        )
+        for wrong in (
+            networkx.DiGraph([(0, 1), (1, 2), (2, 0)]),
+            networkx.path_graph(2),
+            networkx.MultiGraph([(0, 1), (0, 1), (1, 2)]),
+        ):
             with self.assertRaises(NoNetwork):
                 of_graph(wrong)
 
     def test_networks_that_the_rules_refuse_are_refused(self) -> None:
-        for wrong, why in ((networkx.path_graph(4), "without node 1 some other nodes are apart"),
-                           (lab.Network(4, [(0, 0, 1, 1), (1, 0, 0, 1), (2, 0, 3, 1), (3, 0, 2, 1)]), "joins two"),
-                           (lab.Network(3, [(0, 0, 1, 1), (1, 0, 2, 1), (2, 0, 0, 2)]), "has the ports 0 to D - 1"),
-                           (lab.Network(2, [(0, 0, 1, 0)]), "has 3 to 4096 nodes, and not 2")):
+        for wrong, why in (
+            (networkx.path_graph(4), "without node 1 some other nodes are apart"),
+            (
+                lab.Network(
+                    4, [(0, 0, 1, 1), (1, 0, 0, 1), (2, 0, 3, 1), (3, 0, 2, 1)]
+                ),
+                "joins two",
+            ),
+            (
+                lab.Network(3, [(0, 0, 1, 1), (1, 0, 2, 1), (2, 0, 0, 2)]),
+                "has the ports 0 to D - 1",
+            ),
+            (lab.Network(2, [(0, 0, 1, 0)]), "has 3 to 4096 nodes, and not 2"),
+        ):
             with self.subTest(why), self.assertRaisesRegex(NoNetwork, why):
                 lab.play(wrong, RING.words)
 
     def test_seeds_are_not_negative(self) -> None:
-        with self.assertRaisesRegex(ValueError, "seeds is how many there are, or a list of which, and not -1"):
+        with self.assertRaisesRegex(
+            ValueError, "seeds is how many there are, or a list of which, and not -1"
+        ):
             lab.play("ring:3", accuser, seeds=-1)
 
     def test_a_function_has_its_own_variables_of_functions_around_it(self) -> None:
@@ -131,7 +172,9 @@ class Api(InFolder):
                 agent.enter(key)
                 agent.depart(1)
                 agent.accuse(1 if step() == 2 and count == 2 else 0)
+
             return search
+
         rows = lab.play("ring:3", counter(), holes=[1], count=1, seeds=3)
         self.assertEqual([row["outcome"] for row in rows], ["solved"] * 3)
 
@@ -140,21 +183,33 @@ class Api(InFolder):
         self.assertTrue(found.fails)
         fault = "agent 1: sleeps, and nothing changes any more"
         self.assertRegex(str(found), f"a schedule fails; .* moves .*; {fault}$")
-        self.assertRegex(str(lab.hunt("ring:3", [accuser, waiter], holes=[1], runs=3)), f"the team fails; .*; {fault}$")
+        self.assertRegex(
+            str(lab.hunt("ring:3", [accuser, waiter], holes=[1], runs=3)),
+            f"the team fails; .*; {fault}$",
+        )
 
     def test_explore_and_hunt_have_results(self) -> None:
         right = lab.explore("ring:5", RING.words)
         self.assertTrue(right.solves and right.is_whole)
         self.assertEqual(right.most_moves, 14)
-        self.assertIn("no schedule fails, of the Python model; solved moves 14 lost 1", str(right))
+        self.assertIn(
+            "no schedule fails, of the Python model; solved moves 14 lost 1", str(right)
+        )
         wrong = lab.explore("ring:3", counter, holes=[2])
         self.assertTrue(wrong.fails and not wrong.solves)
         few = lab.explore("ring:6", RING.words, states=10)
         self.assertFalse(few.is_whole or few.solves)
-        found = lab.hunt("ring:8", f"{TOP}/arena_lab/mutants/reads_once.py {{nodes}}", runs=500, engine=program())
+        found = lab.hunt(
+            "ring:8",
+            f"{TOP}/arena_lab/mutants/reads_once.py {{nodes}}",
+            runs=500,
+            engine=program(),
+        )
         self.assertTrue(found.fails)
         self.assertEqual(found.verdict.outcome, "silent")
-        self.assertEqual(lab.hunt("ring:5", RING.words, "moves", runs=50).verdict.outcome, "solved")
+        self.assertEqual(
+            lab.hunt("ring:5", RING.words, "moves", runs=50).verdict.outcome, "solved"
+        )
         with self.assertRaisesRegex(ValueError, "look for failure, moves or lost"):
             lab.hunt("ring:5", RING.words, "time")
 
@@ -174,14 +229,22 @@ class Api(InFolder):
         self.assertFalse(few.is_whole or few.solves or few.fails)
 
     def test_several_networks_are_tried_in_one_call(self) -> None:
-        proof = lab.explore(["ring:3..4", networkx.cycle_graph(3)], RING.words, engine=program())
+        proof = lab.explore(
+            ["ring:3..4", networkx.cycle_graph(3)], RING.words, engine=program()
+        )
         self.assertTrue(proof.solves)
         self.assertEqual([row["nodes"] for row in proof.rows], [3, 3, 4, 4, 4, 3, 3])
-        self.assertEqual([row["network"] for row in proof.rows[:3]], ["ring:3", "ring:3", "ring:4"])
+        self.assertEqual(
+            [row["network"] for row in proof.rows[:3]], ["ring:3", "ring:3", "ring:4"]
+        )
         self.assertEqual(proof.most_moves, 9)
         self.assertIn("60 drawn schedules", proof.checked)
         self.assertEqual(lab.explore("ring:3..4", RING.words).most_moves, 9)
-        wrong = lab.explore(["ring:4", "ring:5"], f"{TOP}/arena_lab/mutants/reads_once.py {{nodes}}", engine=program())
+        wrong = lab.explore(
+            ["ring:4", "ring:5"],
+            f"{TOP}/arena_lab/mutants/reads_once.py {{nodes}}",
+            engine=program(),
+        )
         self.assertTrue(wrong.fails)
         self.assertEqual({row["network"] for row in wrong.rows}, {"ring:4"})
 
@@ -196,24 +259,39 @@ class Api(InFolder):
 
     def test_the_program_draws_schedules(self) -> None:
         draws = lab.SampleRequest(500, 3, "fair", "moves")
-        found = lab.explore("ring:8", RING.words, holes=[4], engine=program(), draws=draws)
+        found = lab.explore(
+            "ring:8", RING.words, holes=[4], engine=program(), draws=draws
+        )
         self.assertTrue(found.is_whole and not found.solves and not found.fails)
         self.assertEqual([row["drawn"] for row in found.rows], [500])
-        self.assertLessEqual(found.most_moves, lab.explore("ring:8", RING.words, holes=[4]).most_moves)
-        self.assertIn("no drawn schedule fails, which says nothing of the others", str(found))
+        self.assertLessEqual(
+            found.most_moves, lab.explore("ring:8", RING.words, holes=[4]).most_moves
+        )
+        self.assertIn(
+            "no drawn schedule fails, which says nothing of the others", str(found)
+        )
         with self.assertRaisesRegex(ValueError, "draws need a program"):
             lab.explore("ring:8", RING.words, draws=draws)
 
     def test_programs_are_hunted(self) -> None:
         text = (TOP / "arena_lab" / "mutants" / "accuses_at_once.py").read_text()
         for name in ("client.py", "ring.py"):
-            (self.folder / name).write_text((TOP / "examples" / "agents" / name).read_text())
+            (self.folder / name).write_text(
+                (TOP / "examples" / "agents" / name).read_text()
+            )
         path = self.folder / "own.py"
-        path.write_text(text + '\n\nif __name__ == "__main__":\n    import sys\n    from client import MatchOver\n'
-                               '    _, host, port, key, nodes = sys.argv\n    try:\n'
-                               '        search(Agent.connect(host, int(port)), key, int(nodes))\n'
-                               '    except MatchOver:\n        pass\n')
-        found = lab.hunt("ring:5", lab.program(f"{sys.executable} {path} {{host}} {{port}} {{key}} {{nodes}}"), runs=60)
+        path.write_text(
+            text
+            + '\n\nif __name__ == "__main__":\n    import sys\n    from client import MatchOver\n'
+            "    _, host, port, key, nodes = sys.argv\n    try:\n"
+            "        search(Agent.connect(host, int(port)), key, int(nodes))\n"
+            "    except MatchOver:\n        pass\n"
+        )
+        found = lab.hunt(
+            "ring:5",
+            lab.program(f"{sys.executable} {path} {{host}} {{port}} {{key}} {{nodes}}"),
+            runs=60,
+        )
         self.assertTrue(found.fails)
         self.assertNotEqual(found.verdict.outcome, "solved")
         self.assertEqual(found.best.faults(), [])
@@ -223,14 +301,18 @@ class Api(InFolder):
         shown = record._repr_html_()
         self.assertTrue(shown.startswith('<iframe srcdoc="&lt;!DOCTYPE html&gt;'))
         self.assertNotIn("<script", shown)
-        self.assertIn("the Python model played it", "\n".join(record.keep(self.folder / "kept")))
+        self.assertIn(
+            "the Python model played it", "\n".join(record.keep(self.folder / "kept"))
+        )
         self.assertTrue((self.folder / "kept" / "match0.html").exists())
 
     def test_the_engine_is_named_as_everywhere(self) -> None:
         self.assertEqual(lab.engine_name("model"), BY_MODEL)
         self.assertEqual(lab.engine_name(program()), name_of(program()))
 
-    def test_a_match_that_depends_on_more_than_its_agents_are_told_is_found_out(self) -> None:
+    def test_a_match_that_depends_on_more_than_its_agents_are_told_is_found_out(
+        self,
+    ) -> None:
         row = lab.play("ring:3", forgetful, holes=[1], count=1)[0]
         with self.assertRaises(Differs):
             row.match()
@@ -246,21 +328,36 @@ def forgetful(agent: Any, key: str) -> None:
 class Notebook(unittest.TestCase):
     def test_its_cells_run_and_say_what_stands_below_them(self) -> None:
         cells = json.loads(NOTEBOOK.read_text(encoding="utf-8"))["cells"]
-        code = ["".join(cell["source"]) for cell in cells if cell["cell_type"] == "code"]
+        code = [
+            "".join(cell["source"]) for cell in cells if cell["cell_type"] == "code"
+        ]
         self.assertGreater(len(code), 4)
-        said = json.dumps([printed(cell) for cell in cells if cell["cell_type"] == "code"])
-        ran = subprocess.run([sys.executable, "-c", RUNNER, json.dumps(code), program()], cwd=TOP / "examples",
-                             text=True, capture_output=True)
+        said = json.dumps(
+            [printed(cell) for cell in cells if cell["cell_type"] == "code"]
+        )
+        ran = subprocess.run(
+            [sys.executable, "-c", RUNNER, json.dumps(code), program()],
+            cwd=TOP / "examples",
+            text=True,
+            capture_output=True,
+        )
         self.assertEqual(ran.returncode, 0, ran.stderr)
         found: List[str] = json.loads(ran.stdout)
         for text, wanted, source in zip(found, json.loads(said), code):
             with self.subTest(source):
-                self.assertRegex(text, "^" + ".*".join(map(re.escape, re.split(r"\d+\.\d s", wanted))) + "$")
+                self.assertRegex(
+                    text,
+                    "^"
+                    + ".*".join(map(re.escape, re.split(r"\d+\.\d s", wanted)))
+                    + "$",
+                )
 
 
 def printed(cell: Dict[str, Any]) -> str:
     """What a cell of a notebook printed when it was saved."""
-    return "".join("".join(it["text"]) for it in cell["outputs"] if it["output_type"] == "stream")
+    return "".join(
+        "".join(it["text"]) for it in cell["outputs"] if it["output_type"] == "stream"
+    )
 
 
 # runs cells one after the other, and gives what each printed; the program is the one of these tests

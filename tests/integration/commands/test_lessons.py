@@ -25,8 +25,13 @@ ONCE = """    safe = safe_on(board)
     return agent.write(board, board_of(safe)).board
 """
 # commands that ask nobody, each with what it says
-WANTED = {"new": "an agent in Python", "run": "50 schedules: solved 50; failed 0", "hunt": "solved",
-          "explore": "solve", "play": "The match is over"}
+WANTED = {
+    "new": "an agent in Python",
+    "run": "50 schedules: solved 50; failed 0",
+    "hunt": "solved",
+    "explore": "solve",
+    "play": "The match is over",
+}
 
 
 def commands(sheet: str) -> List[List[str]]:
@@ -41,9 +46,16 @@ class TestLessons(InTemporary):
             (self.folder / name).symlink_to(TOP / name)
 
     def said(self, words: List[str]) -> str:
-        ran = subprocess.run([sys.executable, "-m", "arena_lab", *words[1:]], cwd=self.folder, input="enter\nwait\n",
-                             text=True, stdout=subprocess.PIPE, stderr=subprocess.STDOUT, timeout=300,
-                             env={**os.environ, "PYTHONPATH": str(TOP)})
+        ran = subprocess.run(
+            [sys.executable, "-m", "arena_lab", *words[1:]],
+            cwd=self.folder,
+            input="enter\nwait\n",
+            text=True,
+            stdout=subprocess.PIPE,
+            stderr=subprocess.STDOUT,
+            timeout=300,
+            env={**os.environ, "PYTHONPATH": str(TOP)},
+        )
         self.assertIn(ran.returncode, (0, 1), ran.stdout)
         return ran.stdout
 
@@ -52,7 +64,9 @@ class TestLessons(InTemporary):
         self.assertEqual(4, len(found))
         for words in found:
             with self.subTest(words):
-                self.assertIn(WANTED["play"], self.said([it for it in words if it != "--page"]))
+                self.assertIn(
+                    WANTED["play"], self.said([it for it in words if it != "--page"])
+                )
 
     def test_a_ring(self) -> None:
         for words in commands("2-a-ring.md"):

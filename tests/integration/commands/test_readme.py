@@ -21,13 +21,17 @@ NO_PROGRAM = ("network", "tournament", "invariant")
 def examples() -> Iterator[Tuple[str, List[str]]]:
     """Each command of the pages, and the lines below it."""
     command, said = "", []
-    for line in "\n".join(page.read_text(encoding="utf-8") for page in PAGES).replace("\\\n", "").splitlines():
+    for line in (
+        "\n".join(page.read_text(encoding="utf-8") for page in PAGES)
+        .replace("\\\n", "")
+        .splitlines()
+    ):
         text = line.strip()
         if command and (not line.startswith("    ") or text.startswith("$")):
             yield command, said
             command, said = "", []
         if line.startswith("    ") and text.startswith(LAB):
-            command, said = text[len(LAB):], []
+            command, said = text[len(LAB) :], []
         elif command:
             said.append(text)
 
@@ -40,19 +44,33 @@ class Readme(InFolder):
             with self.subTest(command):
                 said = self.said(command)
                 for line in wanted:
-                    line = line.replace("out/", f"{self.folder}/").replace(built.PROGRAM, name_of(program()))
+                    line = line.replace("out/", f"{self.folder}/").replace(
+                        built.PROGRAM, name_of(program())
+                    )
                     parts = [re.escape(part) for part in line.split("..")]
-                    self.assertRegex(said, re.compile("^" + ".*".join(parts) + "$", re.M))
+                    self.assertRegex(
+                        said, re.compile("^" + ".*".join(parts) + "$", re.M)
+                    )
 
     def test_the_adversary_is_the_one_of_the_examples(self) -> None:
         head = "    def writers_wait"
-        block = README.read_text(encoding="utf-8").partition(head)[2].partition("\n\nIt is a function")[0]
+        block = (
+            README.read_text(encoding="utf-8")
+            .partition(head)[2]
+            .partition("\n\nIt is a function")[0]
+        )
         code = textwrap.dedent(head + block).strip()
-        self.assertIn(code, (TOP / "examples" / "adversaries.py").read_text(encoding="utf-8"))
+        self.assertIn(
+            code, (TOP / "examples" / "adversaries.py").read_text(encoding="utf-8")
+        )
 
     def said(self, command: str) -> str:
-        words = [word.replace("out/", f"{self.folder}/").replace("python3 ", f"{sys.executable} ")
-                 for word in shlex.split(command)]
+        words = [
+            word.replace("out/", f"{self.folder}/").replace(
+                "python3 ", f"{sys.executable} "
+            )
+            for word in shlex.split(command)
+        ]
         if words[0] == "hunt":
             words += ["--database", str(self.folder / "database")]
         if words[0] not in NO_PROGRAM:

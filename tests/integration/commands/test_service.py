@@ -25,11 +25,21 @@ class TestService(InTemporary):
         folder = self.folder
         write_cup(folder, [match("red", ring(4), [2], agents=1)])
         (folder / "arena").symlink_to(program())
-        how = {"cwd": folder, "env": {**os.environ, "PATH": f"{folder}:{os.environ['PATH']}"}}
+        how = {
+            "cwd": folder,
+            "env": {**os.environ, "PATH": f"{folder}:{os.environ['PATH']}"},
+        }
         subprocess.run(["sh", "-c", command("ExecStartPre")], check=True, **how)
-        words = f"{command('ExecStart')} --port {free_port()}".replace("<> operator --port", "--port")
-        server = subprocess.Popen(["sh", "-c", f"{words} <> operator"], stdout=subprocess.PIPE, text=True,
-                                  stderr=subprocess.DEVNULL, **how)
+        words = f"{command('ExecStart')} --port {free_port()}".replace(
+            "<> operator --port", "--port"
+        )
+        server = subprocess.Popen(
+            ["sh", "-c", f"{words} <> operator"],
+            stdout=subprocess.PIPE,
+            text=True,
+            stderr=subprocess.DEVNULL,
+            **how,
+        )
         try:
             assert server.stdout is not None
             self.assertTrue(server.stdout.readline().startswith("listening "))

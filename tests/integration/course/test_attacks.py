@@ -64,7 +64,11 @@ from tests.support.output import ran
 HAS_WALLS = cells.strongest() is Isolation.ALL
 IS_ROOT = os.geteuid() == 0
 # all that can keep programs apart for the user who runs the tests
-ALL_WALLS = [Isolation.ALL] * HAS_WALLS + [Isolation.USER] * IS_ROOT + [Isolation.NONE] * (not IS_ROOT)
+ALL_WALLS = (
+    [Isolation.ALL] * HAS_WALLS
+    + [Isolation.USER] * IS_ROOT
+    + [Isolation.NONE] * (not IS_ROOT)
+)
 SECRET = "a secret of the tests"
 WALLED = unittest.skipUnless(HAS_WALLS, f"no walls here: {cells.weakness()}")
 
@@ -79,9 +83,12 @@ def connect():
         return lines.readline()
     return ask
 """
-ENTERS = BEGINS + """ask = connect()
+ENTERS = (
+    BEGINS
+    + """ask = connect()
 ask(do="enter", key=sys.argv[2])
 """
+)
 
 
 EVIL = "python3 evil.py {port} {key}"
@@ -105,18 +112,31 @@ class Course(unittest.TestCase):
         self.team = self.folder / "evil"
         self.team.mkdir()
 
-    def grading(self, walls: Isolation, code: str, agents: int = 1, head: str = HEAD, **yard: Any) -> GradingRun:
+    def grading(
+        self,
+        walls: Isolation,
+        code: str,
+        agents: int = 1,
+        head: str = HEAD,
+        **yard: Any,
+    ) -> GradingRun:
         """A grading of the team, which has written nothing yet."""
         (self.team / "evil.py").write_text(code)
         cells.remove(self.folder / "out")
         text = head + team("evil", ["evil"], EVIL, agents)
-        return GradingRun(text, self.folder, SECRET, None, Sandbox(walls, **yard), self.folder / "out")
+        return GradingRun(
+            text, self.folder, SECRET, None, Sandbox(walls, **yard), self.folder / "out"
+        )
 
-    def played(self, walls: Isolation, code: str, *agents: int, **more: Any) -> PlayedMatch:
+    def played(
+        self, walls: Isolation, code: str, *agents: int, **more: Any
+    ) -> PlayedMatch:
         """A match of the team."""
         return first_match(self.grading(walls, code, *agents, **more))
 
-    def said(self, walls: Isolation, code: str, agents: int = 1, **more: Any) -> List[str]:
+    def said(
+        self, walls: Isolation, code: str, agents: int = 1, **more: Any
+    ) -> List[str]:
         """The last words of the team's programs, each of which ends before it connects."""
         faults = self.played(walls, code, agents, **more).faults
         return [fault.partition("before it connected: ")[2] for fault in faults]
@@ -125,8 +145,22 @@ class Course(unittest.TestCase):
         """Grades a course by the command, and gives the rows of each team."""
         file = self.folder / "course.toml"
         file.write_text(text)
-        self.assertEqual(ran(main, ["grade", str(file), "--out", str(self.folder / out), "--engine", "model",
-                                    "--workers", "2"]).status, status)
+        self.assertEqual(
+            ran(
+                main,
+                [
+                    "grade",
+                    str(file),
+                    "--out",
+                    str(self.folder / out),
+                    "--engine",
+                    "model",
+                    "--workers",
+                    "2",
+                ],
+            ).status,
+            status,
+        )
         return rows_of_teams(self.folder / out)
 
 
@@ -166,10 +200,15 @@ class Stopping(Course):
         own.mkdir()
         for walls in ALL_WALLS:
             with self.subTest(walls), mock.patch.object(tempfile, "tempdir", str(own)):
-                said = self.said(walls, "import os, sys\nfor _ in range(1200):\n    os.mkdir('d')\n    os.chdir('d')\n"
-                                 "sys.exit('has made them')")
+                said = self.said(
+                    walls,
+                    "import os, sys\nfor _ in range(1200):\n    os.mkdir('d')\n    os.chdir('d')\n"
+                    "sys.exit('has made them')",
+                )
                 self.assertEqual(said, ["has made them"])
-        self.assertEqual([name for name in os.listdir(own) if name.startswith("lab-cell")], [])
+        self.assertEqual(
+            [name for name in os.listdir(own) if name.startswith("lab-cell")], []
+        )
 
     def test_hand_ins(self) -> None:
         names = ["deep", "large", "linked", "closed"]
@@ -187,12 +226,16 @@ class Stopping(Course):
         (self.folder / "linked" / "log").symlink_to("/proc/kmsg")
         (self.folder / "closed" / "file").write_text("x")
         (self.folder / "closed" / "file").chmod(0)
-        rows = self.graded(HEAD + "".join(team(name, [name], EVIL, 1) for name in names) + HONEST)
+        rows = self.graded(
+            HEAD + "".join(team(name, [name], EVIL, 1) for name in names) + HONEST
+        )
         self.assertEqual(rows["right"][0]["outcome"], "solved")
         self.assertIn("its folders are more than 32 deep", rows["deep"][0]["fault"])
         self.assertIn("its files have more than 32 MB", rows["large"][0]["fault"])
         self.assertIn("ran", rows["linked"][0]["fault"])
-        self.assertIn("ran" if IS_ROOT else "its files cannot be read", rows["closed"][0]["fault"])
+        self.assertIn(
+            "ran" if IS_ROOT else "its files cannot be read", rows["closed"][0]["fault"]
+        )
 
     def test_a_match_that_the_lab_cannot_play(self) -> None:
         """Whatever it is, the others are graded; the status says that something is wrong."""
@@ -203,9 +246,15 @@ class Stopping(Course):
             if case.team.name == "evil":
                 raise RecursionError("so deep")
             return play(graded, case, *given)
+
         with mock.patch.object(GradingRun, "match", match):
-            rows = self.graded(HEAD + team("evil", ["evil"], EVIL, 1) + HONEST, status=1)
-        self.assertEqual(rows["evil"][0]["fault"], "not played, as the lab failed: RecursionError: so deep")
+            rows = self.graded(
+                HEAD + team("evil", ["evil"], EVIL, 1) + HONEST, status=1
+            )
+        self.assertEqual(
+            rows["evil"][0]["fault"],
+            "not played, as the lab failed: RecursionError: so deep",
+        )
         self.assertEqual(rows["right"][0]["outcome"], "solved")
 
 
@@ -215,7 +264,9 @@ class TwoCommands(Course):
         """The same match twice at a time: whoever kills by user must not share it."""
         for walls in {Isolation.USER, cells.strongest()}:
             with self.subTest(walls):
-                graded = self.grading(walls, ENTERS + "time.sleep(0.5)\nask(do='look')\nask(do='leave')\n")
+                graded = self.grading(
+                    walls, ENTERS + "time.sleep(0.5)\nask(do='look')\nask(do='leave')\n"
+                )
                 # the first match takes what the team hands in, and the others begin while one is played
                 self.assertEqual(first_match(graded).faults, [])
                 with concurrent.futures.ThreadPoolExecutor(3) as pool:
@@ -230,7 +281,9 @@ class Guessing(Course):
     def test_a_programs_user_does_not_tell_its_match(self) -> None:
         code = "import os, sys\nsys.exit(f'{os.getuid()} {os.getgid()} {os.getcwd()}')"
         if HAS_WALLS:
-            self.assertEqual(self.said(Isolation.ALL, code, 2), ["1000 1000 /agent"] * 2)
+            self.assertEqual(
+                self.said(Isolation.ALL, code, 2), ["1000 1000 /agent"] * 2
+            )
         if IS_ROOT:
             told = {tuple(self.said(Isolation.USER, code, 2)) for _ in range(3)}
             self.assertEqual(len(told), 3)
@@ -354,46 +407,86 @@ class Talking(Course):
 
     def test_ways_are_closed(self) -> None:
         for has_proc in (False, True):
-            self.assertEqual(self.said(Isolation.ALL, WAYS, has_proc=has_proc), ["all are shut"])
+            self.assertEqual(
+                self.said(Isolation.ALL, WAYS, has_proc=has_proc), ["all are shut"]
+            )
 
     def test_ways_are_closed_in_each_language(self) -> None:
         for language in calls.languages():
-            with self.subTest(language), mock.patch.object(calls, "language_of", return_value=language):
+            with self.subTest(language), mock.patch.object(
+                calls, "language_of", return_value=language
+            ):
                 self.assertEqual(self.said(Isolation.ALL, WAYS), ["all are shut"])
 
     def test_a_refused_call_says_what_the_teacher_may_change(self) -> None:
         code = "import os\nos.nice(1)"
-        self.assertRegex(self.said(Isolation.ALL, code)[0],
-                         r"Function not implemented \(evil.py, line 2\) .calls of the system are refused to "
-                         "it that python does not need: examples/README.md says .*`calls` in course.toml allows more")
+        self.assertRegex(
+            self.said(Isolation.ALL, code)[0],
+            r"Function not implemented \(evil.py, line 2\) .calls of the system are refused to "
+            "it that python does not need: examples/README.md says .*`calls` in course.toml allows more",
+        )
         (self.team / "evil.py").write_text(code + "\nraise SystemExit('was allowed')")
-        rows = self.graded(HEAD + 'calls = ["setpriority"]\n' + team("evil", ["evil"], EVIL, 1))
+        rows = self.graded(
+            HEAD + 'calls = ["setpriority"]\n' + team("evil", ["evil"], EVIL, 1)
+        )
         self.assertIn("was allowed", rows["evil"][0]["fault"])
 
     @unittest.skipUnless(shutil.which("strace"), "Debian's strace is not installed")
-    def test_which_calls_a_program_makes_is_told_by_the_commands_of_the_examples(self) -> None:
+    def test_which_calls_a_program_makes_is_told_by_the_commands_of_the_examples(
+        self,
+    ) -> None:
         text = (TOP / "examples" / "README.md").read_text(encoding="utf-8")
-        for command in re.findall(r"^    ((?:./arena-lab|python3 -m arena_lab).*/tmp/calls.*)$", text, re.MULTILINE):
-            for name, path in (("/tmp/calls", f"{self.folder}/calls"), ("python3 -m", f"{DEBIANS_PYTHON} -m"),
-                               ("agent.py", str(AGENTS / "ring.py"))):
+        for command in re.findall(
+            r"^    ((?:./arena-lab|python3 -m arena_lab).*/tmp/calls.*)$",
+            text,
+            re.MULTILINE,
+        ):
+            for name, path in (
+                ("/tmp/calls", f"{self.folder}/calls"),
+                ("python3 -m", f"{DEBIANS_PYTHON} -m"),
+                ("agent.py", str(AGENTS / "ring.py")),
+            ):
                 command = command.replace(name, path)
             # on a busy machine a program that is traced may take longer than its match waits
-            ran = subprocess.run(command, shell=True, text=True, capture_output=True, cwd=TOP)
+            ran = subprocess.run(
+                command, shell=True, text=True, capture_output=True, cwd=TOP
+            )
             self.assertEqual(ran.stderr, "")
-        self.assertRegex(ran.stdout, "^python: of .. calls that were traced 1 are refused\n.* sysinfo: how much")
+        self.assertRegex(
+            ran.stdout,
+            "^python: of .. calls that were traced 1 are refused\n.* sysinfo: how much",
+        )
 
     def test_proc_is_seen_if_the_course_asks_for_it(self) -> None:
         code = "import os, sys; sys.exit(str(os.path.exists('/proc/self')))"
         for has_proc in (False, True):
-            self.assertEqual(self.said(Isolation.ALL, code, has_proc=has_proc), [str(has_proc)])
+            self.assertEqual(
+                self.said(Isolation.ALL, code, has_proc=has_proc), [str(has_proc)]
+            )
 
     def test_the_ways_are_good_ones(self) -> None:
         """Without walls they are open, so that the test above would show it if one were."""
         said = self.said(Isolation.USER if IS_ROOT else Isolation.NONE, WAYS)[0]
         self.assertRegex(said, "^[3-6][0-9] open")
         shut = set(said.partition("shut are ")[2].split(", "))
-        self.assertFalse(shut & {"flock", "lock", "inotify", "shared memory", "load", "counts", "memfd", "touch",
-                                  "aio", "netlink", "cookie", "terminal", "clone gives a file"})
+        self.assertFalse(
+            shut
+            & {
+                "flock",
+                "lock",
+                "inotify",
+                "shared memory",
+                "load",
+                "counts",
+                "memfd",
+                "touch",
+                "aio",
+                "netlink",
+                "cookie",
+                "terminal",
+                "clone gives a file",
+            }
+        )
 
     def test_what_programs_see_of_the_system_is_in_memory(self) -> None:
         """There the kernel keeps no names of files that do not exist, which a later program could ask for."""
@@ -404,8 +497,12 @@ sys.exit(f"{set(said)} {os.path.exists('/usr/share/doc/bash')} {len(os.listdir('
 """
         with cells.furnished(Sandbox(Isolation.ALL), [EVIL], []) as yard:
             self.assertNotEqual(yard.root, "")
-            self.assertEqual(self.said(Isolation.ALL, code, root=yard.root), ["{'tmpfs'} False True"])
-            self.assertEqual(self.said(Isolation.ALL, WAYS, root=yard.root), ["all are shut"])
+            self.assertEqual(
+                self.said(Isolation.ALL, code, root=yard.root), ["{'tmpfs'} False True"]
+            )
+            self.assertEqual(
+                self.said(Isolation.ALL, WAYS, root=yard.root), ["all are shut"]
+            )
         self.assertFalse(os.path.exists(yard.root))
 
     def test_tools_are_seen_in_memory_too(self) -> None:
@@ -422,22 +519,40 @@ sys.exit(f"{{kind}} {{open('{tools}/bin/it').read()}} {{os.path.isfile('{tools}/
             with open(tools / "large", "wb") as file:
                 file.truncate(0 if kind else 90 << 20)
             err = io.StringIO()
-            with mock.patch.object(system_copy, "MOST", most), contextlib.redirect_stderr(err), cells.furnished(
-                    Sandbox(Isolation.ALL, (str(tools),)), [EVIL, f"{tools}/bin/it"], []) as yard:
-                said = self.said(Isolation.ALL, code, tools=yard.tools, root=yard.root)[0]
-            self.assertEqual((said.startswith("tmpfs"), said.endswith("of the course False")), (bool(kind), True), said)
-            self.assertEqual("they take 90 MB" in err.getvalue(), not kind, err.getvalue())
+            with mock.patch.object(
+                system_copy, "MOST", most
+            ), contextlib.redirect_stderr(err), cells.furnished(
+                Sandbox(Isolation.ALL, (str(tools),)), [EVIL, f"{tools}/bin/it"], []
+            ) as yard:
+                said = self.said(Isolation.ALL, code, tools=yard.tools, root=yard.root)[
+                    0
+                ]
+            self.assertEqual(
+                (said.startswith("tmpfs"), said.endswith("of the course False")),
+                (bool(kind), True),
+                said,
+            )
+            self.assertEqual(
+                "they take 90 MB" in err.getvalue(), not kind, err.getvalue()
+            )
 
     def test_packages_that_the_course_names_are_seen(self) -> None:
         code = "import os, sys\nsys.exit(str(os.path.exists('/usr/lib/python3/dist-packages/yaml')))"
         for packages, expected in (([], "False"), (["python3-yaml"], "True")):
             with cells.furnished(Sandbox(Isolation.ALL), [EVIL], packages) as yard:
-                self.assertEqual(self.said(Isolation.ALL, code, root=yard.root), [expected])
-        with self.assertRaisesRegex(NoCell, "packages: the package no-such-one is not installed: `apt-get install no"):
+                self.assertEqual(
+                    self.said(Isolation.ALL, code, root=yard.root), [expected]
+                )
+        with self.assertRaisesRegex(
+            NoCell,
+            "packages: the package no-such-one is not installed: `apt-get install no",
+        ):
             with cells.furnished(Sandbox(Isolation.ALL), [EVIL], ["no-such-one"]):
                 pass
 
-    def test_numbers_of_pipes_and_of_memory_go_on_by_chance_between_rounds(self) -> None:
+    def test_numbers_of_pipes_and_of_memory_go_on_by_chance_between_rounds(
+        self,
+    ) -> None:
         """On each processor by another number each time, and by more than what programs make by the way."""
         for processor in os.sched_getaffinity(0):
             with one_processor(processor):
@@ -446,7 +561,9 @@ sys.exit(f"{{kind}} {{open('{tools}/bin/it').read()}} {{os.path.isfile('{tools}/
                     found.append((number_of_a_pipe(), number_of_memory()))
                     kernel_traces.stir()
                 for numbers in zip(*found):
-                    steps = [later - earlier for earlier, later in zip(numbers, numbers[1:])]
+                    steps = [
+                        later - earlier for earlier, later in zip(numbers, numbers[1:])
+                    ]
                     self.assertGreater(max(steps) - min(steps), 2000)
         with mock.patch.object(kernel_traces, "stir") as stir:
             self.graded(HEAD + HONEST)
@@ -455,17 +572,31 @@ sys.exit(f"{{kind}} {{open('{tools}/bin/it').read()}} {{os.path.isfile('{tools}/
     def test_ports_of_connections_tell_nothing_of_other_programs(self) -> None:
         """Where a range is free, the kernel goes on from one network to the next, so that what an agent has set the
         number to is there for the other agent."""
-        code = PORTS + "sys.exit(str({port_of(('127.0.0.1', 5555)) for _ in range(40)}))"
+        code = (
+            PORTS + "sys.exit(str({port_of(('127.0.0.1', 5555)) for _ in range(40)}))"
+        )
         for _ in range(2):
             self.assertEqual(self.said(Isolation.ALL, code, 2), ["{32768}"] * 2)
-        without = PORTS + "sys.exit(str(len({port_of(('127.0.0.1', 5555)) for _ in range(40)}) > 10))"
-        self.assertEqual(self.said(Isolation.USER if IS_ROOT else Isolation.NONE, without), ["True"])
+        without = (
+            PORTS
+            + "sys.exit(str(len({port_of(('127.0.0.1', 5555)) for _ in range(40)}) > 10))"
+        )
+        self.assertEqual(
+            self.said(Isolation.USER if IS_ROOT else Isolation.NONE, without), ["True"]
+        )
 
     def test_a_program_has_two_connections_to_a_port(self) -> None:
-        code = PORTS + "kept = [socket.create_connection(('127.0.0.1', 5555)) for _ in range(3)]"
-        self.assertEqual(self.said(Isolation.ALL, code),
-                         ["OSError: [Errno 99] Cannot assign requested address (evil.py, line 9) (a program may have "
-                          "two connections to a port at a time)"])
+        code = (
+            PORTS
+            + "kept = [socket.create_connection(('127.0.0.1', 5555)) for _ in range(3)]"
+        )
+        self.assertEqual(
+            self.said(Isolation.ALL, code),
+            [
+                "OSError: [Errno 99] Cannot assign requested address (evil.py, line 9) (a program may have "
+                "two connections to a port at a time)"
+            ],
+        )
 
     def test_pipes_and_sockets_among_tools(self) -> None:
         """A pipe can be written to where files cannot."""
@@ -480,10 +611,18 @@ try:
 except OSError as fault:
     sys.exit(f"pipe {{stat.S_ISFIFO(mode)}} {{fault.strerror}}")
 """
-        self.assertEqual(self.said(Isolation.ALL, code, tools=(str(tools),)), ["pipe False Read-only file system"])
+        self.assertEqual(
+            self.said(Isolation.ALL, code, tools=(str(tools),)),
+            ["pipe False Read-only file system"],
+        )
 
     def test_the_machine_has_no_name(self) -> None:
-        self.assertEqual(self.said(Isolation.ALL, "import socket, sys; sys.exit(socket.gethostname())"), ["cell"])
+        self.assertEqual(
+            self.said(
+                Isolation.ALL, "import socket, sys; sys.exit(socket.gethostname())"
+            ),
+            ["cell"],
+        )
 
     def test_the_environment_of_the_teacher_is_not_that_of_programs(self) -> None:
         code = "import os, sys; sys.exit(str('swordfish' in str(os.environ)))"
@@ -510,26 +649,43 @@ class Stalling(Course):
             with self.subTest(walls):
                 began = time.monotonic()
                 played = self.played(walls, code, head=HEAD + "match_limit = 2\n")
-                self.assertEqual(played.faults, ["agent 0: has used up the time of its match, 2 s in all, as the lab "
-                                                 "waited for its programs"])
+                self.assertEqual(
+                    played.faults,
+                    [
+                        "agent 0: has used up the time of its match, 2 s in all, as the lab "
+                        "waited for its programs"
+                    ],
+                )
                 self.assertLess(time.monotonic() - began, 8)
 
     def test_a_team_has_a_time(self) -> None:
         (self.team / "evil.py").write_text(BEGINS + "time.sleep(0.7)\nsys.exit('slow')")
-        rows = self.graded(HEAD + "seeds = 8\nteam_limit = 1\n" + team("evil", ["evil"], EVIL, 1) + HONEST)
+        rows = self.graded(
+            HEAD
+            + "seeds = 8\nteam_limit = 1\n"
+            + team("evil", ["evil"], EVIL, 1)
+            + HONEST
+        )
         self.assertIn("slow", rows["evil"][0]["fault"])
-        self.assertEqual(rows["evil"][-1]["fault"],
-                         "not played: the matches of the team have taken the 1 s that it has")
+        self.assertEqual(
+            rows["evil"][-1]["fault"],
+            "not played: the matches of the team have taken the 1 s that it has",
+        )
         self.assertEqual(rows["evil"][-1]["outcome"], "not played")
         self.assertIn("solved", [row["outcome"] for row in rows["right"]])
         page = (self.folder / "out" / "team-evil.html").read_text()
-        self.assertIn("not made smaller: the matches of the team have taken the 1 s that it has", page)
+        self.assertIn(
+            "not made smaller: the matches of the team have taken the 1 s that it has",
+            page,
+        )
 
 
 class Taking(Course):
     def test_memory_of_all_that_a_program_starts(self) -> None:
         """Each of three takes what one may take."""
-        code = BEGINS + """for _ in range(3):
+        code = (
+            BEGINS
+            + """for _ in range(3):
     if os.fork() == 0:
         taken = bytearray(100 << 20)
         for place in range(0, len(taken), 4096):
@@ -537,16 +693,21 @@ class Taking(Course):
         time.sleep(100)
 time.sleep(100)
 """
+        )
         with mock.patch.object(watch, "MOST", 200 << 20):
             for walls in ALL_WALLS:
                 with self.subTest(walls):
                     began = time.monotonic()
-                    self.assertEqual(self.played(walls, code).faults, [f"agent 0: {watch.TOO_MUCH}"])
+                    self.assertEqual(
+                        self.played(walls, code).faults, [f"agent 0: {watch.TOO_MUCH}"]
+                    )
                     self.assertLess(time.monotonic() - began, 30)
 
     def test_memory_that_is_given_back_and_taken_all_the_same(self) -> None:
         """Shared memory whose pages the program no longer has, though it could read them again."""
-        code = BEGINS + """import mmap
+        code = (
+            BEGINS
+            + """import mmap
 taken = mmap.mmap(-1, 500 << 20)
 for place in range(0, len(taken), 16 << 20):
     count = min(16 << 20, len(taken) - place)
@@ -554,11 +715,14 @@ for place in range(0, len(taken), 16 << 20):
     taken.madvise(mmap.MADV_DONTNEED, place, count)
 time.sleep(100)
 """
+        )
         self.check_taken(code)
 
     def test_tables_of_pages(self) -> None:
         """A page in two megabytes is read, and is the same one; the tables that say so take memory."""
-        code = BEGINS + """import ctypes, mmap
+        code = (
+            BEGINS
+            + """import ctypes, mmap
 libc = ctypes.CDLL(None)
 libc.mmap.restype = ctypes.c_void_p
 libc.mmap.argtypes = [ctypes.c_void_p, ctypes.c_size_t] + [ctypes.c_int] * 3 + [ctypes.c_long]
@@ -570,6 +734,7 @@ for at in range(0, size, 2 << 20):
     view[at]
 time.sleep(100)
 """
+        )
         self.check_taken(code)
 
     def check_taken(self, code: str) -> None:
@@ -577,8 +742,10 @@ time.sleep(100)
         with mock.patch.object(watch, "MOST", 200 << 20):
             for walls in ALL_WALLS:
                 with self.subTest(walls):
-                    self.assertEqual(self.played(walls, code, head=HEAD.replace("60", "8")).faults,
-                                     [f"agent 0: {watch.TOO_MUCH}"])
+                    self.assertEqual(
+                        self.played(walls, code, head=HEAD.replace("60", "8")).faults,
+                        [f"agent 0: {watch.TOO_MUCH}"],
+                    )
 
     @WALLED
     def test_disk(self) -> None:
@@ -593,27 +760,39 @@ try:
 except OSError as fault:
     sys.exit(f"{wrote >> 20 <= 64} {fault.strerror}")
 """
-        self.assertEqual(self.said(Isolation.ALL, code), ["True No space left on device (a program's folder, /tmp and "
-                                                      "/dev/shm take 64 MB each)"])
+        self.assertEqual(
+            self.said(Isolation.ALL, code),
+            [
+                "True No space left on device (a program's folder, /tmp and "
+                "/dev/shm take 64 MB each)"
+            ],
+        )
         many = "import time\nfor number in range(200_000):\n    open(str(number), 'w').close()\ntime.sleep(100)"
         with mock.patch.object(watch, "MOST", 100 << 20):
-            self.assertEqual(self.played(Isolation.ALL, many).faults, [f"agent 0: {watch.TOO_MUCH}"])
+            self.assertEqual(
+                self.played(Isolation.ALL, many).faults, [f"agent 0: {watch.TOO_MUCH}"]
+            )
 
 
 class Timing(Course):
     def test_who_does_not_read_and_ends_is_heard_to_the_end(self) -> None:
         """It sends all its commands at once: to node 1, back, to node 3, and its accusation."""
-        code = BEGINS + """server = socket.create_connection(("127.0.0.1", int(sys.argv[1])))
+        code = (
+            BEGINS
+            + """server = socket.create_connection(("127.0.0.1", int(sys.argv[1])))
 said = [{"do": "enter", "key": sys.argv[2]}, *({"do": "depart", "port": port} for port in (0, 1, 1))]
 said += [{"do": "look"}] * 200 + [{"do": "accuse", "port": 1}]
 server.sendall("".join(json.dumps(command) + "\\n" for command in said).encode())
 os._exit(0)
 """
+        )
         for walls in ALL_WALLS:
             with self.subTest(walls):
                 for _ in range(3):
                     played = self.played(walls, code)
-                    self.assertEqual((played.faults, tuple(played.verdict())), ([], ("solved", 3, 0)))
+                    self.assertEqual(
+                        (played.faults, tuple(played.verdict())), ([], ("solved", 3, 0))
+                    )
 
     def test_sets_have_the_same_order_on_each_run(self) -> None:
         code = "import sys\nsys.exit(str({'a', 'b', 'c', 'd', 'e', 'f', 'g'}))"
@@ -622,8 +801,20 @@ os._exit(0)
         (self.folder / "it.py").write_text(code + "\n")
         told = set()
         for _ in range(3):
-            out = ran(main, ["run", "--network", "ring:4", "--agents", "1", "--engine", "model", "--command",
-                             f"python3 {self.folder}/it.py {{port}} {{key}}"]).said
+            out = ran(
+                main,
+                [
+                    "run",
+                    "--network",
+                    "ring:4",
+                    "--agents",
+                    "1",
+                    "--engine",
+                    "model",
+                    "--command",
+                    f"python3 {self.folder}/it.py {{port}} {{key}}",
+                ],
+            ).said
             told.add(out)
         self.assertEqual(len(told), 1)
 
@@ -632,38 +823,73 @@ class Saying(Course):
     def test_a_script_that_cannot_be_started_says_what_to_change(self) -> None:
         script = "#!/bin/sh\nexit 3\n"
         for text, mode, said in (
-                (script.replace("\n", "\r\n"), 0o755, "./go.sh: its lines end as on Windows: hand it in after `sed -i"),
-                (script, 0o644, "./go.sh: it may not be run: hand it in after `chmod +x ./go.sh`"),
-                ("exit 3\n", 0o755, "a script's first line says what runs it, such as #!/bin/sh"),
-                (script, 0o755, "has ended with status 3 before it connected")):
+            (
+                script.replace("\n", "\r\n"),
+                0o755,
+                "./go.sh: its lines end as on Windows: hand it in after `sed -i",
+            ),
+            (
+                script,
+                0o644,
+                "./go.sh: it may not be run: hand it in after `chmod +x ./go.sh`",
+            ),
+            (
+                "exit 3\n",
+                0o755,
+                "a script's first line says what runs it, such as #!/bin/sh",
+            ),
+            (script, 0o755, "has ended with status 3 before it connected"),
+        ):
             with self.subTest(said):
                 (self.team / "go.sh").write_text(text, newline="")
                 (self.team / "go.sh").chmod(mode)
                 cells.remove(self.folder / "out")
-                found = self.graded(HEAD + team("evil", ["evil"], "./go.sh {port} {key}", 1), f"out-{mode}-{len(text)}")
+                found = self.graded(
+                    HEAD + team("evil", ["evil"], "./go.sh {port} {key}", 1),
+                    f"out-{mode}-{len(text)}",
+                )
                 self.assertIn(said, found["evil"][0]["fault"])
 
     def test_who_meets_a_bound_is_told_which(self) -> None:
-        threads = ("import threading, time\nfor _ in range(300):\n"
-                   "    threading.Thread(target=time.sleep, args=(60,)).start()\n")
+        threads = (
+            "import threading, time\nfor _ in range(300):\n"
+            "    threading.Thread(target=time.sleep, args=(60,)).start()\n"
+        )
         files = "found = [open('/dev/null') for _ in range(300)]\n"
-        for code, said in ((threads, "has sent no line for 3 s: RuntimeError: can't start new thread (evil.py, line "
-                            "3) (a program may have 256 processes and threads)"),
-                           (files, "Too many open files: '/dev/null' (evil.py, line 1) (a program may have 256 open "
-                            "files)")):
+        for code, said in (
+            (
+                threads,
+                "has sent no line for 3 s: RuntimeError: can't start new thread (evil.py, line "
+                "3) (a program may have 256 processes and threads)",
+            ),
+            (
+                files,
+                "Too many open files: '/dev/null' (evil.py, line 1) (a program may have 256 open "
+                "files)",
+            ),
+        ):
             with self.subTest(said):
-                fault = self.played(ALL_WALLS[0], code, head=HEAD.replace("60", "3")).faults[0]
+                fault = self.played(
+                    ALL_WALLS[0], code, head=HEAD.replace("60", "3")
+                ).faults[0]
                 self.assertIn(said, fault)
 
     def test_last_words_are_one_fault_and_do_nothing_to_a_terminal(self) -> None:
-        code = ('import os, sys\nsys.stderr.buffer.write("first\\n\\x1b]0;it\\x07\\x9b31m\\u202e\\x00; agent 1: forged'
-                '\\r\\u2028".encode() + b"\\xff\\n")\nsys.exit(3)')
+        code = (
+            'import os, sys\nsys.stderr.buffer.write("first\\n\\x1b]0;it\\x07\\x9b31m\\u202e\\x00; agent 1: forged'
+            '\\r\\u2028".encode() + b"\\xff\\n")\nsys.exit(3)'
+        )
         (self.team / "evil.py").write_text(code)
         rows = self.graded(HEAD + team("evil", ["evil"], EVIL, 1))
         said = "\\x1b]0;it\\x07\\x9b31m\\u202e\\x00; agent 1: forged\\r\\u2028\ufffd"
-        self.assertEqual(rows["evil"][0]["faults"], [f"agent 0: has ended with status 3 before it connected: {said}"])
+        self.assertEqual(
+            rows["evil"][0]["faults"],
+            [f"agent 0: has ended with status 3 before it connected: {said}"],
+        )
         page = (self.folder / "out" / "team-evil.html").read_text(encoding="utf-8")
-        self.assertEqual((page.count("<li>agent 0: has ended"), page.count("<li>agent 1")), (1, 0))
+        self.assertEqual(
+            (page.count("<li>agent 0: has ended"), page.count("<li>agent 1")), (1, 0)
+        )
         for char in "\x1b\x9b\u202e\u2028\x00":
             self.assertNotIn(char, page)
 
@@ -706,7 +932,23 @@ class NotAsRoot(unittest.TestCase):
         with tempfile.TemporaryDirectory() as home:
             os.chmod(home, 0o777)
             ran = subprocess.run(
-                [*nobody, DEBIANS_PYTHON, "-B", "-m", "unittest", "tests.integration.course.test_attacks"], cwd=TOP,
-                env={**os.environ, "ARENA_AS_NOBODY": "yes", "HOME": home, "TMPDIR": home}, capture_output=True,
-                text=True, timeout=300)
+                [
+                    *nobody,
+                    DEBIANS_PYTHON,
+                    "-B",
+                    "-m",
+                    "unittest",
+                    "tests.integration.course.test_attacks",
+                ],
+                cwd=TOP,
+                env={
+                    **os.environ,
+                    "ARENA_AS_NOBODY": "yes",
+                    "HOME": home,
+                    "TMPDIR": home,
+                },
+                capture_output=True,
+                text=True,
+                timeout=300,
+            )
         self.assertEqual(ran.returncode, 0, ran.stderr)

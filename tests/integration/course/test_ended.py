@@ -13,7 +13,7 @@ from arena_lab.sandbox.processes import below, is_alive, words_of
 from tests.support.matches import program
 from tests.support.output import InTemporary, write
 
-COURSE = '''title = "it hangs"
+COURSE = """title = "it hangs"
 networks = ["ring:5"]
 holes = 1
 
@@ -22,7 +22,7 @@ name = "amber"
 agents = 2
 files = ["files"]
 command = "python3 agent.py {host} {port} {key} {nodes}"
-'''
+"""
 AGENT = ["python3", "agent.py"]
 # the lab, as where programs have no walls
 WITHOUT_WALLS = """
@@ -38,21 +38,38 @@ BEGUN, ENDED = 120, 60
 class Ended(InTemporary):
     def setUp(self) -> None:
         super().setUp()
-        write(self.folder / "files" / "agent.py", "import time\ntime.sleep(1_000_000)\n")
+        write(
+            self.folder / "files" / "agent.py", "import time\ntime.sleep(1_000_000)\n"
+        )
         (self.folder / "course.toml").write_text(COURSE)
 
     def test_a_grading_that_is_sent_signals_leaves_nothing(self) -> None:
         for signals in ([signal.SIGTERM], [signal.SIGTERM] * 5, [signal.SIGKILL]):
-            for title, lab in (("as it is", ["-m", "arena_lab"]), ("without walls", ["-c", WITHOUT_WALLS])):
+            for title, lab in (
+                ("as it is", ["-m", "arena_lab"]),
+                ("without walls", ["-c", WITHOUT_WALLS]),
+            ):
                 with self.subTest(title, signals=signals):
                     self.ended(lab, signals)
 
     def ended(self, lab: List[str], signals: List[signal.Signals]) -> None:
         """Grades, and sends these signals once the agents of a match have begun."""
         out = self.enterContext(tempfile.TemporaryDirectory(dir=self.folder))
-        words = [*lab, "grade", str(self.folder / "course.toml"), "--out", f"{out}/out", "--program", program()]
-        child = subprocess.Popen([sys.executable, *words], cwd=TOP, stdout=subprocess.DEVNULL,
-                                 stderr=subprocess.DEVNULL)
+        words = [
+            *lab,
+            "grade",
+            str(self.folder / "course.toml"),
+            "--out",
+            f"{out}/out",
+            "--program",
+            program(),
+        ]
+        child = subprocess.Popen(
+            [sys.executable, *words],
+            cwd=TOP,
+            stdout=subprocess.DEVNULL,
+            stderr=subprocess.DEVNULL,
+        )
         self.addCleanup(child.kill)
         late = time.monotonic() + BEGUN
         while len(agents_of(child.pid)) < 2 and time.monotonic() < late:
@@ -62,7 +79,9 @@ class Ended(InTemporary):
         for number in signals:
             child.send_signal(number)
             time.sleep(0.002)
-        self.assertEqual(child.wait(ENDED), -number if number == signal.SIGKILL else 128 + number)
+        self.assertEqual(
+            child.wait(ENDED), -number if number == signal.SIGKILL else 128 + number
+        )
         late = time.monotonic() + ENDED
         while any(map(is_alive, begun)) and time.monotonic() < late:
             time.sleep(0.1)

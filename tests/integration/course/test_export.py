@@ -19,10 +19,12 @@ from tests.support.matches import AGENTS, InFolder
 from tests.support.output import ran
 
 AUTOGRADER = TOP / "examples" / "course" / "autograder"
-COURSE = ('title = "T"\nnetworks = ["ring:4"]\nholes = [2]\n[points]\nnetwork = 7\n[[team]]\nname = "a"\n'
-          f'files = ["{AGENTS}/client.py", "{AGENTS}/ring.py"]\n'
-          'command = "python3 ring.py {host} {port} {key} {nodes}"\n'
-          '[[team]]\nname = "b"\nfiles = ["dies.py"]\ncommand = "python3 dies.py {port} {key}"\n')
+COURSE = (
+    'title = "T"\nnetworks = ["ring:4"]\nholes = [2]\n[points]\nnetwork = 7\n[[team]]\nname = "a"\n'
+    f'files = ["{AGENTS}/client.py", "{AGENTS}/ring.py"]\n'
+    'command = "python3 ring.py {host} {port} {key} {nodes}"\n'
+    '[[team]]\nname = "b"\nfiles = ["dies.py"]\ncommand = "python3 dies.py {port} {key}"\n'
+)
 # stands for the command that a release installs
 COMMAND = f'#!/bin/sh\nPYTHONPATH={TOP} exec {sys.executable} -m arena_lab "$@" --engine model --workers 2\n'
 
@@ -36,27 +38,47 @@ class Exports(InFolder):
         (self.folder / "dies.py").write_text("raise SystemExit('no map')\n")
         course = self.folder / "course.toml"
         course.write_text(COURSE)
-        status, said, errors = ran(main, ["grade", str(course), "--out", str(self.out), "--engine", "model", *more])
+        status, said, errors = ran(
+            main,
+            ["grade", str(course), "--out", str(self.out), "--engine", "model", *more],
+        )
         return said if status == 0 else errors
 
     def test_all_kinds_at_once(self) -> None:
         (self.folder / "students.csv").write_text("team,idnumber\nb,12\na,007\n")
         said = self.graded("--export", *KINDS)
         self.assertEqual(said.count("for a gradebook: "), 5)
-        scores = {team: json.loads((self.out / f"gradescope-{team}.json").read_text())["score"] for team in "ab"}
+        scores = {
+            team: json.loads((self.out / f"gradescope-{team}.json").read_text())[
+                "score"
+            ]
+            for team in "ab"
+        }
         self.assertEqual(scores, {"a": 7, "b": 0})
         with (self.out / "moodle.csv").open(encoding="utf-8", newline="") as file:
-            self.assertEqual([row["T (Real)"] for row in csv.DictReader(file)], ["0", "7"])
+            self.assertEqual(
+                [row["T (Real)"] for row in csv.DictReader(file)], ["0", "7"]
+            )
         root = ElementTree.parse(self.out / "junit.xml").getroot()
         self.assertIn("no map", root.findall(".//failure")[0].text or "")
         # a team's page leads to all that its programs wrote to standard error
         number = next(path.name for path in (self.out / "failed").iterdir())
-        self.assertIn(f'href="failed/{number}/errors0.txt"', (self.out / "team-b.html").read_text())
-        self.assertEqual((self.out / "failed" / number / "errors0.txt").read_text(), "no map\n")
-        self.assertEqual((self.out / "points.csv").read_text(), "team,points,most,ring:4\na,7,7,7\nb,0,7,0\n")
+        self.assertIn(
+            f'href="failed/{number}/errors0.txt"',
+            (self.out / "team-b.html").read_text(),
+        )
+        self.assertEqual(
+            (self.out / "failed" / number / "errors0.txt").read_text(), "no map\n"
+        )
+        self.assertEqual(
+            (self.out / "points.csv").read_text(),
+            "team,points,most,ring:4\na,7,7,7\nb,0,7,0\n",
+        )
 
     def test_students_are_read_before_anything_is_played(self) -> None:
-        self.assertIn("students.csv: there is no such file", self.graded("--export", "moodle"))
+        self.assertIn(
+            "students.csv: there is no such file", self.graded("--export", "moodle")
+        )
         self.assertFalse(self.out.exists())
 
 
@@ -75,15 +97,28 @@ class Autograder(InFolder):
         shutil.copy(AGENTS / "client.py", self.place / "submission")
         shutil.copy(AGENTS / "ring.py", self.place / "submission" / "agent.py")
 
-    def ran(self, script: str, where: pathlib.Path) -> "subprocess.CompletedProcess[str]":
-        variables = {**os.environ, "PATH": f"{self.place / 'bin'}:{os.environ['PATH']}", "AUTOGRADER": str(self.place)}
-        return subprocess.run(["bash", "-e", "-o", "pipefail", "-c", script], cwd=where, env=variables, text=True,
-                              capture_output=True)
+    def ran(
+        self, script: str, where: pathlib.Path
+    ) -> "subprocess.CompletedProcess[str]":
+        variables = {
+            **os.environ,
+            "PATH": f"{self.place / 'bin'}:{os.environ['PATH']}",
+            "AUTOGRADER": str(self.place),
+        }
+        return subprocess.run(
+            ["bash", "-e", "-o", "pipefail", "-c", script],
+            cwd=where,
+            env=variables,
+            text=True,
+            capture_output=True,
+        )
 
     def results(self) -> Dict[str, Any]:
         ran = self.ran(f"exec '{AUTOGRADER}/run_autograder'", self.folder)
         self.assertEqual(ran.returncode, 0, ran.stderr)
-        found: Dict[str, Any] = json.loads((self.place / "results" / "results.json").read_text())
+        found: Dict[str, Any] = json.loads(
+            (self.place / "results" / "results.json").read_text()
+        )
         return found
 
     def test_gradescope(self) -> None:
@@ -99,18 +134,33 @@ class Autograder(InFolder):
         (self.place / "source" / "course.toml").write_text("title = 1\n")
         self.assertIn("no fault of yours", self.results()["output"])
 
-    def check_workflow(self, steps: List[str], where: pathlib.Path, out: pathlib.Path) -> None:
+    def check_workflow(
+        self, steps: List[str], where: pathlib.Path, out: pathlib.Path
+    ) -> None:
         for step in steps:
             ran = self.ran(step, where)
             self.assertEqual(ran.returncode, 0, f"{step}\n{ran.stdout}{ran.stderr}")
-        self.assertEqual(ElementTree.parse(out / "junit.xml").getroot()[0].attrib["failures"], "0")
+        self.assertEqual(
+            ElementTree.parse(out / "junit.xml").getroot()[0].attrib["failures"], "0"
+        )
         self.assertIn("team,", (out / "points.csv").read_text())
 
     def test_github(self) -> None:
         flow = yaml.safe_load((AUTOGRADER / "github.yml").read_text())
         steps = flow["jobs"]["grade"]["steps"]
-        self.assertEqual([step.get("name", step.get("uses", "")).partition("@")[0] for step in steps], [
-            "actions/checkout", "actions/setup-python", "install", "grade", "actions/upload-artifact"])
+        self.assertEqual(
+            [
+                step.get("name", step.get("uses", "")).partition("@")[0]
+                for step in steps
+            ],
+            [
+                "actions/checkout",
+                "actions/setup-python",
+                "install",
+                "grade",
+                "actions/upload-artifact",
+            ],
+        )
         # YAML 1.1 reads the key `on` as true
         self.assertEqual(flow[True], ["push", "workflow_dispatch"])
         shutil.copy(AUTOGRADER / "course.toml", self.place / "submission")

@@ -44,7 +44,11 @@ ABSENT = "no-such-program: No such file or directory"
 
 def tree(folder: pathlib.Path) -> Dict[str, bytes]:
     """The bytes of each file of a folder."""
-    return {str(path.relative_to(folder)): path.read_bytes() for path in folder.rglob("*") if path.is_file()}
+    return {
+        str(path.relative_to(folder)): path.read_bytes()
+        for path in folder.rglob("*")
+        if path.is_file()
+    }
 
 
 def called_as_its_replay(page: str) -> str:
@@ -56,32 +60,54 @@ def called_as_its_replay(page: str) -> str:
 def league_in(page: pathlib.Path) -> List[str]:
     """The league table that a page has below the command that grades the example."""
     lines = page.read_text().splitlines()
-    start = next(number for number, line in enumerate(lines) if "./arena-lab grade examples/course/course.toml" in line)
-    return [line[4:] for line in lines[start + 1:start + 5]]
+    start = next(
+        number
+        for number, line in enumerate(lines)
+        if "./arena-lab grade examples/course/course.toml" in line
+    )
+    return [line[4:] for line in lines[start + 1 : start + 5]]
 
 
 class Grading(InFolder):
     def setUp(self) -> None:
         super().setUp()
         # however slow the machine is, the lab has time to make the schedules of failed matches small
-        slow = {name: fields.count(36_000, "seconds") for name in ("match_limit", "team_limit")}
+        slow = {
+            name: fields.count(36_000, "seconds")
+            for name in ("match_limit", "team_limit")
+        }
         self.enterContext(mock.patch.dict(course.FIELDS, slow))
 
     def graded(self, file: pathlib.Path, out: str, *more: str) -> str:
         """Grades a course; gives what is said."""
-        status, said, _ = ran(main, ["grade", str(file), "--out", str(self.folder / out), *more])
+        status, said, _ = ran(
+            main, ["grade", str(file), "--out", str(self.folder / out), *more]
+        )
         self.assertEqual(status, 0)
         return said
 
     def check_same(self, one: Dict[str, bytes], other: Dict[str, bytes]) -> None:
         """That two folders have the same files; names those that differ, since how pages differ takes long to say."""
-        self.assertEqual([name for name in sorted({*one, *other}) if one.get(name) != other.get(name)], [])
+        self.assertEqual(
+            [
+                name
+                for name in sorted({*one, *other})
+                if one.get(name) != other.get(name)
+            ],
+            [],
+        )
 
-    def test_the_example_gives_the_same_bytes_three_times_and_names_the_wrong_team(self) -> None:
+    def test_the_example_gives_the_same_bytes_three_times_and_names_the_wrong_team(
+        self,
+    ) -> None:
         said = self.graded(EXAMPLE, "first", *SECRET, "--program", program())
-        self.assertEqual(said.splitlines()[:4], league_in(TOP / "examples" / "README.md"))
+        self.assertEqual(
+            said.splitlines()[:4], league_in(TOP / "examples" / "README.md")
+        )
         first = tree(self.folder / "first")
-        self.graded(EXAMPLE, "second", *SECRET, "--program", program(), "--workers", "2")
+        self.graded(
+            EXAMPLE, "second", *SECRET, "--program", program(), "--workers", "2"
+        )
         self.check_same(tree(self.folder / "second"), first)
         # the third was interrupted
         path = self.folder / "second" / tables.RUNS
@@ -92,13 +118,23 @@ class Grading(InFolder):
         self.check_pages(self.folder / "first")
 
     def test_a_student_grades_and_watches_without_the_program(self) -> None:
-        with mock.patch.object(engines, "program_at", side_effect=AssertionError("the program is asked for")):
+        with mock.patch.object(
+            engines,
+            "program_at",
+            side_effect=AssertionError("the program is asked for"),
+        ):
             said = self.graded(EXAMPLE, "home", *SECRET, "--engine", "model")
-            self.assertEqual(said.splitlines()[:4], league_in(TOP / "examples" / "README.md"))
+            self.assertEqual(
+                said.splitlines()[:4], league_in(TOP / "examples" / "README.md")
+            )
             match = self.folder / "home" / "failed" / "cedar-10"
             page = (match / "match0.html").read_text()
-            self.assertEqual(main(["page", str(match / "match0.jsonl"), "--engine", "model"]), 0)
-            self.assertEqual((match / "match0.html").read_text(), called_as_its_replay(page))
+            self.assertEqual(
+                main(["page", str(match / "match0.jsonl"), "--engine", "model"]), 0
+            )
+            self.assertEqual(
+                (match / "match0.html").read_text(), called_as_its_replay(page)
+            )
 
     def check_pages(self, folder: pathlib.Path) -> None:
         """The wrong team's page leads to its failed matches and their smallest schedules."""
@@ -109,13 +145,20 @@ class Grading(InFolder):
             self.assertTrue((folder / place / "match0.html").is_file())
         self.check_replay(folder / "failed/cedar-10/smallest")
         for name in ("amber", "birch"):
-            self.assertIn("solved each of its matches", (folder / f"team-{name}.html").read_text())
+            self.assertIn(
+                "solved each of its matches", (folder / f"team-{name}.html").read_text()
+            )
 
     def check_replay(self, match: pathlib.Path) -> None:
         """A team plays its match again where its program is."""
         own = self.folder / "own"
         own.mkdir()
-        for path in (AGENTS / "client.py", AGENTS / "ring.py", MUTANT, EXAMPLE.parent / "cedar" / "hasty.py"):
+        for path in (
+            AGENTS / "client.py",
+            AGENTS / "ring.py",
+            MUTANT,
+            EXAMPLE.parent / "cedar" / "hasty.py",
+        ):
             shutil.copy(path, own)
         os.chdir(own)
         status, said, _ = ran(main, ["replay", str(match), "--engine", "model"])
@@ -123,8 +166,13 @@ class Grading(InFolder):
         self.assertIn("the replay is the same, byte for byte", said)
 
     def test_who_breaks_the_rules_fails_alone(self) -> None:
-        teams = [team(how, [TESTS / "play" / "rude.py"], RUDE.format(how=how)) for how in FAULTS]
-        absent = team("absent", [TESTS / "play" / "rude.py"], "no-such-program {port} {key}")
+        teams = [
+            team(how, [TESTS / "play" / "rude.py"], RUDE.format(how=how))
+            for how in FAULTS
+        ]
+        absent = team(
+            "absent", [TESTS / "play" / "rude.py"], "no-such-program {port} {key}"
+        )
         file = self.folder / "course.toml"
         file.write_text(HEAD + "".join([*teams, HONEST, absent]))
         self.graded(file, "out", "--engine", "model")
@@ -135,61 +183,126 @@ class Grading(InFolder):
         for how, fault in FAULTS.items():
             with self.subTest(how):
                 self.assertIn(fault, rows[how][0]["fault"])
-        self.assertIn("<li>nobody accused</li>", (self.folder / "out" / "team-absent.html").read_text())
+        self.assertIn(
+            "<li>nobody accused</li>",
+            (self.folder / "out" / "team-absent.html").read_text(),
+        )
         table = (self.folder / "out" / league.TABLE).read_text().splitlines()
         self.assertRegex(table[1], "^1,right,1,1,[0-9]+,[01],1$")
 
     def test_who_hangs_is_ended_with_all_that_it_has_started(self) -> None:
         file = self.folder / "course.toml"
-        file.write_text(HEAD.replace("limit = 60", "limit = 1") + team(
-            "silent", [TESTS / "play" / "rude.py"], RUDE.format(how=f"silent:{self.folder.name}"), 1))
+        file.write_text(
+            HEAD.replace("limit = 60", "limit = 1")
+            + team(
+                "silent",
+                [TESTS / "play" / "rude.py"],
+                RUDE.format(how=f"silent:{self.folder.name}"),
+                1,
+            )
+        )
         self.graded(file, "out", "--engine", "model")
-        self.assertEqual(rows_of_teams(self.folder / "out")["silent"][0]["fault"], SILENT)
+        self.assertEqual(
+            rows_of_teams(self.folder / "out")["silent"][0]["fault"], SILENT
+        )
         self.assertEqual(running(self.folder.name), [])
-        self.assertIn("depends on the machine", (self.folder / "out" / "team-silent.html").read_text())
+        self.assertIn(
+            "depends on the machine",
+            (self.folder / "out" / "team-silent.html").read_text(),
+        )
 
     def test_a_network_that_can_be_cut_is_refused(self) -> None:
         file = self.folder / "course.toml"
-        (self.folder / "net.toml").write_text("nodes = 3\nlinks = [[0, 0, 1, 0], [1, 1, 2, 0]]\n")
+        (self.folder / "net.toml").write_text(
+            "nodes = 3\nlinks = [[0, 0, 1, 0], [1, 1, 2, 0]]\n"
+        )
         file.write_text(HEAD.replace("ring:4", "net.toml") + HONEST)
-        status, _, errors = ran(main, ["grade", str(file), "--out", str(self.folder / "out"), "--engine", "model"])
+        status, _, errors = ran(
+            main,
+            [
+                "grade",
+                str(file),
+                "--out",
+                str(self.folder / "out"),
+                "--engine",
+                "model",
+            ],
+        )
         self.assertEqual(status, 2)
-        self.assertIn("net.toml, which is not biconnected: without node 1 some other nodes", errors)
+        self.assertIn(
+            "net.toml, which is not biconnected: without node 1 some other nodes",
+            errors,
+        )
 
     def test_a_program_that_is_no_function_of_what_it_is_told(self) -> None:
         (self.folder / "dice.py").write_text(DICE)
         file = self.folder / "course.toml"
-        file.write_text(HEAD + team("dice", ["dice.py"], "python3 dice.py {port} {key}", 1))
+        file.write_text(
+            HEAD + team("dice", ["dice.py"], "python3 dice.py {port} {key}", 1)
+        )
         self.graded(file, "out", "--engine", "model")
         page = self.folder / "out" / "team-dice.html"
-        self.assertIn("something else although they are told the same", page.read_text())
+        self.assertIn(
+            "something else although they are told the same", page.read_text()
+        )
 
     def test_a_match_counts_only_if_each_agent_says_the_same_alone(self) -> None:
-        for name, drawn in (("dice", "secrets.token_hex(8)"), ("seeded", "os.environ['ARENA_SEED']")):
+        for name, drawn in (
+            ("dice", "secrets.token_hex(8)"),
+            ("seeded", "os.environ['ARENA_SEED']"),
+        ):
             (self.folder / f"{name}.py").write_text(LONE.replace("DRAWN", drawn))
         file = self.folder / "course.toml"
-        file.write_text(HEAD + "".join(team(name, [f"{name}.py"], f"python3 {name}.py {{port}} {{key}}", 1)
-                                       for name in ("dice", "seeded")))
+        file.write_text(
+            HEAD
+            + "".join(
+                team(name, [f"{name}.py"], f"python3 {name}.py {{port}} {{key}}", 1)
+                for name in ("dice", "seeded")
+            )
+        )
         said = self.graded(file, "out", "--engine", "model")
-        self.assertEqual([line.split()[1:3] for line in said.splitlines()[1:3]], [["seeded", "1"], ["dice", "0"]])
+        self.assertEqual(
+            [line.split()[1:3] for line in said.splitlines()[1:3]],
+            [["seeded", "1"], ["dice", "0"]],
+        )
         page = (self.folder / "out" / "team-dice.html").read_text()
-        self.assertIn("says something else when it is told the same again, at command 2: in the match `write", page)
+        self.assertIn(
+            "says something else when it is told the same again, at command 2: in the match `write",
+            page,
+        )
         self.assertIn("the match was solved when it was played", page)
         lines = (self.folder / "out" / "repeats.csv").read_text().splitlines()
         self.assertEqual(lines[0], "run,team,fault")
-        self.assertEqual({(row[1], row[2] != "") for row in csv.reader(lines[1:])}, {("dice", True), ("seeded", False)})
+        self.assertEqual(
+            {(row[1], row[2] != "") for row in csv.reader(lines[1:])},
+            {("dice", True), ("seeded", False)},
+        )
         said = self.graded(file, "again", "--engine", "model", "--no-repeat")
-        self.assertEqual([line.split()[2] for line in said.splitlines()[1:3]], ["1", "1"])
+        self.assertEqual(
+            [line.split()[2] for line in said.splitlines()[1:3]], ["1", "1"]
+        )
 
     def test_a_signal_of_a_living_agent_wins_nothing(self) -> None:
         """Without walls agents meet at a socket, and their match is solved. Repeated alone nobody meets them there; a
         body that repeats them together would let them win."""
         (self.folder / "meets.py").write_text(MEETS)
         file = self.folder / "course.toml"
-        file.write_text(HEAD + team("meets", ["meets.py"], f"python3 meets.py {{port}} {{key}} {self.folder.name}"))
+        file.write_text(
+            HEAD
+            + team(
+                "meets",
+                ["meets.py"],
+                f"python3 meets.py {{port}} {{key}} {self.folder.name}",
+            )
+        )
         with mock.patch.object(cells, "strongest", return_value=Isolation.NONE):
-            for out, solved, more in (("alone", "0", []), ("trusted", "1", ["--no-repeat"])):
-                said = self.graded(file, out, "--engine", "model", "--workers", "2", *more)
+            for out, solved, more in (
+                ("alone", "0", []),
+                ("trusted", "1", ["--no-repeat"]),
+            ):
+                said = self.graded(
+                    file, out, "--engine", "model", "--workers", "2", *more
+                )
                 self.assertEqual(said.splitlines()[1].split()[2], solved, said)
         page = (self.folder / "alone" / "team-meets.html").read_text()
         self.assertIn("at command 3: in the match `depart port 1`, alone `leave`", page)
@@ -252,19 +365,39 @@ class Spies(unittest.TestCase):
 
     def found(self, walls: Isolation, *places: str) -> List[str]:
         """What each program of the spies says that it has found there."""
-        text = HEAD + team("rich", ["rich"], "true {port} {key}") + team(
-            "spy", ["spy.py"], f"python3 spy.py {{key}} {self.folder} {' '.join(places)} {{port}}")
-        graded = GradingRun(text, self.folder, "a secret of the tests", None, Sandbox(walls), self.folder / "out")
+        text = (
+            HEAD
+            + team("rich", ["rich"], "true {port} {key}")
+            + team(
+                "spy",
+                ["spy.py"],
+                f"python3 spy.py {{key}} {self.folder} {' '.join(places)} {{port}}",
+            )
+        )
+        graded = GradingRun(
+            text,
+            self.folder,
+            "a secret of the tests",
+            None,
+            Sandbox(walls),
+            self.folder / "out",
+        )
         case = next(case for case in graded.course.cases() if case.team.name == "spy")
         _, played = graded.match(case, schedulers.fair(0), None)
         return [fault.rpartition(": ")[2] for fault in played.faults]
 
-    @unittest.skipUnless(cells.strongest() is Isolation.ALL, f"no walls here: {cells.weakness()}")
+    @unittest.skipUnless(
+        cells.strongest() is Isolation.ALL, f"no walls here: {cells.weakness()}"
+    )
     def test_behind_walls_they_find_nothing(self) -> None:
-        self.assertEqual(self.found(Isolation.ALL, "/tmp", "/dev/shm"), ["found nothing"] * 2)
+        self.assertEqual(
+            self.found(Isolation.ALL, "/tmp", "/dev/shm"), ["found nothing"] * 2
+        )
 
     @unittest.skipUnless(os.geteuid() == 0, "only root can let programs be other users")
-    def test_as_users_of_their_own_they_find_nothing_that_others_may_not_read(self) -> None:
+    def test_as_users_of_their_own_they_find_nothing_that_others_may_not_read(
+        self,
+    ) -> None:
         self.folder.chmod(0o700)
         for said in self.found(Isolation.USER):
             self.assertNotIn("TREASURE", said)
@@ -272,7 +405,12 @@ class Spies(unittest.TestCase):
     def test_in_one_folder_they_find_all(self) -> None:
         """The spies are good ones: in a body that runs all teams in one folder they find what they look for."""
         shutil.copy(self.folder / "rich" / "plan.txt", self.folder)
-        shared = Cell(Sandbox(Isolation.NONE), ProgramFiles(HandIn({}).archive()), None, self.folder)
+        shared = Cell(
+            Sandbox(Isolation.NONE),
+            ProgramFiles(HandIn({}).archive()),
+            None,
+            self.folder,
+        )
         with mock.patch.object(grounds, "cells_for", lambda *_: in_one_folder(shared)):
             for said in self.found(Isolation.NONE):
                 self.assertIn("TREASURE-plan", said)

@@ -20,9 +20,13 @@ from arena_lab.sandbox.groups import ControlGroup
 from arena_lab.support.built import TOP
 from arena_lab.sweep import tables
 
-SETTINGS = {"cgroup.controllers": "cpu memory pids\n", "cgroup.subtree_control": "\n", "cgroup.type": "domain\n"}
+SETTINGS = {
+    "cgroup.controllers": "cpu memory pids\n",
+    "cgroup.subtree_control": "\n",
+    "cgroup.type": "domain\n",
+}
 SECRET = "a secret of the tests"
-ENDED = 'max 3\noom 1\noom_kill 1\n'
+ENDED = "max 3\noom 1\noom_kill 1\n"
 
 
 class Fake(unittest.TestCase):
@@ -52,8 +56,13 @@ class Fake(unittest.TestCase):
                 raise OSError(16, "Device or resource busy")
             self.done.append(("rmdir", path.name))
             subprocess.run(["rm", "-r", str(path)], check=True)
-        for place, name, value in ((groups, "MOUNTS", (str(self.top / "groups"),)), (groups, "OWN", self.top / "own"),
-                                   (groups, "write", written), (pathlib.Path, "rmdir", removed)):
+
+        for place, name, value in (
+            (groups, "MOUNTS", (str(self.top / "groups"),)),
+            (groups, "OWN", self.top / "own"),
+            (groups, "write", written),
+            (pathlib.Path, "rmdir", removed),
+        ):
             patched = mock.patch.object(place, name, value)
             patched.start()
             self.addCleanup(patched.stop)
@@ -62,12 +71,19 @@ class Fake(unittest.TestCase):
     def divided(self) -> List[Tuple[str, ...]]:
         """What is done before programs are started, and what afterwards."""
         own = str(os.getpid())
-        return [(f"{self.lab}/cgroup.procs", own), ("cgroup.subtree_control", "+memory +pids"),
-                ("cgroup.subtree_control", "-memory -pids"), ("cgroup.procs", own), ("rmdir", self.lab)]
+        return [
+            (f"{self.lab}/cgroup.procs", own),
+            ("cgroup.subtree_control", "+memory +pids"),
+            ("cgroup.subtree_control", "-memory -pids"),
+            ("cgroup.procs", own),
+            ("rmdir", self.lab),
+        ]
 
 
 class TestDividing(Fake):
-    def test_the_lab_has_a_group_beside_those_of_programs_and_nothing_stays(self) -> None:
+    def test_the_lab_has_a_group_beside_those_of_programs_and_nothing_stays(
+        self,
+    ) -> None:
         with groups.divided() as folder:
             self.assertEqual(folder, str(self.own))
             self.assertEqual(self.done, self.divided()[:2])
@@ -75,7 +91,9 @@ class TestDividing(Fake):
         self.assertEqual(list(self.own.glob("arena-*")), [])
 
     def test_nothing_stays_if_the_lab_fails(self) -> None:
-        with self.assertRaises(RecursionError), groups.divided() as folder, groups.group_in(folder) as group:
+        with self.assertRaises(
+            RecursionError
+        ), groups.divided() as folder, groups.group_in(folder) as group:
             assert group is not None
             raise RecursionError
         self.assertEqual(self.done[-3:], self.divided()[-3:])
@@ -86,13 +104,17 @@ class TestDividing(Fake):
             if text.startswith("+"):
                 raise OSError(16, "Device or resource busy")
             path.write_text(text)
+
         with mock.patch.object(groups, "write", refused), groups.divided() as folder:
             self.assertEqual(folder, "")
         self.assertEqual(list(self.own.glob("arena-*")), [])
 
     def test_there_is_none(self) -> None:
         """With processes of others, without the bounds, in another version of groups, where nobody may write."""
-        for name, text in (("cgroup.procs", f"{os.getpid()}\n1\n"), ("cgroup.controllers", "hugetlb\n")):
+        for name, text in (
+            ("cgroup.procs", f"{os.getpid()}\n1\n"),
+            ("cgroup.controllers", "hugetlb\n"),
+        ):
             before = (self.own / name).read_text()
             (self.own / name).write_text(text)
             with self.subTest(name), groups.divided() as folder:
@@ -108,15 +130,30 @@ class TestDividing(Fake):
         (self.own / "cgroup.subtree_control").write_text("cpu pids\n")
         with groups.divided() as folder:
             self.assertEqual(folder, str(self.own))
-        self.assertEqual(self.done, [("cgroup.subtree_control", "+memory"), ("cgroup.subtree_control", "-memory")])
+        self.assertEqual(
+            self.done,
+            [
+                ("cgroup.subtree_control", "+memory"),
+                ("cgroup.subtree_control", "-memory"),
+            ],
+        )
 
     def test_groups_of_commands_that_were_killed_are_removed(self) -> None:
         ended = subprocess.Popen(["true"])
         ended.wait()
-        for name in (f"{groups.OF_LAB}{ended.pid}", f"{groups.OF_PROGRAM}{ended.pid}-3", f"{groups.OF_PROGRAM}1-0"):
+        for name in (
+            f"{groups.OF_LAB}{ended.pid}",
+            f"{groups.OF_PROGRAM}{ended.pid}-3",
+            f"{groups.OF_PROGRAM}1-0",
+        ):
             (self.own / name).mkdir()
         with groups.divided():
-            self.assertEqual([it.name for it in self.own.glob("arena-*-*")].count(f"{groups.OF_PROGRAM}1-0"), 1)
+            self.assertEqual(
+                [it.name for it in self.own.glob("arena-*-*")].count(
+                    f"{groups.OF_PROGRAM}1-0"
+                ),
+                1,
+            )
             self.assertEqual(len(list(self.own.glob("arena-*"))), 2)
 
 
@@ -128,25 +165,44 @@ class TestPrograms(Fake):
             # the kernel makes them
             for file in ("memory.events", "cgroup.procs"):
                 (self.own / name / file).touch()
-            ran = subprocess.run([*group.words(), "echo", "a b", "c"], capture_output=True, text=True)
-            self.assertEqual((ran.stdout, (self.own / name / "cgroup.procs").read_text()), ("a b c\n", "0\n"))
+            ran = subprocess.run(
+                [*group.words(), "echo", "a b", "c"], capture_output=True, text=True
+            )
+            self.assertEqual(
+                (ran.stdout, (self.own / name / "cgroup.procs").read_text()),
+                ("a b c\n", "0\n"),
+            )
             self.assertFalse(group.has_met_its_bound())
             (self.own / name / "memory.events").write_text(ENDED)
             self.assertTrue(group.has_met_its_bound())
-        self.assertEqual(self.done, [
-            (f"{name}/memory.max", str(2 << 30)), (f"{name}/memory.swap.max", "0"), (f"{name}/memory.oom.group", "1"),
-            (f"{name}/pids.max", "288"), (f"{name}/cgroup.kill", "1"), ("rmdir", name)])
+        self.assertEqual(
+            self.done,
+            [
+                (f"{name}/memory.max", str(2 << 30)),
+                (f"{name}/memory.swap.max", "0"),
+                (f"{name}/memory.oom.group", "1"),
+                (f"{name}/pids.max", "288"),
+                (f"{name}/cgroup.kill", "1"),
+                ("rmdir", name),
+            ],
+        )
 
     def test_a_program_that_cannot_join_does_not_run(self) -> None:
         with groups.group_in(str(self.own)) as group:
             assert group is not None
-            words = [*group.words()[:3], str(self.own / "no" / "cgroup.procs"), "echo", "ran"]
+            words = [
+                *group.words()[:3],
+                str(self.own / "no" / "cgroup.procs"),
+                "echo",
+                "ran",
+            ]
             self.assertEqual(subprocess.run(words, capture_output=True).stdout, b"")
 
     def test_what_is_said_of_a_program_that_the_kernel_has_ended(self) -> None:
         kept = ProgramFiles(HandIn({}).archive(), {}, calls.ANY)
         with mock.patch.object(watch, "MOST", 200 << 20), cells.cells_for(
-                Sandbox(Isolation.NONE, groups=str(self.own)), kept, 1) as made, tempfile.TemporaryFile() as errors:
+            Sandbox(Isolation.NONE, groups=str(self.own)), kept, 1
+        ) as made, tempfile.TemporaryFile() as errors:
             child, listener_of = made[0].start(["true"], 0, errors)
             listener_of().close()
             self.assertEqual((child.wait(), made[0].fault()), (0, ""))
@@ -154,9 +210,10 @@ class TestPrograms(Fake):
             self.assertEqual((place / "cgroup.procs").read_text(), "0\n")
             self.assertEqual((place / "memory.max").read_text(), str(200 << 20))
             (place / "memory.events").write_text(ENDED)
-            self.assertEqual((made[0].takes_too_much(), made[0].fault()), (True, watch.TOO_MUCH))
+            self.assertEqual(
+                (made[0].takes_too_much(), made[0].fault()), (True, watch.TOO_MUCH)
+            )
         self.assertEqual(list(self.own.glob("arena-*")), [])
-
 
     def test_a_course_is_graded_in_groups(self) -> None:
         """Each program of a match and of its repetition joins one, and none is left."""
@@ -166,20 +223,32 @@ class TestPrograms(Fake):
         def noted(group: ControlGroup) -> None:
             bound(group)
             joined.append(group.words()[-1])
+
         agents = TOP / "examples" / "agents"
         (self.top / "course.toml").write_text(
             'title = "It"\nnetworks = ["ring:4"]\nholes = [2]\n[[team]]\nname = "it"\n'
             f'files = ["{agents}/client.py", "{agents}/ring.py"]\n'
-            'command = "python3 ring.py {host} {port} {key} {nodes}"\n')
+            'command = "python3 ring.py {host} {port} {key} {nodes}"\n'
+        )
         course = course_of((self.top / "course.toml").read_text(), self.top, SECRET)
-        copied = mock.patch.object(cells.system_copy, "copied", lambda *given: contextlib.nullcontext(""))
-        with copied, mock.patch.object(ControlGroup, "bound", noted), cells.furnished(Sandbox(cells.strongest()),
-                                                                                        [], []) as yard:
+        copied = mock.patch.object(
+            cells.system_copy, "copied", lambda *given: contextlib.nullcontext("")
+        )
+        with copied, mock.patch.object(ControlGroup, "bound", noted), cells.furnished(
+            Sandbox(cells.strongest()), [], []
+        ) as yard:
             self.assertEqual(yard.groups, str(self.own))
-            graded = GradingRun(course.text, self.top, SECRET, None, yard, self.top / "out")
+            graded = GradingRun(
+                course.text, self.top, SECRET, None, yard, self.top / "out"
+            )
             row = graded.play(course.cases()[0]).found
             self.assertIn("solved", row)
-            said = rounds.repeated(graded.repeating(), rounds.solved_in([tables.row_of(row)]), 1, random.Random(0))
+            said = rounds.repeated(
+                graded.repeating(),
+                rounds.solved_in([tables.row_of(row)]),
+                1,
+                random.Random(0),
+            )
             self.assertEqual((said, len(set(joined))), ({}, 2))
             self.assertEqual([it.name for it in self.own.glob("arena-*")], [self.lab])
 
@@ -188,12 +257,26 @@ class TestReal(unittest.TestCase):
     def test_the_kernel_ends_what_takes_too_much(self) -> None:
         with groups.divided() as folder:
             if not folder:
-                self.skipTest("this process is in no control group of version 2 that it may divide: run the tests by "
-                              "`systemd-run --user --scope -p Delegate=yes`")
-            with mock.patch.object(watch, "MOST", 50 << 20), groups.group_in(folder) as group:
+                self.skipTest(
+                    "this process is in no control group of version 2 that it may divide: run the tests by "
+                    "`systemd-run --user --scope -p Delegate=yes`"
+                )
+            with mock.patch.object(watch, "MOST", 50 << 20), groups.group_in(
+                folder
+            ) as group:
                 assert group is not None
-                ran = subprocess.run([*group.words(), "head", "-c", "200M", "/dev/zero"], stdout=subprocess.DEVNULL)
-                self.assertEqual((ran.returncode, group.has_met_its_bound()), (0, False))
-                ran = subprocess.run([*group.words(), "sort", "-S", "1G", "/dev/zero"], stdout=subprocess.DEVNULL)
-                self.assertEqual((ran.returncode, group.has_met_its_bound()), (-9, True))
+                ran = subprocess.run(
+                    [*group.words(), "head", "-c", "200M", "/dev/zero"],
+                    stdout=subprocess.DEVNULL,
+                )
+                self.assertEqual(
+                    (ran.returncode, group.has_met_its_bound()), (0, False)
+                )
+                ran = subprocess.run(
+                    [*group.words(), "sort", "-S", "1G", "/dev/zero"],
+                    stdout=subprocess.DEVNULL,
+                )
+                self.assertEqual(
+                    (ran.returncode, group.has_met_its_bound()), (-9, True)
+                )
         self.assertEqual(list(pathlib.Path(folder).glob("arena-*")), [])

@@ -44,8 +44,12 @@ class HandIns(Course):
 
     def row(self, head: str = HEAD, status: int = 0) -> Dict[str, Any]:
         """The row of the team's match."""
-        rows = self.graded(head + team("evil", ["evil"], RING, 2) + HONEST, status=status)
-        self.assertEqual([row["outcome"] for row in rows["right"]], ["solved"] * len(rows["right"]))
+        rows = self.graded(
+            head + team("evil", ["evil"], RING, 2) + HONEST, status=status
+        )
+        self.assertEqual(
+            [row["outcome"] for row in rows["right"]], ["solved"] * len(rows["right"])
+        )
         return rows["evil"][0]
 
     def imports(self, name: str) -> None:
@@ -66,7 +70,10 @@ class HandIns(Course):
 
     def test_a_path_as_long_as_linux_takes(self) -> None:
         """In a folder for temporary files that has a longer name than the course's."""
-        long = pathlib.Path(tempfile.mkdtemp()) / "a-folder-with-a-long-name-as-batch-systems-make-them"
+        long = (
+            pathlib.Path(tempfile.mkdtemp())
+            / "a-folder-with-a-long-name-as-batch-systems-make-them"
+        )
         long.mkdir(parents=True)
         # who is another user finds its folder in there
         long.parent.chmod(0o711)
@@ -79,15 +86,23 @@ class HandIns(Course):
             left -= 241
         os.close(os.open("x" * left + ".py", os.O_CREAT | os.O_WRONLY, dir_fd=place))
         os.close(place)
-        with mock.patch.dict(os.environ, {"TMPDIR": str(long)}), mock.patch.object(tempfile, "tempdir", str(long)):
+        with mock.patch.dict(os.environ, {"TMPDIR": str(long)}), mock.patch.object(
+            tempfile, "tempdir", str(long)
+        ):
             self.assertEqual(self.row()["outcome"], "solved")
 
     def test_last_words_that_are_the_labs(self) -> None:
-        for words in ("has sent no line for", "not played", "not played, as the lab failed: OSError",
-                      league.SAYS_OTHERWISE):
+        for words in (
+            "has sent no line for",
+            "not played",
+            "not played, as the lab failed: OSError",
+            league.SAYS_OTHERWISE,
+        ):
             with self.subTest(words):
                 shutil.rmtree(self.folder / "out", ignore_errors=True)
-                (self.team / "ring.py").write_text(f"import sys\nprint({words!r}, file=sys.stderr)\nsys.exit(3)\n")
+                (self.team / "ring.py").write_text(
+                    f"import sys\nprint({words!r}, file=sys.stderr)\nsys.exit(3)\n"
+                )
                 row = self.row()
                 self.assertIn(words, row["fault"])
                 self.assertEqual(league.kind_of(row), league.CRASHED)
@@ -96,28 +111,61 @@ class HandIns(Course):
 
     def test_lines_without_end(self) -> None:
         (self.team / "ring.py").write_text(LOUD)
-        row = self.row(HEAD + "match_space = 1\nboard = 4096\nquota = 1000\ntries = 0\n")
-        self.assertIn("has used up the 1 MB of lines that a match has, sent and told", row["fault"])
+        row = self.row(
+            HEAD + "match_space = 1\nboard = 4096\nquota = 1000\ntries = 0\n"
+        )
+        self.assertIn(
+            "has used up the 1 MB of lines that a match has, sent and told",
+            row["fault"],
+        )
         self.assertEqual(league.kind_of(row), league.RUDE)
-        files = [path for path in (self.folder / "out" / "failed").rglob("*") if path.is_file()]
+        files = [
+            path
+            for path in (self.folder / "out" / "failed").rglob("*")
+            if path.is_file()
+        ]
         self.assertLess(max(path.stat().st_size for path in files), 3 << 20)
 
     def test_a_disk_that_is_filled(self) -> None:
         (self.team / "ring.py").write_text(LOUD)
         head = HEAD + "match_space = 1\nteam_space = 2\nseeds = 6\ntries = 0\n"
         self.row(head)
-        faults = [row["fault"] for row in self.graded(head + team("evil", ["evil"], RING, 2) + HONEST)["evil"]]
-        self.assertEqual(faults[-1], "not played: the matches of the team have taken the 2 MB of disk that it has")
-        size = sum(path.stat().st_size for path in (self.folder / "out").rglob("*") if path.is_file())
+        faults = [
+            row["fault"]
+            for row in self.graded(head + team("evil", ["evil"], RING, 2) + HONEST)[
+                "evil"
+            ]
+        ]
+        self.assertEqual(
+            faults[-1],
+            "not played: the matches of the team have taken the 2 MB of disk that it has",
+        )
+        size = sum(
+            path.stat().st_size
+            for path in (self.folder / "out").rglob("*")
+            if path.is_file()
+        )
         self.assertLess(size, 16 << 20)
 
     def test_a_reader_that_is_ended(self) -> None:
         """Whatever ends it, the team is told, and nobody else hears of it."""
-        for way in ("while True: pass", "import os; os.abort()", "x = bytearray(2 << 30)", "print('no')"):
-            with self.subTest(way), mock.patch.object(intake, "SECONDS", 2), mock.patch.object(intake, "READ", way):
-                found = intake.take(self.folder / "out", "evil", [self.team], self.folder, RING)
+        for way in (
+            "while True: pass",
+            "import os; os.abort()",
+            "x = bytearray(2 << 30)",
+            "print('no')",
+        ):
+            with self.subTest(way), mock.patch.object(
+                intake, "SECONDS", 2
+            ), mock.patch.object(intake, "READ", way):
+                found = intake.take(
+                    self.folder / "out", "evil", [self.team], self.folder, RING
+                )
                 self.assertEqual((found.refusal, found.files), (intake.CANNOT, {}))
-                self.assertEqual(intake.hand_in_of(self.folder / "out", "evil").refusal, intake.CANNOT)
+                self.assertEqual(
+                    intake.hand_in_of(self.folder / "out", "evil").refusal,
+                    intake.CANNOT,
+                )
 
 
 # goes to the black hole's other side by what it knows of each match, by its key
@@ -138,17 +186,40 @@ class Again(Course):
         """The rows of each team, and what is said on standard error."""
         (self.team / "evil.py").write_text(code)
         file = self.folder / "course.toml"
-        file.write_text('title = "A trial"\nnetworks = ["complete:4"]\nholes = 1\nseeds = 4\ntries = 0\n'
-                        + team("evil", ["evil"], EVIL, 1))
-        status, _, errors = ran(main, ["grade", str(file), "--out", str(self.folder / out), "--engine", "model",
-                                       "--workers", "1", *more])
+        file.write_text(
+            'title = "A trial"\nnetworks = ["complete:4"]\nholes = 1\nseeds = 4\ntries = 0\n'
+            + team("evil", ["evil"], EVIL, 1)
+        )
+        status, _, errors = ran(
+            main,
+            [
+                "grade",
+                str(file),
+                "--out",
+                str(self.folder / out),
+                "--engine",
+                "model",
+                "--workers",
+                "1",
+                *more,
+            ],
+        )
         self.assertEqual(status, 0, errors)
         return rows_of_teams(self.folder / out), errors
 
     def refused(self) -> str:
         """What is said on standard error of a course that is not graded."""
-        status, _, errors = ran(main, ["grade", str(self.folder / "course.toml"), "--out", str(self.folder / "out"),
-                                       "--engine", "model"])
+        status, _, errors = ran(
+            main,
+            [
+                "grade",
+                str(self.folder / "course.toml"),
+                "--out",
+                str(self.folder / "out"),
+                "--engine",
+                "model",
+            ],
+        )
         self.assertEqual(status, 2)
         return errors
 
@@ -157,37 +228,55 @@ class Again(Course):
         found = {}
         for place in (self.folder / out / "failed").glob("evil-*"):
             setup = schedules.read(place / "schedule.txt").fixture
-            ports = [(p, w) for v, p, w, _ in setup.setup.links if v == setup.setup.home]
-            ports += [(q, v) for v, _, w, q in setup.setup.links if w == setup.setup.home]
+            ports = [
+                (p, w) for v, p, w, _ in setup.setup.links if v == setup.setup.home
+            ]
+            ports += [
+                (q, v) for v, _, w, q in setup.setup.links if w == setup.setup.home
+            ]
             port = next(port for port, far in ports if far in setup.setup.holes)
             found[setup.keys[0]] = (setup.setup.home, setup.setup.holes[0], port)
         return found
 
-    def test_what_was_shown_of_a_first_grading_wins_nothing_in_a_second_one(self) -> None:
+    def test_what_was_shown_of_a_first_grading_wins_nothing_in_a_second_one(
+        self,
+    ) -> None:
         rows, _ = self.grade_with("raise SystemExit(1)\n", "first")
         shown = self.table("first")
         self.assertEqual(len(shown), 4)
         secret = ["--secret", str(self.folder / "first" / "secret.txt")]
-        again, _ = self.grade_with(KNOWS.replace("TABLE", repr(shown)), "second", *secret)
+        again, _ = self.grade_with(
+            KNOWS.replace("TABLE", repr(shown)), "second", *secret
+        )
         self.assertEqual([row["outcome"] for row in again["evil"]], ["silent"] * 4)
         self.assertFalse(set(shown) & set(self.table("second")))
         # by the same files the matches are the same
         same, _ = self.grade_with("raise SystemExit(1)\n", "third", *secret)
-        self.assertEqual([row["replay"] for row in same["evil"]], [row["replay"] for row in rows["evil"]])
+        self.assertEqual(
+            [row["replay"] for row in same["evil"]],
+            [row["replay"] for row in rows["evil"]],
+        )
 
     def test_what_was_read_is_graded_and_a_change_is_told(self) -> None:
         """The first match has the team exchange its program for one that ends with other words."""
         play = GradingRun.match
 
         def match(graded: GradingRun, case: Any, *given: Any) -> Any:
-            (self.team / "evil.py").write_text("import sys\nsys.exit('I was swapped in')\n")
+            (self.team / "evil.py").write_text(
+                "import sys\nsys.exit('I was swapped in')\n"
+            )
             return play(graded, case, *given)
+
         with mock.patch.object(GradingRun, "match", match):
             rows, said = self.grade_with("import sys\nsys.exit('I was read')\n", "out")
-        self.assertEqual({row["fault"].rpartition(": ")[2] for row in rows["evil"]}, {"I was read"})
-        self.assertIn("arena-lab: team evil has changed its files since they were read; what was graded is "
-                      "hand-ins/evil.tar",
-                      said)
+        self.assertEqual(
+            {row["fault"].rpartition(": ")[2] for row in rows["evil"]}, {"I was read"}
+        )
+        self.assertIn(
+            "arena-lab: team evil has changed its files since they were read; what was graded is "
+            "hand-ins/evil.tar",
+            said,
+        )
 
     def test_an_interrupted_course_does_not_go_on_with_other_files(self) -> None:
         self.grade_with("import sys\nsys.exit('I was read')\n", "out")
@@ -201,6 +290,10 @@ class Again(Course):
             found = take(out, name, *given)
             (out / intake.HAND_INS / f"{name}.tar").write_bytes(HandIn({}).archive())
             return found
+
         (self.folder / "course.toml").write_text(HEAD + HONEST)
         with mock.patch.object(intake, "take", other):
-            self.assertIn("right.tar: it is not what the team has handed in, as its digest is another", self.refused())
+            self.assertIn(
+                "right.tar: it is not what the team has handed in, as its digest is another",
+                self.refused(),
+            )

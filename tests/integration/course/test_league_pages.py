@@ -31,17 +31,31 @@ class Escapes(Folder):
         self.assertIn('href="team-a.html"', pages["league.html"])
 
     def test_each_fault_has_a_line(self) -> None:
-        faults = ["agent 0: has ended with status 1: \"x\"; agent 1: forged, \\r", "agent 1: has connected twice"]
+        faults = [
+            'agent 0: has ended with status 1: "x"; agent 1: forged, \\r',
+            "agent 1: has connected twice",
+        ]
         told = ["nobody accused", "agent 1 still stood at node 3"]
-        pages = league.pages(self.course().grid, [row(0, "a", 9, "silent", *faults)], {
-            0: Failure(0, 5, False, "", False, told=told)}, "it")
+        pages = league.pages(
+            self.course().grid,
+            [row(0, "a", 9, "silent", *faults)],
+            {0: Failure(0, 5, False, "", False, told=told)},
+            "it",
+        )
         self.assertEqual(pages["team-a.html"].count("<li>agent"), 3)
         self.assertIn("<li>nobody accused</li>", pages["team-a.html"])
 
     def test_equal_failures_are_one_card(self) -> None:
-        hung, other = "agent 0: has sent no line for 20 s", "agent 1: has connected twice"
-        rows = [row(0, "a", 9, "silent", hung), row(1, "a", 9, "silent", hung), row(2, "a", 9, "silent", hung),
-                row(4, "a", 9, "silent", other)]
+        hung, other = (
+            "agent 0: has sent no line for 20 s",
+            "agent 1: has connected twice",
+        )
+        rows = [
+            row(0, "a", 9, "silent", hung),
+            row(1, "a", 9, "silent", hung),
+            row(2, "a", 9, "silent", hung),
+            row(4, "a", 9, "silent", other),
+        ]
         given = {it: Failure(it, 5, it == 2, "", True) for it in (0, 1, 2, 4)}
         page = league.pages(self.course().grid, rows, given, "it")["team-a.html"]
         # one on each network, and one with another fault
@@ -49,26 +63,43 @@ class Escapes(Folder):
         self.assertEqual(page.count("<li>agent"), 3)
         self.assertIn('<h3 id="match-2">', page)
         self.assertIn("and 1 other match alike", page)
-        self.assertIn('<li id="match-0">alike: match 0, black hole 1, fair 0: silent, 9 moves, 1 lost (<a href="', page)
+        self.assertIn(
+            '<li id="match-0">alike: match 0, black hole 1, fair 0: silent, 9 moves, 1 lost (<a href="',
+            page,
+        )
 
     def test_the_league_has_the_kinds_of_failures(self) -> None:
         rows = [row(0, "a", 9), row(1, "a", 9, "wrong"), row(2, "b", 9), row(3, "b", 1)]
         grid = self.course("", TEAM + TEAM.replace('"a"', '"b"')).grid
-        text = league.pages(grid, rows, {1: Failure(1, 5, False, "", False)}, "it")["league.html"]
+        text = league.pages(grid, rows, {1: Failure(1, 5, False, "", False)}, "it")[
+            "league.html"
+        ]
         self.assertIn('<span class="kind wrong">1 wrong</span>', text)
         self.assertIn("an agent accused a link that leads to no black hole", text)
 
     def test_names_of_teams_and_networks_of_a_contest(self) -> None:
-        shown = [contest_pages.Shown(0, HOSTILE, "ring.toml", Verdict("solved", 1, 0)),
-                 contest_pages.Shown(1, "a", HOSTILE, None)]
+        shown = [
+            contest_pages.Shown(0, HOSTILE, "ring.toml", Verdict("solved", 1, 0)),
+            contest_pages.Shown(1, "a", HOSTILE, None),
+        ]
         self.check(contest_pages.page_of(HOSTILE, shown), 5)
 
     def test_names_and_faults_of_a_sweep(self) -> None:
         rows = [row(0, "a", 9, "silent", HOSTILE)]
         kept = report.KeptRun(rows[0], f'a"{HOSTILE}')
-        text = parts.filled("report.html", title=TITLE, about="", plot=parts.as_is("<svg></svg>"), head=report.HEAD,
-                            groups=[], links={}, kept=[kept], every_head=report.MATCHES, fails=report.FAILS,
-                            every=[[HOSTILE] * len(report.MATCHES)])
+        text = parts.filled(
+            "report.html",
+            title=TITLE,
+            about="",
+            plot=parts.as_is("<svg></svg>"),
+            head=report.HEAD,
+            groups=[],
+            links={},
+            kept=[kept],
+            every_head=report.MATCHES,
+            fails=report.FAILS,
+            every=[[HOSTILE] * len(report.MATCHES)],
+        )
         self.check(text, 2 + len(report.MATCHES))
         self.assertIn("<svg></svg>", text)
 

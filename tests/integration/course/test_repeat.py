@@ -10,8 +10,14 @@ from tests.support.output import ran
 
 EXAMPLE = TOP / "examples" / "course"
 # how an agent chooses what it writes, and whether it says the same when it is told the same again
-WAYS = {"str(time.time_ns())": False, "key": False, "os.urandom(8).hex()": False, "os.environ['ARENA_SEED']": True,
-        "str(random.Random(int(os.environ['ARENA_SEED'])).random())": True, "str(set('abcdefgh'))": True}
+WAYS = {
+    "str(time.time_ns())": False,
+    "key": False,
+    "os.urandom(8).hex()": False,
+    "os.environ['ARENA_SEED']": True,
+    "str(random.Random(int(os.environ['ARENA_SEED'])).random())": True,
+    "str(set('abcdefgh'))": True,
+}
 # an agent that solves the ring of three nodes with the black hole at node 2, and writes something
 WRITES = """import json, os, random, socket, sys, time
 port, key = int(sys.argv[1]), sys.argv[2]
@@ -48,65 +54,150 @@ class Repeats(Commands):
         outside = kind == "--command"
         file.write_text((WRITES if outside else INSIDE).replace("WAY", way))
         command = f"python3 {file} {{port}} {{key}}" if outside else str(file)
-        return ["--engine", "model", "--network", "ring:3", "--hole", "2", "--agents", "1", kind, command]
+        return [
+            "--engine",
+            "model",
+            "--network",
+            "ring:3",
+            "--hole",
+            "2",
+            "--agents",
+            "1",
+            kind,
+            command,
+        ]
 
     def test_at_home(self) -> None:
         for way, repeats in WAYS.items():
             with self.subTest(way):
-                status, said = self.said("run", "--repeat", *self.words("--command", way))
-                self.assertEqual((status, SAYS_OTHERWISE in said), (int(not repeats), not repeats), said)
+                status, said = self.said(
+                    "run", "--repeat", *self.words("--command", way)
+                )
+                self.assertEqual(
+                    (status, SAYS_OTHERWISE in said),
+                    (int(not repeats), not repeats),
+                    said,
+                )
         status, _ = self.said("run", *self.words("--command", "key"))
         self.assertEqual(status, 0)
 
     def test_agents_inside_and_workers(self) -> None:
-        for way, repeats in (("key", False), ("str(time.time_ns())", False), ("'it'", True)):
+        for way, repeats in (
+            ("key", False),
+            ("str(time.time_ns())", False),
+            ("'it'", True),
+        ):
             with self.subTest(way):
                 words = ["--workers", "2", "--runs", "3", *self.words("--agent", way)]
                 status, said = self.said("run", "--repeat", *words)
-                self.assertEqual((status, SAYS_OTHERWISE in said), (int(not repeats), not repeats), said)
+                self.assertEqual(
+                    (status, SAYS_OTHERWISE in said),
+                    (int(not repeats), not repeats),
+                    said,
+                )
 
     def test_sample_agents_that_sleep(self) -> None:
-        for words in (["--agent", f"{AGENTS}/ring.py {{nodes}}"], ["--agent", f"{AGENTS}/map.py {{nodes}} {{links}}"],
-                      ["--command", f"python3 {AGENTS}/ring.py {{host}} {{port}} {{key}} {{nodes}}"]):
+        for words in (
+            ["--agent", f"{AGENTS}/ring.py {{nodes}}"],
+            ["--agent", f"{AGENTS}/map.py {{nodes}} {{links}}"],
+            [
+                "--command",
+                f"python3 {AGENTS}/ring.py {{host}} {{port}} {{key}} {{nodes}}",
+            ],
+        ):
             with self.subTest(words):
-                status, said = self.said("run", "--repeat", "--engine", "model", "--network", "ring:6", "--runs", "3",
-                                         *words)
+                status, said = self.said(
+                    "run",
+                    "--repeat",
+                    "--engine",
+                    "model",
+                    "--network",
+                    "ring:6",
+                    "--runs",
+                    "3",
+                    *words,
+                )
                 self.assertEqual(status, 0, said)
 
     def test_hunts(self) -> None:
         for way, expected in (("key", 1), ("'it'", 0)):
-            status, said = self.said("hunt", "--repeat", "--runs", "20", "--database", str(self.folder / "db"),
-                                     "--keep", str(self.folder / "found"), *self.words("--agent", way))
-            self.assertEqual((status, SAYS_OTHERWISE in said), (expected, bool(expected)), said)
+            status, said = self.said(
+                "hunt",
+                "--repeat",
+                "--runs",
+                "20",
+                "--database",
+                str(self.folder / "db"),
+                "--keep",
+                str(self.folder / "found"),
+                *self.words("--agent", way),
+            )
+            self.assertEqual(
+                (status, SAYS_OTHERWISE in said), (expected, bool(expected)), said
+            )
 
     def test_a_search_warns(self) -> None:
         for way, expected in (("key", True), ("'it'", False)):
-            words = ["--engine", "program", "--program", program(), *self.words("--agent", way)[2:]]
+            words = [
+                "--engine",
+                "program",
+                "--program",
+                program(),
+                *self.words("--agent", way)[2:],
+            ]
             status, said = self.said("explore", *words)
-            self.assertEqual((status, f"warning: agent 0: {SAYS_OTHERWISE}" in said), (0, expected), said)
+            self.assertEqual(
+                (status, f"warning: agent 0: {SAYS_OTHERWISE}" in said),
+                (0, expected),
+                said,
+            )
 
 
 class Courses(Commands):
     def graded(self) -> pathlib.Path:
         """The results of the example, which have come here from elsewhere."""
         there = self.folder / "there"
-        status, said = self.said("grade", str(EXAMPLE / "course.toml"), "--secret", str(EXAMPLE / "secret.txt"),
-                                 "--out", str(there), "--engine", "model", "--workers", "2")
+        status, said = self.said(
+            "grade",
+            str(EXAMPLE / "course.toml"),
+            "--secret",
+            str(EXAMPLE / "secret.txt"),
+            "--out",
+            str(there),
+            "--engine",
+            "model",
+            "--workers",
+            "2",
+        )
         self.assertEqual(status, 0, said)
         return pathlib.Path(shutil.move(there, self.folder / "here"))
 
     def test_a_course_is_repeated_by_its_results_alone(self) -> None:
         here = self.graded()
         status, said = self.said("grade", "--repeat-only", str(here), "--workers", "2")
-        self.assertEqual((status, said.splitlines()[:3]), (0, [
-            "amber: 4 of 4 solved matches repeat", "birch: 4 of 4 solved matches repeat",
-            "cedar: 2 of 2 solved matches repeat"]))
+        self.assertEqual(
+            (status, said.splitlines()[:3]),
+            (
+                0,
+                [
+                    "amber: 4 of 4 solved matches repeat",
+                    "birch: 4 of 4 solved matches repeat",
+                    "cedar: 2 of 2 solved matches repeat",
+                ],
+            ),
+        )
         # a match that went otherwise than its replay says
         replay = min((here / "solved").glob("amber-*"))
         text = replay.read_text()
-        replay.write_text(text.replace('"do":"depart","port":0', '"do":"depart","port":1'))
+        replay.write_text(
+            text.replace('"do":"depart","port":0', '"do":"depart","port":1')
+        )
         status, said = self.said("grade", "--repeat-only", str(here))
-        self.assertEqual((status, said.splitlines()[0]), (1, "amber: 3 of 4 solved matches repeat"), said)
+        self.assertEqual(
+            (status, said.splitlines()[0]),
+            (1, "amber: 3 of 4 solved matches repeat"),
+            said,
+        )
         self.assertIn(f"match {replay.stem.partition('-')[2]}: agent ", said)
 
     def test_programs_that_were_exchanged_are_refused(self) -> None:

@@ -49,7 +49,9 @@ class Hall(TestCase):
 
     def client_of(self, name: str) -> Client:
         client = Client()
-        self.assertEqual(client.post("/login", {"token": self.tokens[name]}).status_code, 302)
+        self.assertEqual(
+            client.post("/login", {"token": self.tokens[name]}).status_code, 302
+        )
         return client
 
     def teacher(self) -> Client:
@@ -57,28 +59,52 @@ class Hall(TestCase):
         self.assertTrue(client.login(username="teacher", password=PASSWORD))
         return client
 
-    def rest(self, how: str, path: str, name: str = "amber", body: Any = None, **given: Any) -> Any:
+    def rest(
+        self, how: str, path: str, name: str = "amber", body: Any = None, **given: Any
+    ) -> Any:
         ask = getattr(Client(), how)
-        more = {} if how == "get" else {"data": json.dumps(body), "content_type": "application/json"}
+        more = (
+            {}
+            if how == "get"
+            else {"data": json.dumps(body), "content_type": "application/json"}
+        )
         header = {"HTTP_AUTHORIZATION": f"Bearer {self.tokens[name]}"} if name else {}
         return ask(path, **more, **header, **given)
 
     def hand_in(self, sent: bytes, name: str = "amber", **fields: Any) -> Any:
         """What a team is answered that hands this in as a file, for the course or for the contest of a number."""
-        return Client().post("/api/hand-ins", {"file": SimpleUploadedFile("agent.py", sent), **fields},
-                             HTTP_AUTHORIZATION=f"Bearer {self.tokens[name]}")
+        return Client().post(
+            "/api/hand-ins",
+            {"file": SimpleUploadedFile("agent.py", sent), **fields},
+            HTTP_AUTHORIZATION=f"Bearer {self.tokens[name]}",
+        )
 
     def running(self, match: Any, name: str = "amber") -> Attempt:
         """An attempt whose match goes on like this one."""
-        made = Attempt.objects.create(team=self.team(name), network="ring of 5", runs=1,
-                                      state=machine.RUNNING, holder="one", begun=timezone.now())
-        found = Match.objects.create(attempt=made, number=0, run=1, host="127.0.0.1", port=4100, keys=["ka", "kb"])
+        made = Attempt.objects.create(
+            team=self.team(name),
+            network="ring of 5",
+            runs=1,
+            state=machine.RUNNING,
+            holder="one",
+            begun=timezone.now(),
+        )
+        found = Match.objects.create(
+            attempt=made,
+            number=0,
+            run=1,
+            host="127.0.0.1",
+            port=4100,
+            keys=["ka", "kb"],
+        )
         found.part.parent.mkdir(parents=True)
         self.write(found, match)
         return made
 
     def write(self, found: Match, match: Any) -> None:
-        found.part.write_text("".join(spelled(line) + "\n" for line in [match.head(), *match.log]))
+        found.part.write_text(
+            "".join(spelled(line) + "\n" for line in [match.head(), *match.log])
+        )
 
     def over(self, match: Any, name: str = "amber") -> Attempt:
         """An attempt that is over."""
@@ -88,7 +114,9 @@ class Hall(TestCase):
         found.replay.write_text(match.replay())
         found.page.write_text("<script>watch()</script>")
         Match.objects.filter(pk=found.pk).update(outcome="solved", moves=7, lost=1)
-        Attempt.objects.filter(pk=made.pk).update(state=machine.OVER, ended=timezone.now(), holder="")
+        Attempt.objects.filter(pk=made.pk).update(
+            state=machine.OVER, ended=timezone.now(), holder=""
+        )
         return Attempt.objects.get(pk=made.pk)
 
 
@@ -102,13 +130,29 @@ def stopped_clock() -> Any:
     return mock.patch.object(guards, "time", mock.Mock(monotonic=lambda: 1_000.0))
 
 
-def graded(name: str, solved: int = 1, moves: int = 7, is_secret: bool = False, contest: Any = None) -> Any:
+def graded(
+    name: str,
+    solved: int = 1,
+    moves: int = 7,
+    is_secret: bool = False,
+    contest: Any = None,
+) -> Any:
     """A grading of a hand-in that is over: how many of two matches on the ring it solved."""
     word = "ring:6" if is_secret else "ring:5"
     team = Team.objects.get(name=name)
-    made = HandIn.objects.create(team=team, contest=contest, name="a", size=1, files=1, digest="")
-    return Grading.objects.create(hand_in=made, is_secret=is_secret, state=machine.OVER, solved=solved, matches=2,
-                                  moves=moves, ended=timezone.now(), networks={word: [solved, 2]})
+    made = HandIn.objects.create(
+        team=team, contest=contest, name="a", size=1, files=1, digest=""
+    )
+    return Grading.objects.create(
+        hand_in=made,
+        is_secret=is_secret,
+        state=machine.OVER,
+        solved=solved,
+        matches=2,
+        moves=moves,
+        ended=timezone.now(),
+        networks={word: [solved, 2]},
+    )
 
 
 def played(hole: int = 3) -> Any:

@@ -30,7 +30,14 @@ from unittest import mock
 
 from arena_lab.hall import machine
 from arena_lab.hall.attempts import seen
-from tests.integration.hall.hall_pages import PLACE, Hall, graded, halled, played, stopped_clock
+from tests.integration.hall.hall_pages import (
+    PLACE,
+    Hall,
+    graded,
+    halled,
+    played,
+    stopped_clock,
+)
 from tests.lab.hall.test_hall import zipped
 
 from django.conf import settings
@@ -60,7 +67,10 @@ class Requests(Hall):
 
     def test_a_header_that_pages_do_not_read_gives_no_more_requests(self) -> None:
         client = self.client_of("amber")
-        found = [client.get("/matches", HTTP_AUTHORIZATION=f"Bearer {number}").status_code for number in range(3 * FEW)]
+        found = [
+            client.get("/matches", HTTP_AUTHORIZATION=f"Bearer {number}").status_code
+            for number in range(3 * FEW)
+        ]
         self.assertEqual((found[0], found[-1]), (200, 429))
 
     def test_a_guess_is_a_try_wherever_it_was_sent_before(self) -> None:
@@ -78,7 +88,11 @@ class Requests(Hall):
         self.assertEqual(page.get("/matches").status_code, 200)
         self.tokens["amber"] = Team.objects.get(name="amber").new_token()
         for _ in range(2 * FEW):
-            Client().get("/api/matches", HTTP_AUTHORIZATION=f"Bearer {old}", REMOTE_ADDR="192.0.2.9")
+            Client().get(
+                "/api/matches",
+                HTTP_AUTHORIZATION=f"Bearer {old}",
+                REMOTE_ADDR="192.0.2.9",
+            )
             page.get("/matches", REMOTE_ADDR="192.0.2.9")
         self.assertEqual(self.rest("get", "/api/matches").status_code, 200)
 
@@ -99,9 +113,11 @@ class HandIns(Hall):
 
     def test_a_fault_of_the_disk_keeps_no_other_hand_in_out(self) -> None:
         """What was written is removed again: the next hand-in has the same number."""
+
         def full(files: Any, folder: Any) -> None:
             folder.mkdir(parents=True)
             raise OSError(28, "No space left on device", str(folder))
+
         with mock.patch.object(taking.unpacking, "write", full):
             told = self.hand_in(b"print()")
         self.assertEqual((told.status_code, HandIn.objects.count()), (503, 0))
@@ -111,19 +127,35 @@ class HandIns(Hall):
     def test_a_zip_with_many_entries_is_refused_before_they_are_read(self) -> None:
         """A list of 8 MB has 180,000 entries, which take seconds."""
         many = zipped({f"{number}/": b"" for number in range(5_000)})
-        with mock.patch.object(zipfile, "ZipFile", side_effect=AssertionError("it was read")):
+        with mock.patch.object(
+            zipfile, "ZipFile", side_effect=AssertionError("it was read")
+        ):
             self.assertEqual(self.hand_in(many).status_code, 400)
 
     def test_nothing_hides_in_a_source_or_a_name(self) -> None:
         source = "if True: # \u202e } \u2066 if is_right\u2069 \u2066 begin\n\tprint('\u200b\x1b[2Jé')\n"
         told = self.hand_in(zipped({"\u202eyp.exe": source.encode(), "two.py": b"x"}))
-        page = self.client_of("amber").get(f"/hand-ins/{told.json()['id']}").content.decode()
-        self.assertIn(r"if True: # \u202e } \u2066 if is_right\u2069 \u2066 begin", page)
+        page = (
+            self.client_of("amber")
+            .get(f"/hand-ins/{told.json()['id']}")
+            .content.decode()
+        )
+        self.assertIn(
+            r"if True: # \u202e } \u2066 if is_right\u2069 \u2066 begin", page
+        )
         self.assertIn("\n\tprint(&#x27;\\u200b\\x1b[2Jé&#x27;)", page)
         self.assertIn(r"\u202eyp.exe", page)
-        self.assertEqual(re.findall("[\x00-\x08\x0b-\x1f\u200b-\u200f\u202a-\u202e\u2060-\u2069]", page), [])
+        self.assertEqual(
+            re.findall(
+                "[\x00-\x08\x0b-\x1f\u200b-\u200f\u202a-\u202e\u2060-\u2069]", page
+            ),
+            [],
+        )
         client = self.client_of("birch")
-        client.post("/hand-ins/take", {"file": SimpleUploadedFile("a\0\u202egpj.py", b"print()")})
+        client.post(
+            "/hand-ins/take",
+            {"file": SimpleUploadedFile("a\0\u202egpj.py", b"print()")},
+        )
         self.assertEqual(HandIn.objects.first().name, r"a\x00\u202egpj.py")
 
     def test_a_link_below_the_results_leads_nowhere(self) -> None:
@@ -137,7 +169,10 @@ class HandIns(Hall):
         self.assertEqual(self.client_of("amber").get(path).status_code, 404)
 
     def test_hand_ins_that_are_refused_are_limited_too(self) -> None:
-        found = [self.hand_in(zipped({"../x": b""})).status_code for _ in range(taking.A_MINUTE + 1)]
+        found = [
+            self.hand_in(zipped({"../x": b""})).status_code
+            for _ in range(taking.A_MINUTE + 1)
+        ]
         self.assertEqual(found, [400] * taking.A_MINUTE + [429])
         self.assertEqual(self.hand_in(b"print()", "birch").status_code, 201)
 
@@ -148,7 +183,9 @@ class Looks(Hall):
     def test_a_replay_is_read_once_however_often_it_is_asked_for(self) -> None:
         attempt = self.over(played())
         with mock.patch.object(seen, "read_ended", wraps=seen.read_ended) as read:
-            found = [self.rest("get", f"/api/matches/{attempt.pk}").json() for _ in range(5)]
+            found = [
+                self.rest("get", f"/api/matches/{attempt.pk}").json() for _ in range(5)
+            ]
         self.assertEqual(read.call_count, 1)
         self.assertEqual(found[0]["matches"][0]["after"]["holes"], [3])
 
@@ -156,46 +193,95 @@ class Looks(Hall):
         graded("amber", moves=9)
         graded("birch", moves=1)
         before = self.rest("get", "/api/standings").json()["teams"]
-        self.assertEqual([(row["team"], row["place"]) for row in before][:2], [("birch", 1), ("amber", 2)])
+        self.assertEqual(
+            [(row["team"], row["place"]) for row in before][:2],
+            [("birch", 1), ("amber", 2)],
+        )
         Team.objects.filter(name="birch").update(hidden=True)
         after = self.rest("get", "/api/standings").json()["teams"]
-        self.assertEqual([(row["team"], row["place"]) for row in after][0], ("amber", 1))
+        self.assertEqual(
+            [(row["team"], row["place"]) for row in after][0], ("amber", 1)
+        )
 
-    def told(self, clients: Dict[str, Client], paths: List[str]) -> Dict[Tuple[str, str], Any]:
+    def told(
+        self, clients: Dict[str, Client], paths: List[str]
+    ) -> Dict[Tuple[str, str], Any]:
         """What each of these is answered, but for the secret of forms."""
         found = {}
         for name, client in clients.items():
             for path in paths:
                 answer = client.get(path)
-                body = re.sub(rb'"csrfmiddlewaretoken" value="\w+"', b"", answer.content)
-                found[name, path] = answer.status_code, {**answer.headers, "Expires": ""}, body
+                body = re.sub(
+                    rb'"csrfmiddlewaretoken" value="\w+"', b"", answer.content
+                )
+                found[name, path] = (
+                    answer.status_code,
+                    {**answer.headers, "Expires": ""},
+                    body,
+                )
         return found
 
     def test_nothing_tells_what_came_of_a_hand_in_after_the_freeze(self) -> None:
         """Whatever came of it, all that other teams, strangers and tutors without that right may ask for is the same,
         byte for byte, also where it has gone on from the one before the freeze."""
-        contest = Contest.objects.create(name="finale", networks=["ring of 5"], start=timezone.now() - HOUR,
-                                         end=timezone.now() + HOUR)
+        contest = Contest.objects.create(
+            name="finale",
+            networks=["ring of 5"],
+            start=timezone.now() - HOUR,
+            end=timezone.now() + HOUR,
+        )
         for name in ("amber", "birch"):
             graded(name, 1, 9)
             graded(name, 1, 9, contest=contest)
         freeze = timezone.now()
         Contest.objects.update(freeze=freeze)
-        late = [graded("birch"), graded("birch", contest=contest), graded("cedar"), graded("birch", is_secret=True)]
+        late = [
+            graded("birch"),
+            graded("birch", contest=contest),
+            graded("cedar"),
+            graded("birch", is_secret=True),
+        ]
         tutor = Client()
-        get_user_model().objects.create_user("tutor", password="another long password", is_staff=True)
+        get_user_model().objects.create_user(
+            "tutor", password="another long password", is_staff=True
+        )
         self.assertTrue(tutor.login(username="tutor", password="another long password"))
-        clients = {"amber": self.client_of("amber"), "stranger": Client(), "tutor": tutor,
-                   "by token": Client(HTTP_AUTHORIZATION=f"Bearer {self.tokens['amber']}")}
-        here = [f"contests/{contest.pk}", *(f"hand-ins/{it.hand_in_id}" for it in late), "hand-ins", "matches"]
-        paths = ["/", "/screen", f"/contests/{contest.pk}/screen", "/messages", "/health", "/teacher/standings.csv",
-                 f"/teacher/contests/{contest.pk}.csv", f"/hand-ins/{late[0].hand_in_id}/result/", "/api/contests",
-                 "/teacher/", "/teacher/handins/grading/", "/api/standings", *(f"/{it}" for it in here),
-                 *(f"/api/{it}" for it in here)]
+        clients = {
+            "amber": self.client_of("amber"),
+            "stranger": Client(),
+            "tutor": tutor,
+            "by token": Client(HTTP_AUTHORIZATION=f"Bearer {self.tokens['amber']}"),
+        }
+        here = [
+            f"contests/{contest.pk}",
+            *(f"hand-ins/{it.hand_in_id}" for it in late),
+            "hand-ins",
+            "matches",
+        ]
+        paths = [
+            "/",
+            "/screen",
+            f"/contests/{contest.pk}/screen",
+            "/messages",
+            "/health",
+            "/teacher/standings.csv",
+            f"/teacher/contests/{contest.pk}.csv",
+            f"/hand-ins/{late[0].hand_in_id}/result/",
+            "/api/contests",
+            "/teacher/",
+            "/teacher/handins/grading/",
+            "/api/standings",
+            *(f"/{it}" for it in here),
+            *(f"/api/{it}" for it in here),
+        ]
         with halled(freeze=freeze, public=True):
             found = []
-            for changes in ({"solved": 2, "moves": 1}, {"solved": 0, "moves": 99, "lost": 3}, {"state": machine.LOST},
-                            {"state": machine.RUNNING}):
+            for changes in (
+                {"solved": 2, "moves": 1},
+                {"solved": 0, "moves": 99, "lost": 3},
+                {"state": machine.LOST},
+                {"state": machine.RUNNING},
+            ):
                 Grading.objects.filter(pk__in=[it.pk for it in late]).update(**changes)
                 found.append(self.told(clients, paths))
             teacher = self.teacher().get("/").content
@@ -207,7 +293,9 @@ class Looks(Hall):
 
     def test_a_full_disk_is_told(self) -> None:
         """Whatever is asked is answered by a sentence, which names no path of the hall."""
-        full = OperationalError("database or disk is full"), OSError(28, "No space left on device", str(PLACE.folder))
+        full = OperationalError("database or disk is full"), OSError(
+            28, "No space left on device", str(PLACE.folder)
+        )
         for fault in full:
             client = Client(raise_request_exception=False)
             with mock.patch("arena_lab.hall.teams.logins.tried", side_effect=fault):
@@ -216,15 +304,25 @@ class Looks(Hall):
             self.assertIn("cannot write this now", told.json()["error"])
             token = {"HTTP_AUTHORIZATION": f"Bearer {self.tokens['amber']}"}
             with mock.patch("arena_lab.hall.attempts.asking.ask", side_effect=fault):
-                told = client.post("/api/matches", {"network": "ring of 5"}, "application/json", **token)
+                told = client.post(
+                    "/api/matches",
+                    {"network": "ring of 5"},
+                    "application/json",
+                    **token,
+                )
             self.assertEqual((told.status_code, list(told.json())), (503, ["error"]))
 
     def test_a_fault_of_the_machine_tells_no_path(self) -> None:
         """A team is told that an attempt was lost; where its files are, the log says."""
         from arena_lab.hall.attempts import playing
         from arena_lab.hall.steps import claimed
+
         made = Attempt.objects.create(team=self.team("amber"), network="ring of 5")
-        with mock.patch.object(playing.Playing, "play", side_effect=OSError(28, "No space left", str(PLACE.folder))):
+        with mock.patch.object(
+            playing.Playing,
+            "play",
+            side_effect=OSError(28, "No space left", str(PLACE.folder)),
+        ):
             playing.play(made.pk, str(claimed(made)))
         told = self.rest("get", f"/api/matches/{made.pk}").json()
         self.assertEqual(told["state"], machine.LOST)
@@ -239,7 +337,12 @@ class Questions(Hall):
         client = self.client_of("amber")
         for wanted in (400, 429):
             self.assertEqual(client.post("/messages", {}).status_code, wanted)
-            Message.objects.bulk_create([Message(team=self.team("amber"), text="why?") for _ in range(MOST_WAITING)])
+            Message.objects.bulk_create(
+                [
+                    Message(team=self.team("amber"), text="why?")
+                    for _ in range(MOST_WAITING)
+                ]
+            )
 
     def test_texts_of_teams_are_texts_on_each_page(self) -> None:
         text = '"><script>alert(4)</script>'
@@ -248,9 +351,13 @@ class Questions(Hall):
         Message.objects.update(answer=text, is_public=True)
         Message.objects.create(text=text)
         page = f"/teacher/teams/message/{made.pk}"
-        for client, path in ((self.client_of("amber"), "/messages"), (self.teacher(), "/teacher/teams/message/"),
-                             (self.teacher(), f"{page}/change/"), (self.teacher(), f"{page}/delete/"),
-                             (self.teacher(), f"{page}/history/")):
+        for client, path in (
+            (self.client_of("amber"), "/messages"),
+            (self.teacher(), "/teacher/teams/message/"),
+            (self.teacher(), f"{page}/change/"),
+            (self.teacher(), f"{page}/delete/"),
+            (self.teacher(), f"{page}/history/"),
+        ):
             content = client.get(path).content
             self.assertNotIn(b"<script>alert", content, path)
             self.assertIn(b"&lt;script&gt;alert", content, path)

@@ -28,10 +28,21 @@ class Example(unittest.TestCase):
     def started(self, *words: object) -> "subprocess.Popen[str]":
         """The sample hall, whose files are in the test's folder."""
         child = subprocess.Popen(
-            [sys.executable, str(TOP / "examples" / "hall.py"), "--no-browser", *map(str, words)], text=True,
-            stdin=subprocess.DEVNULL, stdout=subprocess.PIPE, stderr=subprocess.DEVNULL,
-            env={**os.environ, "TMPDIR": self.folder, "ARENA": program()})
-        self.addCleanup(lambda: [os.kill(number, signal.SIGKILL) for number in self.left()])
+            [
+                sys.executable,
+                str(TOP / "examples" / "hall.py"),
+                "--no-browser",
+                *map(str, words),
+            ],
+            text=True,
+            stdin=subprocess.DEVNULL,
+            stdout=subprocess.PIPE,
+            stderr=subprocess.DEVNULL,
+            env={**os.environ, "TMPDIR": self.folder, "ARENA": program()},
+        )
+        self.addCleanup(
+            lambda: [os.kill(number, signal.SIGKILL) for number in self.left()]
+        )
         self.addCleanup(child.communicate)
         self.addCleanup(child.kill)
         return child
@@ -57,7 +68,10 @@ class Example(unittest.TestCase):
             with contextlib.suppress(OSError):
                 path = pathlib.Path(f"/proc/{process}")
                 texts = [(path / name).read_bytes() for name in ("environ", "cmdline")]
-                if any(place in text for text in [*texts, os.readlink(path / "cwd").encode()]):
+                if any(
+                    place in text
+                    for text in [*texts, os.readlink(path / "cwd").encode()]
+                ):
                     found.append(process)
         return found
 

@@ -68,7 +68,9 @@ class Matches(Halls):
         self.assertEqual(len(self.hall.servers(number)), 1)
         told = self.hall.over(token, number)
         self.assertEqual([it["outcome"] for it in told["verdicts"]], ["solved"])
-        replay = self.hall.ask("GET", f"/api/matches/{number}/replays/0", token).body.decode()
+        replay = self.hall.ask(
+            "GET", f"/api/matches/{number}/replays/0", token
+        ).body.decode()
         match = played(replay)
         self.assertEqual(match.replay(), replay)
         self.assertEqual(match.setup.holes, told["matches"][0]["after"]["holes"])
@@ -76,7 +78,9 @@ class Matches(Halls):
         self.assertFalse(self.hall.is_left(number))
         with socket.create_server(("127.0.0.1", told["matches"][0]["port"])):
             pass
-        page = self.hall.folder / "attempts" / str(number) / "run1" / "match0" / "m0.html"
+        page = (
+            self.hall.folder / "attempts" / str(number) / "run1" / "match0" / "m0.html"
+        )
         self.hall.wait(page.exists, "the page is made")
 
     def test_a_team_with_a_map_is_told_the_map_and_no_black_hole(self) -> None:
@@ -85,10 +89,15 @@ class Matches(Halls):
         told = self.hall.begins(token, number)["matches"][0]
         self.assertEqual(sorted(told["map"]), ["home", "links", "nodes"])
         # keys of another match are none here
-        self.assertEqual(said(told["host"], told["port"], [{"do": "enter", "key": "ka"}]), [{"no": "key"}])
+        self.assertEqual(
+            said(told["host"], told["port"], [{"do": "enter", "key": "ka"}]),
+            [{"no": "key"}],
+        )
         self.hall.ask("POST", f"/api/matches/{number}/close", token)
-        self.assertEqual(self.hall.over(token, number)["verdicts"],
-                         [{"outcome": "absent", "moves": 0, "lost": 0}])
+        self.assertEqual(
+            self.hall.over(token, number)["verdicts"],
+            [{"outcome": "absent", "moves": 0, "lost": 0}],
+        )
 
     def test_a_match_whose_program_was_killed_is_played_again(self) -> None:
         token = self.tokens["amber"]
@@ -100,55 +109,89 @@ class Matches(Halls):
         self.ended(play(told))
         self.assertEqual(self.hall.over(token, number)["solved"], 1)
 
-
     def test_requests_at_the_same_time_win_nothing(self) -> None:
         """Of twenty that are sent at once as many are taken as a team may have."""
         token = self.tokens["cedar"]
         with concurrent.futures.ThreadPoolExecutor(20) as pool:
-            told = list(pool.map(lambda _: self.hall.ask("POST", "/api/matches", token, {"network": "ring of 5"}),
-                                 range(20)))
+            told = list(
+                pool.map(
+                    lambda _: self.hall.ask(
+                        "POST", "/api/matches", token, {"network": "ring of 5"}
+                    ),
+                    range(20),
+                )
+            )
             self.assertEqual(sorted(it.status for it in told), [201] * 2 + [429] * 18)
             cookie = self.session(token)
-            asked = list(pool.map(lambda _: self.post("/messages", "text=why", cookie).status, range(20)))
+            asked = list(
+                pool.map(
+                    lambda _: self.post("/messages", "text=why", cookie).status,
+                    range(20),
+                )
+            )
         self.assertEqual(sorted(asked), [302] * 5 + [429] * 15)
         for it in told:
             if it.status == 201:
                 number = it.json()["id"]
                 self.hall.ask("POST", f"/api/matches/{number}/close", token)
-                self.assertIn(self.hall.over(token, number)["state"], ("over", "cancelled"))
-
+                self.assertIn(
+                    self.hall.over(token, number)["state"], ("over", "cancelled")
+                )
 
     def session(self, token: str) -> str:
         """The cookie of a team that has logged in by the page."""
-        secret = str(self.hall.ask("GET", "/login").headers["Set-Cookie"]).partition(";")[0]
+        secret = str(self.hall.ask("GET", "/login").headers["Set-Cookie"]).partition(
+            ";"
+        )[0]
         return f"{secret}; {self.post('/login', f'token={token}', secret).headers['Set-Cookie'].partition(';')[0]}"
 
     def post(self, path: str, form: str, cookie: str) -> halls.Told:
         """What a form is answered, whose secret is in a cookie."""
-        headers = {"Cookie": cookie, "X-CSRFToken": cookie.partition("=")[2].partition(";")[0],
-                   "Content-Type": "application/x-www-form-urlencoded"}
+        headers = {
+            "Cookie": cookie,
+            "X-CSRFToken": cookie.partition("=")[2].partition(";")[0],
+            "Content-Type": "application/x-www-form-urlencoded",
+        }
         return halls.told_by(self.hall.port, "POST", path, headers, form.encode())
 
 
 class HandIns(Halls):
     def test_a_program_is_graded_and_meets_nobody(self) -> None:
         token, agents = self.tokens["amber"], TOP / "examples" / "agents"
-        nosy = NOSY.format(agents=agents, ports=f"{self.hall.port}, 5432, 8786", folder=self.hall.folder)
+        nosy = NOSY.format(
+            agents=agents,
+            ports=f"{self.hall.port}, 5432, 8786",
+            folder=self.hall.folder,
+        )
         ring = (agents / "ring.py").read_text().partition('"""\n')[2]
         client = (agents / "client.py").read_text()
         from tests.lab.hall.test_hall import zipped
-        sent = zipped({"top/agent.py": (nosy + ring).encode(), "top/client.py": client.encode()})
+
+        sent = zipped(
+            {"top/agent.py": (nosy + ring).encode(), "top/client.py": client.encode()}
+        )
         number = self.hand_in(token, sent)
         result = self.graded(token, number)
         out = self.hall.folder / "hand-ins" / str(number) / "public"
-        self.assertEqual((result["solved"], result["matches"]), (1, 1), (out / "log.txt").read_text())
-        page = self.hall.folder / "hand-ins" / str(number) / "public" / "out" / "team-amber.html"
+        self.assertEqual(
+            (result["solved"], result["matches"]), (1, 1), (out / "log.txt").read_text()
+        )
+        page = (
+            self.hall.folder
+            / "hand-ins"
+            / str(number)
+            / "public"
+            / "out"
+            / "team-amber.html"
+        )
         self.assertIn("solved 1 of 1", page.read_text())
         # a wrong one
         number = self.hand_in(token, b"print('hello')")
         self.assertEqual(self.graded(token, number)["solved"], 0)
 
-    def test_a_grading_whose_processes_are_killed_is_run_again_and_none_is_left(self) -> None:
+    def test_a_grading_whose_processes_are_killed_is_run_again_and_none_is_left(
+        self,
+    ) -> None:
         token = self.tokens["birch"]
         for name in ("a grading", "worker 0"):
             with self.subTest(name):
@@ -156,24 +199,39 @@ class HandIns(Halls):
                 place = self.hall.folder / "hand-ins" / str(number)
                 self.hall.wait(lambda: within(place), "it is graded")
                 before = within(place)
-                os.kill(before[0] if name == "a grading" else self.hall.processes()[name], signal.SIGKILL)
-                self.hall.wait(lambda: not set(before) & set(within(place)), "all that was killed has ended", 20)
+                os.kill(
+                    before[0] if name == "a grading" else self.hall.processes()[name],
+                    signal.SIGKILL,
+                )
+                self.hall.wait(
+                    lambda: not set(before) & set(within(place)),
+                    "all that was killed has ended",
+                    20,
+                )
                 told = self.hall.wait(lambda: within(place), "it is graded again")
                 self.hall.stop()
                 self.assertFalse(any(map(is_alive, told)))
                 self.hall.start()
-                self.hall.wait(lambda: self.state(token, number) != "running", "it is given up")
+                self.hall.wait(
+                    lambda: self.state(token, number) != "running", "it is given up"
+                )
                 self.assertEqual(self.state(token, number), "lost")
 
     def state(self, token: str, number: int) -> str:
-        return str(self.hall.ask("GET", f"/api/hand-ins/{number}", token).json()["state"])
+        return str(
+            self.hall.ask("GET", f"/api/hand-ins/{number}", token).json()["state"]
+        )
 
     def hand_in(self, token: str, sent: bytes) -> int:
         return int(self.hall.hand_in(token, sent).json()["id"])
 
     def graded(self, token: str, number: int) -> Any:
-        return self.hall.wait(lambda: self.hall.ask("GET", f"/api/hand-ins/{number}", token).json()["result"],
-                              f"hand-in {number} is graded")
+        return self.hall.wait(
+            lambda: self.hall.ask("GET", f"/api/hand-ins/{number}", token).json()[
+                "result"
+            ],
+            f"hand-in {number} is graded",
+        )
 
 
 class Processes(Halls):
@@ -194,8 +252,11 @@ class Processes(Halls):
                 if is_anew:
                     told = self.hall.begins(token, number, keys)
                     self.assertFalse(set(servers) & set(self.hall.servers(number)))
-                self.assertEqual([it["keys"] for it in self.hall.attempt(token, number)["matches"]] == keys,
-                                 not is_anew)
+                self.assertEqual(
+                    [it["keys"] for it in self.hall.attempt(token, number)["matches"]]
+                    == keys,
+                    not is_anew,
+                )
                 self.ended(play(told))
                 self.assertEqual(self.hall.over(token, number)["solved"], 1)
                 self.assertFalse(self.hall.is_left(number))
@@ -214,22 +275,56 @@ class Processes(Halls):
 
     def test_a_script_goes_on_when_the_hall_is_stopped_and_started_again(self) -> None:
         """A stop gives matches back: they are played again, with other keys."""
-        agents, address = str(TOP / "examples" / "agents" / "ring.py"), f"http://127.0.0.1:{self.hall.port}"
+        agents, address = (
+            str(TOP / "examples" / "agents" / "ring.py"),
+            f"http://127.0.0.1:{self.hall.port}",
+        )
         script = subprocess.Popen(
-            [sys.executable, str(TOP / "examples" / "hall" / "practise.py"), address, "ring of 5", "/bin/sleep", "60"],
-            env={**os.environ, "ARENA_TOKEN": self.tokens["birch"]}, stdout=subprocess.PIPE, text=True)
+            [
+                sys.executable,
+                str(TOP / "examples" / "hall" / "practise.py"),
+                address,
+                "ring of 5",
+                "/bin/sleep",
+                "60",
+            ],
+            env={**os.environ, "ARENA_TOKEN": self.tokens["birch"]},
+            stdout=subprocess.PIPE,
+            text=True,
+        )
         self.ended([script])
-        number = self.hall.wait(lambda: [it["id"] for it in self.hall.ask(
-            "GET", "/api/matches", self.tokens["birch"]).json() if it["state"] == "running"], "the script plays")[0]
-        keys = [it["keys"] for it in self.hall.begins(self.tokens["birch"], number)["matches"]]
+        number = self.hall.wait(
+            lambda: [
+                it["id"]
+                for it in self.hall.ask(
+                    "GET", "/api/matches", self.tokens["birch"]
+                ).json()
+                if it["state"] == "running"
+            ],
+            "the script plays",
+        )[0]
+        keys = [
+            it["keys"]
+            for it in self.hall.begins(self.tokens["birch"], number)["matches"]
+        ]
         self.hall.stop()
         self.assertEqual(self.hall.servers(), [])
         self.hall.start()
         told = self.hall.begins(self.tokens["birch"], number, keys)
-        self.ended([subprocess.Popen([sys.executable, agents, it["host"], str(it["port"]), key, "5"])
-                    for it in told["matches"] for key in it["keys"]])
+        self.ended(
+            [
+                subprocess.Popen(
+                    [sys.executable, agents, it["host"], str(it["port"]), key, "5"]
+                )
+                for it in told["matches"]
+                for key in it["keys"]
+            ]
+        )
         self.assertEqual(self.hall.over(self.tokens["birch"], number)["solved"], 1)
-        self.assertIn(f"attempt {number} on ring of 5: solved", script.communicate(timeout=halls.SECONDS)[0])
+        self.assertIn(
+            f"attempt {number} on ring of 5: solved",
+            script.communicate(timeout=halls.SECONDS)[0],
+        )
 
     def test_the_whole_hall_is_killed_and_started_again(self) -> None:
         token = self.tokens["cedar"]
@@ -239,8 +334,12 @@ class Processes(Halls):
         assert self.hall.child is not None
         os.kill(self.hall.child.pid, signal.SIGKILL)
         self.hall.child.wait()
-        self.hall.wait(lambda: not self.hall.servers() and not any(map(is_alive, processes.values())),
-                       "all processes have ended", 20)
+        self.hall.wait(
+            lambda: not self.hall.servers()
+            and not any(map(is_alive, processes.values())),
+            "all processes have ended",
+            20,
+        )
         self.hall.start()
         told = self.hall.begins(token, number, keys)
         self.ended(play(told))
@@ -252,7 +351,9 @@ def within(place: pathlib.Path) -> List[int]:
     found: List[int] = []
     for process in listed():
         with contextlib.suppress(OSError):
-            if "grade" in words_of(process)[1:] and os.readlink(f"/proc/{process}/cwd").startswith(str(place)):
+            if "grade" in words_of(process)[1:] and os.readlink(
+                f"/proc/{process}/cwd"
+            ).startswith(str(place)):
                 found += below(process)
     return list(filter(is_alive, dict.fromkeys(found)))
 
@@ -261,8 +362,14 @@ class Commands(Halls):
     """What the teacher does by the command, while the hall is served."""
 
     def ran(self, *words: object, status: int = 0) -> str:
-        done = subprocess.run(self.hall.words(*words), cwd=TOP, text=True, stdout=subprocess.PIPE,
-                              stderr=subprocess.STDOUT, stdin=subprocess.DEVNULL)
+        done = subprocess.run(
+            self.hall.words(*words),
+            cwd=TOP,
+            text=True,
+            stdout=subprocess.PIPE,
+            stderr=subprocess.STDOUT,
+            stdin=subprocess.DEVNULL,
+        )
         self.assertEqual(done.returncode, status, done.stdout)
         return done.stdout
 
@@ -273,9 +380,15 @@ class Commands(Halls):
         place = self.hall.folder.parent / "unpacked"
         with tarfile.open(archive) as tar:
             tar.extractall(place)
-        with contextlib.closing(sqlite3.connect(place / "trial.hall" / "hall.sqlite3")) as database:
-            self.assertEqual(database.execute("PRAGMA integrity_check").fetchone(), ("ok",))
-            self.assertEqual(database.execute("SELECT count(*) FROM teams_team").fetchone(), (3,))
+        with contextlib.closing(
+            sqlite3.connect(place / "trial.hall" / "hall.sqlite3")
+        ) as database:
+            self.assertEqual(
+                database.execute("PRAGMA integrity_check").fetchone(), ("ok",)
+            )
+            self.assertEqual(
+                database.execute("SELECT count(*) FROM teams_team").fetchone(), (3,)
+            )
         self.assertTrue((place / "trial.hall" / "key.txt").exists())
 
     def test_a_hall_that_was_killed_is_restored_as_it_stood(self) -> None:
@@ -283,7 +396,10 @@ class Commands(Halls):
         archive, token = self.hall.folder.parent / "before.tar.gz", self.tokens["cedar"]
         other = self.hall.folder.parent / "other"
         self.ran("backup", self.hall.course, archive)
-        self.assertIn("is served already", self.ran("restore", self.hall.course, archive, status=2))
+        self.assertIn(
+            "is served already",
+            self.ran("restore", self.hall.course, archive, status=2),
+        )
         before = self.hall.ask("GET", "/api/matches", token).json()
         for _ in range(20):
             number = self.hall.asked(token)
@@ -292,19 +408,28 @@ class Commands(Halls):
         assert self.hall.child is not None
         os.kill(self.hall.child.pid, signal.SIGKILL)
         self.hall.child.wait()
-        self.hall.wait(lambda: not self.hall.processes(), "all processes have ended", 20)
+        self.hall.wait(
+            lambda: not self.hall.processes(), "all processes have ended", 20
+        )
         broken = self.hall.folder.parent / "broken.tar.gz"
         broken.write_bytes(archive.read_bytes()[:-2000])
-        self.assertIn("no hall can be restored", self.ran("restore", self.hall.course, broken, status=2))
+        self.assertIn(
+            "no hall can be restored",
+            self.ran("restore", self.hall.course, broken, status=2),
+        )
         said = self.ran("restore", self.hall.course, archive)
         self.assertIn("what was there before is in", said)
-        self.assertEqual(len(list(self.hall.folder.parent.glob("trial.hall.*/hall.sqlite3"))), 1)
+        self.assertEqual(
+            len(list(self.hall.folder.parent.glob("trial.hall.*/hall.sqlite3"))), 1
+        )
         self.hall.start()
         self.assertEqual(self.hall.ask("GET", "/api/matches", token).json(), before)
         # on another machine there is no file of the course yet
         other.mkdir()
         self.ran("restore", other / "trial.toml", archive)
-        self.assertEqual((other / "trial.toml").read_bytes(), self.hall.course.read_bytes())
+        self.assertEqual(
+            (other / "trial.toml").read_bytes(), self.hall.course.read_bytes()
+        )
         self.assertTrue((other / "trial.hall" / "hall.sqlite3").exists())
         shutil.rmtree(other)
 
@@ -313,30 +438,66 @@ class Commands(Halls):
         self.addCleanup(self.hall.course.write_text, good)
         self.hall.course.write_text(good + "\n[[team]\n")
         self.hall.kill("web")
-        self.assertEqual(self.hall.ask("GET", "/api/networks", self.tokens["amber"]).status, 200)
+        self.assertEqual(
+            self.hall.ask("GET", "/api/networks", self.tokens["amber"]).status, 200
+        )
         self.hall.stop()
         self.hall.start()
         self.assertIn("trial.toml: it is no TOML", self.hall.faults())
-        self.assertEqual(self.hall.ask("GET", "/api/networks", self.tokens["amber"]).status, 200)
+        self.assertEqual(
+            self.hall.ask("GET", "/api/networks", self.tokens["amber"]).status, 200
+        )
 
     def test_a_contest_is_planned(self) -> None:
-        said = self.ran("contest", self.hall.course, "--name", "finale", "--networks", "ring of 5", "--minutes", "1")
+        said = self.ran(
+            "contest",
+            self.hall.course,
+            "--name",
+            "finale",
+            "--networks",
+            "ring of 5",
+            "--minutes",
+            "1",
+        )
         self.assertRegex(said, r", finale: from .* to \d\d:\d\d, by the clock of UTC$")
         told = self.hall.ask("GET", "/api/contests", self.tokens["amber"]).json()
-        self.assertEqual([(it["name"], it["networks"]) for it in told], [("finale", ["ring of 5"])])
-        for words, wanted in ((("--networks", "ring of 6"), "name networks of the course: ring of 5, torus with a map"),
-                              (("--networks", "ring of 5", "--start", "2020-01-01 12:00"), "the start has passed")):
-            self.assertIn(wanted, self.ran("contest", self.hall.course, *words, status=2))
+        self.assertEqual(
+            [(it["name"], it["networks"]) for it in told], [("finale", ["ring of 5"])]
+        )
+        for words, wanted in (
+            (
+                ("--networks", "ring of 6"),
+                "name networks of the course: ring of 5, torus with a map",
+            ),
+            (
+                ("--networks", "ring of 5", "--start", "2020-01-01 12:00"),
+                "the start has passed",
+            ),
+        ):
+            self.assertIn(
+                wanted, self.ran("contest", self.hall.course, *words, status=2)
+            )
 
     def test_faults_are_lines(self) -> None:
-        self.assertIn("is served already", self.ran(self.hall.course, "--program", halls.program(), status=2))
-        self.assertIn("name networks of the course", self.ran("contest", self.hall.course, status=2))
-        self.assertIn("there is no such file", self.ran("serve", "nowhere.toml", status=2))
+        self.assertIn(
+            "is served already",
+            self.ran(self.hall.course, "--program", halls.program(), status=2),
+        )
+        self.assertIn(
+            "name networks of the course",
+            self.ran("contest", self.hall.course, status=2),
+        )
+        self.assertIn(
+            "there is no such file", self.ran("serve", "nowhere.toml", status=2)
+        )
         new = self.hall.folder.parent / "new.toml"
         self.assertIn("wrote", self.ran("new", new))
         self.assertIn("already", self.ran("new", new, status=2))
-        for text, wanted in (('title = "x"\nnetwork = 3', "network must be given"), ("x", "it is no TOML"),
-                             ('title = "x"\ncolour = 1', "a hall has no key colour")):
+        for text, wanted in (
+            ('title = "x"\nnetwork = 3', "network must be given"),
+            ("x", "it is no TOML"),
+            ('title = "x"\ncolour = 1', "a hall has no key colour"),
+        ):
             new.write_text(text)
             self.assertIn(wanted, self.ran(new, status=2))
 
@@ -345,8 +506,14 @@ class Commands(Halls):
             with contextlib.suppress(FileNotFoundError):
                 if not path.is_socket():
                     self.assertEqual(path.stat().st_mode & 0o077, 0, path)
-        self.hall.ask("GET", f"/api/matches?token={self.tokens['amber']}", self.tokens["amber"])
-        for path in (it for it in self.hall.folder.rglob("*") if it.is_file() and it.name != "keys.csv"):
+        self.hall.ask(
+            "GET", f"/api/matches?token={self.tokens['amber']}", self.tokens["amber"]
+        )
+        for path in (
+            it
+            for it in self.hall.folder.rglob("*")
+            if it.is_file() and it.name != "keys.csv"
+        ):
             with contextlib.suppress(FileNotFoundError):
                 found = path.read_bytes()
                 for token in self.tokens.values():
@@ -364,17 +531,29 @@ class Commands(Halls):
             began = time.monotonic()
             self.hall.wait(self.hall.answers, "the hall answers", 10)
             for _ in range(10):
-                self.assertEqual(self.hall.ask("GET", "/api/networks", self.tokens["amber"]).status, 200)
+                self.assertEqual(
+                    self.hall.ask("GET", "/api/networks", self.tokens["amber"]).status,
+                    200,
+                )
             self.assertLess(time.monotonic() - began, 9)
 
     def test_one_process_alone_answers_the_network(self) -> None:
         """The web server, and no worker."""
         numbers = set(self.hall.processes().values())
-        said = subprocess.run(["ss", "-Hltnp"], capture_output=True, text=True).stdout if have("ss") else ""
+        said = (
+            subprocess.run(["ss", "-Hltnp"], capture_output=True, text=True).stdout
+            if have("ss")
+            else ""
+        )
         for line in said.splitlines():
             if any(f"pid={number}," in line for number in numbers):
-                self.assertEqual(int(line.split()[3].rpartition(":")[2]), self.hall.port)
+                self.assertEqual(
+                    int(line.split()[3].rpartition(":")[2]), self.hall.port
+                )
 
 
 def have(name: str) -> bool:
-    return any((pathlib.Path(folder) / name).exists() for folder in os.environ["PATH"].split(":"))
+    return any(
+        (pathlib.Path(folder) / name).exists()
+        for folder in os.environ["PATH"].split(":")
+    )

@@ -47,22 +47,61 @@ class Proxy:
     def __init__(self, folder: pathlib.Path, hall: int) -> None:
         self.port, self.plain = free_port(), free_port()
         certificate, key = folder / "certificate.pem", folder / "key.pem"
-        subprocess.run(["openssl", "req", "-x509", "-newkey", "ec", "-pkeyopt", "ec_paramgen_curve:prime256v1",
-                        "-nodes", "-days", "2", "-subj", f"/CN={NAME}", "-keyout", key, "-out", certificate],
-                       check=True, capture_output=True)
-        site = re.sub(r"^ *listen \[::\].*\n", "", (LAB / "hall" / "nginx.conf").read_text(), flags=re.M)
-        for said, here in (("listen 80;", f"listen {self.plain};"), ("listen 443 ", f"listen {self.port} "),
-                           (f"/etc/letsencrypt/live/{NAME}/fullchain.pem", str(certificate)),
-                           (f"/etc/letsencrypt/live/{NAME}/privkey.pem", str(key)),
-                           ("http://127.0.0.1:8000", f"http://127.0.0.1:{hall}")):
+        subprocess.run(
+            [
+                "openssl",
+                "req",
+                "-x509",
+                "-newkey",
+                "ec",
+                "-pkeyopt",
+                "ec_paramgen_curve:prime256v1",
+                "-nodes",
+                "-days",
+                "2",
+                "-subj",
+                f"/CN={NAME}",
+                "-keyout",
+                key,
+                "-out",
+                certificate,
+            ],
+            check=True,
+            capture_output=True,
+        )
+        site = re.sub(
+            r"^ *listen \[::\].*\n",
+            "",
+            (LAB / "hall" / "nginx.conf").read_text(),
+            flags=re.M,
+        )
+        for said, here in (
+            ("listen 80;", f"listen {self.plain};"),
+            ("listen 443 ", f"listen {self.port} "),
+            (f"/etc/letsencrypt/live/{NAME}/fullchain.pem", str(certificate)),
+            (f"/etc/letsencrypt/live/{NAME}/privkey.pem", str(key)),
+            ("http://127.0.0.1:8000", f"http://127.0.0.1:{hall}"),
+        ):
             assert said in site, said
             site = site.replace(said, here)
         path = folder / "nginx.conf"
         path.write_text(AROUND.format(folder=folder, site=site))
-        self.child = subprocess.Popen([str(NGINX), "-c", str(path), "-p", str(folder), "-e", str(folder / "error.log")])
+        self.child = subprocess.Popen(
+            [
+                str(NGINX),
+                "-c",
+                str(path),
+                "-p",
+                str(folder),
+                "-e",
+                str(folder / "error.log"),
+            ]
+        )
         limit = time.monotonic() + SECONDS
         while not self.listens():
-            assert self.child.poll() is None and time.monotonic() < limit, (folder / "error.log").read_text()
+            assert self.child.poll() is None and time.monotonic() < limit, (
+                folder / "error.log"
+            ).read_text()
             time.sleep(0.1)
 
     def listens(self) -> bool:
@@ -75,15 +114,26 @@ class Proxy:
         self.child.terminate()
         self.child.wait()
 
-    def ask(self, how: str, path: str, address: str, headers: List[Any], body: str = "") -> Told:
+    def ask(
+        self, how: str, path: str, address: str, headers: List[Any], body: str = ""
+    ) -> Told:
         """What is answered to who asks from this address."""
         strange = ssl.create_default_context()
         strange.check_hostname, strange.verify_mode = False, ssl.CERT_NONE
-        connection = http.client.HTTPSConnection("127.0.0.1", self.port, timeout=SECONDS, context=strange,
-                                                 source_address=(address, 0))
+        connection = http.client.HTTPSConnection(
+            "127.0.0.1",
+            self.port,
+            timeout=SECONDS,
+            context=strange,
+            source_address=(address, 0),
+        )
         with contextlib.closing(connection):
             connection.putrequest(how, path, skip_host=True)
-            for name, value in [("Host", NAME), *headers, *([("Content-Length", len(body))] if body else [])]:
+            for name, value in [
+                ("Host", NAME),
+                *headers,
+                *([("Content-Length", len(body))] if body else []),
+            ]:
                 connection.putheader(name, value)
             connection.endheaders(body.encode() or None)
             answer = connection.getresponse()
@@ -97,7 +147,9 @@ PROXY: List[Proxy] = []
 def setUpModule() -> None:
     if NGINX is None:
         raise unittest.SkipTest("Debian's nginx is not installed")
-    folder = pathlib.Path(unittest.enterModuleContext(tempfile.TemporaryDirectory(prefix="hall-")))
+    folder = pathlib.Path(
+        unittest.enterModuleContext(tempfile.TemporaryDirectory(prefix="hall-"))
+    )
     hall = Served(folder, f'https = true\nnames = ["{NAME}"]')
     unittest.addModuleCleanup(hall.stop)
     hall.start()
@@ -112,7 +164,10 @@ class Nginx(unittest.TestCase):
 
     def rest(self, token: str, address: str, said: Any = ()) -> int:
         """The status of a request by this token, from this address, of who says of himself to be at others."""
-        headers = [("Authorization", f"Bearer {token}"), *(("X-Forwarded-For", it) for it in said)]
+        headers = [
+            ("Authorization", f"Bearer {token}"),
+            *(("X-Forwarded-For", it) for it in said),
+        ]
         return self.proxy.ask("GET", "/api/networks", address, headers).status
 
     def tries(self, name: str, address: str, said: Any = lambda number: ()) -> int:
@@ -132,36 +187,60 @@ class Nginx(unittest.TestCase):
 
     def test_what_a_stranger_says_of_his_address_wins_nothing(self) -> None:
         """Neither more tries, nor that another address has none left."""
-        count = self.tries("birch", "127.0.0.4", lambda number: ["127.0.0.5", f"10.0.0.{number}, 127.0.0.5"])
+        count = self.tries(
+            "birch",
+            "127.0.0.4",
+            lambda number: ["127.0.0.5", f"10.0.0.{number}, 127.0.0.5"],
+        )
         self.assertIn(count, range(TRIES, TRIES + 5))
         self.assertEqual(self.rest("birch.x", "127.0.0.4", ["10.0.0.99"]), 429)
         self.assertEqual(self.rest(self.tokens["birch"], "127.0.0.5"), 200)
 
     def test_a_team_logs_in_by_the_page(self) -> None:
         page = self.proxy.ask("GET", "/login", "127.0.0.6", [])
-        self.assertEqual((page.status, page.headers["Strict-Transport-Security"]), (200, "max-age=31536000"))
+        self.assertEqual(
+            (page.status, page.headers["Strict-Transport-Security"]),
+            (200, "max-age=31536000"),
+        )
         cookie = page.headers["Set-Cookie"]
         self.assertIn("Secure", cookie)
         secret = re.search(rb'name="csrfmiddlewaretoken" value="(\w+)"', page.body)
         assert secret is not None
-        told = self.post(cookie, f"csrfmiddlewaretoken={secret[1].decode()}&token={self.tokens['cedar']}")
+        told = self.post(
+            cookie,
+            f"csrfmiddlewaretoken={secret[1].decode()}&token={self.tokens['cedar']}",
+        )
         self.assertEqual((told.status, told.headers["Location"]), (302, "/matches"))
         self.assertEqual(self.post(cookie, f"token={self.tokens['cedar']}").status, 403)
 
     def post(self, cookie: str, body: str) -> Told:
-        return self.proxy.ask("POST", "/login", "127.0.0.6", [
-            ("Cookie", cookie.partition(";")[0]), ("Referer", f"https://{NAME}/login"),
-            ("Content-Type", "application/x-www-form-urlencoded")], body)
+        return self.proxy.ask(
+            "POST",
+            "/login",
+            "127.0.0.6",
+            [
+                ("Cookie", cookie.partition(";")[0]),
+                ("Referer", f"https://{NAME}/login"),
+                ("Content-Type", "application/x-www-form-urlencoded"),
+            ],
+            body,
+        )
 
     def test_a_class_that_asks_at_once_is_answered(self) -> None:
         """All of it comes from nginx's address."""
         with concurrent.futures.ThreadPoolExecutor(24) as pool:
-            found = list(pool.map(lambda _: self.rest(self.tokens["cedar"], "127.0.0.7"), range(72)))
+            found = list(
+                pool.map(
+                    lambda _: self.rest(self.tokens["cedar"], "127.0.0.7"), range(72)
+                )
+            )
         self.assertEqual(found, [200] * 72)
 
     def test_who_asks_without_encryption_is_sent_to_the_other_port(self) -> None:
         told = told_by(self.proxy.plain, "GET", "/login", {"Host": NAME})
-        self.assertEqual((told.status, told.headers["Location"]), (301, f"https://{NAME}/login"))
+        self.assertEqual(
+            (told.status, told.headers["Location"]), (301, f"https://{NAME}/login")
+        )
 
 
 class Headers(unittest.TestCase):
@@ -171,7 +250,17 @@ class Headers(unittest.TestCase):
         """Caddy passes on X_Forwarded_For, which Python's interface of web servers cannot tell from the true one."""
         hall, found = HALL[0], []
         for number in range(TRIES + 5):
-            found.append(told_by(hall.port, "GET", "/api/networks", {
-                "Authorization": f"Bearer cedar.{number}", "X-Forwarded-For": "192.0.2.7",
-                "X_Forwarded_For": f"10.0.0.{number}", "X-Forwarded-Proto": "https"}).status)
+            found.append(
+                told_by(
+                    hall.port,
+                    "GET",
+                    "/api/networks",
+                    {
+                        "Authorization": f"Bearer cedar.{number}",
+                        "X-Forwarded-For": "192.0.2.7",
+                        "X_Forwarded_For": f"10.0.0.{number}",
+                        "X-Forwarded-Proto": "https",
+                    },
+                ).status
+            )
         self.assertIn(429, found)

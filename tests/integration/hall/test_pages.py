@@ -3,7 +3,14 @@ import re
 from typing import List, Optional
 from unittest import mock
 
-from tests.integration.hall.hall_pages import PASSWORD, PLACE, Hall, halled, played, stopped_clock
+from tests.integration.hall.hall_pages import (
+    PASSWORD,
+    PLACE,
+    Hall,
+    halled,
+    played,
+    stopped_clock,
+)
 
 from django.conf import settings
 from django.test import Client, RequestFactory
@@ -23,58 +30,106 @@ class Logins(Hall):
 
     def test_wrong_tokens_are_refused_and_soon_not_tried_any_more(self) -> None:
         client = Client()
-        answers = [client.post("/login", {"token": f"amber.{number}"}).status_code for number in range(15)]
+        answers = [
+            client.post("/login", {"token": f"amber.{number}"}).status_code
+            for number in range(15)
+        ]
         self.assertEqual(answers[:10], [403] * 10)
         self.assertEqual(answers[-1], 429)
         # the right one too, from there; another team behind the same address is not kept out
-        self.assertEqual(client.post("/login", {"token": self.tokens["amber"]}).status_code, 429)
-        self.assertEqual(client.post("/login", {"token": self.tokens["birch"]}).status_code, 302)
+        self.assertEqual(
+            client.post("/login", {"token": self.tokens["amber"]}).status_code, 429
+        )
+        self.assertEqual(
+            client.post("/login", {"token": self.tokens["birch"]}).status_code, 302
+        )
 
     def test_one_who_tries_tokens_keeps_no_other_of_the_class_out(self) -> None:
         """All of it comes from one address, as from a lecture hall."""
-        answers = [Client().get("/api/matches", HTTP_AUTHORIZATION=f"Bearer x{number}.y").status_code
-                   for number in range(130)]
-        answers += [Client().get("/api/matches", HTTP_AUTHORIZATION="Bearer amber.y").status_code for _ in range(15)]
+        answers = [
+            Client()
+            .get("/api/matches", HTTP_AUTHORIZATION=f"Bearer x{number}.y")
+            .status_code
+            for number in range(130)
+        ]
+        answers += [
+            Client()
+            .get("/api/matches", HTTP_AUTHORIZATION="Bearer amber.y")
+            .status_code
+            for _ in range(15)
+        ]
         self.assertEqual((answers[0], answers[129], answers[-1]), (401, 401, 429))
-        self.assertEqual(Client().post("/login", {"token": self.tokens["birch"]}).status_code, 302)
+        self.assertEqual(
+            Client().post("/login", {"token": self.tokens["birch"]}).status_code, 302
+        )
         self.assertEqual(self.rest("get", "/api/matches", "cedar").status_code, 200)
-        told = Client().post("/teacher/login/", {"username": "teacher", "password": PASSWORD, "next": "/teacher/"})
+        told = Client().post(
+            "/teacher/login/",
+            {"username": "teacher", "password": PASSWORD, "next": "/teacher/"},
+        )
         self.assertEqual(told.status_code, 302)
 
-    def test_a_right_token_that_is_tried_many_times_at_once_is_not_refused(self) -> None:
+    def test_a_right_token_that_is_tried_many_times_at_once_is_not_refused(
+        self,
+    ) -> None:
         """Each try begins while those before it are still looked at."""
-        request, team_of, begun = RequestFactory().get("/"), logins.team_of, iter(range(2 * guards.TRIES))
+        request, team_of, begun = (
+            RequestFactory().get("/"),
+            logins.team_of,
+            iter(range(2 * guards.TRIES)),
+        )
 
         def looked_at(token: str) -> Optional[Team]:
-            return team_of(token) if next(begun, None) is None else logins.tried(request, token)
+            return (
+                team_of(token)
+                if next(begun, None) is None
+                else logins.tried(request, token)
+            )
 
         with mock.patch.object(logins, "team_of", looked_at):
-            self.assertEqual(logins.tried(request, self.tokens["amber"]), self.team("amber"))
+            self.assertEqual(
+                logins.tried(request, self.tokens["amber"]), self.team("amber")
+            )
 
     def test_a_teacher_who_is_logged_in_is_no_stranger(self) -> None:
         teacher = self.teacher()
         self.assertEqual(teacher.get("/").status_code, 200)
         with mock.patch.object(guards, "STRANGERS", 20):
             self.assertIn(429, [Client().get("/login").status_code for _ in range(40)])
-            self.assertEqual([teacher.get("/").status_code for _ in range(9)], [200] * 9)
+            self.assertEqual(
+                [teacher.get("/").status_code for _ in range(9)], [200] * 9
+            )
 
     def test_who_asks_is_an_address_or_a_network_of_the_sixth_version(self) -> None:
         """An address has many spellings, and whoever has one of IPv6 has all of its network."""
-        for said, wanted in (("192.0.2.7", "192.0.2.7"), ("::ffff:192.0.2.7", "192.0.2.7"),
-                             ("2001:db8::7", "2001:db8::/64"), ("2001:db8::8:7", "2001:db8::/64"),
-                             ("2001:db8:0:0:1:2:3:4", "2001:db8::/64"), ("2001:db8:0:1::7", "2001:db8:0:1::/64"),
-                             ("unknown", "unknown"), ("", "")):
+        for said, wanted in (
+            ("192.0.2.7", "192.0.2.7"),
+            ("::ffff:192.0.2.7", "192.0.2.7"),
+            ("2001:db8::7", "2001:db8::/64"),
+            ("2001:db8::8:7", "2001:db8::/64"),
+            ("2001:db8:0:0:1:2:3:4", "2001:db8::/64"),
+            ("2001:db8:0:1::7", "2001:db8:0:1::/64"),
+            ("unknown", "unknown"),
+            ("", ""),
+        ):
             # what a stranger says of himself is not read: waitress has it of the server before the hall
-            request = RequestFactory().get("/", HTTP_X_FORWARDED_FOR="10.0.0.1", REMOTE_ADDR=said)
+            request = RequestFactory().get(
+                "/", HTTP_X_FORWARDED_FOR="10.0.0.1", REMOTE_ADDR=said
+            )
             with self.subTest(said):
                 self.assertEqual(guards.address_of(request), wanted)
 
     def test_the_password_is_limited_too(self) -> None:
         for _ in range(guards.TRIES):
-            Client().post("/teacher/login/", {"username": "teacher", "password": "wrong"})
+            Client().post(
+                "/teacher/login/", {"username": "teacher", "password": "wrong"}
+            )
         self.assertFalse(Client().login(username="teacher", password="wrong"))
-        self.assertIsNone(Client().post("/teacher/login/", {"username": "teacher", "password": PASSWORD}).get(
-            "Location"))
+        self.assertIsNone(
+            Client()
+            .post("/teacher/login/", {"username": "teacher", "password": PASSWORD})
+            .get("Location")
+        )
 
     def test_tokens_are_kept_as_digests_and_stand_in_no_log(self) -> None:
         client = self.client_of("amber")
@@ -92,13 +147,20 @@ class Logins(Hall):
         client, old = self.client_of("amber"), self.tokens["amber"]
         self.tokens["amber"] = self.team("amber").new_token()
         self.assertEqual(client.get("/matches").status_code, 302)
-        self.assertEqual(Client().get("/api/matches", HTTP_AUTHORIZATION=f"Bearer {old}").status_code, 401)
+        self.assertEqual(
+            Client()
+            .get("/api/matches", HTTP_AUTHORIZATION=f"Bearer {old}")
+            .status_code,
+            401,
+        )
         self.assertEqual(self.rest("get", "/api/matches").status_code, 200)
 
     def test_a_team_without_a_token_cannot_log_in(self) -> None:
         Team.objects.filter(name="cedar").update(digest="")
         for token in ("cedar", "cedar.", ""):
-            self.assertNotEqual(Client().post("/login", {"token": token}).status_code, 302)
+            self.assertNotEqual(
+                Client().post("/login", {"token": token}).status_code, 302
+            )
 
     def test_a_session_begins_anew(self) -> None:
         """A session that a stranger has planted in a browser is not the one that logs in."""
@@ -114,34 +176,65 @@ class Logins(Hall):
 class Forgeries(Hall):
     def test_each_page_that_changes_something_asks_for_its_secret(self) -> None:
         client = Client(enforce_csrf_checks=True)
-        self.assertEqual(client.post("/login", {"token": self.tokens["amber"]}).status_code, 403)
+        self.assertEqual(
+            client.post("/login", {"token": self.tokens["amber"]}).status_code, 403
+        )
         page = client.get("/login").content.decode()
         word = re.search('name="csrfmiddlewaretoken" value="([^"]+)"', page)
         assert word is not None
-        self.assertEqual(client.post("/login", {"token": self.tokens["amber"], "csrfmiddlewaretoken": word[1]}
-                                     ).status_code, 302)
-        for path in ("/matches/ask", "/matches/1/close", "/hand-ins/take", "/logout", "/language/setlang/", "/messages",
-                     "/api/matches", "/api/matches/1/close", "/api/hand-ins"):
+        self.assertEqual(
+            client.post(
+                "/login",
+                {"token": self.tokens["amber"], "csrfmiddlewaretoken": word[1]},
+            ).status_code,
+            302,
+        )
+        for path in (
+            "/matches/ask",
+            "/matches/1/close",
+            "/hand-ins/take",
+            "/logout",
+            "/language/setlang/",
+            "/messages",
+            "/api/matches",
+            "/api/matches/1/close",
+            "/api/hand-ins",
+        ):
             with self.subTest(path):
-                self.assertEqual(client.post(path, {"network": "ring of 5"}).status_code, 403)
+                self.assertEqual(
+                    client.post(path, {"network": "ring of 5"}).status_code, 403
+                )
         self.assertEqual(Attempt.objects.count(), 0)
 
     def test_nothing_changes_by_get(self) -> None:
         client, attempt = self.client_of("amber"), self.running(played())
-        for path in ("/matches/ask?network=ring of 5", f"/matches/{attempt.pk}/close", "/logout",
-                     "/hand-ins/take", f"/api/matches/{attempt.pk}/close"):
+        for path in (
+            "/matches/ask?network=ring of 5",
+            f"/matches/{attempt.pk}/close",
+            "/logout",
+            "/hand-ins/take",
+            f"/api/matches/{attempt.pk}/close",
+        ):
             self.assertIn(client.get(path).status_code, (302, 405))
-        self.assertEqual((Attempt.objects.count(), Attempt.objects.get().closing), (1, False))
+        self.assertEqual(
+            (Attempt.objects.count(), Attempt.objects.get().closing), (1, False)
+        )
         self.assertEqual(client.get("/matches").status_code, 200)
 
     def test_other_hosts_and_headers(self) -> None:
-        self.assertEqual(Client().get("/login", HTTP_HOST="evil.example").status_code, 400)
+        self.assertEqual(
+            Client().get("/login", HTTP_HOST="evil.example").status_code, 400
+        )
         answer = Client().get("/login")
         self.assertIn("default-src 'none'", answer["Content-Security-Policy"])
         self.assertIn("frame-ancestors 'none'", answer["Content-Security-Policy"])
-        self.assertEqual((answer["X-Frame-Options"], answer["Cache-Control"]), ("DENY", "no-store"))
+        self.assertEqual(
+            (answer["X-Frame-Options"], answer["Cache-Control"]), ("DENY", "no-store")
+        )
         self.assertNotIn("ETag", answer)
-        answer = Client().post("/language/setlang/", {"language": "de", "next": "https://evil.example/"})
+        answer = Client().post(
+            "/language/setlang/", {"language": "de", "next": "https://evil.example/"}
+        )
         self.assertEqual(answer["Location"], "/")
 
 
@@ -150,41 +243,75 @@ class Attempts(Hall):
         made = self.rest("post", "/api/matches", body={"network": "ring of 5"})
         self.assertEqual((made.status_code, made.json()["state"]), (201, "waiting"))
         self.assertEqual(made["Location"], f"/api/matches/{made.json()['id']}")
-        for body, status in (({"network": "none"}, 404), ({}, 400),
-                             ({"network": ["x"]}, 400), ([], 400), ({"network": "x" * 70}, 400),
-                             ({"network": "' OR 1=1; DROP TABLE teams_team; --"}, 404)):
+        for body, status in (
+            ({"network": "none"}, 404),
+            ({}, 400),
+            ({"network": ["x"]}, 400),
+            ([], 400),
+            ({"network": "x" * 70}, 400),
+            ({"network": "' OR 1=1; DROP TABLE teams_team; --"}, 404),
+        ):
             with self.subTest(body):
                 told = self.rest("post", "/api/matches", body=body)
                 self.assertEqual(told.status_code, status)
                 self.assertEqual(list(told.json()), ["error"])
 
     def test_limits(self) -> None:
-        asked = [self.rest("post", "/api/matches", body={"network": "ring of 5"}).status_code for _ in range(3)]
+        asked = [
+            self.rest("post", "/api/matches", body={"network": "ring of 5"}).status_code
+            for _ in range(3)
+        ]
         self.assertEqual(asked, [201, 201, 429])
         # another team is not kept from its own
-        self.assertEqual(self.rest("post", "/api/matches", "birch", {"network": "ring of 5"}).status_code, 201)
+        self.assertEqual(
+            self.rest(
+                "post", "/api/matches", "birch", {"network": "ring of 5"}
+            ).status_code,
+            201,
+        )
 
     def test_closed_networks(self) -> None:
         Switch.objects.filter(network="ring of 5").update(is_open=False)
-        self.assertEqual(self.rest("post", "/api/matches", body={"network": "ring of 5"}).status_code, 404)
+        self.assertEqual(
+            self.rest(
+                "post", "/api/matches", body={"network": "ring of 5"}
+            ).status_code,
+            404,
+        )
         self.assertContains(self.client_of("amber").get("/matches"), "closed")
 
     def test_who_has_too_many_files_loses_old_practice(self) -> None:
         old = self.over(played())
         Attempt.objects.filter(pk=old.pk).update(size=300 << 20)
-        self.assertEqual(self.rest("post", "/api/matches", body={"network": "ring of 5"}).status_code, 201)
+        self.assertEqual(
+            self.rest(
+                "post", "/api/matches", body={"network": "ring of 5"}
+            ).status_code,
+            201,
+        )
         old.refresh_from_db()
-        self.assertEqual((old.size, old.folder.exists(), old.matches.get().outcome), (0, False, "solved"))
+        self.assertEqual(
+            (old.size, old.folder.exists(), old.matches.get().outcome),
+            (0, False, "solved"),
+        )
         running = self.running(played())
         Attempt.objects.filter(pk=running.pk).update(size=300 << 20)
         told = self.rest("post", "/api/matches", body={"network": "ring of 5"})
         self.assertEqual((told.status_code, running.folder.exists()), (429, True))
 
     def test_bodies_that_are_too_large_or_too_deep(self) -> None:
-        for length, name, status in ((9 << 20, "amber", 413), (100 << 10, "", 413), (100 << 10, "amber", 400)):
-            token = {"HTTP_AUTHORIZATION": f"Bearer {self.tokens['amber']}"} if name else {}
+        for length, name, status in (
+            (9 << 20, "amber", 413),
+            (100 << 10, "", 413),
+            (100 << 10, "amber", 400),
+        ):
+            token = (
+                {"HTTP_AUTHORIZATION": f"Bearer {self.tokens['amber']}"} if name else {}
+            )
             self.rest("get", "/api/matches")
-            told = Client().post("/api/matches", b"[" * length, content_type="application/json", **token)
+            told = Client().post(
+                "/api/matches", b"[" * length, content_type="application/json", **token
+            )
             self.assertEqual(told.status_code, status)
         told = Client().post("/login", {"token": "amber\0.x"})
         self.assertEqual(told.status_code, 400)
@@ -209,13 +336,30 @@ class Isolation(Hall):
         """Every answer about an attempt: status, headers and bytes, but for what is random in each answer."""
         client, found = self.client_of(name), []
         number = attempt.pk
-        for path in (f"/matches/{number}", "/matches", f"/api/matches/{number}", "/api/matches", "/api/standings",
-                     f"/matches/{number}/0/page", f"/matches/{number}/0/replay", f"/api/matches/{number}/replays/0",
-                     f"/matches/{number}/1/page", "/", "/screen", "/hand-ins"):
+        for path in (
+            f"/matches/{number}",
+            "/matches",
+            f"/api/matches/{number}",
+            "/api/matches",
+            "/api/standings",
+            f"/matches/{number}/0/page",
+            f"/matches/{number}/0/replay",
+            f"/api/matches/{number}/replays/0",
+            f"/matches/{number}/1/page",
+            "/",
+            "/screen",
+            "/hand-ins",
+        ):
             answer = client.get(path)
-            body = re.sub(rb'name="csrfmiddlewaretoken" value="[^"]+"', b"", answer.content)
-            headers = {name: it for name, it in answer.headers.items() if name != "Set-Cookie"}
-            found.append(repr((path, answer.status_code, sorted(headers.items()), body)).encode())
+            body = re.sub(
+                rb'name="csrfmiddlewaretoken" value="[^"]+"', b"", answer.content
+            )
+            headers = {
+                name: it for name, it in answer.headers.items() if name != "Set-Cookie"
+            }
+            found.append(
+                repr((path, answer.status_code, sorted(headers.items()), body)).encode()
+            )
         return found
 
     def test_matches_that_no_agent_can_tell_apart_have_the_same_answers(self) -> None:
@@ -240,33 +384,67 @@ class Isolation(Hall):
         match.deliver(0)
         attempt = self.running(match)
         text = b"".join(self.answers(attempt))
-        for word in (b"holes&quot;", b'"home', b"lost&quot;: 1", b"Black hole: node", b"was lost by"):
+        for word in (
+            b"holes&quot;",
+            b'"home',
+            b"lost&quot;: 1",
+            b"Black hole: node",
+            b"was lost by",
+        ):
             self.assertNotIn(word, text)
         told = self.rest("get", f"/api/matches/{attempt.pk}").json()
-        self.assertEqual((told["matches"][0]["after"], told["matches"][0]["verdict"], told["solved"]), (None, None, 0))
+        self.assertEqual(
+            (
+                told["matches"][0]["after"],
+                told["matches"][0]["verdict"],
+                told["solved"],
+            ),
+            (None, None, 0),
+        )
 
     def test_another_teams_match_is_as_if_there_were_none(self) -> None:
         for attempt in (self.running(played()), self.over(played())):
             theirs, none = self.client_of("birch"), 999_999
-            for path in ("/matches/{}", "/matches/{}/0/page", "/matches/{}/0/replay", "/api/matches/{}",
-                         "/api/matches/{}/replays/0"):
+            for path in (
+                "/matches/{}",
+                "/matches/{}/0/page",
+                "/matches/{}/0/replay",
+                "/api/matches/{}",
+                "/api/matches/{}/replays/0",
+            ):
                 with self.subTest(path):
-                    one, other = theirs.get(path.format(attempt.pk)), theirs.get(path.format(none))
-                    self.assertEqual((one.status_code, one.content), (404, other.content))
+                    one, other = theirs.get(path.format(attempt.pk)), theirs.get(
+                        path.format(none)
+                    )
+                    self.assertEqual(
+                        (one.status_code, one.content), (404, other.content)
+                    )
             for path in ("/matches/{}/close", "/api/matches/{}/close"):
                 self.assertEqual(theirs.post(path.format(attempt.pk)).status_code, 404)
-                self.assertEqual(self.rest("post", path.format(attempt.pk), "birch").status_code, 404)
+                self.assertEqual(
+                    self.rest("post", path.format(attempt.pk), "birch").status_code, 404
+                )
             attempt.refresh_from_db()
             self.assertFalse(attempt.closing)
             self.assertEqual(Client().get(f"/matches/{attempt.pk}").status_code, 404)
 
     def test_paths_lead_nowhere_else(self) -> None:
         attempt, client = self.over(played()), self.client_of("amber")
-        for path in ("/static/../settings.py", "/static/%2e%2e/settings.py", "/static//etc/passwd",
-                     f"/matches/{attempt.pk}/../../key.txt", "/hall.sqlite3", "/tournament.toml",
-                     f"/matches/{attempt.pk}/0/../tournament.toml", f"/static/{PLACE.folder}/key.txt",
-                     f"/matches/{10 ** 30}", "/matches/-1", f"/api/matches/{10 ** 30}", "/hand-ins/1/result/../../x",
-                     "/matches/1/99999999999/page"):
+        for path in (
+            "/static/../settings.py",
+            "/static/%2e%2e/settings.py",
+            "/static//etc/passwd",
+            f"/matches/{attempt.pk}/../../key.txt",
+            "/hall.sqlite3",
+            "/tournament.toml",
+            f"/matches/{attempt.pk}/0/../tournament.toml",
+            f"/static/{PLACE.folder}/key.txt",
+            f"/matches/{10 ** 30}",
+            "/matches/-1",
+            f"/api/matches/{10 ** 30}",
+            "/hand-ins/1/result/../../x",
+            "/matches/1/99999999999/page",
+        ):
             with self.subTest(path):
                 self.assertIn(client.get(path).status_code, (400, 404))
 
@@ -275,19 +453,32 @@ class Isolation(Hall):
         page = client.get("/").content.decode()
         self.assertIn("&lt;script&gt;alert(1)&lt;/script&gt; Łódź", page)
         self.assertIn("A &lt;b&gt;trial&lt;/b&gt;", page)
-        for text in (page, self.client_of("amber").get(f"/matches/{attempt.pk}").content.decode(),
-                     self.teacher().get("/teacher/attempts/attempt/").content.decode()):
+        for text in (
+            page,
+            self.client_of("amber").get(f"/matches/{attempt.pk}").content.decode(),
+            self.teacher().get("/teacher/attempts/attempt/").content.decode(),
+        ):
             self.assertNotIn("<script>alert", text)
         page = self.client_of("amber").get(f"/matches/{attempt.pk}/0/page")
-        self.assertTrue(page["Content-Security-Policy"].startswith("sandbox allow-scripts; default-src 'none'"))
+        self.assertTrue(
+            page["Content-Security-Policy"].startswith(
+                "sandbox allow-scripts; default-src 'none'"
+            )
+        )
 
     def test_after_the_close_losses_are_told(self) -> None:
         match = played(1)
         match.tell(0, {"do": "depart", "port": 0})
         match.deliver(0)
         attempt = self.over(match)
-        self.assertContains(self.client_of("amber").get(f"/matches/{attempt.pk}"), "Agent 0 was lost by port 0")
+        self.assertContains(
+            self.client_of("amber").get(f"/matches/{attempt.pk}"),
+            "Agent 0 was lost by port 0",
+        )
         told = self.rest("get", f"/api/matches/{attempt.pk}").json()
         self.assertEqual(told["matches"][0]["after"]["holes"], [1])
         replay = self.rest("get", f"/api/matches/{attempt.pk}/replays/0")
-        self.assertEqual(b"".join(replay.streaming_content).decode(), attempt.matches.get().replay.read_text())
+        self.assertEqual(
+            b"".join(replay.streaming_content).decode(),
+            attempt.matches.get().replay.read_text(),
+        )

@@ -12,39 +12,85 @@ from tests.support import halls
 from tests.support.halls import Served, play
 
 # where Debian has the programs of a server of PostgreSQL, which does not run as root
-PROGRAMS = sorted(pathlib.Path("/usr/lib/postgresql").glob("*/bin")) if os.geteuid() == 0 else []
+PROGRAMS = (
+    sorted(pathlib.Path("/usr/lib/postgresql").glob("*/bin"))
+    if os.geteuid() == 0
+    else []
+)
 
 
 def has_all() -> bool:
-    return bool(PROGRAMS) and shutil.which("runuser") is not None and subprocess.run(
-        ["/usr/bin/python3", "-c", "import psycopg2"], stderr=subprocess.DEVNULL).returncode == 0
+    return (
+        bool(PROGRAMS)
+        and shutil.which("runuser") is not None
+        and subprocess.run(
+            ["/usr/bin/python3", "-c", "import psycopg2"], stderr=subprocess.DEVNULL
+        ).returncode
+        == 0
+    )
 
 
-@unittest.skipUnless(has_all(), "Debian's postgresql and python3-psycopg2 are not installed, or this is not root")
+@unittest.skipUnless(
+    has_all(),
+    "Debian's postgresql and python3-psycopg2 are not installed, or this is not root",
+)
 class Postgres(halls.Playing):
     def setUp(self) -> None:
-        self.folder = pathlib.Path(self.enterContext(tempfile.TemporaryDirectory(prefix="postgres-")))
+        self.folder = pathlib.Path(
+            self.enterContext(tempfile.TemporaryDirectory(prefix="postgres-"))
+        )
         self.folder.chmod(0o755)
         data = self.folder / "data"
         data.mkdir()
         shutil.chown(data, "postgres", "postgres")
         self.port = free_port()
-        self.run_as(["initdb", "-D", str(data), "-U", "hall", "-A", "trust", "--no-sync"])
+        self.run_as(
+            ["initdb", "-D", str(data), "-U", "hall", "-A", "trust", "--no-sync"]
+        )
         words = f"-c port={self.port} -c listen_addresses=127.0.0.1 -c unix_socket_directories= -c fsync=off"
-        self.run_as(["pg_ctl", "-D", str(data), "-w", "-l", str(data / "log"), "-o", words, "start"])
-        self.addCleanup(self.run_as, ["pg_ctl", "-D", str(data), "-m", "immediate", "stop"])
-        self.run_as(["createdb", "-h", "127.0.0.1", "-p", str(self.port), "-U", "hall", "hall"])
+        self.run_as(
+            [
+                "pg_ctl",
+                "-D",
+                str(data),
+                "-w",
+                "-l",
+                str(data / "log"),
+                "-o",
+                words,
+                "start",
+            ]
+        )
+        self.addCleanup(
+            self.run_as, ["pg_ctl", "-D", str(data), "-m", "immediate", "stop"]
+        )
+        self.run_as(
+            ["createdb", "-h", "127.0.0.1", "-p", str(self.port), "-U", "hall", "hall"]
+        )
 
     def run_as(self, words: List[str]) -> None:
         program = [str(PROGRAMS[-1] / words[0]), *words[1:]]
-        subprocess.run(["runuser", "-u", "postgres", "--", *program], check=True, stdout=subprocess.DEVNULL,
-                       stdin=subprocess.DEVNULL, cwd="/")
+        subprocess.run(
+            ["runuser", "-u", "postgres", "--", *program],
+            check=True,
+            stdout=subprocess.DEVNULL,
+            stdin=subprocess.DEVNULL,
+            cwd="/",
+        )
 
     def machine(self, hall: Served) -> Any:
         """Another machine, which works for the hall."""
-        variables = {**os.environ, "ARENA_HALL_LEASE": halls.LEASE, "ARENA_HALL_HOST": "localhost"}
-        child = subprocess.Popen(hall.words("worker", hall.course), cwd=halls.TOP, stdin=subprocess.DEVNULL,
-                                 env=variables)
+        variables = {
+            **os.environ,
+            "ARENA_HALL_LEASE": halls.LEASE,
+            "ARENA_HALL_HOST": "localhost",
+        }
+        child = subprocess.Popen(
+            hall.words("worker", hall.course),
+            cwd=halls.TOP,
+            stdin=subprocess.DEVNULL,
+            env=variables,
+        )
         for clean in (child.wait, child.terminate):
             self.addCleanup(clean)
         return child
@@ -57,7 +103,9 @@ class Postgres(halls.Playing):
             first = hall.asked(tokens["amber"])
             self.ended(play(hall.begins(tokens["amber"], first)))
             before = hall.over(tokens["amber"], first)
-            self.assertEqual((before["solved"], before["matches"][0]["host"]), (1, "localhost"))
+            self.assertEqual(
+                (before["solved"], before["matches"][0]["host"]), (1, "localhost")
+            )
             numbers = {name: hall.asked(token) for name, token in tokens.items()}
             for name, number in numbers.items():
                 hall.begins(tokens[name], number)
@@ -69,26 +117,46 @@ class Postgres(halls.Playing):
             for name, number in numbers.items():
                 self.assertEqual(hall.over(tokens[name], number)["solved"], 1)
             self.assertEqual(hall.servers(), [])
-            self.assertEqual(halls.came(hall.over(tokens["amber"], first)), halls.came(before))
+            self.assertEqual(
+                halls.came(hall.over(tokens["amber"], first)), halls.came(before)
+            )
             archive = self.folder / "hall.tar.gz"
             path = f"{PROGRAMS[-1]}:{os.environ['PATH']}"
-            subprocess.run(hall.words("backup", hall.course, archive), check=True, cwd=halls.TOP,
-                           stdout=subprocess.DEVNULL, env={**os.environ, "PATH": path})
+            subprocess.run(
+                hall.words("backup", hall.course, archive),
+                check=True,
+                cwd=halls.TOP,
+                stdout=subprocess.DEVNULL,
+                env={**os.environ, "PATH": path},
+            )
             number = hall.asked(tokens["cedar"])
             hall.ask("POST", f"/api/matches/{number}/close", tokens["cedar"])
             hall.over(tokens["cedar"], number)
             hall.stop()
-            subprocess.run(hall.words("restore", hall.course, archive), check=True, cwd=halls.TOP,
-                           stdout=subprocess.DEVNULL, env={**os.environ, "PATH": path})
+            subprocess.run(
+                hall.words("restore", hall.course, archive),
+                check=True,
+                cwd=halls.TOP,
+                stdout=subprocess.DEVNULL,
+                env={**os.environ, "PATH": path},
+            )
             hall.start()
-            self.assertEqual(hall.ask("GET", f"/api/matches/{number}", tokens["cedar"]).status, 404)
-            self.assertEqual(halls.came(hall.over(tokens["amber"], first)), halls.came(before))
-            self.assertEqual(len(list(hall.folder.parent.glob("trial.hall.*/hall.sql"))), 1)
+            self.assertEqual(
+                hall.ask("GET", f"/api/matches/{number}", tokens["cedar"]).status, 404
+            )
+            self.assertEqual(
+                halls.came(hall.over(tokens["amber"], first)), halls.came(before)
+            )
+            self.assertEqual(
+                len(list(hall.folder.parent.glob("trial.hall.*/hall.sql"))), 1
+            )
 
     def again(self, hall: Served, numbers: Dict[str, int]) -> Iterator[Dict[str, Any]]:
         """The attempts once their second runs have begun."""
         for name, number in numbers.items():
             path = hall.folder / "attempts" / str(number) / "run2"
             hall.wait(path.exists, f"attempt {number} begins again")
-            hall.wait(lambda: hall.servers(f"{number}/run2"), f"attempt {number} has a server")
+            hall.wait(
+                lambda: hall.servers(f"{number}/run2"), f"attempt {number} has a server"
+            )
             yield hall.begins(hall.tokens()[name], number)

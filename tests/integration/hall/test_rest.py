@@ -29,21 +29,38 @@ class Standings(Hall):
     """The table of the course."""
 
     def rows(self, path: str = "/api/standings", name: str = "birch") -> Any:
-        return [(row["place"], row["team"], row["solved"]) for row in self.rest("get", path, name).json()["teams"]]
+        return [
+            (row["place"], row["team"], row["solved"])
+            for row in self.rest("get", path, name).json()["teams"]
+        ]
 
     def test_the_last_hand_in_counts_and_who_has_none_stands_last(self) -> None:
         graded("amber", 2)
         graded("amber", 1)
         graded("birch", 1, 9)
-        self.assertEqual(self.rows(), [(1, "amber", 1), (2, "birch", 1), (3, "cedar", 0)])
+        self.assertEqual(
+            self.rows(), [(1, "amber", 1), (2, "birch", 1), (3, "cedar", 0)]
+        )
         told = self.rest("get", "/api/standings").json()
-        self.assertEqual((told["networks"], told["teams"][0]["cells"], told["secret"], told["frozen"]),
-                         (["ring:5"], [{"solved": 1, "matches": 2}], False, None))
+        self.assertEqual(
+            (
+                told["networks"],
+                told["teams"][0]["cells"],
+                told["secret"],
+                told["frozen"],
+            ),
+            (["ring:5"], [{"solved": 1, "matches": 2}], False, None),
+        )
         self.assertTrue(told["teams"][2]["absent"])
 
     def test_practice_is_not_ranked(self) -> None:
         self.over(played())
-        self.assertTrue(all(row["absent"] for row in self.rest("get", "/api/standings").json()["teams"]))
+        self.assertTrue(
+            all(
+                row["absent"]
+                for row in self.rest("get", "/api/standings").json()["teams"]
+            )
+        )
 
     def test_the_freeze_hides_what_came_later_from_all_but_the_teacher(self) -> None:
         graded("amber", 1)
@@ -72,20 +89,38 @@ class Standings(Hall):
             self.assertEqual(self.rows()[0], (1, "amber", 1))
             Reveal.objects.create()
             told = self.rest("get", "/api/standings").json()
-            self.assertEqual((self.rows()[0], told["frozen"], told["secret"]), ((1, "amber", 2), None, False))
+            self.assertEqual(
+                (self.rows()[0], told["frozen"], told["secret"]),
+                ((1, "amber", 2), None, False),
+            )
             Reveal.objects.create(what=Reveal.SECRET)
-            self.assertEqual(self.rows(), [(1, "birch", 1), (2, "amber", 0), (2, "cedar", 0)])
+            self.assertEqual(
+                self.rows(), [(1, "birch", 1), (2, "amber", 0), (2, "cedar", 0)]
+            )
             self.assertTrue(self.rest("get", "/api/standings").json()["secret"])
 
     def test_who_may_see_them(self) -> None:
-        self.assertEqual([Client().get(path).status_code for path in ("/", "/screen")], [302, 302])
+        self.assertEqual(
+            [Client().get(path).status_code for path in ("/", "/screen")], [302, 302]
+        )
         self.assertEqual(Client().get("/api/standings").status_code, 401)
         with halled(public=True):
-            self.assertEqual([Client().get(path).status_code for path in ("/", "/screen", "/api/standings")], [200] * 3)
+            self.assertEqual(
+                [
+                    Client().get(path).status_code
+                    for path in ("/", "/screen", "/api/standings")
+                ],
+                [200] * 3,
+            )
 
     def test_tables_are_made_once_however_often_they_are_asked_for(self) -> None:
-        kept = {**settings.CACHES, "default": {"BACKEND": "django.core.cache.backends.locmem.LocMemCache"}}
-        with self.settings(CACHES=kept), mock.patch.object(tables, "tables", wraps=tables.tables) as made:
+        kept = {
+            **settings.CACHES,
+            "default": {"BACKEND": "django.core.cache.backends.locmem.LocMemCache"},
+        }
+        with self.settings(CACHES=kept), mock.patch.object(
+            tables, "tables", wraps=tables.tables
+        ) as made:
             for name in ("amber", "birch", "cedar"):
                 self.rest("get", "/api/standings", name)
             self.assertEqual(made.call_count, 1)
@@ -102,8 +137,13 @@ class Standings(Hall):
         client = self.teacher()
         self.assertContains(client.get("/"), 'href="/teacher/standings.csv"')
         table = client.get("/teacher/standings.csv").content.decode().splitlines()
-        self.assertEqual(table[:2], ["place,team,name,solved,matches,moves,lost,ring:5: solved,ring:5: matches",
-                                     "1,amber,amber,1,2,7,0,1,2"])
+        self.assertEqual(
+            table[:2],
+            [
+                "place,team,name,solved,matches,moves,lost,ring:5: solved,ring:5: matches",
+                "1,amber,amber,1,2,7,0,1,2",
+            ],
+        )
 
     def test_tables_have_no_formulas(self) -> None:
         Team.objects.filter(name="amber").update(display="=1+1")
@@ -111,12 +151,20 @@ class Standings(Hall):
         with tempfile.TemporaryDirectory() as folder:
             sheet = pathlib.Path(folder) / "keys.csv"
             keys.write_sheet(sheet, [("amber", "=1+1", "amber.token")])
-            self.assertEqual(sheet.read_text(), "team,name,token\namber,'=1+1,amber.token\n")
-        self.assertEqual(self.client_of("amber").get("/teacher/standings.csv").status_code, 302)
+            self.assertEqual(
+                sheet.read_text(), "team,name,token\namber,'=1+1,amber.token\n"
+            )
+        self.assertEqual(
+            self.client_of("amber").get("/teacher/standings.csv").status_code, 302
+        )
 
     def test_languages(self) -> None:
         client = self.client_of("amber")
-        for language, word in (("de", "Tabelle"), ("fr", "Classement"), ("en", "Standings")):
+        for language, word in (
+            ("de", "Tabelle"),
+            ("fr", "Classement"),
+            ("en", "Standings"),
+        ):
             client.post("/language/setlang/", {"language": language, "next": "/"})
             self.assertContains(client.get("/"), f"<h1>{word}</h1>")
 
@@ -125,8 +173,15 @@ def contest_of(**given: Any) -> Contest:
     """A contest that goes on."""
     now = timezone.now()
     hour = timezone.timedelta(hours=1)
-    return Contest.objects.create(**{"name": "finale", "networks": ["ring of 5", "torus with a map"],
-                                     "start": now - hour, "end": now + hour, **given})
+    return Contest.objects.create(
+        **{
+            "name": "finale",
+            "networks": ["ring of 5", "torus with a map"],
+            "start": now - hour,
+            "end": now + hour,
+            **given,
+        }
+    )
 
 
 class Contests(Hall):
@@ -143,36 +198,70 @@ class Contests(Hall):
             Grading.objects.update(state=machine.OVER)
             taking.sent.clear()
         hour = timezone.timedelta(hours=1)
-        Contest.objects.update(start=timezone.now() + hour, end=timezone.now() + 2 * hour)
+        Contest.objects.update(
+            start=timezone.now() + hour, end=timezone.now() + 2 * hour
+        )
         self.assertEqual(self.status_of(contest.pk), 403)
         self.assertEqual(self.rest("get", "/api/contests").json()[0]["networks"], [])
-        self.assertEqual(self.client_of("amber").get(f"/contests/{contest.pk}").status_code, 404)
-        Contest.objects.update(start=timezone.now() - 2 * hour, end=timezone.now() - hour)
-        self.assertEqual((self.status_of(contest.pk), self.status_of(contest.pk + 1)), (403, 404))
+        self.assertEqual(
+            self.client_of("amber").get(f"/contests/{contest.pk}").status_code, 404
+        )
+        Contest.objects.update(
+            start=timezone.now() - 2 * hour, end=timezone.now() - hour
+        )
+        self.assertEqual(
+            (self.status_of(contest.pk), self.status_of(contest.pk + 1)), (403, 404)
+        )
         # its hand-ins take none of those of the course
-        self.assertEqual(taking.left_today(self.team("amber")), settings.HALL.hand_ins.a_day)
+        self.assertEqual(
+            taking.left_today(self.team("amber")), settings.HALL.hand_ins.a_day
+        )
 
     def test_a_team_may_have_a_deadline_of_its_own(self) -> None:
         contest = contest_of()
-        self.assertEqual((self.status_of(contest.pk), self.status_of(contest.pk, "birch")), (201, 201))
+        self.assertEqual(
+            (self.status_of(contest.pk), self.status_of(contest.pk, "birch")),
+            (201, 201),
+        )
         now, minute = timezone.now(), timezone.timedelta(minutes=1)
         Contest.objects.update(end=now - minute)
-        Extension.objects.create(team=self.team("amber"), contest=contest, until=now + minute)
-        self.assertEqual((self.status_of(contest.pk), self.status_of(contest.pk, "birch")), (201, 403))
-        self.assertContains(self.client_of("amber").get("/hand-ins"), "finale</bdi></small></h2>")
+        Extension.objects.create(
+            team=self.team("amber"), contest=contest, until=now + minute
+        )
+        self.assertEqual(
+            (self.status_of(contest.pk), self.status_of(contest.pk, "birch")),
+            (201, 403),
+        )
+        self.assertContains(
+            self.client_of("amber").get("/hand-ins"), "finale</bdi></small></h2>"
+        )
         # the secret draw comes for each team once it can hand in no more
-        self.assertEqual([taking.grade_secretly(now), taking.grade_secretly(now)], [1, 0])
+        self.assertEqual(
+            [taking.grade_secretly(now), taking.grade_secretly(now)], [1, 0]
+        )
         self.assertEqual(taking.grade_secretly(now + 2 * minute), 1)
-        self.assertEqual([it.hand_in.team.name for it in Grading.objects.filter(is_secret=True).order_by("pk")],
-                         ["birch", "amber"])
+        self.assertEqual(
+            [
+                it.hand_in.team.name
+                for it in Grading.objects.filter(is_secret=True).order_by("pk")
+            ],
+            ["birch", "amber"],
+        )
 
-    def test_all_teams_have_one_secret_draw_and_contests_have_different_ones(self) -> None:
+    def test_all_teams_have_one_secret_draw_and_contests_have_different_ones(
+        self,
+    ) -> None:
         one, other = contest_of(), contest_of()
-        drawn = [grading.drawn_from(graded(name, is_secret=True, contest=contest)) for contest in (one, other, None)
-                 for name in ("amber", "birch")]
+        drawn = [
+            grading.drawn_from(graded(name, is_secret=True, contest=contest))
+            for contest in (one, other, None)
+            for name in ("amber", "birch")
+        ]
         self.assertEqual((drawn[0], drawn[2], drawn[4]), (drawn[1], drawn[3], drawn[5]))
         self.assertEqual(len(set(drawn)), 3)
-        self.assertEqual(len({grading.drawn_from(graded("amber", contest=one)) for _ in range(2)}), 2)
+        self.assertEqual(
+            len({grading.drawn_from(graded("amber", contest=one)) for _ in range(2)}), 2
+        )
 
     def test_its_table_freezes_and_is_unveiled_by_itself(self) -> None:
         contest = contest_of()
@@ -182,70 +271,125 @@ class Contests(Hall):
         path = f"/api/contests/{contest.pk}"
 
         def told() -> Any:
-            return [row["team"] for row in self.rest("get", path).json()["teams"] if not row["absent"]]
+            return [
+                row["team"]
+                for row in self.rest("get", path).json()["teams"]
+                if not row["absent"]
+            ]
+
         self.assertEqual(told(), ["amber"])
         for page in (f"/contests/{contest.pk}", f"/contests/{contest.pk}/screen"):
             self.assertContains(self.client_of("amber").get(page), "Frozen since")
             self.assertContains(self.client_of("amber").get(page), "torus with a map")
         self.assertContains(self.teacher().get(f"/contests/{contest.pk}"), "2 of 2")
-        self.assertContains(self.teacher().get(f"/teacher/contests/{contest.pk}.csv"), "1,birch,")
+        self.assertContains(
+            self.teacher().get(f"/teacher/contests/{contest.pk}.csv"), "1,birch,"
+        )
         Reveal.objects.create()
         self.assertEqual(told(), ["amber"])
         Reveal.objects.create(contest=contest)
         self.assertEqual(told(), ["birch", "amber"])
-        self.assertTrue(all(row["absent"] for row in self.rest("get", "/api/standings").json()["teams"]))
+        self.assertTrue(
+            all(
+                row["absent"]
+                for row in self.rest("get", "/api/standings").json()["teams"]
+            )
+        )
 
     def test_the_form_refuses_what_cannot_be(self) -> None:
         client, now = self.teacher(), timezone.localtime()
 
         def planned(networks: Any, hours: int, length: int, freeze: int = 0) -> int:
             row: Dict[str, Any] = {"name": "x", "networks": networks}
-            for name, moment in (("start", hours), ("end", hours + length), ("freeze", freeze)):
+            for name, moment in (
+                ("start", hours),
+                ("end", hours + length),
+                ("freeze", freeze),
+            ):
                 at = now + timezone.timedelta(hours=moment)
-                row.update({f"{name}_0": f"{at:%Y-%m-%d}", f"{name}_1": f"{at:%H:%M:%S}"} if moment else {})
+                row.update(
+                    {f"{name}_0": f"{at:%Y-%m-%d}", f"{name}_1": f"{at:%H:%M:%S}"}
+                    if moment
+                    else {}
+                )
             client.post("/teacher/handins/contest/add/", row)
             return Contest.objects.count()
-        for refused in ((["ring of five"], 1, 1), ([], 1, 1), (["ring of 5"], -1, 3), (["ring of 5"], 2, -1),
-                        (["ring of 5"], 1, 1, 9)):
+
+        for refused in (
+            (["ring of five"], 1, 1),
+            ([], 1, 1),
+            (["ring of 5"], -1, 3),
+            (["ring of 5"], 2, -1),
+            (["ring of 5"], 1, 1, 9),
+        ):
             self.assertEqual(planned(*refused), 0, refused)
         self.assertEqual(planned(["ring of 5", "torus with a map"], 1, 2, 2), 1)
-        self.assertEqual(Contest.objects.get().networks, ["ring of 5", "torus with a map"])
+        self.assertEqual(
+            Contest.objects.get().networks, ["ring of 5", "torus with a map"]
+        )
 
 
 class HandIns(Hall):
     def test_a_hand_in_waits_to_be_graded(self) -> None:
         told = self.hand_in(b"print()")
-        self.assertEqual((told.status_code, told.json()["state"], told.json()["result"]), (201, "waiting", None))
-        self.assertEqual((HandIn.objects.get().folder / "files" / "agent.py").read_bytes(), b"print()")
-        self.assertEqual(self.rest("get", f"/api/hand-ins/{told.json()['id']}", "birch").status_code, 404)
-        self.assertEqual(self.rest("get", f"/api/hand-ins/{told.json()['id']}").status_code, 200)
+        self.assertEqual(
+            (told.status_code, told.json()["state"], told.json()["result"]),
+            (201, "waiting", None),
+        )
+        self.assertEqual(
+            (HandIn.objects.get().folder / "files" / "agent.py").read_bytes(),
+            b"print()",
+        )
+        self.assertEqual(
+            self.rest("get", f"/api/hand-ins/{told.json()['id']}", "birch").status_code,
+            404,
+        )
+        self.assertEqual(
+            self.rest("get", f"/api/hand-ins/{told.json()['id']}").status_code, 200
+        )
 
     def test_a_hand_in_has_a_page_with_its_sources(self) -> None:
-        self.hand_in(zipped({"agent.py": b"print('<script>')", "more/data.bin": b"\xff\xfe"}))
+        self.hand_in(
+            zipped({"agent.py": b"print('<script>')", "more/data.bin": b"\xff\xfe"})
+        )
         path = f"/hand-ins/{HandIn.objects.get().pk}"
         for client in (self.client_of("amber"), self.teacher()):
             self.assertContains(client.get(path), "print(&#x27;&lt;script&gt;&#x27;)")
             self.assertContains(client.get(path), "more/data.bin")
         self.assertEqual(self.client_of("birch").get(path).status_code, 404)
         self.assertContains(self.client_of("amber").get("/hand-ins"), f'href="{path}"')
-        self.assertContains(self.teacher().get("/teacher/handins/handin/"), f'href="{path}"')
+        self.assertContains(
+            self.teacher().get("/teacher/handins/handin/"), f'href="{path}"'
+        )
 
     def test_a_team_that_is_deleted_leaves_no_files(self) -> None:
         for name in ("amber", "birch"):
             self.assertEqual(self.hand_in(b"print()", name).status_code, 201)
-        gone, kept = (HandIn.objects.get(team__name=name).folder for name in ("amber", "birch"))
-        attempt = Attempt.objects.create(team=Team.objects.get(name="amber"), network="ring of 5")
+        gone, kept = (
+            HandIn.objects.get(team__name=name).folder for name in ("amber", "birch")
+        )
+        attempt = Attempt.objects.create(
+            team=Team.objects.get(name="amber"), network="ring of 5"
+        )
         attempt.folder.mkdir(parents=True)
         with self.captureOnCommitCallbacks(execute=True):
             team = Team.objects.get(name="amber")
-            self.teacher().post(f"/teacher/teams/team/{team.pk}/delete/", {"post": "yes"})
-        self.assertEqual([it.exists() for it in (gone, attempt.folder, kept)], [False, False, True])
+            self.teacher().post(
+                f"/teacher/teams/team/{team.pk}/delete/", {"post": "yes"}
+            )
+        self.assertEqual(
+            [it.exists() for it in (gone, attempt.folder, kept)], [False, False, True]
+        )
 
     def test_limits(self) -> None:
-        self.assertEqual([self.hand_in(b"x").status_code for _ in range(4)], [201, 201, 201, 429])
+        self.assertEqual(
+            [self.hand_in(b"x").status_code for _ in range(4)], [201, 201, 201, 429]
+        )
         self.assertEqual(self.hand_in(b"x", "birch").status_code, 201)
         Grading.objects.update(state=machine.OVER)
-        self.assertEqual([self.hand_in(b"x").status_code for _ in range(3)], [201, 201, 201])
+        self.assertEqual(
+            [self.hand_in(b"x").status_code for _ in range(3)], [201, 201, 201]
+        )
         Grading.objects.update(state=machine.OVER)
         HandIn.objects.filter(team__name="amber").update(size=300 << 20)
         self.assertEqual(self.hand_in(b"x").status_code, 429)
@@ -254,23 +398,35 @@ class HandIns(Hall):
         told = self.hand_in(zipped({"../../evil.py": b"x"}))
         self.assertEqual((told.status_code, HandIn.objects.count()), (400, 0))
         self.assertFalse((PLACE.folder / "hand-ins").exists())
-        page = self.client_of("amber").post("/hand-ins/take", {"file": SimpleUploadedFile("x", b"")})
+        page = self.client_of("amber").post(
+            "/hand-ins/take", {"file": SimpleUploadedFile("x", b"")}
+        )
         self.assertEqual(page.status_code, 400)
 
-    def test_after_the_deadline_nothing_is_taken_and_the_last_is_graded_secretly(self) -> None:
+    def test_after_the_deadline_nothing_is_taken_and_the_last_is_graded_secretly(
+        self,
+    ) -> None:
         for _ in range(2):
             self.assertEqual(self.hand_in(b"x").status_code, 201)
         with halled(hand_ins=settings.HALL.hand_ins._replace(deadline=timezone.now())):
             self.assertEqual(self.hand_in(b"x").status_code, 403)
             later = timezone.now() + timezone.timedelta(seconds=1)
-            self.assertEqual([taking.grade_secretly(later), taking.grade_secretly(later)], [1, 0])
+            self.assertEqual(
+                [taking.grade_secretly(later), taking.grade_secretly(later)], [1, 0]
+            )
         secret = Grading.objects.get(is_secret=True)
         self.assertEqual(secret.hand_in, HandIn.objects.order_by("-pk").first())
         # nothing of it is told before the teacher shows it
-        Grading.objects.filter(pk=secret.pk).update(state=machine.OVER, solved=77, matches=77)
-        texts = [self.client_of("amber").get(path).content for path in ("/hand-ins", "/", "/api/standings",
-                                                                        "/api/hand-ins")]
-        self.assertNotIn(b"77", b"".join(re.sub(rb"[\w]{40,}", b"", text) for text in texts))
+        Grading.objects.filter(pk=secret.pk).update(
+            state=machine.OVER, solved=77, matches=77
+        )
+        texts = [
+            self.client_of("amber").get(path).content
+            for path in ("/hand-ins", "/", "/api/standings", "/api/hand-ins")
+        ]
+        self.assertNotIn(
+            b"77", b"".join(re.sub(rb"[\w]{40,}", b"", text) for text in texts)
+        )
         Reveal.objects.create(what=Reveal.SECRET)
         self.assertContains(self.client_of("amber").get("/"), "77 of 77")
 
@@ -289,9 +445,17 @@ class HandIns(Hall):
         page = client.get(path)
         self.assertEqual(b"".join(page.streaming_content), b"<script>1</script>")
         self.assertIn("sandbox", page["Content-Security-Policy"])
-        self.assertEqual(client.get(f"{path}failed/amber-0/match0.jsonl").status_code, 200)
-        for other in ("secret.txt", "runs.csv", "../secret.txt", "failed/../../secret.txt", "failed/amber-0/..",
-                      "failed/amber-0"):
+        self.assertEqual(
+            client.get(f"{path}failed/amber-0/match0.jsonl").status_code, 200
+        )
+        for other in (
+            "secret.txt",
+            "runs.csv",
+            "../secret.txt",
+            "failed/../../secret.txt",
+            "failed/amber-0/..",
+            "failed/amber-0",
+        ):
             self.assertEqual(client.get(path + other).status_code, 404, other)
         self.assertEqual(self.client_of("birch").get(path).status_code, 404)
 
@@ -301,54 +465,94 @@ class Messages(Hall):
 
     def test_who_sees_what(self) -> None:
         amber, birch = self.client_of("amber"), self.client_of("birch")
-        self.assertEqual(amber.post("/messages", {"text": "<b>why</b>?"}).status_code, 302)
+        self.assertEqual(
+            amber.post("/messages", {"text": "<b>why</b>?"}).status_code, 302
+        )
         Message.objects.create(text="tomorrow is a contest")
         for client in (amber, birch):
             self.assertContains(client.get("/messages"), "tomorrow is a contest")
         self.assertContains(amber.get("/messages"), "&lt;b&gt;why&lt;/b&gt;?")
         question = Message.objects.get(team=self.team("amber"))
-        for answer, is_public, sees in (("", True, False), ("because", False, False), ("because", True, True)):
-            Message.objects.filter(pk=question.pk).update(answer=answer, is_public=is_public)
+        for answer, is_public, sees in (
+            ("", True, False),
+            ("because", False, False),
+            ("because", True, True),
+        ):
+            Message.objects.filter(pk=question.pk).update(
+                answer=answer, is_public=is_public
+            )
             self.assertEqual(b"why" in birch.get("/messages").content, sees)
         self.assertContains(amber.get("/messages"), "because")
         self.assertEqual(Client().get("/messages").status_code, 302)
 
     def test_questions_are_bounded(self) -> None:
         client = self.client_of("amber")
-        self.assertEqual(client.post("/messages", {"text": "x" * 2_001}).status_code, 400)
-        told = [client.post("/messages", {"text": "why?"}).status_code for _ in range(6)]
+        self.assertEqual(
+            client.post("/messages", {"text": "x" * 2_001}).status_code, 400
+        )
+        told = [
+            client.post("/messages", {"text": "why?"}).status_code for _ in range(6)
+        ]
         self.assertEqual(told, [302] * 5 + [429])
-        self.assertEqual(self.client_of("birch").post("/messages", {"text": "why?"}).status_code, 302)
+        self.assertEqual(
+            self.client_of("birch").post("/messages", {"text": "why?"}).status_code, 302
+        )
 
 
 class Teachers(Hall):
     def test_teams_are_no_teachers(self) -> None:
         client = self.client_of("amber")
-        for path in ("/teacher/", "/teacher/teams/team/", "/teacher/attempts/attempt/", "/teacher/teams/entry/"):
+        for path in (
+            "/teacher/",
+            "/teacher/teams/team/",
+            "/teacher/attempts/attempt/",
+            "/teacher/teams/entry/",
+        ):
             self.assertIn("/teacher/login/", client.get(path)["Location"])
 
     def test_pages_of_the_teacher(self) -> None:
         client = self.teacher()
         self.over(played())
         self.running(played(), "birch")
-        for path in ("", "teams/team/", "teams/team/add/", "attempts/attempt/", "teams/switch/", "handins/contest/add/",
-                     "handins/extension/add/", "handins/grading/", "teams/message/add/", "teams/entry/",
-                     "standings/reveal/add/"):
+        for path in (
+            "",
+            "teams/team/",
+            "teams/team/add/",
+            "attempts/attempt/",
+            "teams/switch/",
+            "handins/contest/add/",
+            "handins/extension/add/",
+            "handins/grading/",
+            "teams/message/add/",
+            "teams/entry/",
+            "standings/reveal/add/",
+        ):
             self.assertEqual(client.get(f"/teacher/{path}").status_code, 200, path)
-        self.assertContains(client.get(f"/matches/{Attempt.objects.order_by('pk').first().pk}"), "solved")
+        self.assertContains(
+            client.get(f"/matches/{Attempt.objects.order_by('pk').first().pk}"),
+            "solved",
+        )
 
     def test_key_sheets(self) -> None:
         client, team = self.teacher(), self.team("cedar")
-        told = client.post("/teacher/teams/team/", {"action": "draw_tokens", "_selected_action": [team.pk]})
+        told = client.post(
+            "/teacher/teams/team/",
+            {"action": "draw_tokens", "_selected_action": [team.pk]},
+        )
         token = told.content.decode().splitlines()[1].split(",")[2]
         self.assertEqual(Client().post("/login", {"token": token}).status_code, 302)
-        self.assertEqual(Client().post("/login", {"token": self.tokens["cedar"]}).status_code, 403)
+        self.assertEqual(
+            Client().post("/login", {"token": self.tokens["cedar"]}).status_code, 403
+        )
         self.assertNotIn(token, str(list(Entry.objects.values())))
         self.assertTrue(Entry.objects.filter(what="draws a token for cedar").exists())
 
     def test_actions(self) -> None:
         client, running = self.teacher(), self.running(played(), "birch")
-        client.post("/teacher/attempts/attempt/", {"action": "close", "_selected_action": [running.pk]})
+        client.post(
+            "/teacher/attempts/attempt/",
+            {"action": "close", "_selected_action": [running.pk]},
+        )
         running.refresh_from_db()
         self.assertTrue(running.closing)
         self.assertContains(client.get("/teacher/admin/logentry/"), "closed")
@@ -356,18 +560,31 @@ class Teachers(Hall):
     def test_a_tutor_sees_and_does_what_the_teacher_allows(self) -> None:
         graded("amber", 1)
         running = self.running(played(), "birch")
-        tutor = get_user_model().objects.create_user("tutor", password="another long password", is_staff=True)
+        tutor = get_user_model().objects.create_user(
+            "tutor", password="another long password", is_staff=True
+        )
         client = Client()
-        self.assertTrue(client.login(username="tutor", password="another long password"))
+        self.assertTrue(
+            client.login(username="tutor", password="another long password")
+        )
 
         def tried() -> Any:
-            told = [client.get(path).status_code for path in (f"/matches/{running.pk}", "/teacher/standings.csv")]
+            told = [
+                client.get(path).status_code
+                for path in (f"/matches/{running.pk}", "/teacher/standings.csv")
+            ]
             told.append(client.post(f"/matches/{running.pk}/close").status_code)
-            client.post("/teacher/attempts/attempt/", {"action": "close", "_selected_action": [running.pk]})
+            client.post(
+                "/teacher/attempts/attempt/",
+                {"action": "close", "_selected_action": [running.pk]},
+            )
             running.refresh_from_db()
             return [*told, running.closing]
+
         self.assertEqual(tried(), [404, 403, 404, False])
-        tutor.user_permissions.add(*Permission.objects.filter(codename__in=("view_attempt", "view_grading")))
+        tutor.user_permissions.add(
+            *Permission.objects.filter(codename__in=("view_attempt", "view_grading"))
+        )
         self.assertEqual(tried(), [200, 200, 404, False])
         tutor.user_permissions.add(Permission.objects.get(codename="change_attempt"))
         self.assertEqual(tried(), [200, 200, 302, True])
@@ -376,13 +593,21 @@ class Teachers(Hall):
         for number in range(60):
             Team.objects.create(name=f"team{number}")
         client, teams = self.teacher(), list(Team.objects.order_by("name"))
-        row: Dict[str, Any] = {"form-TOTAL_FORMS": len(teams), "form-INITIAL_FORMS": len(teams), "_save": "Save"}
+        row: Dict[str, Any] = {
+            "form-TOTAL_FORMS": len(teams),
+            "form-INITIAL_FORMS": len(teams),
+            "_save": "Save",
+        }
         for place, team in enumerate(teams):
-            row.update({f"form-{place}-id": team.pk, f"form-{place}-display": f"Team {place}"})
+            row.update(
+                {f"form-{place}-id": team.pk, f"form-{place}-display": f"Team {place}"}
+            )
         self.assertEqual(client.post("/teacher/teams/team/", row).status_code, 302)
         self.assertEqual(Team.objects.filter(display="Team 62").count(), 1)
-        told = client.post("/teacher/teams/team/", {"action": "draw_tokens", "_selected_action": [
-            team.pk for team in teams]})
+        told = client.post(
+            "/teacher/teams/team/",
+            {"action": "draw_tokens", "_selected_action": [team.pk for team in teams]},
+        )
         self.assertEqual(len(told.content.decode().splitlines()), 64)
 
     def test_the_health_of_a_hall(self) -> None:
@@ -398,26 +623,48 @@ class Documented(Hall):
 
     def test_each_answer_is_as_the_file_says(self) -> None:
         import jsonschema
+
         document = self.rest("get", "/api/openapi.json", "").json()
         self.over(played())
         self.running(played())
         self.rest("post", "/api/matches", body={"network": "torus with a map"})
         contest = contest_of()
         graded("amber", contest=contest)
-        answers = {"/networks": {}, "/matches": {}, "/standings": {}, "/hand-ins": {}, "/contests": {}}
+        answers = {
+            "/networks": {},
+            "/matches": {},
+            "/standings": {},
+            "/hand-ins": {},
+            "/contests": {},
+        }
         numbers = [it.pk for it in Attempt.objects.all()]
-        paths: Dict[str, str] = {**{path: path for path in answers}, "/openapi.json": "/openapi.json",
-                                 **{f"/matches/{number}": "/matches/{id}" for number in numbers},
-                                 f"/contests/{contest.pk}": "/contests/{id}"}
+        paths: Dict[str, str] = {
+            **{path: path for path in answers},
+            "/openapi.json": "/openapi.json",
+            **{f"/matches/{number}": "/matches/{id}" for number in numbers},
+            f"/contests/{contest.pk}": "/contests/{id}",
+        }
         for path, name in paths.items():
             told = self.rest("get", f"/api{path}")
-            schema = document["paths"][name]["get"]["responses"]["200"]["content"]["application/json"]["schema"]
+            schema = document["paths"][name]["get"]["responses"]["200"]["content"][
+                "application/json"
+            ]["schema"]
             with self.subTest(path):
-                jsonschema.validate(told.json(), {**schema, "components": document["components"]})
+                jsonschema.validate(
+                    told.json(), {**schema, "components": document["components"]}
+                )
 
     def test_each_path_stands_in_the_file(self) -> None:
         from arena_lab.hall.urls import API
+
         document = self.rest("get", "/api/openapi.json", "").json()
-        found = {"/" + re.sub("<number:(number|match)>", lambda it: {"number": "{id}", "match": "{match}"}[it[1]],
-                              str(entry.pattern)) for entry in API}
+        found = {
+            "/"
+            + re.sub(
+                "<number:(number|match)>",
+                lambda it: {"number": "{id}", "match": "{match}"}[it[1]],
+                str(entry.pattern),
+            )
+            for entry in API
+        }
         self.assertEqual(set(document["paths"]), found)

@@ -20,12 +20,17 @@ SYSTEMD = "/lib/systemd/systemd"
 # how exposed systemd may find the service, of 100; and how long the whole play may take
 MOST_EXPOSED, PATIENCE = 37, 900
 # on which networks the course grades, and fewer for this play
-GRADED, FEWER = 'networks = ["ring:8", "ring:12"]', 'networks = ["ring:5"]\nholes = 1\nseeds = 1'
+GRADED, FEWER = (
+    'networks = ["ring:8", "ring:12"]',
+    'networks = ["ring:5"]\nholes = 1\nseeds = 1',
+)
 # what a system starts besides, and has nothing to do with a hall
-NOT_STARTED = ("systemd-udevd.service systemd-udev-trigger.service systemd-udevd-control.socket "
-               "systemd-udevd-kernel.socket systemd-networkd.service systemd-resolved.service systemd-sysctl.service "
-               "systemd-modules-load.service systemd-random-seed.service systemd-logind.service dbus.service "
-               "dbus.socket nginx.service postgresql.service cron.service").split()
+NOT_STARTED = (
+    "systemd-udevd.service systemd-udev-trigger.service systemd-udevd-control.socket "
+    "systemd-udevd-kernel.socket systemd-networkd.service systemd-resolved.service systemd-sysctl.service "
+    "systemd-modules-load.service systemd-random-seed.service systemd-logind.service dbus.service "
+    "dbus.socket nginx.service postgresql.service cron.service"
+).split()
 # the first process: makes the copy of the system, and becomes its systemd
 FIRST = """
 set -e
@@ -55,7 +60,9 @@ pivot_root . old
 umount -l /old
 exec env -i container=other PATH=/usr/sbin:/usr/bin:/sbin:/bin {systemd} --system --unit=look.service
 """
-LAB_COMMAND = "#!/bin/sh\nPYTHONPATH=/opt/arena exec /usr/bin/python3 -m arena_lab \"$@\"\n"
+LAB_COMMAND = (
+    '#!/bin/sh\nPYTHONPATH=/opt/arena exec /usr/bin/python3 -m arena_lab "$@"\n'
+)
 LOOK = """[Unit]
 DefaultDependencies=no
 [Service]
@@ -66,7 +73,9 @@ StandardError=file:/opt/told/log.txt
 """
 
 
-@unittest.skipUnless(shutil.which("systemd-analyze"), "systemd-analyze is not installed")
+@unittest.skipUnless(
+    shutil.which("systemd-analyze"), "systemd-analyze is not installed"
+)
 class Files(unittest.TestCase):
     def test_systemd_understands_the_file(self) -> None:
         """The commands that it names are there once the package is installed; here they are others."""
@@ -74,24 +83,44 @@ class Files(unittest.TestCase):
             place = pathlib.Path(name) / UNIT.name
             text = UNIT.read_text(encoding="utf-8")
             self.assertIn("ExecStart=/usr/bin/arena-lab ", text)
-            place.write_text(text.replace("ExecStart=/usr/bin/arena-lab ", "ExecStart=/bin/echo "))
+            place.write_text(
+                text.replace("ExecStart=/usr/bin/arena-lab ", "ExecStart=/bin/echo ")
+            )
             said = self.analyze("verify", "--man=no", str(place))
         self.assertEqual([line for line in said if "arena-hall" in line], [])
 
     def test_systemd_finds_it_little_exposed(self) -> None:
-        said = self.analyze("security", "--offline=true", "--no-pager", f"--threshold={MOST_EXPOSED}", str(UNIT))
+        said = self.analyze(
+            "security",
+            "--offline=true",
+            "--no-pager",
+            f"--threshold={MOST_EXPOSED}",
+            str(UNIT),
+        )
         self.assertIn("Overall exposure level", said[-1])
 
     def analyze(self, *words: str) -> List[str]:
-        done = subprocess.run(["systemd-analyze", *words], text=True, stdout=subprocess.PIPE, stderr=subprocess.STDOUT)
+        done = subprocess.run(
+            ["systemd-analyze", *words],
+            text=True,
+            stdout=subprocess.PIPE,
+            stderr=subprocess.STDOUT,
+        )
         self.assertEqual(done.returncode, 0, done.stdout[-1500:])
         return done.stdout.splitlines() or [""]
 
 
 def has_all() -> bool:
     """Whether one may make namespaces here, and there is a systemd."""
-    return os.geteuid() == 0 and pathlib.Path(SYSTEMD).exists() and subprocess.run(
-        ["unshare", "--mount", "--pid", "--fork", "--cgroup", "true"], stderr=subprocess.DEVNULL).returncode == 0
+    return (
+        os.geteuid() == 0
+        and pathlib.Path(SYSTEMD).exists()
+        and subprocess.run(
+            ["unshare", "--mount", "--pid", "--fork", "--cgroup", "true"],
+            stderr=subprocess.DEVNULL,
+        ).returncode
+        == 0
+    )
 
 
 @unittest.skipUnless(has_all(), "this is not root, or there is no systemd")
@@ -101,8 +130,11 @@ class Service(unittest.TestCase):
         with tempfile.TemporaryDirectory(prefix="service-") as name:
             told = self.played(pathlib.Path(name))
         self.assertEqual((told["match"], told["graded"]), ("solved", [1, 1]), told)
-        self.assertEqual((told["user"], told["capabilities"], told["result"], told["left"]),
-                         ("arena-hall", "0000000000000000", "success", []), told)
+        self.assertEqual(
+            (told["user"], told["capabilities"], told["result"], told["left"]),
+            ("arena-hall", "0000000000000000", "success", []),
+            told,
+        )
         self.assertLess(told["seconds_to_stop"], 20)
 
     def played(self, folder: pathlib.Path) -> Any:
@@ -113,16 +145,46 @@ class Service(unittest.TestCase):
         (folder / "look.service").write_text(LOOK)
         course = (LAB / "hall" / "new.toml").read_text(encoding="utf-8")
         self.assertIn(GRADED, course)
-        (folder / "course.toml").write_text(course.replace(GRADED, FEWER), encoding="utf-8")
+        (folder / "course.toml").write_text(
+            course.replace(GRADED, FEWER), encoding="utf-8"
+        )
         first = folder / "first.sh"
-        first.write_text(FIRST.format(folder=folder, top=TOP, program=program(), unit=UNIT, systemd=SYSTEMD,
-                                      not_started=" ".join(NOT_STARTED)))
-        words = ["unshare", "--mount", "--pid", "--fork", "--uts", "--ipc", "--net", "--cgroup", "--kill-child",
-                 "sh", str(first)]
+        first.write_text(
+            FIRST.format(
+                folder=folder,
+                top=TOP,
+                program=program(),
+                unit=UNIT,
+                systemd=SYSTEMD,
+                not_started=" ".join(NOT_STARTED),
+            )
+        )
+        words = [
+            "unshare",
+            "--mount",
+            "--pid",
+            "--fork",
+            "--uts",
+            "--ipc",
+            "--net",
+            "--cgroup",
+            "--kill-child",
+            "sh",
+            str(first),
+        ]
         with (folder / "first.txt").open("wb") as faults:
-            subprocess.run(words, timeout=PATIENCE, stdin=subprocess.DEVNULL, stdout=subprocess.DEVNULL, stderr=faults)
-        said = "\n".join(path.read_text(errors="replace")[-3000:] for path in
-                         (folder / "first.txt", folder / "told" / "log.txt") if path.exists())
+            subprocess.run(
+                words,
+                timeout=PATIENCE,
+                stdin=subprocess.DEVNULL,
+                stdout=subprocess.DEVNULL,
+                stderr=faults,
+            )
+        said = "\n".join(
+            path.read_text(errors="replace")[-3000:]
+            for path in (folder / "first.txt", folder / "told" / "log.txt")
+            if path.exists()
+        )
         place = folder / "told" / "told.json"
         self.assertTrue(place.exists(), said)
         return json.loads(place.read_text())

@@ -6,7 +6,16 @@ from typing import Any
 from unittest import mock
 
 from arena_lab.hall import machine
-from arena_lab.hall.machine import ACTIVE, CLAIM, FINISH, HELD, LOST, MOST_RUNS, RUNNING, WAITING
+from arena_lab.hall.machine import (
+    ACTIVE,
+    CLAIM,
+    FINISH,
+    HELD,
+    LOST,
+    MOST_RUNS,
+    RUNNING,
+    WAITING,
+)
 from tests.support import halls
 from tests.support.job_states import EVENTS, STATES, JobState, after
 
@@ -39,16 +48,22 @@ class Steps(TestCase):
         """Whatever state work is in, whoever acts: the database does what the table says, and else nothing."""
         work = attempt()
         count = 0
-        for state, runs, event in itertools.product(STATES, range(MOST_RUNS + 1), EVENTS):
+        for state, runs, event in itertools.product(
+            STATES, range(MOST_RUNS + 1), EVENTS
+        ):
             holder = "one" if state in ACTIVE else ""
             for actor in ("one", "two", ""):
                 with self.subTest(state=state, runs=runs, event=event, actor=actor):
-                    Attempt.objects.filter(pk=work.pk).update(state=state, runs=runs, holder=holder)
+                    Attempt.objects.filter(pk=work.pk).update(
+                        state=state, runs=runs, holder=holder
+                    )
                     before = JobState(state, runs, holder)
                     wanted = after(before, event, actor)
                     self.assertEqual(step(work, event, actor), wanted is not None)
                     work.refresh_from_db()
-                    self.assertEqual(JobState(work.state, work.runs, work.holder), wanted or before)
+                    self.assertEqual(
+                        JobState(work.state, work.runs, work.holder), wanted or before
+                    )
                     count += 1
         self.assertGreater(count, 300)
 
@@ -88,15 +103,20 @@ class Steps(TestCase):
         def late(row: Any) -> None:
             Attempt.objects.filter(pk=work.pk).update(holder="two", runs=2)
             refresh(row)
+
         with mock.patch.object(Attempt, "refresh_from_db", late):
             self.assertFalse(step(work, machine.BEGIN, holder))
 
-    def test_a_grading_that_comes_back_late_leaves_the_files_of_the_newer_one(self) -> None:
+    def test_a_grading_that_comes_back_late_leaves_the_files_of_the_newer_one(
+        self,
+    ) -> None:
         """A worker sleeps before it prepares, while it grades, or before it notes what came; another grades meanwhile,
         and is over or not."""
         for where in ("prepare", "run", "finish"):
             with self.subTest(where):
-                made = HandIn.objects.create(team=of("amber"), name="a", size=1, files=1, digest="")
+                made = HandIn.objects.create(
+                    team=of("amber"), name="a", size=1, files=1, digest=""
+                )
                 (made.folder / "files").mkdir(parents=True)
                 self.addCleanup(shutil.rmtree, made.folder, True)
                 work = Grading.objects.create(hand_in=made)
@@ -104,24 +124,37 @@ class Steps(TestCase):
 
                 def slept(*given: Any) -> Any:
                     with mock.patch.object(grading, where, before):
-                        Grading.objects.filter(pk=work.pk).update(until=timezone.now() - datetime.timedelta(1))
+                        Grading.objects.filter(pk=work.pk).update(
+                            until=timezone.now() - datetime.timedelta(1)
+                        )
                         lose_late(Grading)
                         self.graded(work.pk, 7)
                         return before(*given)
+
                 with mock.patch.object(grading, where, slept):
                     self.graded(work.pk, 1)
                 work.refresh_from_db()
-                self.assertEqual((work.state, work.runs, work.moves), (machine.OVER, 2, 7))
-                self.assertEqual(grading.rows_of(work.folder / grading.OUT, "amber")[0]["moves"], 7)
-                self.assertEqual([it.name for it in made.folder.iterdir() if it.name != "files"], ["public"])
+                self.assertEqual(
+                    (work.state, work.runs, work.moves), (machine.OVER, 2, 7)
+                )
+                self.assertEqual(
+                    grading.rows_of(work.folder / grading.OUT, "amber")[0]["moves"], 7
+                )
+                self.assertEqual(
+                    [it.name for it in made.folder.iterdir() if it.name != "files"],
+                    ["public"],
+                )
 
     def graded(self, number: int, moves: int) -> None:
         """Grades, as if all matches had taken these moves."""
+
         def program(words: Any, cwd: Any, **given: Any) -> Any:
             (cwd / grading.OUT).mkdir()
             (cwd / grading.OUT / "runs.csv").write_text(
-                f"team,network,outcome,fault,moves,lost,run\namber,ring:5,solved,,{moves},0,0\n")
+                f"team,network,outcome,fault,moves,lost,run\namber,ring:5,solved,,{moves},0,0\n"
+            )
             return mock.Mock(returncode=0, poll=mock.Mock(return_value=0))
+
         work = Grading.objects.get(pk=number)
         with mock.patch.object(grading.subprocess, "Popen", program):
             grading.grade(number, str(claimed(work)))
@@ -137,7 +170,9 @@ class Steps(TestCase):
 class Tables(TestCase):
     def test_migrations_make_the_tables_that_the_hall_has(self) -> None:
         names = ("teams", "attempts", "handins", "standings")
-        call_command("makemigrations", *names, check_changes=True, dry_run=True, verbosity=0)
+        call_command(
+            "makemigrations", *names, check_changes=True, dry_run=True, verbosity=0
+        )
 
 
 class Queues(TestCase):
@@ -151,23 +186,37 @@ class Queues(TestCase):
     def test_as_many_matches_run_as_the_course_says(self) -> None:
         step(attempt(), CLAIM, "one")
         attempt("birch")
-        self.assertEqual([len(worker.due_attempts(most)) for most in (0, 1, 2)], [0, 0, 1])
+        self.assertEqual(
+            [len(worker.due_attempts(most)) for most in (0, 1, 2)], [0, 0, 1]
+        )
 
     def test_hand_ins_are_graded_one_of_a_team_at_a_time(self) -> None:
         def handed(team: str) -> Any:
-            made = HandIn.objects.create(team=of(team), name="a", size=1, files=1, digest="")
+            made = HandIn.objects.create(
+                team=of(team), name="a", size=1, files=1, digest=""
+            )
             return Grading.objects.create(hand_in=made)
+
         first, second, other = handed("amber"), handed("amber"), handed("birch")
         self.assertEqual([it.pk for it in grading.due(9)], [first.pk, other.pk])
         self.assertEqual([it.pk for it in grading.due(1)], [first.pk])
         Grading.objects.filter(pk=first.pk).update(state=RUNNING, begun=timezone.now())
-        self.assertEqual([[it.pk for it in grading.due(most)] for most in (1, 2)], [[], [other.pk]])
-        Grading.objects.filter(pk=first.pk).update(state=machine.OVER, ended=timezone.now())
+        self.assertEqual(
+            [[it.pk for it in grading.due(most)] for most in (1, 2)], [[], [other.pk]]
+        )
+        Grading.objects.filter(pk=first.pk).update(
+            state=machine.OVER, ended=timezone.now()
+        )
         # birch was never graded yet, and what hangs waits for what does not
         self.assertEqual([it.pk for it in grading.due(9)], [other.pk, second.pk])
         past = timezone.now() - datetime.timedelta(minutes=3)
-        Grading.objects.create(hand_in=other.hand_in, is_secret=True, state=machine.OVER, begun=past,
-                               ended=timezone.now())
+        Grading.objects.create(
+            hand_in=other.hand_in,
+            is_secret=True,
+            state=machine.OVER,
+            begun=past,
+            ended=timezone.now(),
+        )
         self.assertEqual([it.pk for it in grading.due(9)], [second.pk, other.pk])
 
     def test_taking_back_what_waits_and_closing_what_runs(self) -> None:
@@ -178,5 +227,7 @@ class Queues(TestCase):
         step(running, CLAIM, "one")
         step(running, machine.BEGIN, "one")
         self.assertTrue(asking.close(running))
-        self.assertTrue(Attempt.objects.filter(pk=running.pk, closing=True, state=RUNNING).exists())
+        self.assertTrue(
+            Attempt.objects.filter(pk=running.pk, closing=True, state=RUNNING).exists()
+        )
         self.assertFalse(step(running, machine.CANCEL, "", models.Q(state=WAITING)))

@@ -48,15 +48,24 @@ SAID = "hall: 2 rated attempts and matches of contests are practice now: only ha
 
 class Upgrade(unittest.TestCase):
     def setUp(self) -> None:
-        self.folder = pathlib.Path(self.enterContext(tempfile.TemporaryDirectory(prefix="hall-")))
+        self.folder = pathlib.Path(
+            self.enterContext(tempfile.TemporaryDirectory(prefix="hall-"))
+        )
         self.course = self.folder / "trial.toml"
         self.course.write_text(COURSE.format(first=4100, last=4199, minutes=1, more=""))
         self.hall = HallFolder(self.folder / "trial.hall", self.course, None)
         self.hall.write()
 
     def ran(self, *words: object) -> str:
-        done = subprocess.run([sys.executable, *map(str, words)], cwd=TOP, text=True, stdin=subprocess.DEVNULL,
-                              stdout=subprocess.DEVNULL, stderr=subprocess.PIPE, timeout=300)
+        done = subprocess.run(
+            [sys.executable, *map(str, words)],
+            cwd=TOP,
+            text=True,
+            stdin=subprocess.DEVNULL,
+            stdout=subprocess.DEVNULL,
+            stderr=subprocess.PIPE,
+            timeout=300,
+        )
         self.assertEqual(done.returncode, 0, done.stderr)
         return done.stderr
 
@@ -70,18 +79,32 @@ class Upgrade(unittest.TestCase):
         self.assertIn("keys.csv", found)
 
     def rows(self, what: str) -> Any:
-        with contextlib.closing(sqlite3.connect(self.hall.folder / "hall.sqlite3")) as database:
+        with contextlib.closing(
+            sqlite3.connect(self.hall.folder / "hall.sqlite3")
+        ) as database:
             return database.execute(f"SELECT {what}").fetchall()
 
     def test_what_was_played_stays_and_what_was_rated_is_practice(self) -> None:
         self.ran("-c", EARLIER, self.hall.folder)
         keys = ("-m", "arena_lab", "hall", "keys", self.course)
-        self.assertEqual([self.ran(*keys).count(SAID), self.ran(*keys).count(SAID)], [1, 0])
-        self.assertEqual(self.rows("count(*) FROM teams_entry WHERE what LIKE '%practice now%'"), [(1,)])
-        self.assertEqual(self.rows("attempt_id, count(*) FROM attempts_match GROUP BY attempt_id"),
-                         [(1, 1), (2, 3), (3, 1)])
-        self.assertEqual(self.rows("digest FROM teams_team WHERE name = 'amber'"), [("d",)])
+        self.assertEqual(
+            [self.ran(*keys).count(SAID), self.ran(*keys).count(SAID)], [1, 0]
+        )
+        self.assertEqual(
+            self.rows("count(*) FROM teams_entry WHERE what LIKE '%practice now%'"),
+            [(1,)],
+        )
+        self.assertEqual(
+            self.rows("attempt_id, count(*) FROM attempts_match GROUP BY attempt_id"),
+            [(1, 1), (2, 3), (3, 1)],
+        )
+        self.assertEqual(
+            self.rows("digest FROM teams_team WHERE name = 'amber'"), [("d",)]
+        )
         self.assertEqual(self.rows("contest_id FROM handins_handin"), [(None,)])
         self.assertEqual(self.rows("count(*) FROM handins_grading"), [(2,)])
         # the unveiling had shown the marks of programs too
-        self.assertEqual(self.rows("what FROM standings_reveal ORDER BY id"), [("freeze",), ("secret",)])
+        self.assertEqual(
+            self.rows("what FROM standings_reveal ORDER BY id"),
+            [("freeze",), ("secret",)],
+        )

@@ -22,11 +22,34 @@ class Words(unittest.TestCase):
     def wanted(self) -> Set[str]:
         """All texts of the hall that are to be translated."""
         with tempfile.TemporaryDirectory() as name:
-            place = pathlib.Path(shutil.copytree(HALL, pathlib.Path(name) / "hall", ignore=shutil.ignore_patterns(
-                "*.po", "*.mo", "__pycache__")))
-            variables = {name: value for name, value in os.environ.items() if name != "DJANGO_SETTINGS_MODULE"}
-            subprocess.run([sys.executable, "-m", "django", "makemessages", "-l", "de", "--no-wrap", "--no-location"],
-                           cwd=place, env=variables, check=True, stdout=subprocess.DEVNULL)
+            place = pathlib.Path(
+                shutil.copytree(
+                    HALL,
+                    pathlib.Path(name) / "hall",
+                    ignore=shutil.ignore_patterns("*.po", "*.mo", "__pycache__"),
+                )
+            )
+            variables = {
+                name: value
+                for name, value in os.environ.items()
+                if name != "DJANGO_SETTINGS_MODULE"
+            }
+            subprocess.run(
+                [
+                    sys.executable,
+                    "-m",
+                    "django",
+                    "makemessages",
+                    "-l",
+                    "de",
+                    "--no-wrap",
+                    "--no-location",
+                ],
+                cwd=place,
+                env=variables,
+                check=True,
+                stdout=subprocess.DEVNULL,
+            )
             text = (place / f"{FILES.format('de')}.po").read_text(encoding="utf-8")
         return {found[0] for found in ENTRY.findall(text)}
 
@@ -34,17 +57,29 @@ class Words(unittest.TestCase):
         wanted = self.wanted()
         self.assertGreater(len(wanted), 80)
         for language in LANGUAGES:
-            found = dict(ENTRY.findall((HALL / f"{FILES.format(language)}.po").read_text(encoding="utf-8")))
+            found = dict(
+                ENTRY.findall(
+                    (HALL / f"{FILES.format(language)}.po").read_text(encoding="utf-8")
+                )
+            )
             self.assertEqual(wanted - set(found), set(), language)
             self.assertEqual(set(found) - wanted, set(), language)
             for text, translated in found.items():
                 with self.subTest(text, language=language):
                     self.assertTrue(translated)
-                    self.assertEqual(sorted(NAMES.findall(text)), sorted(NAMES.findall(translated)))
+                    self.assertEqual(
+                        sorted(NAMES.findall(text)), sorted(NAMES.findall(translated))
+                    )
 
     def test_what_django_reads_is_made_of_the_files(self) -> None:
         for language in LANGUAGES:
             path = HALL / FILES.format(language)
             with tempfile.NamedTemporaryFile() as made:
-                subprocess.run(["msgfmt", "--check-format", "-o", made.name, f"{path}.po"], check=True)
-                self.assertEqual(pathlib.Path(made.name).read_bytes(), pathlib.Path(f"{path}.mo").read_bytes())
+                subprocess.run(
+                    ["msgfmt", "--check-format", "-o", made.name, f"{path}.po"],
+                    check=True,
+                )
+                self.assertEqual(
+                    pathlib.Path(made.name).read_bytes(),
+                    pathlib.Path(f"{path}.mo").read_bytes(),
+                )

@@ -3,7 +3,15 @@ import unittest
 from unittest import mock
 
 from arena_lab.pages import contest_pages
-from arena_lab.pages.contest_pages import BETTER, LAST, Shown, Tries, matches_of, page_of, write_pages
+from arena_lab.pages.contest_pages import (
+    BETTER,
+    LAST,
+    Shown,
+    Tries,
+    matches_of,
+    page_of,
+    write_pages,
+)
 from arena_lab.rules.model import Verdict
 from arena_lab.rules.networks import NoNetwork
 from tests.support.output import InTemporary
@@ -20,9 +28,20 @@ network = "<b>.toml"
 
 class Lists(unittest.TestCase):
     def test_matches_stand_in_the_order_of_the_table(self) -> None:
-        verdicts = [Verdict("wrong", 1, 0), Verdict("solved", 9, 1), Verdict("guess 4", 2, 0), Verdict("solved", 9, 0),
-                    None]
-        page = page_of("cup", [Shown(number, f"t{number}", "n", one) for number, one in enumerate(verdicts)])
+        verdicts = [
+            Verdict("wrong", 1, 0),
+            Verdict("solved", 9, 1),
+            Verdict("guess 4", 2, 0),
+            Verdict("solved", 9, 0),
+            None,
+        ]
+        page = page_of(
+            "cup",
+            [
+                Shown(number, f"t{number}", "n", one)
+                for number, one in enumerate(verdicts)
+            ],
+        )
         teams, _, matches = page.partition("<h2>Matches</h2>")
         places = [matches.index(f"<td>t{number}</td>") for number in (3, 1, 2, 0, 4)]
         self.assertEqual(places, sorted(places))
@@ -33,10 +52,25 @@ class Lists(unittest.TestCase):
 
     def test_the_matches_on_each_network_stand_apart(self) -> None:
         solved, wrong = Verdict("solved", 9, 0), Verdict("wrong", 1, 0)
-        page = page_of("cup", [Shown(number, "red", network, one) for number, (network, one) in enumerate(
-            [("ring.toml", wrong), ("cube.toml", solved), ("ring.toml", solved)])])
-        places = [page.index(text) for text in (">ring</th></tr>", "match2.html", "match0.html",
-                                                ">cube</th></tr>", "match1.html")]
+        page = page_of(
+            "cup",
+            [
+                Shown(number, "red", network, one)
+                for number, (network, one) in enumerate(
+                    [("ring.toml", wrong), ("cube.toml", solved), ("ring.toml", solved)]
+                )
+            ],
+        )
+        places = [
+            page.index(text)
+            for text in (
+                ">ring</th></tr>",
+                "match2.html",
+                "match0.html",
+                ">cube</th></tr>",
+                "match1.html",
+            )
+        ]
         self.assertEqual(places, sorted(places))
 
     def test_texts_of_the_file_are_escaped(self) -> None:
@@ -53,11 +87,20 @@ class Writes(InTemporary):
 
     def test_a_match_has_a_page_if_it_has_a_replay(self) -> None:
         (self.folder / "m1.jsonl").write_text("{}\n")
-        with mock.patch.object(contest_pages, "verdict_of", return_value=Verdict("guess 2", 7, 1)), \
-                mock.patch.object(contest_pages, "write_page", lambda _, replay, page, title: page.write_text("page")):
-            index = write_pages("arena", self.file, str(self.folder / "m"), self.folder / "out")
-        self.assertEqual(sorted(path.name for path in index.parent.iterdir()),
-                         ["index.html", "match1.html", "match1.jsonl"])
+        with mock.patch.object(
+            contest_pages, "verdict_of", return_value=Verdict("guess 2", 7, 1)
+        ), mock.patch.object(
+            contest_pages,
+            "write_page",
+            lambda _, replay, page, title: page.write_text("page"),
+        ):
+            index = write_pages(
+                "arena", self.file, str(self.folder / "m"), self.folder / "out"
+            )
+        self.assertEqual(
+            sorted(path.name for path in index.parent.iterdir()),
+            ["index.html", "match1.html", "match1.jsonl"],
+        )
         self.assertIn("<td>guess 2</td><td>7</td><td>1</td>", index.read_text())
         self.assertIn("no replay", index.read_text())
 
@@ -66,20 +109,44 @@ class Writes(InTemporary):
         again.mkdir()
         (again / "tournament.toml").write_text(TOURNAMENT)
         (again / "again.toml").write_text("match = 1\n")
-        for path, text in ((self.folder / "m1.jsonl", "first"), (again / "tournament0.jsonl", "second")):
+        for path, text in (
+            (self.folder / "m1.jsonl", "first"),
+            (again / "tournament0.jsonl", "second"),
+        ):
             path.write_text(text)
         verdicts = {"first": Verdict("solved", 9, 1), "second": Verdict("silent", 7, 0)}
         for take, counts in ((BETTER, "first"), (LAST, "second")):
-            with mock.patch.object(contest_pages, "verdict_of", lambda _, it: verdicts[it.read_text()]), \
-                    mock.patch.object(contest_pages, "write_page", lambda _, replay, page, title: page.write_text("")):
-                index = write_pages(None, self.file, str(self.folder / "m"), self.folder / take, Tries([again], take))
+            with mock.patch.object(
+                contest_pages, "verdict_of", lambda _, it: verdicts[it.read_text()]
+            ), mock.patch.object(
+                contest_pages,
+                "write_page",
+                lambda _, replay, page, title: page.write_text(""),
+            ):
+                index = write_pages(
+                    None,
+                    self.file,
+                    str(self.folder / "m"),
+                    self.folder / take,
+                    Tries([again], take),
+                )
             self.assertEqual((index.parent / "match1.jsonl").read_text(), counts)
-            self.assertIn(f"<td>{verdicts[counts].outcome} (2 tries)</td>", index.read_text())
+            self.assertIn(
+                f"<td>{verdicts[counts].outcome} (2 tries)</td>", index.read_text()
+            )
         with self.assertRaisesRegex(NoNetwork, "this is no other try of a match"):
-            write_pages(None, self.file, str(self.folder / "m"), self.folder / "out", Tries([self.folder]))
+            write_pages(
+                None,
+                self.file,
+                str(self.folder / "m"),
+                self.folder / "out",
+                Tries([self.folder]),
+            )
 
     def test_a_file_that_is_no_tournament_is_told(self) -> None:
         for text in ("", "match = 1", "[[match]]\nteam = 1", "x"):
             self.file.write_text(text)
-            with self.assertRaisesRegex(NoNetwork, "cup.toml: this is not the file of a tournament"):
+            with self.assertRaisesRegex(
+                NoNetwork, "cup.toml: this is not the file of a tournament"
+            ):
                 matches_of(self.file)

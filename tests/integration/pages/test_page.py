@@ -50,12 +50,18 @@ class Pages(InTemporary):
             (self.folder / word).write_text(text, encoding="utf-8")
 
     def written(self, *words: str) -> int:
-        status, _, self.errors = ran(main, ["page", str(self.replay), "--program", str(self.program), *words])
+        status, _, self.errors = ran(
+            main, ["page", str(self.replay), "--program", str(self.program), *words]
+        )
         return status
 
     def data(self) -> dict:
         text = (self.folder / "match.html").read_text(encoding="utf-8")
-        return json.loads(re.search(r'<script type="application/json" id="data">(.*?)</script>', text, re.S)[1])
+        return json.loads(
+            re.search(
+                r'<script type="application/json" id="data">(.*?)</script>', text, re.S
+            )[1]
+        )
 
     def test_a_page_holds_the_events_the_pasts_and_the_verdict(self) -> None:
         self.answers(judge="silent moves 1 lost 1\n", explain="0 {}\n1 {}\n3 {}\n")
@@ -77,7 +83,10 @@ class Pages(InTemporary):
 
     def test_a_refused_replay_is_refused_with_its_line(self) -> None:
         self.assertEqual(self.written(), 3)
-        self.assertEqual(self.errors, f"{self.replay}: end: it stops before its end line, or goes on behind it\n")
+        self.assertEqual(
+            self.errors,
+            f"{self.replay}: end: it stops before its end line, or goes on behind it\n",
+        )
         self.assertFalse((self.folder / "match.html").exists())
 
     def test_a_twin_stands_beside_its_match(self) -> None:
@@ -89,6 +98,9 @@ class Pages(InTemporary):
         self.assertEqual(self.data()["twin"]["head"]["holes"], [1])
 
     def test_a_replay_of_version_1(self) -> None:
-        lines = ['{"agents":1,"board":8,"hole":null,"home":0,"links":[],"nodes":3,"quota":10,"replay":1}', '{"end":0}']
+        lines = [
+            '{"agents":1,"board":8,"hole":null,"home":0,"links":[],"nodes":3,"quota":10,"replay":1}',
+            '{"end":0}',
+        ]
         head = page.read(lines)["head"]
         self.assertEqual((head["holes"], head["dark"], head["replay"]), ([], [], 2))

@@ -24,20 +24,39 @@ TEXT = "</script><b>bold</b>"
 class Watching(InFolder):
     def setUp(self) -> None:
         super().setUp()
-        fixtures = [match(team, ring(4), [2], quota=100, board=40) for team in ("red", "blue")]
+        fixtures = [
+            match(team, ring(4), [2], quota=100, board=40) for team in ("red", "blue")
+        ]
         write_cup(self.folder, fixtures, name="ring")
         self.matches = [Match(fixture.setup) for fixture in fixtures]
         self.written = [0, 0]
         self.port = free_port()
 
     def watch(self, *more: str) -> None:
-        words = [sys.executable, "-m", "arena_lab", "watch", "cup.toml", "m", "--port", str(self.port), *more]
-        child = subprocess.Popen(words, cwd=self.folder, stdout=subprocess.PIPE, text=True,
-                                 env={**os.environ, "PYTHONPATH": str(TOP)})
+        words = [
+            sys.executable,
+            "-m",
+            "arena_lab",
+            "watch",
+            "cup.toml",
+            "m",
+            "--port",
+            str(self.port),
+            *more,
+        ]
+        child = subprocess.Popen(
+            words,
+            cwd=self.folder,
+            stdout=subprocess.PIPE,
+            text=True,
+            env={**os.environ, "PYTHONPATH": str(TOP)},
+        )
         self.addCleanup(child.stdout.close)
         self.addCleanup(child.wait)
         self.addCleanup(child.kill)
-        self.assertEqual(child.stdout.readline(), f"watch http://127.0.0.1:{self.port}/\n")
+        self.assertEqual(
+            child.stdout.readline(), f"watch http://127.0.0.1:{self.port}/\n"
+        )
 
     def part(self, number: int) -> pathlib.Path:
         return self.folder / f"m{number}.jsonl.part"
@@ -45,26 +64,36 @@ class Watching(InFolder):
     def write(self, number: int, cut: int = 0) -> None:
         """Appends to a part what has happened, but for some bytes of the last line."""
         match = self.matches[number]
-        text = "".join(spelled(line) + "\n" for line in [match.head(), *match.log]).encode()
+        text = "".join(
+            spelled(line) + "\n" for line in [match.head(), *match.log]
+        ).encode()
         with self.part(number).open("ab") as file:
-            file.write(text[self.written[number]:len(text) - cut])
+            file.write(text[self.written[number] : len(text) - cut])
         self.written[number] = len(text) - cut
 
     def end(self, number: int) -> None:
         """The replay of a match takes the place of its part."""
-        (self.folder / f"m{number}.jsonl").write_text(self.matches[number].replay(), encoding="utf-8")
+        (self.folder / f"m{number}.jsonl").write_text(
+            self.matches[number].replay(), encoding="utf-8"
+        )
         self.part(number).unlink()
 
     def asked(self, path: str, **headers: str) -> "http.client.HTTPResponse":
         connection = http.client.HTTPConnection("127.0.0.1", self.port, timeout=SECONDS)
         self.addCleanup(connection.close)
-        connection.request("GET", path, headers={name.replace("_", "-"): value for name, value in headers.items()})
+        connection.request(
+            "GET",
+            path,
+            headers={name.replace("_", "-"): value for name, value in headers.items()},
+        )
         return connection.getresponse()
 
     def status(self, path: str) -> int:
         return self.asked(path).status
 
-    def told(self, holds: Callable[[List[Dict[str, Any]]], bool]) -> List[Dict[str, Any]]:
+    def told(
+        self, holds: Callable[[List[Dict[str, Any]]], bool]
+    ) -> List[Dict[str, Any]]:
         """The rows of the first standings of which this holds, read as a page reads them."""
         stream = self.asked("/standings")
         while True:
@@ -77,7 +106,10 @@ class Watching(InFolder):
 
     def test_a_contest_from_its_beginning_to_its_end(self) -> None:
         self.watch()
-        self.assertEqual([row["state"] for row in self.told(lambda rows: True)], ["has not begun"] * 2)
+        self.assertEqual(
+            [row["state"] for row in self.told(lambda rows: True)],
+            ["has not begun"] * 2,
+        )
         red = self.matches[0]
         for number in (0, 1):
             self.write(number)
@@ -86,17 +118,33 @@ class Watching(InFolder):
         red.tell(0, {"do": "depart", "port": 0})
         self.write(0, cut=5)
         rows = self.told(lambda rows: any(row.get("entered") for row in rows))
-        self.assertEqual([(row["team"], row["state"], row["entered"], row["agents"], row["page"]) for row in rows],
-                         [("red", "waits for its agents", 1, 2, False), ("blue", "waits for its agents", 0, 2, False)])
-        self.assertEqual([(row["match"], row["network"]) for row in rows], [(0, "ring"), (1, "ring")])
-        paths = [f"/match/{number}{rest}" for number in (0, 1, 7) for rest in ("", "/data", "/news")]
+        self.assertEqual(
+            [
+                (row["team"], row["state"], row["entered"], row["agents"], row["page"])
+                for row in rows
+            ],
+            [
+                ("red", "waits for its agents", 1, 2, False),
+                ("blue", "waits for its agents", 0, 2, False),
+            ],
+        )
+        self.assertEqual(
+            [(row["match"], row["network"]) for row in rows], [(0, "ring"), (1, "ring")]
+        )
+        paths = [
+            f"/match/{number}{rest}"
+            for number in (0, 1, 7)
+            for rest in ("", "/data", "/news")
+        ]
         self.assertEqual([self.status(path) for path in paths], [404] * 9)
         red.deliver(0)
         red.tell(0, {"do": "accuse", "port": 0})
         red.close()
         self.write(0)
         rows = self.told(lambda rows: any(row["state"] == "is over" for row in rows))
-        self.assertEqual((rows[0]["outcome"], rows[0]["moves"], rows[0]["page"]), ("guess", 1, False))
+        self.assertEqual(
+            (rows[0]["outcome"], rows[0]["moves"], rows[0]["page"]), ("guess", 1, False)
+        )
         self.matches[1].close()
         self.write(1)
         rows = self.told(lambda rows: all(row.get("page") for row in rows))
@@ -108,8 +156,13 @@ class Watching(InFolder):
         self.assertIn("default-src 'none'", page.headers["Content-Security-Policy"])
         self.assertIn("guess 3 moves 1 lost 0", text)
         self.assertNotIn(TEXT, text)
-        self.assertEqual([self.status(path) for path in ("/cup.toml", "/m0.jsonl", "/../cup.toml", "/match/00x")],
-                         [404] * 4)
+        self.assertEqual(
+            [
+                self.status(path)
+                for path in ("/cup.toml", "/m0.jsonl", "/../cup.toml", "/match/00x")
+            ],
+            [404] * 4,
+        )
 
     def test_another_contest_with_the_same_names_begins_anew(self) -> None:
         self.matches[0].tell(0, {"do": "enter"})
@@ -128,14 +181,22 @@ class Watching(InFolder):
         self.watch("--open", "--host", "Projector.example")
         self.told(lambda rows: any(row.get("entered") for row in rows))
         here = f"127.0.0.1:{self.port}"
-        for status, given in ((403, {"Host": f"evil.example:{self.port}"}), (403, {"Host": "evil.example"}),
-                              (403, {"Host": "127.0.0.1.evil.example"}), (403, {"Origin": "http://evil.example"}),
-                              (403, {"Origin": "null"}), (403, {"Sec_Fetch_Site": "cross-site"}),
-                              (403, {"Sec_Fetch_Site": "same-site", "Sec_Fetch_Mode": "no-cors"}),
-                              (200, {}), (200, {"Host": f"localhost:{self.port}"}), (200, {"Host": "[::1]:80"}),
-                              (200, {"Host": "projector.example"}), (200, {"Origin": f"http://{here}", "Host": here}),
-                              (200, {"Sec_Fetch_Site": "same-origin"}),
-                              (200, {"Sec_Fetch_Site": "cross-site", "Sec_Fetch_Mode": "navigate"})):
+        for status, given in (
+            (403, {"Host": f"evil.example:{self.port}"}),
+            (403, {"Host": "evil.example"}),
+            (403, {"Host": "127.0.0.1.evil.example"}),
+            (403, {"Origin": "http://evil.example"}),
+            (403, {"Origin": "null"}),
+            (403, {"Sec_Fetch_Site": "cross-site"}),
+            (403, {"Sec_Fetch_Site": "same-site", "Sec_Fetch_Mode": "no-cors"}),
+            (200, {}),
+            (200, {"Host": f"localhost:{self.port}"}),
+            (200, {"Host": "[::1]:80"}),
+            (200, {"Host": "projector.example"}),
+            (200, {"Origin": f"http://{here}", "Host": here}),
+            (200, {"Sec_Fetch_Site": "same-origin"}),
+            (200, {"Sec_Fetch_Site": "cross-site", "Sec_Fetch_Mode": "navigate"}),
+        ):
             for path in ("/match/0/data", "/", "/standings"):
                 with self.subTest(given=given, path=path):
                     self.assertEqual(self.asked(path, **given).status, status)
@@ -178,7 +239,9 @@ class Watching(InFolder):
         self.write(1)
         while not (line := stream.readline()).startswith(b"data: "):
             pass
-        self.assertNotEqual(json.loads(first[6:])["grown"], json.loads(line[6:])["grown"])
+        self.assertNotEqual(
+            json.loads(first[6:])["grown"], json.loads(line[6:])["grown"]
+        )
 
     def test_an_open_match_has_its_page_at_once(self) -> None:
         self.matches[0].tell(0, {"do": "enter"})
@@ -186,7 +249,9 @@ class Watching(InFolder):
         self.watch("--open")
         self.told(lambda rows: any(row.get("entered") for row in rows))
         data = json.loads(self.asked("/match/0/data").read())
-        self.assertEqual((data["verdict"], data["news"]), ("the match goes on", "/match/0"))
+        self.assertEqual(
+            (data["verdict"], data["news"]), ("the match goes on", "/match/0")
+        )
         self.assertEqual(data["match"]["events"], "e0")
         stream = self.asked("/match/0/news")
         before = stream.readline()
@@ -194,4 +259,6 @@ class Watching(InFolder):
         self.write(0)
         while not (line := stream.readline()).startswith(b"data: ") or line == before:
             pass
-        self.assertEqual(json.loads(self.asked("/match/0/data").read())["match"]["events"], "e0,e1")
+        self.assertEqual(
+            json.loads(self.asked("/match/0/data").read())["match"]["events"], "e0,e1"
+        )

@@ -7,7 +7,16 @@ from arena_lab.play import schedulers
 from arena_lab.play.agent_files import NoAgent, script_of
 from arena_lab.play.teams import INSIDE, AgentWords
 from arena_lab.rules.networks import ring
-from tests.support.matches import MAP, RING, InFolder, fixture, network_fixture, played, ring_fixture, under
+from tests.support.matches import (
+    MAP,
+    RING,
+    InFolder,
+    fixture,
+    network_fixture,
+    played,
+    ring_fixture,
+    under,
+)
 
 RINGS = range(3, 33)
 NETWORKS = 60
@@ -17,8 +26,12 @@ class SampleAgents(unittest.TestCase):
     def test_two_agents_solve_each_ring(self) -> None:
         chance = random.Random(1)
         for nodes in RINGS:
-            for hole in {1, 2, nodes // 2, nodes - 1, chance.randrange(1, nodes)} - {nodes}:
-                given, seed = ring_fixture(nodes, hole, chance), chance.randrange(2**32)
+            for hole in {1, 2, nodes // 2, nodes - 1, chance.randrange(1, nodes)} - {
+                nodes
+            }:
+                given, seed = ring_fixture(nodes, hole, chance), chance.randrange(
+                    2**32
+                )
                 with self.subTest(nodes=nodes, hole=hole, seed=seed):
                     self.assertFalse(played(given, RING, seed).has_failed())
 
@@ -32,7 +45,10 @@ class SampleAgents(unittest.TestCase):
         for name, maker in schedulers.NAMED.items():
             for seed in range(5):
                 chance = random.Random(seed)
-                for agent, given in ((RING, ring_fixture(12, 1 + seed, chance)), (MAP, network_fixture(chance))):
+                for agent, given in (
+                    (RING, ring_fixture(12, 1 + seed, chance)),
+                    (MAP, network_fixture(chance)),
+                ):
                     with self.subTest(scheduler=name, seed=seed, agent=agent.words):
                         self.assertFalse(played(given, agent, seed, maker).has_failed())
 
@@ -69,8 +85,13 @@ class Modules(InFolder):
         agent = AgentWords(INSIDE, str(self.folder / "alone.py"))
         first, second = (played(fixture(ring(3), 1), agent, 0).faults for _ in range(2))
         self.assertEqual(first, second)
-        self.assertEqual([fault.partition(" 0.")[0] for fault in first],
-                         ["agent 0: raises ValueError: ['k0']", "agent 1: raises ValueError: ['k1']"])
+        self.assertEqual(
+            [fault.partition(" 0.")[0] for fault in first],
+            [
+                "agent 0: raises ValueError: ['k0']",
+                "agent 1: raises ValueError: ['k1']",
+            ],
+        )
         self.assertEqual(len({fault.partition("] ")[2] for fault in first}), 2)
 
     def test_modules_of_the_same_name_are_those_beside_each_agent(self) -> None:
@@ -79,31 +100,53 @@ class Modules(InFolder):
         for name in ("one", "two"):
             beside = self.folder / name
             (beside / "tools").mkdir(parents=True)
-            (beside / "helper.py").write_text(f"NAME = {name!r}\nKEYS = []\n", encoding="utf-8")
-            (beside / "tools" / "__init__.py").write_text("from tools import inner\n", encoding="utf-8")
-            (beside / "tools" / "inner.py").write_text(f"NAME = {name!r}\nKEYS = []\n", encoding="utf-8")
+            (beside / "helper.py").write_text(
+                f"NAME = {name!r}\nKEYS = []\n", encoding="utf-8"
+            )
+            (beside / "tools" / "__init__.py").write_text(
+                "from tools import inner\n", encoding="utf-8"
+            )
+            (beside / "tools" / "inner.py").write_text(
+                f"NAME = {name!r}\nKEYS = []\n", encoding="utf-8"
+            )
             (beside / "late.py").write_text(LATE, encoding="utf-8")
             agents.append(AgentWords(INSIDE, str(beside / "late.py")))
         given = fixture(ring(3), 1)
         before = sys.modules["random"], list(sys.path)
         for _ in range(2):
             found = under(schedulers.fair(0), given, agents).faults
-            self.assertEqual([fault.partition("0.")[0].strip() for fault in found],
-                             ["agent 0: raises ValueError: one one ['k0'] ['k0']",
-                              "agent 1: raises ValueError: two two ['k1'] ['k1']"])
+            self.assertEqual(
+                [fault.partition("0.")[0].strip() for fault in found],
+                [
+                    "agent 0: raises ValueError: one one ['k0'] ['k0']",
+                    "agent 1: raises ValueError: two two ['k1'] ['k1']",
+                ],
+            )
         self.assertEqual((sys.modules["random"], list(sys.path)), before)
         self.assertFalse({"helper", "tools", "tools.inner"} & set(sys.modules))
 
     def test_words_that_the_function_does_not_take_are_told(self) -> None:
         setup = fixture(ring(4), 2).setup
-        for words, said in ((RING.words.replace(" {nodes}", ""), "it wants nodes behind the file"),
-                            (RING.words + " {links}", "it takes nodes behind the file, and 2 are named"),
-                            (MAP.words.replace(" {links}", ""), "it wants nodes, links behind the file")):
+        for words, said in (
+            (RING.words.replace(" {nodes}", ""), "it wants nodes behind the file"),
+            (
+                RING.words + " {links}",
+                "it takes nodes behind the file, and 2 are named",
+            ),
+            (
+                MAP.words.replace(" {links}", ""),
+                "it wants nodes, links behind the file",
+            ),
+        ):
             with self.subTest(words), self.assertRaisesRegex(NoAgent, said):
                 script_of(words, setup)
 
     def test_a_file_that_does_not_parse_is_told(self) -> None:
-        (self.folder / "broken.py").write_text("def search(agent, key:\n", encoding="utf-8")
+        (self.folder / "broken.py").write_text(
+            "def search(agent, key:\n", encoding="utf-8"
+        )
         agent = AgentWords(INSIDE, str(self.folder / "broken.py"))
-        with self.assertRaisesRegex(NoAgent, r"broken.py, line 1: '\(' was never closed"):
+        with self.assertRaisesRegex(
+            NoAgent, r"broken.py, line 1: '\(' was never closed"
+        ):
             played(fixture(ring(3), 1), agent, 0)

@@ -36,9 +36,21 @@ class Follows(InFolder):
 
     def test_what_is_found_with_a_limit_is_kept_with_it(self) -> None:
         self.agent.write_text(SLOW)
-        team = ("--network", "ring:3", "--hole", "1", "--agent", f"{self.agent} {{nodes}}", "--timeout", "0.3")
-        for words in (("run",), ("hunt", "--runs", "2", "--database", str(self.folder / "database")),
-                      ("explore", "--search", "model")):
+        team = (
+            "--network",
+            "ring:3",
+            "--hole",
+            "1",
+            "--agent",
+            f"{self.agent} {{nodes}}",
+            "--timeout",
+            "0.3",
+        )
+        for words in (
+            ("run",),
+            ("hunt", "--runs", "2", "--database", str(self.folder / "database")),
+            ("explore", "--search", "model"),
+        ):
             with self.subTest(words[0]):
                 out = self.folder / words[0]
                 status, said = self.said(*words, *team, "--keep", str(out))
@@ -54,14 +66,34 @@ class Follows(InFolder):
     def test_a_mended_program_is_tried_against_what_it_failed_under(self) -> None:
         shutil.copy(TOP / "arena_lab" / "mutants" / "reads_once.py", self.agent)
         out = self.folder / "out"
-        status, _ = self.said("run", "--network", "ring:8", "--agent", f"{self.agent} {{nodes}}", "--runs", "30",
-                              "--keep", str(out))
+        status, _ = self.said(
+            "run",
+            "--network",
+            "ring:8",
+            "--agent",
+            f"{self.agent} {{nodes}}",
+            "--runs",
+            "30",
+            "--keep",
+            str(out),
+        )
         self.assertEqual(status, 1)
         whole = len(read(out / "schedule.txt").choices)
         status, said = self.said("replay", str(out), "--follow")
-        self.assertEqual((status, said.splitlines()[0]), (1, f"followed all {whole} choices of the schedule"))
+        self.assertEqual(
+            (status, said.splitlines()[0]),
+            (1, f"followed all {whole} choices of the schedule"),
+        )
         shutil.copy(AGENTS / "ring.py", self.agent)
-        status, said = self.said("replay", str(out), "--follow", "--keep", str(self.folder / "mended"))
+        status, said = self.said(
+            "replay", str(out), "--follow", "--keep", str(self.folder / "mended")
+        )
         self.assertEqual(status, 0, said)
-        self.assertRegex(said, r"^followed \d+ of \d+ choices: the next is `.*fair choices came then\nsolved moves")
-        self.assertIn("the replay is the same", self.said("replay", str(self.folder / "mended"))[1])
+        self.assertRegex(
+            said,
+            r"^followed \d+ of \d+ choices: the next is `.*fair choices came then\nsolved moves",
+        )
+        self.assertIn(
+            "the replay is the same",
+            self.said("replay", str(self.folder / "mended"))[1],
+        )

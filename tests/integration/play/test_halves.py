@@ -39,7 +39,10 @@ def shuttle(nodes: int) -> Bounds:
     return Bounds((nodes - 1) ** 2, (nodes - 2) * (nodes - 1) + 2 * nodes)
 
 
-SEARCHES: Dict[str, Callable[[int], Bounds]] = {"halves.py": halves, "shuttle.py": shuttle}
+SEARCHES: Dict[str, Callable[[int], Bounds]] = {
+    "halves.py": halves,
+    "shuttle.py": shuttle,
+}
 
 
 def fixture(network: Network, hole: int, home: int, quota: int) -> Fixture:
@@ -59,7 +62,9 @@ def one_after_the_other(first: int) -> schedulers.Scheduler:
 
 
 class Protocols(unittest.TestCase):
-    def moves(self, name: str, nodes: int, hole: int, first: int, bounds: Bounds) -> int:
+    def moves(
+        self, name: str, nodes: int, hole: int, first: int, bounds: Bounds
+    ) -> int:
         """The moves of a match in which one agent goes on until it is lost, and then the other."""
         given = fixture(ring(nodes), hole, 0, bounds.commands)
         found = under(one_after_the_other(first), given, two(name, "{nodes}"))
@@ -71,7 +76,10 @@ class Protocols(unittest.TestCase):
         for nodes in SIZES:
             with self.subTest(nodes=nodes):
                 bounds = halves(nodes)
-                self.assertEqual(self.moves("halves.py", nodes, worst_distance(nodes), 0, bounds), bounds.moves)
+                self.assertEqual(
+                    self.moves("halves.py", nodes, worst_distance(nodes), 0, bounds),
+                    bounds.moves,
+                )
 
     def test_the_bound_of_the_shuttle_is_attained(self) -> None:
         for nodes in range(3, 10):
@@ -79,7 +87,7 @@ class Protocols(unittest.TestCase):
                 with self.subTest(nodes=nodes, hole=hole):
                     first = 0 if nodes - hole > 1 else 1
                     found = self.moves("shuttle.py", nodes, hole, first, shuttle(nodes))
-                    self.assertEqual(found, hole ** 2 + (nodes - hole) ** 2 - 1)
+                    self.assertEqual(found, hole**2 + (nodes - hole) ** 2 - 1)
 
     def check(self, found: PlayedMatch, bounds: Bounds) -> None:
         self.assertFalse(found.has_failed())
@@ -88,14 +96,20 @@ class Protocols(unittest.TestCase):
 
     def worst(self, name: str, nodes: int, hole: int, bounds: Bounds) -> Verdict:
         """The worst of all schedules, none of which fails."""
-        found = explored(fixture(ring(nodes), hole, 0, bounds.commands), two(name, "{nodes}"), NO_PROGRESS)
+        found = explored(
+            fixture(ring(nodes), hole, 0, bounds.commands),
+            two(name, "{nodes}"),
+            NO_PROGRESS,
+        )
         self.assertTrue(found.is_whole and not found.explorer.worst.has_failed)
         return found.explorer.worst.verdict
 
     def test_every_schedule_of_small_rings_by_halves(self) -> None:
         for nodes in range(3, 7):
             bounds = halves(nodes)
-            worst = [self.worst("halves.py", nodes, hole, bounds) for hole in range(1, nodes)]
+            worst = [
+                self.worst("halves.py", nodes, hole, bounds) for hole in range(1, nodes)
+            ]
             with self.subTest(nodes=nodes):
                 self.assertEqual(max(it.moves for it in worst), bounds.moves)
                 self.assertEqual(max(it.lost for it in worst), 1)
@@ -105,11 +119,14 @@ class Protocols(unittest.TestCase):
             for hole in range(1, nodes):
                 with self.subTest(nodes=nodes, hole=hole):
                     worst = self.worst("shuttle.py", nodes, hole, shuttle(nodes))
-                    self.assertEqual(worst.moves, hole ** 2 + (nodes - hole) ** 2 - 1)
+                    self.assertEqual(worst.moves, hole**2 + (nodes - hole) ** 2 - 1)
                     self.assertLessEqual(worst.lost, 1)
 
     def test_every_scheduler_of_the_lab(self) -> None:
-        engines: List[Callable[[Fixture], Any]] = [Rehearsal, lambda it: Program(it, program())]
+        engines: List[Callable[[Fixture], Any]] = [
+            Rehearsal,
+            lambda it: Program(it, program()),
+        ]
         for name, bounds_of in SEARCHES.items():
             for scheduler, maker in sorted(schedulers.NAMED.items()):
                 for seed in range(DRAWN):
@@ -119,6 +136,16 @@ class Protocols(unittest.TestCase):
                     bounds = bounds_of(nodes)
                     network = flipped_ring(nodes, chance) if seed % 2 else ring(nodes)
                     given = fixture(network, hole, home, bounds.commands)
-                    for engine in engines[:1 + (seed < ON_THE_PROGRAM)]:
-                        with self.subTest(name, scheduler=scheduler, seed=seed, nodes=nodes, home=home, hole=hole):
-                            self.check(under(maker(seed), given, two(name, "{nodes}"), engine), bounds)
+                    for engine in engines[: 1 + (seed < ON_THE_PROGRAM)]:
+                        with self.subTest(
+                            name,
+                            scheduler=scheduler,
+                            seed=seed,
+                            nodes=nodes,
+                            home=home,
+                            hole=hole,
+                        ):
+                            self.check(
+                                under(maker(seed), given, two(name, "{nodes}"), engine),
+                                bounds,
+                            )

@@ -22,11 +22,25 @@ class Hangs(InFolder):
     def faults(self, *more: str) -> Dict[str, List[str]]:
         """The first faults of the matches on each network."""
         course = self.folder / "course.toml"
-        course.write_text('title = "T"\nnetworks = ["ring:4", "ring:5"]\nholes = [2]\nseeds = 4\nlimit = 4\n[[team]]\n'
-                          f'name = "a"\nfiles = ["{AGENTS}/client.py", "{AGENTS}/ring.py", "hangs.py"]\n'
-                          'command = "python3 hangs.py {host} {port} {key} {nodes}"\n')
+        course.write_text(
+            'title = "T"\nnetworks = ["ring:4", "ring:5"]\nholes = [2]\nseeds = 4\nlimit = 4\n[[team]]\n'
+            f'name = "a"\nfiles = ["{AGENTS}/client.py", "{AGENTS}/ring.py", "hangs.py"]\n'
+            'command = "python3 hangs.py {host} {port} {key} {nodes}"\n'
+        )
         (self.folder / "hangs.py").write_text(HANGS)
-        ran(main, ["grade", str(course), "--out", str(self.folder / "out"), "--engine", "model", "--no-repeat", *more])
+        ran(
+            main,
+            [
+                "grade",
+                str(course),
+                "--out",
+                str(self.folder / "out"),
+                "--engine",
+                "model",
+                "--no-repeat",
+                *more,
+            ],
+        )
         found: Dict[str, List[str]] = {}
         for row in tables.rows_in(self.folder / "out" / tables.RUNS):
             found.setdefault(row["network"], []).append(row["fault"])
@@ -35,7 +49,9 @@ class Hangs(InFolder):
     def test_after_the_second_hang_the_others_are_not_waited_for_as_long(self) -> None:
         found = self.faults("--workers", "1")
         waited = "agent 0: has sent no line for {} s; does it flush after each line?"
-        self.assertEqual(found["ring:4"], [waited.format(seconds) for seconds in (4, 4, 1, 1)])
+        self.assertEqual(
+            found["ring:4"], [waited.format(seconds) for seconds in (4, 4, 1, 1)]
+        )
         self.assertEqual(found["ring:5"], [""] * 4)
         page = (self.folder / "out" / "team-a.html").read_text()
         self.assertEqual(page.count('<section class="match">'), 1)

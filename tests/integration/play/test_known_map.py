@@ -21,12 +21,19 @@ def small_networks(largest: int) -> Iterator[Network]:
     for graph in networkx.graph_atlas_g():
         if 3 <= len(graph) <= largest and networkx.is_biconnected(graph):
             pairs = [tuple(pair) for pair in graph.edges]
-            yield Network(len(graph), numbered(len(graph), pairs, random.Random(len(pairs))))
+            yield Network(
+                len(graph), numbered(len(graph), pairs, random.Random(len(pairs)))
+            )
 
 
 def matches_on(network: Network) -> Iterator[Tuple[int, int]]:
     """Each home base with each black hole."""
-    return ((home, hole) for home in range(network.nodes) for hole in range(network.nodes) if home != hole)
+    return (
+        (home, hole)
+        for home in range(network.nodes)
+        for hole in range(network.nodes)
+        if home != hole
+    )
 
 
 class KnownMap(unittest.TestCase):
@@ -34,7 +41,9 @@ class KnownMap(unittest.TestCase):
         count = 0
         for network in small_networks(5):
             for home, hole in matches_on(network):
-                found = explored(fixture(network, hole, home=home), [KNOWN_MAP] * 2, NO_PROGRESS)
+                found = explored(
+                    fixture(network, hole, home=home), [KNOWN_MAP] * 2, NO_PROGRESS
+                )
                 count += 1
                 with self.subTest(links=network.links, home=home, hole=hole):
                     self.assertTrue(found.is_whole)

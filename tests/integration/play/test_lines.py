@@ -28,29 +28,93 @@ RUN = ("run", "--network", "ring:4")
 OWN = (*RUN, "--agent", RING.words, *MODEL)
 # words of a command, the exit status, and what the line says
 ROWS: Tuple[Tuple[Tuple[str, ...], int, str], ...] = (
-    ((*OWN, "--dark", "0,5"), 2, "arena-lab: node 0 has no port 5, so no dark link is there"),
+    (
+        (*OWN, "--dark", "0,5"),
+        2,
+        "arena-lab: node 0 has no port 5, so no dark link is there",
+    ),
     ((*OWN, "--agents", "0"), 2, "arena-lab: a match has 1 to 64 agents, and not 0"),
-    ((*OWN, "--runs", "0"), 2, "error: argument --runs: 0 is not a whole number from 1"),
-    ((*OWN, "--scheduler", "raises.py:raises"), 1,
-     "arena-lab: the scheduler raises IndexError: list index out of range"),
-    ((*OWN, "--scheduler", "raises.py:bad"), 1,
-     "arena-lab: the scheduler chooses None, which is not among the choices"),
-    ((*OWN, "--scheduler", "raises.py:none"), 2, "arena-lab: raises.py: it has no function none"),
-    ((*RUN, "--agent", "syntax.py", *MODEL), 2, "syntax.py, line 1: '(' was never closed"),
-    ((*RUN, "--agent", RING.words.split()[0], *MODEL), 2, "it wants nodes behind the file, as `"),
-    (("run", "--tournament", "nosuch.toml", *OWN[3:]), 2, "arena-lab: nosuch.toml: there is no such file or folder"),
-    (("run", "--tournament", "course.toml", *OWN[3:]), 2, "arena-lab: course.toml: it is no tournament (it has no key"),
-    (("run", "--network", "text.md", *OWN[3:]), 2, "arena-lab: text.md: it is no network file ("),
-    (("sweep", "text.md", "--out", "out", *MODEL), 2, "arena-lab: text.md: it is no TOML: "),
-    (("grade", "course.toml", "--out", "out", *MODEL), 2, "course.toml: team must be given"),
-    (("replay", "nosuch", *MODEL), 2, "arena-lab: nosuch: there is no such file or folder"),
-    (("replay", ".", *MODEL), 2, "arena-lab: schedule.txt: there is no such file or folder"),
-    (("network", "ring:8", "--out", "no/such/place.toml"), 2,
-     "arena-lab: no/such/place.toml: there is no such file or"),
-    (("page", "text.md"), 3, "text.md: head: its first line is not the head of a replay"),
+    (
+        (*OWN, "--runs", "0"),
+        2,
+        "error: argument --runs: 0 is not a whole number from 1",
+    ),
+    (
+        (*OWN, "--scheduler", "raises.py:raises"),
+        1,
+        "arena-lab: the scheduler raises IndexError: list index out of range",
+    ),
+    (
+        (*OWN, "--scheduler", "raises.py:bad"),
+        1,
+        "arena-lab: the scheduler chooses None, which is not among the choices",
+    ),
+    (
+        (*OWN, "--scheduler", "raises.py:none"),
+        2,
+        "arena-lab: raises.py: it has no function none",
+    ),
+    (
+        (*RUN, "--agent", "syntax.py", *MODEL),
+        2,
+        "syntax.py, line 1: '(' was never closed",
+    ),
+    (
+        (*RUN, "--agent", RING.words.split()[0], *MODEL),
+        2,
+        "it wants nodes behind the file, as `",
+    ),
+    (
+        ("run", "--tournament", "nosuch.toml", *OWN[3:]),
+        2,
+        "arena-lab: nosuch.toml: there is no such file or folder",
+    ),
+    (
+        ("run", "--tournament", "course.toml", *OWN[3:]),
+        2,
+        "arena-lab: course.toml: it is no tournament (it has no key",
+    ),
+    (
+        ("run", "--network", "text.md", *OWN[3:]),
+        2,
+        "arena-lab: text.md: it is no network file (",
+    ),
+    (
+        ("sweep", "text.md", "--out", "out", *MODEL),
+        2,
+        "arena-lab: text.md: it is no TOML: ",
+    ),
+    (
+        ("grade", "course.toml", "--out", "out", *MODEL),
+        2,
+        "course.toml: team must be given",
+    ),
+    (
+        ("replay", "nosuch", *MODEL),
+        2,
+        "arena-lab: nosuch: there is no such file or folder",
+    ),
+    (
+        ("replay", ".", *MODEL),
+        2,
+        "arena-lab: schedule.txt: there is no such file or folder",
+    ),
+    (
+        ("network", "ring:8", "--out", "no/such/place.toml"),
+        2,
+        "arena-lab: no/such/place.toml: there is no such file or",
+    ),
+    (
+        ("page", "text.md"),
+        3,
+        "text.md: head: its first line is not the head of a replay",
+    ),
     (("page", "nosuch.jsonl"), 6, "  there is no such file"),
-    ((*RUN, "--agent", RING.words, "--quota", "65536"), 2,
-     "arena-lab: an agent has 1 to 65535 commands, and not 65536: name another number by --quota"),
+    (
+        (*RUN, "--agent", RING.words, "--quota", "65536"),
+        2,
+        "arena-lab: an agent has 1 to 65535 commands, and not 65536: name another number by --quota",
+    ),
 )
 SCHEDULERS = """def bad(seed):
     return lambda choices, state: None
@@ -59,20 +123,28 @@ SCHEDULERS = """def bad(seed):
 def raises(seed):
     return lambda choices, state: choices[99]
 """
-FACE = "\U0001f600 \u20ac \x7f \x01 \" \\ud83d"
+FACE = '\U0001f600 \u20ac \x7f \x01 " \\ud83d'
 
 
 class Lines(InFolder):
     def said(self, *words: str) -> Tuple[int, str]:
         """The exit status of a command, and what it says on standard error."""
-        more = [] if "model" in words or words[0] == "network" else ["--program", program()]
+        more = (
+            []
+            if "model" in words or words[0] == "network"
+            else ["--program", program()]
+        )
         status, _, errors = ran(main, [*words, *more])
         return status, errors
 
     def test_each_fault_is_a_line(self) -> None:
         os.chdir(self.folder)
-        for name, text in (("raises.py", SCHEDULERS), ("syntax.py", "def search(agent, key:\n"),
-                           ("text.md", "A text.\n"), ("course.toml", 'title = "T"\n')):
+        for name, text in (
+            ("raises.py", SCHEDULERS),
+            ("syntax.py", "def search(agent, key:\n"),
+            ("text.md", "A text.\n"),
+            ("course.toml", 'title = "T"\n'),
+        ):
             pathlib.Path(name).write_text(text)
         for words, status, wanted in ROWS:
             with self.subTest(" ".join(words)):
@@ -84,8 +156,12 @@ class Lines(InFolder):
                 self.assertIn(wanted, last)
 
     def test_lines_of_the_program_say_what_they_mean(self) -> None:
-        for line, meaning in (("a: b.jsonl: line 7", "line 7 is not spelled"), ("t.toml: match 3 board", "--board"),
-                              ("t.toml: match 1 key 2 twice", "the key of agent 2"), ("x: event 9", "line 9")):
+        for line, meaning in (
+            ("a: b.jsonl: line 7", "line 7 is not spelled"),
+            ("t.toml: match 3 board", "--board"),
+            ("t.toml: match 1 key 2 twice", "the key of agent 2"),
+            ("x: event 9", "line 9"),
+        ):
             self.assertIn(f"{line}: ", refusals.in_words(line))
             self.assertIn(meaning, refusals.in_words(line))
         self.assertEqual(refusals.in_words("x: something else"), "x: something else")
@@ -94,7 +170,11 @@ class Lines(InFolder):
         for command in ("run", "hunt", "explore"):
             with mock.patch.dict(sys.modules, dict.fromkeys(missing.PACKAGES)):
                 status, said = self.said(command, *OWN[1:])
-                lab = {name: module for name, module in sys.modules.items() if name.startswith("arena_lab.")}
+                lab = {
+                    name: module
+                    for name, module in sys.modules.items()
+                    if name.startswith("arena_lab.")
+                }
             # what the lab has loaded meanwhile is not loaded twice
             sys.modules.update(lab)
             self.assertEqual(status, 2, said)
@@ -109,11 +189,17 @@ class Lines(InFolder):
         found = played(given, RING, 0, engine=lambda it: Program(it, program()))
         self.assertEqual(found.verdict().outcome, "solved")
         schedule = schedule_of(given, [RING] * 2, "a test", found.choices)
-        self.assertEqual(ran(keep, self.folder, schedule, program()).status.replay, found.replay)
-        self.assertEqual(ran(main, ["replay", str(self.folder), "--program", program()]).status, 0)
+        self.assertEqual(
+            ran(keep, self.folder, schedule, program()).status.replay, found.replay
+        )
+        self.assertEqual(
+            ran(main, ["replay", str(self.folder), "--program", program()]).status, 0
+        )
         self.assertEqual(read(self.folder / "schedule.txt").fixture, given)
         os.chdir(self.folder)
-        self.assertEqual(read_tournament("tournament.toml").fixtures[0].keys, given.keys)
+        self.assertEqual(
+            read_tournament("tournament.toml").fixtures[0].keys, given.keys
+        )
 
     def test_matches_are_played_in_threads(self) -> None:
         given = [fixture(ring(8), hole) for hole in range(1, 8)]
@@ -123,16 +209,29 @@ class Lines(InFolder):
 
 
 class Processes(InFolder):
-    def started(self, *words: str, errors: int = subprocess.DEVNULL) -> "subprocess.Popen[str]":
+    def started(
+        self, *words: str, errors: int = subprocess.DEVNULL
+    ) -> "subprocess.Popen[str]":
         heeds = functools.partial(signal.signal, signal.SIGINT, signal.SIG_DFL)
-        return subprocess.Popen([sys.executable, "-m", "arena_lab", *words], cwd=TOP, stdout=subprocess.PIPE, text=True,
-                                stderr=errors, start_new_session=True, preexec_fn=heeds)
+        return subprocess.Popen(
+            [sys.executable, "-m", "arena_lab", *words],
+            cwd=TOP,
+            stdout=subprocess.PIPE,
+            text=True,
+            stderr=errors,
+            start_new_session=True,
+            preexec_fn=heeds,
+        )
 
     def test_workers_end_with_a_command_that_is_killed(self) -> None:
         file, out = self.folder / "sweep.toml", self.folder / "out"
-        file.write_text('title = "T"\nnetworks = ["ring:16"]\nseeds = 9000\n[[team]]\nname = "a"\n'
-                        f'agent = "{RING.words}"\n')
-        with self.started("sweep", str(file), "--out", str(out), "--workers", "2", *MODEL) as ran:
+        file.write_text(
+            'title = "T"\nnetworks = ["ring:16"]\nseeds = 9000\n[[team]]\nname = "a"\n'
+            f'agent = "{RING.words}"\n'
+        )
+        with self.started(
+            "sweep", str(file), "--out", str(out), "--workers", "2", *MODEL
+        ) as ran:
             until = time.monotonic() + 60
             while time.monotonic() < until and len(session_of(ran.pid)) < 3:
                 time.sleep(0.05)
@@ -143,14 +242,26 @@ class Processes(InFolder):
             self.assertEqual(session_of(ran.pid) - {ran.pid}, set())
 
     def test_who_interrupts_a_run_gets_what_was_played_and_the_status_130(self) -> None:
-        words = ["run", "--network", "ring:32", "--runs", "100000", "--agent", RING.words, "--json", *MODEL]
+        words = [
+            "run",
+            "--network",
+            "ring:32",
+            "--runs",
+            "100000",
+            "--agent",
+            RING.words,
+            "--json",
+            *MODEL,
+        ]
         with self.started(*words, errors=subprocess.PIPE) as ran:
             # however slow the machine is, a match was played
             self.assertIn("solved", ran.stdout.readline())
             ran.send_signal(signal.SIGINT)
             _, said = ran.communicate(timeout=60)
         self.assertEqual(ran.returncode, 130, said)
-        self.assertRegex(said, r"interrupted; this was played:\n\d+ schedules?: solved \d+; failed 0")
+        self.assertRegex(
+            said, r"interrupted; this was played:\n\d+ schedules?: solved \d+; failed 0"
+        )
 
 
 def session_of(leader: int) -> Set[int]:

@@ -20,11 +20,17 @@ from arena_lab.search.history_tree import NoFunction
 from arena_lab.search.match_results import unkept
 from arena_lab.support import built
 from tests.support.matches import AGENTS, InFolder, program
-from tests.support.sample_modules import LEAVER, MODULE, SLEEPER, WALKER, play_by_stand_in
+from tests.support.sample_modules import (
+    LEAVER,
+    MODULE,
+    SLEEPER,
+    WALKER,
+    play_by_stand_in,
+)
 from tests.support.output import ran
 
 RING = AGENTS / "wasm" / "ring.wasm"
-SWEEP = f'''
+SWEEP = f"""
 title = "Modules"
 networks = ["ring:4"]
 holes = "all"
@@ -36,8 +42,8 @@ agent = "{MODULE.words}"
 [[team]]
 name = "python"
 agent = "{AGENTS / 'ring.py'} {{nodes}}"
-'''
-COURSE = f'''
+"""
+COURSE = f"""
 title = "Modules"
 networks = ["ring:4"]
 holes = 2
@@ -56,7 +62,7 @@ command = "ring.wasm:{{nodes}}0"
 name = "cyan"
 files = ["{AGENTS / 'ring.py'}"]
 command = "ring.wasm:{{nodes}}"
-'''
+"""
 
 
 def digest(file: bytes) -> str:
@@ -75,70 +81,162 @@ class Modules(InFolder):
 
     def explored(self, *words: object) -> Tuple[int, List[str]]:
         """The status of an exploration, and what it says but for seconds."""
-        status, said = self.command("explore", "--board", 48, "--program", program(), "--keep", self.folder / "find",
-                                    *words)
-        return status, re.sub(r"\d+\.\d( s|$)", r"_\1", said, flags=re.MULTILINE).splitlines()
+        status, said = self.command(
+            "explore",
+            "--board",
+            48,
+            "--program",
+            program(),
+            "--keep",
+            self.folder / "find",
+            *words,
+        )
+        return (
+            status,
+            re.sub(r"\d+\.\d( s|$)", r"_\1", said, flags=re.MULTILINE).splitlines(),
+        )
 
     def test_whatever_names_a_module_it_is_a_program(self) -> None:
         for words in ("a.wasm", "a.wasm:8", "'a b.wasm:8,9'", "x/a.wasm:{nodes}"):
             self.assertEqual(agent_named(INSIDE, words), AgentWords(OUTSIDE, words))
             self.assertTrue(agent_named(OUTSIDE, words).is_module())
-        for words in ("a.py", "a.py 8", "a.wasm 8", "python3 a.wasm", "", "'a.wasm", "wasm:8"):
+        for words in (
+            "a.py",
+            "a.py 8",
+            "a.wasm 8",
+            "python3 a.wasm",
+            "",
+            "'a.wasm",
+            "wasm:8",
+        ):
             self.assertEqual(agent_named(INSIDE, words), AgentWords(INSIDE, words))
             self.assertFalse(wasm_modules.is_module(words))
 
     def test_the_player_is_told_the_match_and_the_arguments(self) -> None:
         fixture = fixture_of(Setup(5, ring(5).links, 0, [2], 2, 100, 48, []))
         words = command_of("'a b.wasm:{nodes},3'", fixture, 1, {})
-        self.assertEqual(words[1:], ["127.0.0.1", "{port}", fixture.keys[1], "--module", "a b.wasm:5,3"])
-        self.assertEqual(wasm_modules.word_of("a.wasm:{links},3", fixture.setup),
-                         f"{self.folder.cwd() / 'a.wasm'}:5,3")
+        self.assertEqual(
+            words[1:],
+            ["127.0.0.1", "{port}", fixture.keys[1], "--module", "a b.wasm:5,3"],
+        )
+        self.assertEqual(
+            wasm_modules.word_of("a.wasm:{links},3", fixture.setup),
+            f"{self.folder.cwd() / 'a.wasm'}:5,3",
+        )
         with self.assertRaisesRegex(NoAgent, "behind the colon"):
             wasm_modules.word_of("a.wasm:{key}", fixture.setup)
 
     def test_it_plays_as_the_same_search_in_python(self) -> None:
-        rows = [[(row["moves"], row["lost"], row["outcome"]) for row in
-                 api.play("ring:6", agent, "slow-agents", 6, board=48)]
-                for agent in (MODULE.words, f"{AGENTS / 'ring.py'} {{nodes}}")]
+        rows = [
+            [
+                (row["moves"], row["lost"], row["outcome"])
+                for row in api.play("ring:6", agent, "slow-agents", 6, board=48)
+            ]
+            for agent in (MODULE.words, f"{AGENTS / 'ring.py'} {{nodes}}")
+        ]
         self.assertEqual(rows[0], rows[1])
         self.assertEqual({row[2] for row in rows[0]}, {"solved"})
         for option in ("--agent", "--command"):
-            status, said = self.command("run", "--network", "ring:5", option, MODULE.words, "--engine", "model",
-                                        "--runs", 2, "--repeat")
-            self.assertEqual((status, said.splitlines()[0]), (0, "2 schedules: solved 2; failed 0"))
+            status, said = self.command(
+                "run",
+                "--network",
+                "ring:5",
+                option,
+                MODULE.words,
+                "--engine",
+                "model",
+                "--runs",
+                2,
+                "--repeat",
+            )
+            self.assertEqual(
+                (status, said.splitlines()[0]), (0, "2 schedules: solved 2; failed 0")
+            )
 
     def test_a_file_that_is_none_fails(self) -> None:
         (self.folder / "a.wasm").write_text("no module")
-        for name, why in (("a.wasm", "a.wasm: head at byte 0"), ("b.wasm", "No such file")):
-            status, said = self.command("run", "--network", "ring:4", "--agent", self.folder / name, "--engine",
-                                        "model", "--keep", self.folder / "find")
+        for name, why in (
+            ("a.wasm", "a.wasm: head at byte 0"),
+            ("b.wasm", "No such file"),
+        ):
+            status, said = self.command(
+                "run",
+                "--network",
+                "ring:4",
+                "--agent",
+                self.folder / name,
+                "--engine",
+                "model",
+                "--keep",
+                self.folder / "find",
+            )
             self.assertEqual(status, 1)
-            self.assertRegex(said, f"has ended with status 1 before it connected: .*{why}")
+            self.assertRegex(
+                said, f"has ended with status 1 before it connected: .*{why}"
+            )
 
     def test_it_is_hunted_checked_and_swept(self) -> None:
-        status, said = self.command("hunt", "--network", "ring:4", "--agent", f"{RING}:5", "--engine", "model",
-                                    "--runs", 20, "--keep", self.folder / "find", "--database",
-                                    self.folder / "hunted")
+        status, said = self.command(
+            "hunt",
+            "--network",
+            "ring:4",
+            "--agent",
+            f"{RING}:5",
+            "--engine",
+            "model",
+            "--runs",
+            20,
+            "--keep",
+            self.folder / "find",
+            "--database",
+            self.folder / "hunted",
+        )
         self.assertEqual(status, 1, said)
         self.assertIn(": the team fails", said)
-        status, said = self.command("check", MODULE.words, "--network", "ring:4", "--seconds", 1, "--program",
-                                    program())
+        status, said = self.command(
+            "check",
+            MODULE.words,
+            "--network",
+            "ring:4",
+            "--seconds",
+            1,
+            "--program",
+            program(),
+        )
         self.assertEqual(status, 0, said)
         self.assertRegex(said, r"every schedule of ring:4: 151 states, all solve\n")
         (self.folder / "sweep.toml").write_text(SWEEP)
-        status, said = self.command("sweep", self.folder / "sweep.toml", "--out", self.folder / "out", "--program",
-                                    program(), "--explore", 1000)
+        status, said = self.command(
+            "sweep",
+            self.folder / "sweep.toml",
+            "--out",
+            self.folder / "out",
+            "--program",
+            program(),
+            "--explore",
+            1000,
+        )
         self.assertEqual(status, 0, said)
         with (self.folder / "out" / "runs.csv").open() as file:
-            moves = {(row["team"], row["hole"]): row["moves"] for row in csv.DictReader(file)}
-        self.assertEqual([moves["module", str(hole)] for hole in (1, 2, 3)],
-                         [moves["python", str(hole)] for hole in (1, 2, 3)])
+            moves = {
+                (row["team"], row["hole"]): row["moves"] for row in csv.DictReader(file)
+            }
+        self.assertEqual(
+            [moves["module", str(hole)] for hole in (1, 2, 3)],
+            [moves["python", str(hole)] for hole in (1, 2, 3)],
+        )
         self.assertIn("every schedule of 6 matches", said)
 
     def test_a_course_grades_it(self) -> None:
         (self.folder / "course.toml").write_text(COURSE)
-        status, said = self.command("grade", self.folder / "course.toml", "--out", self.folder / "out", "--engine",
-                                    "model")
+        status, said = self.command(
+            "grade",
+            self.folder / "course.toml",
+            "--out",
+            self.folder / "out",
+            "--engine",
+            "model",
+        )
         self.assertEqual(status, 0, said)
         for name, solved in (("amber", 2), ("blue", 0), ("cyan", 0)):
             self.assertRegex(said, rf"{name} +{solved} of 2 ")
@@ -151,20 +249,37 @@ class Modules(InFolder):
         words = ["--network", "ring:3..4", "--agent", MODULE.words]
         status, said = self.explored(*words)
         self.assertEqual(status, 0, said)
-        self.assertIn("home 0 holes [2]: 91 states, every schedule solves, most moves 9, _ s", said)
-        self.assertRegex("\n".join(said), "(?m)^151 states in _ s: every schedule solves, by memories of the module "
-                         "with the SHA-256 3191ff3430cd[0-9a-f]{52}(, .*)?; the program ran the module itself$")
+        self.assertIn(
+            "home 0 holes [2]: 91 states, every schedule solves, most moves 9, _ s",
+            said,
+        )
+        self.assertRegex(
+            "\n".join(said),
+            "(?m)^151 states in _ s: every schedule solves, by memories of the module "
+            "with the SHA-256 3191ff3430cd[0-9a-f]{52}(, .*)?; the program ran the module itself$",
+        )
         self.assertEqual(self.explored(*words, "--workers", 2), (status, said))
-        self.assertTrue(api.explore("ring:4", MODULE.words, board=48, engine=program()).solves)
+        self.assertTrue(
+            api.explore("ring:4", MODULE.words, board=48, engine=program()).solves
+        )
 
     def test_each_agent_may_run_a_module_of_its_own(self) -> None:
         leaver, walker = self.folder / "leaver.wasm", self.folder / "walker.wasm"
         leaver.write_bytes(LEAVER)
         walker.write_bytes(WALKER)
-        one, two = "by memories of the module with the SHA-256 {}", "by memories of the modules with the SHA-256 {}, {}"
-        for agents, moves, by in (((walker, leaver), 1, two.format(*map(digest, (WALKER, LEAVER)))),
-                                  ((leaver, walker), 1, two.format(*map(digest, (LEAVER, WALKER)))),
-                                  ((MODULE.words, f"{MODULE.words},0"), 4, one.format(digest(RING.read_bytes())))):
+        one, two = (
+            "by memories of the module with the SHA-256 {}",
+            "by memories of the modules with the SHA-256 {}, {}",
+        )
+        for agents, moves, by in (
+            ((walker, leaver), 1, two.format(*map(digest, (WALKER, LEAVER)))),
+            ((leaver, walker), 1, two.format(*map(digest, (LEAVER, WALKER)))),
+            (
+                (MODULE.words, f"{MODULE.words},0"),
+                4,
+                one.format(digest(RING.read_bytes())),
+            ),
+        ):
             words = [it for agent in agents for it in ("--agent", agent)]
             status, said = self.explored("--network", "ring:3", "--hole", 2, *words)
             self.assertEqual(status, 0, said)
@@ -173,7 +288,10 @@ class Modules(InFolder):
 
     def test_a_schedule_that_fails_is_played_again(self) -> None:
         status, said = self.explored("--network", "ring:4", "--agent", f"{RING}:5")
-        self.assertEqual((status, said[0]), (1, "home 0 holes [1]: 21 states, a schedule fails, its moves 12, _ s"))
+        self.assertEqual(
+            (status, said[0]),
+            (1, "home 0 holes [1]: 21 states, a schedule fails, its moves 12, _ s"),
+        )
         self.assertTrue((self.folder / "find" / "schedule.txt").exists())
 
     def test_a_schedule_in_which_a_module_sleeps_is_told(self) -> None:
@@ -189,17 +307,37 @@ class Modules(InFolder):
             api.explore("ring:3", str(path), count=1, holes=[1], engine=program())
 
     def test_schedules_are_drawn_too(self) -> None:
-        status, said = self.explored("--network", "ring:4", "--hole", 2, "--agent", MODULE.words, "--draws", 10)
+        status, said = self.explored(
+            "--network", "ring:4", "--hole", 2, "--agent", MODULE.words, "--draws", 10
+        )
         self.assertEqual(status, 0, said)
         self.assertRegex(said[0], "10 solved, 0 failed")
 
     def test_what_the_program_says_against_a_module(self) -> None:
         shutil.copy(AGENTS / "ring.py", self.folder / "a.wasm")
-        status, said = self.explored("--network", "ring:3", "--agent", self.folder / "a.wasm")
-        self.assertEqual((status, said[-1]), (3, f"{self.folder / 'a.wasm'}: head at byte 0"))
-        status, said = self.explored("--network", "ring:4", "--hole", 2, "--agent", MODULE.words, "--max-states", 9)
-        self.assertEqual((status, said[0]), (130, "home 0 holes [2]: more states than were to be visited, _ s"))
-        status, said = self.explored("--network", "ring:4", "--agent", MODULE.words, "--search", "model")
+        status, said = self.explored(
+            "--network", "ring:3", "--agent", self.folder / "a.wasm"
+        )
+        self.assertEqual(
+            (status, said[-1]), (3, f"{self.folder / 'a.wasm'}: head at byte 0")
+        )
+        status, said = self.explored(
+            "--network",
+            "ring:4",
+            "--hole",
+            2,
+            "--agent",
+            MODULE.words,
+            "--max-states",
+            9,
+        )
+        self.assertEqual(
+            (status, said[0]),
+            (130, "home 0 holes [2]: more states than were to be visited, _ s"),
+        )
+        status, said = self.explored(
+            "--network", "ring:4", "--agent", MODULE.words, "--search", "model"
+        )
         self.assertEqual(status, 2)
         self.assertIn("plays Python agents inside the lab", said[-1])
 
@@ -207,13 +345,21 @@ class Modules(InFolder):
 PLAYER = built.PLAYER.proved
 
 
-@unittest.skipUnless(PLAYER.exists() and b"--module" in PLAYER.read_bytes(), "no player is built: `rt ci` builds it")
+@unittest.skipUnless(
+    PLAYER.exists() and b"--module" in PLAYER.read_bytes(),
+    "no player is built: `rt ci` builds it",
+)
 class ByPlayer(unittest.TestCase):
     def test_the_sample_module_says_what_the_same_search_in_python_says(self) -> None:
         self.enterContext(mock.patch.object(built, "player", lambda: PLAYER))
         for scheduler in sorted(schedulers.NAMED):
             for network in ("ring:3", "ring:8"):
-                found = [[row.match().played.replay for row in api.play(network, agent, scheduler, 3, board=48)]
-                         for agent in (MODULE.words, f"{AGENTS / 'ring.py'} {{nodes}}")]
+                found = [
+                    [
+                        row.match().played.replay
+                        for row in api.play(network, agent, scheduler, 3, board=48)
+                    ]
+                    for agent in (MODULE.words, f"{AGENTS / 'ring.py'} {{nodes}}")
+                ]
                 with self.subTest(scheduler, network=network):
                     self.assertEqual(found[0], found[1])

@@ -18,10 +18,14 @@ Asked = Callable[[Any], Coroutine[Any, Any, None]]
 
 def asked(ask: Asked) -> None:
     """Lets a client ask the server of a ring of four nodes."""
+
     async def talk() -> None:
-        match = HumanMatch(fixture_of(Setup(4, ring(4).links, 0, [1], 2, 100, 64)), random.Random(1))
+        match = HumanMatch(
+            fixture_of(Setup(4, ring(4).links, 0, [1], 2, 100, 64)), random.Random(1)
+        )
         async with TestClient(TestServer(application(match, "ring:4"))) as client:
             await ask(client)
+
     asyncio.run(talk())
 
 
@@ -43,24 +47,42 @@ class TestPerson(unittest.TestCase):
             self.assertNotIn("hole", json.dumps(seen))
             self.assertEqual(404, (await client.get("/match")).status)
             self.assertTrue((await (await client.post("/end", json={})).json())["over"])
-            self.assertIn("silent moves 1 lost 1", await (await client.get("/match")).text())
+            self.assertIn(
+                "silent moves 1 lost 1", await (await client.get("/match")).text()
+            )
+
         asked(ask)
 
     def test_pages_elsewhere_play_nothing(self) -> None:
         async def ask(client: Any) -> None:
             enter = json.dumps({"agent": 0, "command": {"do": "enter"}})
-            for headers in ({"Content-Type": "text/plain"}, {"Content-Type": "application/x-www-form-urlencoded"},
-                            {"Content-Type": "application/json", "Origin": "http://elsewhere.example"},
-                            {"Content-Type": "application/json", "Host": "rebound.example"}):
+            for headers in (
+                {"Content-Type": "text/plain"},
+                {"Content-Type": "application/x-www-form-urlencoded"},
+                {
+                    "Content-Type": "application/json",
+                    "Origin": "http://elsewhere.example",
+                },
+                {"Content-Type": "application/json", "Host": "rebound.example"},
+            ):
                 answer = await client.post("/say", data=enter, headers=headers)
                 self.assertIn(answer.status, (400, 403), headers)
             seen = await (await client.get("/seen")).json()
             self.assertEqual("outside", seen["agents"][0]["standing"])
+
         asked(ask)
 
     def test_what_no_agent_says(self) -> None:
         async def ask(client: Any) -> None:
-            for given in ([], {"agent": 2, "command": {"do": "enter"}}, {"agent": True, "command": {"do": "enter"}},
-                          {"agent": 0, "command": "enter"}, {"agent": 0, "command": {}}):
-                self.assertEqual(400, (await client.post("/say", json=given)).status, given)
+            for given in (
+                [],
+                {"agent": 2, "command": {"do": "enter"}},
+                {"agent": True, "command": {"do": "enter"}},
+                {"agent": 0, "command": "enter"},
+                {"agent": 0, "command": {}},
+            ):
+                self.assertEqual(
+                    400, (await client.post("/say", json=given)).status, given
+                )
+
         asked(ask)

@@ -44,7 +44,10 @@ class Game(NamedTuple):
 
 
 def agents(runs: Sequence[str]) -> List[AgentWords]:
-    return [AgentWords(OUTSIDE, f"{PLAYER} {{host}} {{port}} {{key}} {words}") for words in runs]
+    return [
+        AgentWords(OUTSIDE, f"{PLAYER} {{host}} {{port}} {{key}} {words}")
+        for words in runs
+    ]
 
 
 def ring_of(sizes: Sequence[int], chance: random.Random) -> Network:
@@ -58,7 +61,9 @@ def searched(name: str, chance: random.Random) -> Game:
     home, hole = chance.sample(range(network.nodes), 2)
     bounds = SEARCHES[name](network.nodes)
     runs = [f"{pathlib.PurePath(name).stem} {network.nodes} {side}" for side in (0, 1)]
-    return Game(network, fixture(network, hole, home, bounds.commands), runs, bounds.moves)
+    return Game(
+        network, fixture(network, hole, home, bounds.commands), runs, bounds.moves
+    )
 
 
 def following(schedule: Sequence[int]) -> Scheduler:
@@ -68,10 +73,13 @@ def following(schedule: Sequence[int]) -> Scheduler:
     def choose(choices: Sequence[Choice], _: MatchView) -> Choice:
         agent = next(turns, None)
         return next((choice for choice in choices if choice.agent == agent), choices[0])
+
     return choose
 
 
-@unittest.skipUnless(PLAYER.exists(), "the agents' program is not built: `rt ci` builds it")
+@unittest.skipUnless(
+    PLAYER.exists(), "the agents' program is not built: `rt ci` builds it"
+)
 class Players(InFolder):
     def write(self, games: Sequence[Game]) -> None:
         write_cup(self.folder, [game.fixture for game in games], seed="7" * 64)
@@ -80,8 +88,12 @@ class Players(InFolder):
         """What `explore` finds of a match whose agents run the module."""
         self.write([game])
         word = f"{MODULE}:{game.network.nodes}"
-        ran = subprocess.run([program(), "explore", "cup.toml", "0", "--module", word, *words], cwd=self.folder,
-                             capture_output=True, text=True)
+        ran = subprocess.run(
+            [program(), "explore", "cup.toml", "0", "--module", word, *words],
+            cwd=self.folder,
+            capture_output=True,
+            text=True,
+        )
         found: Dict[str, Any] = json.loads(ran.stdout.splitlines()[0])
         return found
 
@@ -89,7 +101,9 @@ class Players(InFolder):
         """A match that the module solves under every schedule, within these moves."""
         network = ring_of(SMALL, chance)
         home, hole = chance.sample(range(network.nodes), 2)
-        given = fixture_of(Setup(network.nodes, network.links, home, [hole], 2, 200, 48))
+        given = fixture_of(
+            Setup(network.nodes, network.links, home, [hole], 2, 200, 48)
+        )
         game = Game(network, given, [f"--module {MODULE}:{network.nodes}"] * 2, 0)
         found = self.found(game)
         self.assertEqual(found["found"], "solves")
@@ -101,17 +115,26 @@ class Players(InFolder):
                 for seed in range(DRAWN):
                     game = searched(name, random.Random(f"{name} {scheduler} {seed}"))
                     with self.subTest(name, scheduler=scheduler, seed=seed):
-                        found = under(maker(seed), game.fixture, agents(game.runs), seconds=20)
+                        found = under(
+                            maker(seed), game.fixture, agents(game.runs), seconds=20
+                        )
                         self.assertFalse(found.has_failed())
                         self.assertLessEqual(found.verdict().moves, game.moves)
-                        self.assertEqual(found.replay, under(maker(seed), game.fixture, two(name, "{nodes}")).replay)
+                        self.assertEqual(
+                            found.replay,
+                            under(
+                                maker(seed), game.fixture, two(name, "{nodes}")
+                            ).replay,
+                        )
 
     def test_modules_solve_what_they_are_proved_to_solve(self) -> None:
         for scheduler, maker in sorted(schedulers.NAMED.items()):
             for seed in range(MODULES):
                 with self.subTest(scheduler=scheduler, seed=seed):
                     game = self.explored(random.Random(f"{scheduler} {seed}"))
-                    found = under(maker(seed), game.fixture, agents(game.runs), seconds=20)
+                    found = under(
+                        maker(seed), game.fixture, agents(game.runs), seconds=20
+                    )
                     self.assertFalse(found.has_failed(), found.faults)
                     self.assertLessEqual(found.verdict().moves, game.moves)
 
@@ -120,22 +143,46 @@ class Players(InFolder):
             for seed in range(MODULES):
                 with self.subTest(scheduler=scheduler, seed=seed):
                     game = self.explored(random.Random(f"{scheduler} {seed} drawn"))
-                    drawn = self.found(game, "--draws", "3", "--scheduler", scheduler, "--seed", str(seed))
-                    found = under(following(drawn["schedule"]), game.fixture, agents(game.runs), seconds=20)
-                    self.assertEqual((found.verdict().moves, found.verdict().lost), (drawn["moves"], drawn["lost"]))
+                    drawn = self.found(
+                        game,
+                        "--draws",
+                        "3",
+                        "--scheduler",
+                        scheduler,
+                        "--seed",
+                        str(seed),
+                    )
+                    found = under(
+                        following(drawn["schedule"]),
+                        game.fixture,
+                        agents(game.runs),
+                        seconds=20,
+                    )
+                    self.assertEqual(
+                        (found.verdict().moves, found.verdict().lost),
+                        (drawn["moves"], drawn["lost"]),
+                    )
 
     def test_they_solve_the_matches_of_a_contest(self) -> None:
         chance = random.Random("a contest of players")
         drawn = [searched(name, chance) for name in SEARCHES for _ in range(SERVED)]
         drawn += [self.explored(chance) for _ in range(MODULES)]
-        games = [game._replace(fixture=game.fixture._replace(keys=[f"{number}-{key}" for key in game.fixture.keys]))
-                 for number, game in enumerate(drawn)]
+        games = [
+            game._replace(
+                fixture=game.fixture._replace(
+                    keys=[f"{number}-{key}" for key in game.fixture.keys]
+                )
+            )
+            for number, game in enumerate(drawn)
+        ]
         self.write(games)
         self.serve(games)
         for number, game in enumerate(games):
             with self.subTest(game.runs[0], number=number):
                 words = [program(), "judge", f"cup{number}.jsonl"]
-                verdict = subprocess.run(words, cwd=self.folder, capture_output=True, text=True, check=True).stdout
+                verdict = subprocess.run(
+                    words, cwd=self.folder, capture_output=True, text=True, check=True
+                ).stdout
                 outcome, _, moves, _, lost = verdict.split()
                 self.assertEqual(outcome, "solved")
                 self.assertLessEqual(int(moves), game.moves)
@@ -143,9 +190,14 @@ class Players(InFolder):
 
     def serve(self, games: Sequence[Game]) -> None:
         """Serves the matches of a tournament to the agents' program. An agent that is not lost ends with 0."""
-        with Server([program(), "serve", "cup.toml", "--pause", 1], self.folder) as server:
-            started = [subprocess.Popen([PLAYER, HOST, str(server.port), key, *runs.split()])
-                       for game in games for runs, key in zip(game.runs, game.fixture.keys)]
+        with Server(
+            [program(), "serve", "cup.toml", "--pause", 1], self.folder
+        ) as server:
+            started = [
+                subprocess.Popen([PLAYER, HOST, str(server.port), key, *runs.split()])
+                for game in games
+                for runs, key in zip(game.runs, game.fixture.keys)
+            ]
             try:
                 self.assertEqual(server.child.wait(PATIENCE), 0)
                 self.assertEqual({child.wait(PATIENCE) for child in started}, {0})

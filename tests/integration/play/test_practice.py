@@ -12,7 +12,7 @@ from tests.support.matches import RING, InFolder, program, under
 
 # One agent steps to the next node and comes back, node after node. The other waits behind it, and takes it for
 # destroyed if it stays away for a long time.
-TIMED = '''
+TIMED = """
 NAPS = 200
 
 def search(agent, key, nodes, sleep):
@@ -37,7 +37,7 @@ def is_back(agent, sleep):
         if agent.look().board == "ok":
             return True
     return False
-'''
+"""
 SEEDS = 5
 
 
@@ -46,14 +46,21 @@ class Practice(InFolder):
         super().setUp()
         tournament = read_tournament("examples/practice.toml")
         self.fixture = tournament.fixtures[0]._replace(naps=1000)
-        self.delays: Delays = tournament.delays or self.fail("the schedule is not the oblivious one")
+        self.delays: Delays = tournament.delays or self.fail(
+            "the schedule is not the oblivious one"
+        )
         (self.folder / "timed.py").write_text(TIMED)
         self.timed = AgentWords(INSIDE, f"{self.folder / 'timed.py'} {{nodes}}")
 
     def outcomes(self, team: AgentWords, fixture: Fixture) -> List[str]:
         """What a team's matches come to, by the model and by the program."""
-        return [under(Oblivious(seed, self.delays), fixture, [team] * 2, engine).verdict().outcome
-                for seed in range(SEEDS) for engine in (Rehearsal, lambda it: Program(it, program()))]
+        return [
+            under(Oblivious(seed, self.delays), fixture, [team] * 2, engine)
+            .verdict()
+            .outcome
+            for seed in range(SEEDS)
+            for engine in (Rehearsal, lambda it: Program(it, program()))
+        ]
 
     def test_a_timeout_takes_the_held_link_for_a_black_hole(self) -> None:
         self.assertEqual(self.outcomes(self.timed, self.fixture), ["wrong"] * 2 * SEEDS)

@@ -16,7 +16,10 @@ from arena_lab.sandbox.processes import listed, words_of
 from tests.support.matches import AGENTS, RING, fixture, played, program, under
 from tests.support.output import InTemporary
 
-PYTHON = AgentWords(OUTSIDE, f"{sys.executable} {AGENTS / 'ring.py'} {{host}} {{port}} {{key}} {{nodes}}")
+PYTHON = AgentWords(
+    OUTSIDE,
+    f"{sys.executable} {AGENTS / 'ring.py'} {{host}} {{port}} {{key}} {{nodes}}",
+)
 RUDE = pathlib.Path(__file__).resolve().parent / "rude.py"
 FAULTS = {
     "dies": "agent 1: has ended with status 1 before it connected: no such map",
@@ -40,8 +43,12 @@ def running(words: str) -> List[str]:
 
 
 class Programs(InTemporary):
-    def of(self, agents: List[AgentWords], seed: int, seconds: float = 5) -> PlayedMatch:
-        return under(schedulers.fair(seed), fixture(ring(8), 5), agents, seconds=seconds)
+    def of(
+        self, agents: List[AgentWords], seed: int, seconds: float = 5
+    ) -> PlayedMatch:
+        return under(
+            schedulers.fair(seed), fixture(ring(8), 5), agents, seconds=seconds
+        )
 
     def test_programs_and_agents_inside_play_the_same(self) -> None:
         for seed in range(3):
@@ -51,10 +58,14 @@ class Programs(InTemporary):
                     self.assertEqual(self.of(agents, seed).replay, inside.replay)
 
     def test_what_a_program_wrote_to_standard_error_is_kept(self) -> None:
-        dies = AgentWords(OUTSIDE, f"{sys.executable} {RUDE} dies {{host}} {{port}} {{key}}")
+        dies = AgentWords(
+            OUTSIDE, f"{sys.executable} {RUDE} dies {{host}} {{port}} {{key}}"
+        )
         match = self.of([PYTHON, dies], 0)
         self.assertEqual(list(match.errors), [1])
-        schedule = schedule_of(fixture(ring(8), 5), [PYTHON, dies], "a test", match.choices)
+        schedule = schedule_of(
+            fixture(ring(8), 5), [PYTHON, dies], "a test", match.choices
+        )
         folder = self.folder
         kept_matches.write_find(folder, schedule, match, None)
         self.assertIn("no such map", (folder / "errors1.txt").read_text())
@@ -72,19 +83,26 @@ class Programs(InTemporary):
         self.assertFalse(once.has_failed())
         schedule = schedule_of(fixture(ring(8), 5), agents, "fair 7", once.choices)
         for engine in (None, program()):
-            self.assertEqual(kept_matches.played_again(schedule, engine).replay, once.replay)
+            self.assertEqual(
+                kept_matches.played_again(schedule, engine).replay, once.replay
+            )
 
     def test_who_keeps_to_no_rule_is_named_and_ended(self) -> None:
         for how, fault in FAULTS.items():
             with self.subTest(how):
-                rude = AgentWords(OUTSIDE, f"{sys.executable} {RUDE} {how} {{host}} {{port}} {{key}}")
+                rude = AgentWords(
+                    OUTSIDE, f"{sys.executable} {RUDE} {how} {{host}} {{port}} {{key}}"
+                )
                 found = self.of([RING, rude], 1, SHORT if how in WAITED_FOR else LONG)
                 self.assertEqual(found.faults, [fault])
                 self.assertTrue(found.has_failed())
                 self.assertEqual(running(str(RUDE)), [])
 
     def test_what_the_silent_started_is_ended(self) -> None:
-        rude = AgentWords(OUTSIDE, f"{sys.executable} {RUDE} silent:{self.folder.name} {{host}} {{port}} {{key}}")
+        rude = AgentWords(
+            OUTSIDE,
+            f"{sys.executable} {RUDE} silent:{self.folder.name} {{host}} {{port}} {{key}}",
+        )
         self.of([rude, rude], 1, SHORT)
         self.assertEqual(running(self.folder.name), [])
 

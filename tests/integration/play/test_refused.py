@@ -6,8 +6,13 @@ from arena_lab.__main__ import main
 from tests.support.matches import InFolder
 from tests.support.output import ran
 
-LINES = ["debug: here", '{"do":"depart","port":"0"}', '{"do":"move","port":0}', '{"do":"depart","port":7}',
-         "at \x1b[31m<b>port</b>"]
+LINES = [
+    "debug: here",
+    '{"do":"depart","port":"0"}',
+    '{"do":"move","port":0}',
+    '{"do":"depart","port":7}',
+    "at \x1b[31m<b>port</b>",
+]
 RAW = """
 import json, socket, sys
 host, port, key, lines, tail = sys.argv[1:]
@@ -29,15 +34,27 @@ class Refused(InFolder):
 
     def command(self, *lines: str, tail: str = "") -> str:
         sent = json.dumps(list(lines)).replace("{", "{{").replace("}", "}}")
-        return f"{sys.executable} {self.agent} {{host}} {{port}} {{key}} '{sent}' '{tail}'"
+        return (
+            f"{sys.executable} {self.agent} {{host}} {{port}} {{key}} '{sent}' '{tail}'"
+        )
 
     def said(self, *words: str) -> str:
         said = ran(main, [*words, "--engine", "model"]).said
         return said
 
     def played(self, *lines: str, tail: str = "", more: "tuple[str, ...]" = ()) -> str:
-        return self.said("run", "--network", "ring:4", "--hole", "2", "--agents", "1", "--command",
-                         self.command(*lines, tail=tail), *more)
+        return self.said(
+            "run",
+            "--network",
+            "ring:4",
+            "--hole",
+            "2",
+            "--agents",
+            "1",
+            "--command",
+            self.command(*lines, tail=tail),
+            *more,
+        )
 
     def test_run_replay_and_the_page_tell_them(self) -> None:
         out = self.folder / "out"
@@ -69,22 +86,32 @@ class Refused(InFolder):
         self.assertNotIn("agent 0:", self.played('{"do":"look"}', '{"do":"leave"}'))
 
     def test_a_first_line_and_an_end_without_a_line_feed(self) -> None:
-        self.agent.write_text(RAW.replace("'{\"do\":\"enter\"", "'\\ufeff{\"do\":\"enter\""))
+        self.agent.write_text(RAW.replace('\'{"do":"enter"', '\'\\ufeff{"do":"enter"'))
         said = self.played()
-        self.assertIn('agent 0: its first line was no enter: `\\ufeff{"do":"enter","key":"KEY"}`', said)
+        self.assertIn(
+            'agent 0: its first line was no enter: `\\ufeff{"do":"enter","key":"KEY"}`',
+            said,
+        )
         self.assertIn("a byte order mark stands before the line", said)
         self.agent.write_text(RAW)
         said = self.played(tail="look")
-        self.assertIn("what it sent last was not taken, as no line feed stands behind it: `look`", said)
+        self.assertIn(
+            "what it sent last was not taken, as no line feed stands behind it: `look`",
+            said,
+        )
 
     def test_the_page_of_a_team_tells_them_once(self) -> None:
         course = self.folder / "course.toml"
         sent = json.dumps([*LINES[:4]]).replace("{", "{{").replace("}", "}}")
         command = f"python3 raw.py {{host}} {{port}} {{key}} '{sent}' ''"
-        course.write_text('title = "T"\nnetworks = ["ring:4"]\nholes = [2]\nseeds = 3\n[[team]]\nname = "a"\n'
-                          f"agents = 1\nfiles = ['raw.py']\ncommand = {json.dumps(command)}\n")
+        course.write_text(
+            'title = "T"\nnetworks = ["ring:4"]\nholes = [2]\nseeds = 3\n[[team]]\nname = "a"\n'
+            f"agents = 1\nfiles = ['raw.py']\ncommand = {json.dumps(command)}\n"
+        )
         out = self.folder / "graded"
         self.said("grade", str(course), "--out", str(out))
         page = (out / "team-a.html").read_text()
-        self.assertEqual(page.count("lines were no commands; the first: `debug: here`"), 1)
+        self.assertEqual(
+            page.count("lines were no commands; the first: `debug: here`"), 1
+        )
         self.assertIn("(matches 0, 1, 2)", page)

@@ -22,10 +22,20 @@ def fixture(network: Network, hole: int, home: int = 0) -> Fixture:
 class Ring3(unittest.TestCase):
     def test_every_schedule_of_small_rings(self) -> None:
         for nodes in range(3, 8):
-            found = [explored(fixture(ring(nodes), hole), [RING3] * 2, NO_PROGRESS) for hole in range(1, nodes)]
+            found = [
+                explored(fixture(ring(nodes), hole), [RING3] * 2, NO_PROGRESS)
+                for hole in range(1, nodes)
+            ]
             with self.subTest(nodes=nodes):
-                self.assertTrue(all(it.is_whole and not it.explorer.worst.has_failed for it in found))
-                self.assertEqual(max(it.explorer.worst.verdict.moves for it in found), most_moves(nodes))
+                self.assertTrue(
+                    all(
+                        it.is_whole and not it.explorer.worst.has_failed for it in found
+                    )
+                )
+                self.assertEqual(
+                    max(it.explorer.worst.verdict.moves for it in found),
+                    most_moves(nodes),
+                )
                 self.assertEqual(max(it.explorer.worst.verdict.lost for it in found), 1)
 
     def test_drawn_schedules_of_larger_rings(self) -> None:
@@ -35,21 +45,30 @@ class Ring3(unittest.TestCase):
             home, hole = chance.sample(range(nodes), 2)
             network = flipped_ring(nodes, chance) if seed % 2 else ring(nodes)
             name = sorted(schedulers.NAMED)[seed // 2 % len(schedulers.NAMED)]
-            with self.subTest(seed=seed, nodes=nodes, scheduler=name, home=home, hole=hole):
-                found = played(fixture(network, hole, home), RING3, seed, schedulers.NAMED[name])
+            with self.subTest(
+                seed=seed, nodes=nodes, scheduler=name, home=home, hole=hole
+            ):
+                found = played(
+                    fixture(network, hole, home), RING3, seed, schedulers.NAMED[name]
+                )
                 self.assertFalse(found.has_failed())
                 self.assertLessEqual(found.verdict().moves, most_moves(nodes))
                 self.assertLessEqual(found.verdict().lost, 1)
 
     def test_the_worst_case_is_found(self) -> None:
-        most = max(played(fixture(ring(16), 1 + seed % 15), RING3, seed).verdict().moves for seed in range(100))
+        most = max(
+            played(fixture(ring(16), 1 + seed % 15), RING3, seed).verdict().moves
+            for seed in range(100)
+        )
         self.assertEqual(most, most_moves(16))
 
     def test_the_adversary_attains_the_worst_case(self) -> None:
         for nodes in (9, 16, 27, 32):
             with self.subTest(nodes=nodes):
                 hole = Table(nodes, of_ring3).runs()[1] + 1
-                found = played(fixture(ring(nodes), hole), RING3, 0, adversary.worst_case)
+                found = played(
+                    fixture(ring(nodes), hole), RING3, 0, adversary.worst_case
+                )
                 self.assertFalse(found.has_failed())
                 self.assertEqual(found.verdict().moves, most_moves(nodes))
 
@@ -64,4 +83,6 @@ class Counting(unittest.TestCase):
             with self.subTest(nodes=nodes):
                 runs, right = Table(nodes, of_ring3).runs()
                 found = turns.played(ring3.search, nodes, runs)
-                self.assertEqual((found.moves, found.hole), (most_moves(nodes), right + 1))
+                self.assertEqual(
+                    (found.moves, found.hole), (most_moves(nodes), right + 1)
+                )

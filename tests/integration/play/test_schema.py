@@ -14,8 +14,12 @@ from arena_lab.rules.engines import TOP
 from arena_lab.rules.model import BAD, command_of, value_of
 from tests.support.matches import MAP, RING, network_fixture, played, ring_fixture
 
-SCHEMA: Dict[str, Any] = json.loads((TOP / "docs" / "agent.schema.json").read_text(encoding="utf-8"))
-FILES: Dict[str, Any] = json.loads((TOP / "docs" / "files.schema.json").read_text(encoding="utf-8"))
+SCHEMA: Dict[str, Any] = json.loads(
+    (TOP / "docs" / "agent.schema.json").read_text(encoding="utf-8")
+)
+FILES: Dict[str, Any] = json.loads(
+    (TOP / "docs" / "files.schema.json").read_text(encoding="utf-8")
+)
 ROWS = TOP / "tests" / "program"
 # what of a fault of a file a schema can see, and of these what needs a sum or counts bytes
 SEEN = re.compile(r"\S+: (match \d+ )?(missing|shape|version)\b.*")
@@ -25,7 +29,9 @@ SAID, TOLD = re.compile(r"> \d+ (.*)"), re.compile(r'< \d+ (\{"(?:board|no|ok)":
 
 
 def of(kind: str) -> Draft4Validator:
-    return Draft4Validator({"$ref": f"#/definitions/{kind}", "definitions": SCHEMA["definitions"]})
+    return Draft4Validator(
+        {"$ref": f"#/definitions/{kind}", "definitions": SCHEMA["definitions"]}
+    )
 
 
 COMMANDS, ANSWERS = of("command"), of("answer")
@@ -33,9 +39,15 @@ COMMANDS, ANSWERS = of("command"), of("answer")
 
 def of_files(kind: str) -> Draft4Validator:
     """The part of the schema of files for such a file; what it takes of the schema of lines stands beside it."""
-    resolver = RefResolver(f"file://{TOP}/docs/files.schema.json", FILES, {
-        f"file://{TOP}/docs/agent.schema.json": SCHEMA})
-    return Draft4Validator({"$ref": f"#/definitions/{kind}", "definitions": FILES["definitions"]}, resolver=resolver)
+    resolver = RefResolver(
+        f"file://{TOP}/docs/files.schema.json",
+        FILES,
+        {f"file://{TOP}/docs/agent.schema.json": SCHEMA},
+    )
+    return Draft4Validator(
+        {"$ref": f"#/definitions/{kind}", "definitions": FILES["definitions"]},
+        resolver=resolver,
+    )
 
 
 def kind_of(found: Dict[str, Any]) -> str:
@@ -48,7 +60,12 @@ def changed_files() -> Iterator[Tuple[str, str, str]]:
     checked, the text, and the lines."""
     files: Dict[str, str] = {}
     name = source = ""
-    for line in (ROWS / "files.rows").read_text(encoding="utf-8").replace("\n+ ", "").split("\n"):
+    for line in (
+        (ROWS / "files.rows")
+        .read_text(encoding="utf-8")
+        .replace("\n+ ", "")
+        .split("\n")
+    ):
         mark, _, rest = line.partition(" ")
         if mark == "@":
             name = rest
@@ -102,7 +119,10 @@ class TestSchema(unittest.TestCase):
     def test_lines_of_drawn_matches(self) -> None:
         chance = random.Random(7)
         for seed in range(5):
-            for match in (played(ring_fixture(6, 3, chance), RING, seed), played(network_fixture(chance), MAP, seed)):
+            for match in (
+                played(ring_fixture(6, 3, chance), RING, seed),
+                played(network_fixture(chance), MAP, seed),
+            ):
                 for line in match.script:
                     said = SAID.fullmatch(f"> {line.decode()}")
                     if said:
@@ -128,14 +148,26 @@ class TestFiles(unittest.TestCase):
         Draft4Validator.check_schema(FILES)
 
     def test_examples_and_what_documents_show(self) -> None:
-        paths = [*(TOP / "examples").glob("*.toml"), *(TOP / "examples").glob("*.jsonl")]
+        paths = [
+            *(TOP / "examples").glob("*.toml"),
+            *(TOP / "examples").glob("*.jsonl"),
+        ]
         self.assertGreater(len(paths), 10)
         text = (TOP / "docs" / "FORMATS.md").read_text(encoding="utf-8")
-        network, cup, third = (it for it in re.findall("```\n(.*?)```", text, re.DOTALL) if "version = " in it)
+        network, cup, third = (
+            it
+            for it in re.findall("```\n(.*?)```", text, re.DOTALL)
+            if "version = " in it
+        )
         lines = re.findall(r'^    (\{"(?:agents|agent|do|end)".*)$', text, re.MULTILINE)
         self.assertGreater(len(lines), 4)
-        for shown in (*(path.read_text(encoding="utf-8") for path in paths), network, cup,
-                      third + cup[cup.index("[[match]]"):], *lines):
+        for shown in (
+            *(path.read_text(encoding="utf-8") for path in paths),
+            network,
+            cup,
+            third + cup[cup.index("[[match]]") :],
+            *lines,
+        ):
             with self.subTest(shown):
                 self.take(shown)
 
@@ -146,23 +178,40 @@ class TestFiles(unittest.TestCase):
                 found = tomllib.loads(text)
             except tomllib.TOMLDecodeError:
                 continue
-            is_right = of_files("network" if name == "tri.toml" else "tournament").is_valid(found)
+            is_right = of_files(
+                "network" if name == "tri.toml" else "tournament"
+            ).is_valid(found)
             with self.subTest(text=text, told=told):
                 if told.startswith(("right", "match ")):
                     self.assertTrue(is_right)
                     counts[0] += 1
-                elif SEEN.fullmatch(told) and not UNSEEN.fullmatch(told) and "cup.toml: missing nodes" != told:
+                elif (
+                    SEEN.fullmatch(told)
+                    and not UNSEEN.fullmatch(told)
+                    and "cup.toml: missing nodes" != told
+                ):
                     self.assertFalse(is_right)
                     counts[1] += 1
         self.assertGreater(min(counts), 25)
 
     def test_each_key_of_each_line_of_a_replay(self) -> None:
         """A line without it, with another one, or with a value of another kind is none."""
-        lines: List[str] = (TOP / "examples" / "appeal0.jsonl").read_text(encoding="utf-8").splitlines()
-        validator, kinds = of_files("replay line"), {tuple(json.loads(line)): line for line in lines}
+        lines: List[str] = (
+            (TOP / "examples" / "appeal0.jsonl")
+            .read_text(encoding="utf-8")
+            .splitlines()
+        )
+        validator, kinds = of_files("replay line"), {
+            tuple(json.loads(line)): line for line in lines
+        }
         self.assertGreater(len(kinds), 5)
         for line in map(json.loads, kinds.values()):
             for key in line:
                 others = {name: value for name, value in line.items() if name != key}
-                for fault in (others, {**line, key: {}}, {**line, "more": 1}, {**line, key: [[]]}):
+                for fault in (
+                    others,
+                    {**line, key: {}},
+                    {**line, "more": 1},
+                    {**line, key: [[]]},
+                ):
                     self.assertFalse(validator.is_valid(fault), fault)

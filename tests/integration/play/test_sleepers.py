@@ -13,7 +13,9 @@ from tests.support.output import InTemporary, ran
 from tests.support.tournaments import match, write_cup
 
 # The black hole of ring:3 is node 1. One agent walks by node 2, writes x and then y at home, and accuses.
-AGENTS = FAULTY + '''
+AGENTS = (
+    FAULTY
+    + """
 def works(agent, key):
     agent.enter(key)
     agent.depart(1)
@@ -95,7 +97,8 @@ def sleeps_before_it_enters(agent, key, sleep):
         if agent.look().board != "ready":
             raise RuntimeError("woken without news")
     agent.leave()
-'''
+"""
+)
 
 # sleepers wake once after each change alone
 WITHOUT_NAPS = ("--spurious-wakeups", "0")
@@ -107,56 +110,96 @@ class Sleepers(InTemporary):
         (self.folder / "agents.py").write_text(AGENTS, encoding="utf-8")
 
     def agents(self, names: List[str]) -> List[str]:
-        return [word for name in names for word in ("--agent", f"{self.folder}/agents.py:{name}")]
+        return [
+            word
+            for name in names
+            for word in ("--agent", f"{self.folder}/agents.py:{name}")
+        ]
 
     def worst(self, names: List[str], *words: str) -> explore.End:
         """The worst end of a match of these agents."""
-        given: argparse.Namespace = parser().parse_args(["explore", *WITHOUT_NAPS, *words, *self.agents(names)])
+        given: argparse.Namespace = parser().parse_args(
+            ["explore", *WITHOUT_NAPS, *words, *self.agents(names)]
+        )
         (game,) = games_of(given)
-        end = explore.explored(game.fixtures()[-1], game.agents, mock.Mock()).explorer.worst
+        end = explore.explored(
+            game.fixtures()[-1], game.agents, mock.Mock()
+        ).explorer.worst
         assert end is not None
         return end
 
     def test_what_sleepers_come_to(self) -> None:
-        ends = {"is_wrong_if_it_sees_x_twice": (True, "wrong"), "leaves_and_sleeps": (True, "solved"),
-                "wants_y_twice": (True, "unfinished"), "wants_y": (False, "solved")}
+        ends = {
+            "is_wrong_if_it_sees_x_twice": (True, "wrong"),
+            "leaves_and_sleeps": (True, "solved"),
+            "wants_y_twice": (True, "unfinished"),
+            "wants_y": (False, "solved"),
+        }
         for name, wanted in ends.items():
             with self.subTest(name):
                 end = self.worst([name, "works"], "--network", "ring:3", "--hole", "1")
                 self.assertEqual((end.has_failed, end.verdict.outcome), wanted)
 
     def test_both_call_the_same_a_failure(self) -> None:
-        agents = {"crashes_when_it_is_over 0": ("solves", True), "refused": ("solves", True),
-                  "closes": ("solves", False), "wants_news_at_each_wake": ("touches", False),
-                  "sleeps_before_it_enters": ("touches", False)}
+        agents = {
+            "crashes_when_it_is_over 0": ("solves", True),
+            "refused": ("solves", True),
+            "closes": ("solves", False),
+            "wants_news_at_each_wake": ("touches", False),
+            "sleeps_before_it_enters": ("touches", False),
+        }
         for name, (other, fails) in agents.items():
             for place in (["--hole", "1"], ["--home", "1", "--hole", "2"]):
                 with self.subTest(name, place=place):
                     words = ["--network", "ring:3", *place]
-                    self.assertEqual(self.worst([name, other], *words).has_failed, fails)
+                    self.assertEqual(
+                        self.worst([name, other], *words).has_failed, fails
+                    )
                     self.assertEqual(self.has_failed([name, other], *words), fails)
 
     def has_failed(self, names: List[str], *words: str) -> bool:
         """Whether some of twenty drawn schedules fails."""
-        given = ["run", *WITHOUT_NAPS, *words, *self.agents(names), "--runs", "20", "--engine", "model"]
+        given = [
+            "run",
+            *WITHOUT_NAPS,
+            *words,
+            *self.agents(names),
+            "--runs",
+            "20",
+            "--engine",
+            "model",
+        ]
         return bool(ran(main, given).status == 1)
 
     def test_sleepers_that_may_nap_wake_without_a_change(self) -> None:
         for name in ("wants_news_at_each_wake", "sleeps_before_it_enters"):
             for naps, fails in (("0", False), ("1", True)):
                 with self.subTest(name, naps=naps):
-                    words = ["--network", "ring:3", "--hole", "1", "--spurious-wakeups", naps]
-                    self.assertEqual(self.worst([name, "touches"], *words).has_failed, fails)
+                    words = [
+                        "--network",
+                        "ring:3",
+                        "--hole",
+                        "1",
+                        "--spurious-wakeups",
+                        naps,
+                    ]
+                    self.assertEqual(
+                        self.worst([name, "touches"], *words).has_failed, fails
+                    )
                     self.assertEqual(self.has_failed([name, "touches"], *words), fails)
 
     def test_nobody_arrives_over_a_held_link(self) -> None:
-        cup = write_cup(self.folder, [match("red", ring(3), [1], quota=10, board=8, held=[(0, 1)])])
+        cup = write_cup(
+            self.folder, [match("red", ring(3), [1], quota=10, board=8, held=[(0, 1)])]
+        )
         end = self.worst(["goes", "goes"], "--tournament", str(cup))
         self.assertEqual((end.verdict.outcome, end.verdict.moves), ("silent", 2))
 
     def test_the_most_moves_for_each_black_hole(self) -> None:
         most: Dict[int, int] = {}
-        given: argparse.Namespace = parser().parse_args(["explore", "--network", "ring:6", "--agent", RING.words])
+        given: argparse.Namespace = parser().parse_args(
+            ["explore", "--network", "ring:6", "--agent", RING.words]
+        )
         (game,) = games_of(given)
         for fixture in game.fixtures():
             end = explore.explored(fixture, game.agents, mock.Mock()).explorer.worst

@@ -13,24 +13,86 @@ from arena_lab.rules import model
 from arena_lab.rules.engines import Differs, Program
 from arena_lab.rules.networks import ring
 from arena_lab.rules.rehearsal import Rehearsal
-from tests.support.matches import AGENTS, MAP, RING, fixture, network_fixture, played, program
+from tests.support.matches import (
+    AGENTS,
+    MAP,
+    RING,
+    fixture,
+    network_fixture,
+    played,
+    program,
+)
 from tests.support.output import InTemporary, ran
 from tests.integration import compare
 
 MATCHES = 60
 # changes of a find: the file, what is replaced in it by what, the status, and what is said
 CHANGES = (
-    ("schedule.txt", r"\n$", "\nanswer 0\n", 1, "is `answer 0`, and nothing may happen there"),
+    (
+        "schedule.txt",
+        r"\n$",
+        "\nanswer 0\n",
+        1,
+        "is `answer 0`, and nothing may happen there",
+    ),
     ("schedule.txt", r"(\n\w+ \d){2}\n$", "\n", 1, "the replay is another one"),
-    ("schedule.txt", r'"files":\{[^}]*\}', '"files":{}', 1, "is another file than when the schedule was made"),
-    ("schedule.txt", '"nodes":8', '"nodes":3', 2, "a link has an end that does not exist: nodes are 0 to 2"),
-    ("schedule.txt", '"agents":2', '"agents":3', 2, "its head names 2 agents and 2 keys, and the match has 3 agents"),
-    ("schedule.txt", '"quota":1000', '"quota":999', 1, "tournament.toml is not what belongs to this schedule"),
+    (
+        "schedule.txt",
+        r'"files":\{[^}]*\}',
+        '"files":{}',
+        1,
+        "is another file than when the schedule was made",
+    ),
+    (
+        "schedule.txt",
+        '"nodes":8',
+        '"nodes":3',
+        2,
+        "a link has an end that does not exist: nodes are 0 to 2",
+    ),
+    (
+        "schedule.txt",
+        '"agents":2',
+        '"agents":3',
+        2,
+        "its head names 2 agents and 2 keys, and the match has 3 agents",
+    ),
+    (
+        "schedule.txt",
+        '"quota":1000',
+        '"quota":999',
+        1,
+        "tournament.toml is not what belongs to this schedule",
+    ),
     ("match0.jsonl", '"holes":.4.', '"holes":[5]', 1, "the replay is another one"),
-    ("script.txt", "draw 0 0", "draw 0 1", 1, "script.txt is not what belongs to this schedule"),
-    ("tournament.toml", "holes = .4.", "holes = [5]", 1, "tournament.toml is not what belongs to this schedule"),
-    ("network.toml", "nodes = 8", "nodes = 9", 1, "network.toml is not what belongs to this schedule"),
-    ("match0.html", "</body>", "<p></p></body>", 1, "match0.html is not what belongs to this schedule"),
+    (
+        "script.txt",
+        "draw 0 0",
+        "draw 0 1",
+        1,
+        "script.txt is not what belongs to this schedule",
+    ),
+    (
+        "tournament.toml",
+        "holes = .4.",
+        "holes = [5]",
+        1,
+        "tournament.toml is not what belongs to this schedule",
+    ),
+    (
+        "network.toml",
+        "nodes = 8",
+        "nodes = 9",
+        1,
+        "network.toml is not what belongs to this schedule",
+    ),
+    (
+        "match0.html",
+        "</body>",
+        "<p></p></body>",
+        1,
+        "match0.html is not what belongs to this schedule",
+    ),
 )
 
 
@@ -40,11 +102,16 @@ class Engines(unittest.TestCase):
 
     def test_a_model_that_is_wrong_is_found_out(self) -> None:
         wrongs = {
-            "a write is longer than a whiteboard": mock.patch.object(model.Match, "_write", lambda self, node, expect,
-                                                                     put: {"ok": "written"}),
-            "a quota has no end": mock.patch.object(model.Match, "_refusal", lambda self, agent, do: None),
+            "a write is longer than a whiteboard": mock.patch.object(
+                model.Match, "_write", lambda self, node, expect, put: {"ok": "written"}
+            ),
+            "a quota has no end": mock.patch.object(
+                model.Match, "_refusal", lambda self, agent, do: None
+            ),
             "nothing is last": mock.patch("arena_lab.rules.rehearsal.LAST", ()),
-            "keys are used twice": mock.patch("arena_lab.rules.rehearsal.denial", lambda command, keys, taken: None),
+            "keys are used twice": mock.patch(
+                "arena_lab.rules.rehearsal.denial", lambda command, keys, taken: None
+            ),
         }
         for title, wrong in wrongs.items():
             with self.subTest(title), wrong:
@@ -57,14 +124,26 @@ class Engines(unittest.TestCase):
                 self.assertTrue(faults)
 
     def test_a_replay_that_differs_is_found_out(self) -> None:
-        with mock.patch.object(Rehearsal, "replay", lambda self: b""), self.assertRaises(Differs):
-            played(fixture(ring(4), 2), RING, 1, engine=lambda given: Program(given, program()))
+        with mock.patch.object(
+            Rehearsal, "replay", lambda self: b""
+        ), self.assertRaises(Differs):
+            played(
+                fixture(ring(4), 2),
+                RING,
+                1,
+                engine=lambda given: Program(given, program()),
+            )
 
     def test_the_sample_agents_play_the_same_on_both(self) -> None:
         for seed in range(3):
-            for agent, given in ((RING, fixture(ring(8), 5)), (MAP, network_fixture(random.Random(seed)))):
+            for agent, given in (
+                (RING, fixture(ring(8), 5)),
+                (MAP, network_fixture(random.Random(seed))),
+            ):
                 with self.subTest(seed=seed, agent=agent.words):
-                    proved = played(given, agent, seed, engine=lambda it: Program(it, program()))
+                    proved = played(
+                        given, agent, seed, engine=lambda it: Program(it, program())
+                    )
                     tried = played(given, agent, seed)
                     self.assertEqual(proved.replay, tried.replay)
                     self.assertEqual(proved.choices, tried.choices)
@@ -83,11 +162,23 @@ class Schedules(InTemporary):
         (self.folder / "s").write_text(text_of(schedule), encoding="utf-8")
         self.assertEqual(read(self.folder / "s"), schedule)
         for program_or_none in (None, program()):
-            self.assertEqual(kept_matches.played_again(schedule, program_or_none).replay, played(given, MAP, 1).replay)
+            self.assertEqual(
+                kept_matches.played_again(schedule, program_or_none).replay,
+                played(given, MAP, 1).replay,
+            )
 
     def test_a_run_is_kept_and_played_again(self) -> None:
         kept = self.folder / "kept"
-        words = ["--network", "ring:8", "--agent", RING.words, "--scheduler", "slow-agents", "--program", program()]
+        words = [
+            "--network",
+            "ring:8",
+            "--agent",
+            RING.words,
+            "--scheduler",
+            "slow-agents",
+            "--program",
+            program(),
+        ]
         self.assertEqual(self.command("run", *words, "--runs", "3", "--keep", kept), 0)
         self.assertIn("3 schedules: solved 3; failed 0", self.said)
         self.assertIn("the program's verdict: solved moves 37 lost 1", self.said)
@@ -95,45 +186,95 @@ class Schedules(InTemporary):
             self.assertEqual(self.command("replay", kept, *engine), 0)
             self.assertIn("the same, byte for byte", self.said)
         with open(kept / "script.txt", "rb") as script:
-            subprocess.run([program(), "rehearse", "tournament.toml", "--replay", "again"], cwd=kept, stdin=script,
-                           stdout=subprocess.DEVNULL, check=True)
-        self.assertEqual((kept / "again0.jsonl").read_bytes(), (kept / "match0.jsonl").read_bytes())
+            subprocess.run(
+                [program(), "rehearse", "tournament.toml", "--replay", "again"],
+                cwd=kept,
+                stdin=script,
+                stdout=subprocess.DEVNULL,
+                check=True,
+            )
+        self.assertEqual(
+            (kept / "again0.jsonl").read_bytes(), (kept / "match0.jsonl").read_bytes()
+        )
         again = self.folder / "again.jsonl"
         again.write_bytes((kept / "match0.jsonl").read_bytes() + b"\n")
-        self.assertEqual(self.command("replay", kept, "--engine", "model", "--against", again), 1)
+        self.assertEqual(
+            self.command("replay", kept, "--engine", "model", "--against", again), 1
+        )
 
     def test_a_schedule_that_cannot_happen_is_told(self) -> None:
         given = fixture(ring(3), 1)
         schedule = schedule_of(given, [RING] * 2, "by hand", [])
-        (self.folder / "s").write_text(text_of(schedule) + "answer 0\narrive 1\n", encoding="utf-8")
-        self.assertEqual(self.command("replay", self.folder / "s", "--engine", "model"), 1)
-        self.assertIn("choice 2 is `arrive 1`, and what may happen there is: answer 0, answer 1", self.said)
-        (self.folder / "s").write_text(text_of(schedule).replace('["agent ', '["agnt '), encoding="utf-8")
-        self.assertEqual(self.command("replay", self.folder / "s", "--engine", "model"), 2)
+        (self.folder / "s").write_text(
+            text_of(schedule) + "answer 0\narrive 1\n", encoding="utf-8"
+        )
+        self.assertEqual(
+            self.command("replay", self.folder / "s", "--engine", "model"), 1
+        )
+        self.assertIn(
+            "choice 2 is `arrive 1`, and what may happen there is: answer 0, answer 1",
+            self.said,
+        )
+        (self.folder / "s").write_text(
+            text_of(schedule).replace('["agent ', '["agnt '), encoding="utf-8"
+        )
+        self.assertEqual(
+            self.command("replay", self.folder / "s", "--engine", "model"), 2
+        )
         self.assertIn("its first line is no head of a schedule", self.said)
-        (self.folder / "s").write_text(text_of(schedule) + "answer 0\nnothing\n", encoding="utf-8")
-        self.assertEqual(self.command("replay", self.folder / "s", "--engine", "model"), 2)
+        (self.folder / "s").write_text(
+            text_of(schedule) + "answer 0\nnothing\n", encoding="utf-8"
+        )
+        self.assertEqual(
+            self.command("replay", self.folder / "s", "--engine", "model"), 2
+        )
         self.assertIn("line 3 is no choice", self.said)
 
     def test_agents_that_changed_are_told(self) -> None:
         agent = self.folder / "mine.py"
-        agent.write_text((AGENTS / "ring.py").read_text(encoding="utf-8"), encoding="utf-8")
-        words = ["run", "--engine", "model", "--agent", f"{agent} 8", "--keep", self.folder / "kept"]
+        agent.write_text(
+            (AGENTS / "ring.py").read_text(encoding="utf-8"), encoding="utf-8"
+        )
+        words = [
+            "run",
+            "--engine",
+            "model",
+            "--agent",
+            f"{agent} 8",
+            "--keep",
+            self.folder / "kept",
+        ]
         self.assertEqual(self.command(*words), 0)
         agent.write_text(agent.read_text(encoding="utf-8") + "\n", encoding="utf-8")
-        self.assertEqual(self.command("replay", self.folder / "kept", "--engine", "model"), 1)
+        self.assertEqual(
+            self.command("replay", self.folder / "kept", "--engine", "model"), 1
+        )
         self.assertIn("is another file than when the schedule was made", self.said)
 
     def test_each_change_of_what_was_kept_is_told(self) -> None:
         kept = self.folder / "kept"
-        words = ["run", "--engine", "model", "--agent", RING.words, "--hole", "4", "--keep", kept]
+        words = [
+            "run",
+            "--engine",
+            "model",
+            "--agent",
+            RING.words,
+            "--hole",
+            "4",
+            "--keep",
+            kept,
+        ]
         self.assertEqual(self.command(*words), 0)
         for file, old, new, status, said in CHANGES:
             with self.subTest(file, new=new):
                 text = (kept / file).read_text(encoding="utf-8")
                 self.assertRegex(text, old)
-                (kept / file).write_text(re.sub(old, new, text, count=1), encoding="utf-8")
-                self.assertEqual(self.command("replay", kept, "--engine", "model"), status)
+                (kept / file).write_text(
+                    re.sub(old, new, text, count=1), encoding="utf-8"
+                )
+                self.assertEqual(
+                    self.command("replay", kept, "--engine", "model"), status
+                )
                 self.assertIn(said, self.said)
                 (kept / file).write_text(text, encoding="utf-8")
         self.assertEqual(self.command("replay", kept, "--engine", "model"), 0)

@@ -35,7 +35,10 @@ class Limits(unittest.TestCase):
         self.assertEqual(faults(lambda: time.sleep(4 * SECONDS), 100), [])
 
     def test_who_computes_without_end_is_ended(self) -> None:
-        self.assertEqual(faults(compute, 10_000), ["agent 0: has computed for 0.2 s, and neither sends nor waits"])
+        self.assertEqual(
+            faults(compute, 10_000),
+            ["agent 0: has computed for 0.2 s, and neither sends nor waits"],
+        )
 
     def test_who_sleeps_without_end_is_ended(self) -> None:
         said = ["agent 0: has slept or computed for 0.4 s, and neither sends nor waits"]
@@ -54,8 +57,18 @@ class Ends(InTemporary):
     def test_who_ends_the_lab_ends_it_while_an_agent_computes(self) -> None:
         path = self.folder / "endless.py"
         path.write_text(ENDLESS)
-        words = [sys.executable, "-m", "arena_lab", "run", "--engine", "model", "--timeout", "1000", "--agent",
-                 str(path)]
+        words = [
+            sys.executable,
+            "-m",
+            "arena_lab",
+            "run",
+            "--engine",
+            "model",
+            "--timeout",
+            "1000",
+            "--agent",
+            str(path),
+        ]
         with subprocess.Popen(words, cwd=TOP, stdout=subprocess.PIPE, text=True) as ran:
             self.assertEqual(ran.stdout.readline(), "begun\n")
             ran.terminate()

@@ -40,14 +40,18 @@ TRIES = 3
 
 
 def walks_of(agents: ModuleType, port: int, number: int, key: str) -> None:
-    with contextlib.closing(client.Agent.connect("127.0.0.1", port)) as agent, contextlib.suppress(client.Refused):
+    with contextlib.closing(
+        client.Agent.connect("127.0.0.1", port)
+    ) as agent, contextlib.suppress(client.Refused):
         agents.walks(agent, key, number)
 
 
 class ObliviousTest(InFolder):
     def setUp(self) -> None:
         super().setUp()
-        self.fixture = match("red", ring(7), [2], len(STEPS), quota=100, board=8, held=[(6, 1)])
+        self.fixture = match(
+            "red", ring(7), [2], len(STEPS), quota=100, board=8, held=[(6, 1)]
+        )
         self.file = self.folder / "walks.py"
         self.file.write_text(WALKS)
         write_cup(self.folder, [self.fixture], DELAYS, f"{SEED:064x}")
@@ -56,17 +60,32 @@ class ObliviousTest(InFolder):
         """The replay of a contest over TCP. Turns begin once the last agent has entered."""
         agents = ModuleType("walks")
         exec(WALKS, agents.__dict__)
-        with serve(program(), self.folder, "--gather", 30_000, turns=TURNS, pause=PAUSE, sessions=len(STEPS),
-                   grace=1000) as server:
+        with serve(
+            program(),
+            self.folder,
+            "--gather",
+            30_000,
+            turns=TURNS,
+            pause=PAUSE,
+            sessions=len(STEPS),
+            grace=1000,
+        ) as server:
             for number, key in enumerate(self.fixture.keys):
-                threading.Thread(target=walks_of, args=(agents, server.port, number, key), daemon=True).start()
+                threading.Thread(
+                    target=walks_of,
+                    args=(agents, server.port, number, key),
+                    daemon=True,
+                ).start()
                 time.sleep(SETTLES if number + 1 < len(STEPS) else 0)
             server.ended()
         return pathlib.Path(self.folder, "match0.jsonl").read_bytes()
 
     def inside(self, scheduler: Scheduler) -> bytes:
         """The replay of a match in the lab."""
-        agents = [AgentWords(INSIDE, f"{self.file}:walks {number}") for number in range(len(STEPS))]
+        agents = [
+            AgentWords(INSIDE, f"{self.file}:walks {number}")
+            for number in range(len(STEPS))
+        ]
         return under(scheduler, self.fixture, agents).replay
 
     def test_a_served_contest_and_the_lab_write_one_replay(self) -> None:
@@ -80,5 +99,10 @@ class ObliviousTest(InFolder):
 
     def test_another_schedule_writes_another(self) -> None:
         wanted = self.inside(Oblivious(SEED, DELAYS))
-        for other in (fair(SEED), Oblivious(SEED + 1, DELAYS), Oblivious(SEED, Delays(0, 6)), Oblivious(SEED)):
+        for other in (
+            fair(SEED),
+            Oblivious(SEED + 1, DELAYS),
+            Oblivious(SEED, Delays(0, 6)),
+            Oblivious(SEED),
+        ):
             self.assertNotEqual(self.inside(other), wanted)

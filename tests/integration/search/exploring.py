@@ -21,8 +21,17 @@ class InExplore(InFolder):
 
     def command(self, *words: object) -> int:
         """The exit status of `explore` with these words."""
-        status, said, errors = ran(main, ["explore", *map(str, words), "--program", program(), "--keep",
-                                          str(self.folder / "find")])
+        status, said, errors = ran(
+            main,
+            [
+                "explore",
+                *map(str, words),
+                "--program",
+                program(),
+                "--keep",
+                str(self.folder / "find"),
+            ],
+        )
         self.said = said + errors
         return status
 
@@ -32,8 +41,15 @@ class InExplore(InFolder):
         (fixture,) = game.fixtures()
         return game, fixture
 
-    def answered(self, fixture: Fixture, agents: List[AgentWords], *, draws: Optional[SampleRequest] = None,
-                 shown: Any = NO_PROGRESS, check: int = 0) -> ExploreAnswer:
+    def answered(
+        self,
+        fixture: Fixture,
+        agents: List[AgentWords],
+        *,
+        draws: Optional[SampleRequest] = None,
+        shown: Any = NO_PROGRESS,
+        check: int = 0,
+    ) -> ExploreAnswer:
         """What the program answers of all schedules, or of drawn ones. Then this many drawn schedules are followed."""
         machines = Machines(fixture, agents, 5)
         machines.start()

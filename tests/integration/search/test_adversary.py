@@ -38,12 +38,20 @@ def follower(agent, key, nodes, side):
     agent.enter(key)
     agent.depart(0)
 '''
-SAID = {"straight": "both agents come to links to node", "hasty": "alone does not accuse node",
-        "idle": "no agent departs", "follower": "alone does not accuse node"}
+SAID = {
+    "straight": "both agents come to links to node",
+    "hasty": "alone does not accuse node",
+    "idle": "no agent departs",
+    "follower": "alone does not accuse node",
+}
 
 
-TEAMS = {"halves": two("halves.py", "{nodes}"), "shuttle": two("shuttle.py", "{nodes}"), "ring": [RING] * 2,
-         "ring3": [RING3] * 2}
+TEAMS = {
+    "halves": two("halves.py", "{nodes}"),
+    "shuttle": two("shuttle.py", "{nodes}"),
+    "ring": [RING] * 2,
+    "ring3": [RING3] * 2,
+}
 
 
 def game(network: Network, agents: List[AgentWords], home: int = 0) -> Game:
@@ -62,14 +70,26 @@ class RightTeams(InFolder):
             chance = random.Random(seed)
             nodes = chance.randrange(4, 10)
             with self.subTest(seed=seed):
-                self.check(Adversary(game(flipped_ring(nodes, chance), TEAMS["halves"], chance.randrange(nodes))))
+                self.check(
+                    Adversary(
+                        game(
+                            flipped_ring(nodes, chance),
+                            TEAMS["halves"],
+                            chance.randrange(nodes),
+                        )
+                    )
+                )
 
     def check(self, adversary: Adversary) -> None:
         """Each phase makes the moves that the proof counts, and the team solves with either of the last two nodes."""
         phases = list(adversary.phases())
         for before, phase in zip(phases, phases[1:]):
-            self.assertGreaterEqual(phase.arcs.moves - before.arcs.moves, self.due(adversary.nodes, before))
-            self.assertEqual(phase.arcs.new, before.arcs.new - steps_of(before.arcs.new))
+            self.assertGreaterEqual(
+                phase.arcs.moves - before.arcs.moves, self.due(adversary.nodes, before)
+            )
+            self.assertEqual(
+                phase.arcs.new, before.arcs.new - steps_of(before.arcs.new)
+            )
         last = phases[-1].arcs
         self.assertEqual(last.new, 2)
         self.assertGreaterEqual(last.moves, least_moves(adversary.nodes))
@@ -90,7 +110,9 @@ class WrongTeams(InFolder):
     def wrong(self, name: str, nodes: int) -> Tuple[Adversary, Beaten]:
         path = self.folder / "wrong.py"
         path.write_text(WRONG, encoding="utf-8")
-        agents = [AgentWords(INSIDE, f"{path}:{name} {{nodes}} {side}") for side in (0, 1)]
+        agents = [
+            AgentWords(INSIDE, f"{path}:{name} {{nodes}} {side}") for side in (0, 1)
+        ]
         adversary = Adversary(game(ring(nodes), agents))
         with self.assertRaises(Beaten) as caught:
             list(adversary.phases())
@@ -108,36 +130,64 @@ class WrongTeams(InFolder):
 
     def test_both_agents_are_lost_that_go_straight(self) -> None:
         adversary, fault = self.wrong("straight", 8)
-        self.assertEqual(adversary.at_rest(fault.hole, fault.turns)[0].verdict().lost, 2)
+        self.assertEqual(
+            adversary.at_rest(fault.hole, fault.turns)[0].verdict().lost, 2
+        )
 
 
 class CommandLine(InFolder):
     def called(self, *words: str) -> Tuple[int, str]:
-        status, said, errors = ran(main, ["adversary", *words, "--engine", "model", "--keep",
-                                          str(self.folder / "find")])
+        status, said, errors = ran(
+            main,
+            [
+                "adversary",
+                *words,
+                "--engine",
+                "model",
+                "--keep",
+                str(self.folder / "find"),
+            ],
+        )
         return status, said + errors
 
     def test_it_says_what_each_phase_forces_and_keeps_the_schedule(self) -> None:
-        status, said = self.called("--network", "ring:8", "--agent", "examples/agents/ring.py {nodes}")
+        status, said = self.called(
+            "--network", "ring:8", "--agent", "examples/agents/ring.py {nodes}"
+        )
         self.assertEqual(status, 0)
-        self.assertIn("20 moves, 3 new nodes: agent 1 came back over 3 of 3 explored nodes and went on\n", said)
+        self.assertIn(
+            "20 moves, 3 new nodes: agent 1 came back over 3 of 3 explored nodes and went on\n",
+            said,
+        )
         self.assertIn("must make 19 on this ring\n", said)
         self.assertTrue((self.folder / "find" / "schedule.txt").exists())
 
     def test_a_team_that_fails_is_refuted(self) -> None:
-        status, said = self.called("--network", "ring:8", "--agent", "arena_lab/mutants/forgets_to_mark.py {nodes}")
+        status, said = self.called(
+            "--network",
+            "ring:8",
+            "--agent",
+            "arena_lab/mutants/forgets_to_mark.py {nodes}",
+        )
         self.assertEqual(status, 1)
         self.assertIn("the team fails with the black hole at node 1: ", said)
 
     def test_other_networks_and_teams_are_refused(self) -> None:
         agent = "examples/agents/ring.py {nodes}"
-        for words in (["--network", "complete:4"], ["--network", "ring:8", "--agents", "3"], ["--dark", "0,0"]):
+        for words in (
+            ["--network", "complete:4"],
+            ["--network", "ring:8", "--agents", "3"],
+            ["--dark", "0,0"],
+        ):
             with self.subTest(words=words):
                 status, said = self.called(*words, "--agent", agent)
                 self.assertEqual((status, "two agents on a ring" in said), (2, True))
 
     def test_two_rings_are_no_ring(self) -> None:
-        links = [*ring(3).links, *((v + 3, p, w + 3, q) for v, p, w, q in ring(3).links)]
+        links = [
+            *ring(3).links,
+            *((v + 3, p, w + 3, q) for v, p, w, q in ring(3).links),
+        ]
         with self.assertRaises(NotARing):
             Adversary(game(Network(6, links), TEAMS["ring"]))
         with self.assertRaises(NotARing):

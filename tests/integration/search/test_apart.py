@@ -8,39 +8,72 @@ from arena_lab import api as lab
 from tests.support.matches import program
 from tests.integration.search.exploring import InExplore
 
-AGENT = '''{lines}
+AGENT = """{lines}
 def search(agent, key):
     agent.enter(key)
     {first}
     agent.depart(1)
     agent.accuse(1 if {is_right} else 0)
-'''
+"""
 # agents that now and then do something else after the same replies: their lines, what they do first, and when they are
 # right
 ACCIDENTS = {
-    "the order of a set": ("", "agent.write('', ' '.join({'left', 'right', 'up', 'down'}))", "True"),
+    "the order of a set": (
+        "",
+        "agent.write('', ' '.join({'left', 'right', 'up', 'down'}))",
+        "True",
+    ),
     "the system's chance": ("import os", "pass", "os.urandom(1)[0] > 20"),
-    "chance that nobody seeds": ("import random\nR = random.Random()", "pass", "R.random() > .1"),
+    "chance that nobody seeds": (
+        "import random\nR = random.Random()",
+        "pass",
+        "R.random() > .1",
+    ),
     "a secret": ("import secrets", "pass", "secrets.randbelow(10)"),
     "a clock": ("import time", "pass", "time.time_ns() // 1000 % 10"),
-    "the time": ("from datetime import datetime", "pass", "datetime.now().microsecond % 10"),
-    "what all programs share": ("import string", "string.zz = getattr(string, 'zz', 0) + 1", "string.zz % 7"),
+    "the time": (
+        "from datetime import datetime",
+        "pass",
+        "datetime.now().microsecond % 10",
+    ),
+    "what all programs share": (
+        "import string",
+        "string.zz = getattr(string, 'zz', 0) + 1",
+        "string.zz % 7",
+    ),
 }
 # agents that solve; the verdict names what each of them reads or reaches
 READ = {
     "know where objects lie": ("", "pass", "id(agent) > 0"),
     "share the installed greenlet": ("import greenlet", "pass", "True"),
-    "reach what lies outside, since it writes a file": ("", "open('/dev/null', 'w').close()", "True"),
+    "reach what lies outside, since it writes a file": (
+        "",
+        "open('/dev/null', 'w').close()",
+        "True",
+    ),
 }
 # what an agent may read, by the word for it and the modules of the library
 READERS = {
-    "draw by chance": ["os.urandom(1)", "random.SystemRandom().random()", "random.random()",
-                       "secrets.randbelow(9)", "uuid.uuid4()"],
-    "read a clock": ["time.time()", "time.monotonic()", "time.clock_gettime(time.CLOCK_MONOTONIC)", "time.asctime()",
-                     "datetime.datetime.now()", "os.times()", "uuid.uuid1()", "resource.getrusage(0)"],
+    "draw by chance": [
+        "os.urandom(1)",
+        "random.SystemRandom().random()",
+        "random.random()",
+        "secrets.randbelow(9)",
+        "uuid.uuid4()",
+    ],
+    "read a clock": [
+        "time.time()",
+        "time.monotonic()",
+        "time.clock_gettime(time.CLOCK_MONOTONIC)",
+        "time.asctime()",
+        "datetime.datetime.now()",
+        "os.times()",
+        "uuid.uuid1()",
+        "resource.getrusage(0)",
+    ],
     "know their process": ["os.getpid()", "os.getppid()"],
 }
-MATES = '''
+MATES = """
 import sys
 sys.path.insert(0, {folder!r})
 import marks
@@ -57,14 +90,26 @@ def second(agent, key):
     agent.look()
     agent.depart(1)
     agent.accuse(1 if marks.MARKS else 0)
-'''
+"""
 
 
 class Apart(InExplore):
     def explored(self, lines: str, first: str, is_right: str, check: int = 20) -> int:
-        (self.folder / "agent.py").write_text(AGENT.format(lines=lines, first=first, is_right=is_right))
-        return self.command("--network", "ring:3", "--hole", 1, "--agents", 1, "--agent", f"{self.folder}/agent.py",
-                            "--check", check)
+        (self.folder / "agent.py").write_text(
+            AGENT.format(lines=lines, first=first, is_right=is_right)
+        )
+        return self.command(
+            "--network",
+            "ring:3",
+            "--hole",
+            1,
+            "--agents",
+            1,
+            "--agent",
+            f"{self.folder}/agent.py",
+            "--check",
+            check,
+        )
 
     def test_accidents_are_found_out(self) -> None:
         for name, agent in ACCIDENTS.items():
@@ -73,25 +118,45 @@ class Apart(InExplore):
                 self.assertNotIn("every schedule solves", self.said)
 
     def test_two_looks_are_two_texts(self) -> None:
-        first = "agent.write('', 'seen'); kept = agent.look().board is agent.look().board"
+        first = (
+            "agent.write('', 'seen'); kept = agent.look().board is agent.look().board"
+        )
         self.assertEqual(self.explored("", first, "kept"), 1, self.said)
 
     def test_it_is_said_what_agents_go_by(self) -> None:
         for said, agent in READ.items():
             with self.subTest(said):
                 self.assertEqual(self.explored(*agent), 0, self.said)
-                self.assertIn(f"; the agents {said}, and may do something else another time\n", self.said)
-        self.assertEqual(self.explored("import random\nrandom.seed(7)", "pass", "random.random() < 2"), 0)
-        self.assertIn("checked, and all agree: 20 drawn schedules, 200 histories told in other processes, the Python "
-                      "model's search of 1 of 1 matches\n", self.said)
+                self.assertIn(
+                    f"; the agents {said}, and may do something else another time\n",
+                    self.said,
+                )
+        self.assertEqual(
+            self.explored(
+                "import random\nrandom.seed(7)", "pass", "random.random() < 2"
+            ),
+            0,
+        )
+        self.assertIn(
+            "checked, and all agree: 20 drawn schedules, 200 histories told in other processes, the Python "
+            "model's search of 1 of 1 matches\n",
+            self.said,
+        )
 
     def test_each_reader_of_the_library_is_named(self) -> None:
         for said, readers in READERS.items():
             for reader in readers:
                 with self.subTest(reader):
                     lines = f"import {reader.partition('.')[0]}"
-                    self.assertEqual(self.explored(lines, "pass", f"{reader} is not None", check=1), 0, self.said)
-                    self.assertIn(f"; the agents {said}, and may do something else another time\n", self.said)
+                    self.assertEqual(
+                        self.explored(lines, "pass", f"{reader} is not None", check=1),
+                        0,
+                        self.said,
+                    )
+                    self.assertIn(
+                        f"; the agents {said}, and may do something else another time\n",
+                        self.said,
+                    )
 
     def test_a_library_in_another_folder_is_of_one_agent(self) -> None:
         (self.folder / "elsewhere").mkdir()
@@ -99,7 +164,9 @@ class Apart(InExplore):
         file = self.folder / "mates.py"
         file.write_text(MATES.format(folder=str(self.folder / "elsewhere")))
         team = ["--agent", f"{file}:first", "--agent", f"{file}:second"]
-        self.assertEqual(self.command("--network", "ring:3", "--hole", 1, *team), 1, self.said)
+        self.assertEqual(
+            self.command("--network", "ring:3", "--hole", 1, *team), 1, self.said
+        )
         self.assertIn("it comes to: home 0 holes [1], wrong", self.said)
         self.assertNotIn("marks", sys.modules)
         row = lab.play("ring:3", [f"{file}:first", f"{file}:second"], holes=[1])[0]
@@ -108,12 +175,24 @@ class Apart(InExplore):
     def test_what_a_program_of_the_lab_finds_does_not_hang_on_its_start(self) -> None:
         """The lab's own command fixes the order of sets; a script that uses `arena_lab.api` has any."""
         lines, first, is_right = ACCIDENTS["the order of a set"]
-        (self.folder / "agent.py").write_text(AGENT.format(lines=lines, first=first, is_right=is_right))
-        text = ("import sys, arena_lab.api as lab\n"
-                f"print(lab.explore('ring:3', {str(self.folder / 'agent.py')!r}, count=1, holes=[1], "
-                f"engine={program()!r}).solves)")
+        (self.folder / "agent.py").write_text(
+            AGENT.format(lines=lines, first=first, is_right=is_right)
+        )
+        text = (
+            "import sys, arena_lab.api as lab\n"
+            f"print(lab.explore('ring:3', {str(self.folder / 'agent.py')!r}, count=1, holes=[1], "
+            f"engine={program()!r}).solves)"
+        )
         for seed in map(str, range(4)):
-            ran = subprocess.run([sys.executable, "-c", text], capture_output=True, text=True, check=False,
-                                 env={"PYTHONHASHSEED": seed, "PATH": "/usr/bin:/bin",
-                                      "PYTHONPATH": str(pathlib.Path.cwd())})
+            ran = subprocess.run(
+                [sys.executable, "-c", text],
+                capture_output=True,
+                text=True,
+                check=False,
+                env={
+                    "PYTHONHASHSEED": seed,
+                    "PATH": "/usr/bin:/bin",
+                    "PYTHONPATH": str(pathlib.Path.cwd()),
+                },
+            )
             self.assertNotIn("True", ran.stdout, ran.stderr)

@@ -8,7 +8,9 @@ from arena_lab.rules.engines import TOP
 from tests.support.matches import AGENTS, InFolder, program
 from tests.support.output import ran
 
-RAISES = "def search(agent, key, nodes):\n    agent.enter(key)\n    raise KeyError('west')\n"
+RAISES = (
+    "def search(agent, key, nodes):\n    agent.enter(key)\n    raise KeyError('west')\n"
+)
 SAYS_BAD = """
 import ring
 
@@ -25,36 +27,63 @@ def search(agent, key, nodes):
 
 class Checks(InFolder):
     def checked(self, agent: str, *more: str) -> Tuple[int, str]:
-        status, said, _ = ran(main, ["check", agent, "--keep", str(self.folder / "kept"), *more])
+        status, said, _ = ran(
+            main, ["check", agent, "--keep", str(self.folder / "kept"), *more]
+        )
         return status, said
 
     def test_a_right_agent_gets_one_sentence(self) -> None:
         for engine in (("--program", program()), ("--engine", "model")):
-            status, said = self.checked(f"{AGENTS / 'ring.py'} {{nodes}}", "--seconds", "10", *engine)
+            status, said = self.checked(
+                f"{AGENTS / 'ring.py'} {{nodes}}", "--seconds", "10", *engine
+            )
             self.assertEqual(status, 0, said)
-            self.assertRegex(said.splitlines()[-1], (
-                r"^Right on all 14 matches, under \d+ schedules that were drawn and \d+ that were hunted on ring:5, "
-                r"ring:6 and ring:8 and under every schedule of a ring of 5$"))
+            self.assertRegex(
+                said.splitlines()[-1],
+                (
+                    r"^Right on all 14 matches, under \d+ schedules that were drawn and \d+ that were hunted on ring:5, "
+                    r"ring:6 and ring:8 and under every schedule of a ring of 5$"
+                ),
+            )
         self.assertFalse((self.folder / "kept").exists())
 
     def test_a_program_that_cannot_be_explored_in_time(self) -> None:
-        command = f"{sys.executable} {AGENTS / 'ring.py'} {{host}} {{port}} {{key}} {{nodes}}"
-        status, said = self.checked(command, "--network", "ring:4", "--network", "ring:5", "--seconds", "2", "--engine",
-                                    "model")
+        command = (
+            f"{sys.executable} {AGENTS / 'ring.py'} {{host}} {{port}} {{key}} {{nodes}}"
+        )
+        status, said = self.checked(
+            command,
+            "--network",
+            "ring:4",
+            "--network",
+            "ring:5",
+            "--seconds",
+            "2",
+            "--engine",
+            "model",
+        )
         self.assertEqual(status, 0, said)
-        self.assertRegex(said.splitlines()[-1], (
-            r"^Right on all 4 matches, with arrivals 6 s late and under \d+ schedules that were drawn and \d+ that "
-            r"were hunted on ring:4 and ring:5$"))
+        self.assertRegex(
+            said.splitlines()[-1],
+            (
+                r"^Right on all 4 matches, with arrivals 6 s late and under \d+ schedules that were drawn and \d+ that "
+                r"were hunted on ring:4 and ring:5$"
+            ),
+        )
         self.assertIn("not every schedule of ring:4 was tried: ", said)
 
     def test_the_first_thing_to_mend_is_told_and_shown(self) -> None:
         agent = self.folder / "agent.py"
-        for text, told in ((RAISES, "agent 0: raises KeyError: 'west'"),
-                           (SAYS_BAD, "agent 0: 1 line named a port that its node does not have")):
+        for text, told in (
+            (RAISES, "agent 0: raises KeyError: 'west'"),
+            (SAYS_BAD, "agent 0: 1 line named a port that its node does not have"),
+        ):
             agent.write_text(text)
             status, said = self.checked(f"{agent} {{nodes}}", "--engine", "model")
             self.assertEqual(status, 1)
-            self.assertIn("To mend first: on ring:3 under fair 0 the match came to silent", said)
+            self.assertIn(
+                "To mend first: on ring:3 under fair 0 the match came to silent", said
+            )
             self.assertIn(f"\n  {told}", said)
             self.assertIn("\n  nobody accused: agent", said)
             self.assertLess(max(map(len, said.splitlines())), 250)
@@ -63,11 +92,25 @@ class Checks(InFolder):
     def test_what_no_match_finds(self) -> None:
         agent = self.folder / "agent.py"
         shutil.copy(TOP / "arena_lab" / "mutants" / "reads_once.py", agent)
-        status, said = self.checked(f"{agent} {{nodes}}", "--network", "ring:4", "--seconds", "10", "--engine", "model")
+        status, said = self.checked(
+            f"{agent} {{nodes}}",
+            "--network",
+            "ring:4",
+            "--seconds",
+            "10",
+            "--engine",
+            "model",
+        )
         self.assertEqual(status, 1, said)
         self.assertIn("2 matches on ring:4: all solved", said)
-        self.assertIn("\nTo mend first: under slow-agents 13 on ring:4 the match came to silent", said)
-        self.assertIn(f"replay {self.folder / 'kept'} --engine model --follow`", said.splitlines()[-1])
+        self.assertIn(
+            "\nTo mend first: under slow-agents 13 on ring:4 the match came to silent",
+            said,
+        )
+        self.assertIn(
+            f"replay {self.folder / 'kept'} --engine model --follow`",
+            said.splitlines()[-1],
+        )
         self.check_shown("silent")
 
     def kit(self, old: str, new: str, file: str) -> str:
@@ -82,53 +125,91 @@ class Checks(InFolder):
     def impatient(self, old: str, new: str, said: str) -> None:
         """Checks a kit whose client has a change by which it does something when two seconds have gone by."""
         kit = self.kit(old, new, "client.py")
-        status, told = self.checked(f"{sys.executable} {kit}/careful.py {{host}} {{port}} {{key}} {{nodes}}",
-                                    "--network", "ring:4", "--no-repeat", "--engine", "model")
+        status, told = self.checked(
+            f"{sys.executable} {kit}/careful.py {{host}} {{port}} {{key}} {{nodes}}",
+            "--network",
+            "ring:4",
+            "--no-repeat",
+            "--engine",
+            "model",
+        )
         self.assertEqual(status, 1, told)
         self.assertIn("2 matches on ring:4: all solved\n", told)
-        self.assertIn("To mend first: on ring:4 with arrivals 6 s late the match came to silent", told)
-        self.assertRegex(told, rf"\n  agent \d: {said} within 6 s of `gone`, and was told nothing meanwhile: .* "
-                               "without a timeout\n")
+        self.assertIn(
+            "To mend first: on ring:4 with arrivals 6 s late the match came to silent",
+            told,
+        )
+        self.assertRegex(
+            told,
+            rf"\n  agent \d: {said} within 6 s of `gone`, and was told nothing meanwhile: .* "
+            "without a timeout\n",
+        )
         self.assertIn("check again once it is mended", told.splitlines()[-1])
 
     def test_a_timeout_that_a_contest_outlasts(self) -> None:
         reads = "        self._reader = self._socket.makefile("
-        self.impatient(reads, f"        self._socket.settimeout(2)\n{reads}", r"has ended \(refused: timed out\)")
+        self.impatient(
+            reads,
+            f"        self._socket.settimeout(2)\n{reads}",
+            r"has ended \(refused: timed out\)",
+        )
 
     def test_a_program_that_asks_what_takes_so_long(self) -> None:
         waits = "        line = self._lines.receive()\n        return self._here("
-        asks = ("        import threading\n        asks = threading.Timer(2, self._lines.send, "
-                "[line_of({'do': 'look'})])\n        asks.start()\n")
-        self.impatient(waits, asks + waits.replace("\n", "\n        asks.cancel()\n"), 'has sent `{"do": "look"}`')
+        asks = (
+            "        import threading\n        asks = threading.Timer(2, self._lines.send, "
+            "[line_of({'do': 'look'})])\n        asks.start()\n"
+        )
+        self.impatient(
+            waits,
+            asks + waits.replace("\n", "\n        asks.cancel()\n"),
+            'has sent `{"do": "look"}`',
+        )
 
     def test_a_lost_update_that_few_schedules_show(self) -> None:
         """The mistake that the second lesson plants."""
         old = "    while True:\n        safe = safe_on(board)\n"
         kit = self.kit(old, old.replace("while True", "for _ in [0]"), "careful.py")
         path = self.folder / "kit" / "careful.py"
-        path.write_text(path.read_text().replace("        if swap.written:\n            return board\n",
-                                                 "    return board\n"))
-        for agent in (f"{kit}/careful.py {{nodes}}",
-                      f"{sys.executable} {kit}/careful.py {{host}} {{port}} {{key}} {{nodes}}"):
+        path.write_text(
+            path.read_text().replace(
+                "        if swap.written:\n            return board\n",
+                "    return board\n",
+            )
+        )
+        for agent in (
+            f"{kit}/careful.py {{nodes}}",
+            f"{sys.executable} {kit}/careful.py {{host}} {{port}} {{key}} {{nodes}}",
+        ):
             status, said = self.checked(agent, "--no-repeat", "--engine", "model")
             self.assertEqual(status, 1, said)
-            self.assertIn("\nTo mend first: under slow-agents 5 on ring:8 the match came to silent", said)
+            self.assertIn(
+                "\nTo mend first: under slow-agents 5 on ring:8 the match came to silent",
+                said,
+            )
 
     def test_refused_lines_of_a_right_agent_are_to_be_mended(self) -> None:
         agent = self.folder / "agent.py"
         for name in ("client.py", "ring.py"):
             shutil.copy(AGENTS / name, self.folder)
-        agent.write_text("import ring\n\n\ndef search(agent, key, nodes):\n    enter = agent.enter\n\n"
-                         "    def chatty(key):\n        here = enter(key)\n        try:\n"
-                         "            agent.depart(99)\n        except Exception:\n            pass\n"
-                         "        return here\n"
-                         "    agent.enter = chatty\n    ring.search(agent, key, nodes)\n")
+        agent.write_text(
+            "import ring\n\n\ndef search(agent, key, nodes):\n    enter = agent.enter\n\n"
+            "    def chatty(key):\n        here = enter(key)\n        try:\n"
+            "            agent.depart(99)\n        except Exception:\n            pass\n"
+            "        return here\n"
+            "    agent.enter = chatty\n    ring.search(agent, key, nodes)\n"
+        )
         status, said = self.checked(f"{agent} {{nodes}}", "--engine", "model")
         self.assertEqual(status, 1, said)
         self.assertIn("14 matches on ring:3, ring:4,", said)
-        self.assertIn("To mend first: lines are refused, which cost commands\n  agent 0: 1 line named a port", said)
+        self.assertIn(
+            "To mend first: lines are refused, which cost commands\n  agent 0: 1 line named a port",
+            said,
+        )
 
     def check_shown(self, told: str) -> None:
         """The command that is told shows it."""
-        said = ran(main, ["replay", str(self.folder / "kept"), "--engine", "model"]).said
+        said = ran(
+            main, ["replay", str(self.folder / "kept"), "--engine", "model"]
+        ).said
         self.assertIn(told, said)

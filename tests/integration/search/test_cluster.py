@@ -36,8 +36,13 @@ class OnCluster(InFolder):
 
     def begun(self, module: str, *words: str) -> "subprocess.Popen[str]":
         """A part of a cluster, which is ended with the test."""
-        child = subprocess.Popen([sys.executable, "-m", module, *words], cwd=self.folder, stderr=subprocess.PIPE,
-                                 stdout=subprocess.DEVNULL, text=True)
+        child = subprocess.Popen(
+            [sys.executable, "-m", module, *words],
+            cwd=self.folder,
+            stderr=subprocess.PIPE,
+            stdout=subprocess.DEVNULL,
+            text=True,
+        )
         self.addCleanup(child.stderr.close)
         self.addCleanup(child.wait)
         self.addCleanup(child.kill)
@@ -45,7 +50,9 @@ class OnCluster(InFolder):
 
     def scheduler(self) -> str:
         """The address of a scheduler that has begun."""
-        child = self.begun(SCHEDULER, "--host", "127.0.0.1", "--port", "0", "--no-dashboard")
+        child = self.begun(
+            SCHEDULER, "--host", "127.0.0.1", "--port", "0", "--no-dashboard"
+        )
         for line in child.stderr:
             if "Scheduler at:" in line:
                 return line.split()[-1]
@@ -53,14 +60,25 @@ class OnCluster(InFolder):
 
     def worker(self, address: str) -> None:
         """Begins a worker, and waits until it is known."""
-        child = self.begun(WORKER, address, "--host", "127.0.0.1", "--no-nanny", "--nthreads", "1", "--no-dashboard")
+        child = self.begun(
+            WORKER,
+            address,
+            "--host",
+            "127.0.0.1",
+            "--no-nanny",
+            "--nthreads",
+            "1",
+            "--no-dashboard",
+        )
         for line in child.stderr:
             if "Registered to:" in line:
                 return
         raise AssertionError("the worker has ended")
 
     def swept(self, out: str, *more: str) -> bytes:
-        status, said, errors = ran(main, ["sweep", str(self.file), "--out", str(self.folder / out), *more])
+        status, said, errors = ran(
+            main, ["sweep", str(self.file), "--out", str(self.folder / out), *more]
+        )
         self.assertEqual(status, 0, said + errors)
         return (self.folder / out / tables.RUNS).read_bytes()
 
@@ -73,20 +91,33 @@ class Clusters(OnCluster):
             self.worker(address)
         rows = self.swept("model", "--engine", "model")
         self.assertEqual(rows.count(b"\n"), 81)
-        self.assertEqual(self.swept("cluster", "--engine", "model", "--cluster", address), rows)
+        self.assertEqual(
+            self.swept("cluster", "--engine", "model", "--cluster", address), rows
+        )
         self.file.write_text(TEXT.replace("seeds = 20", "seeds = 1"))
         few = self.swept("few", "--engine", "model")
-        self.assertEqual(self.swept("program", "--program", program(), "--cluster", address), few)
+        self.assertEqual(
+            self.swept("program", "--program", program(), "--cluster", address), few
+        )
 
     def check_fault(self, address: str, wanted: str) -> None:
-        words = ["sweep", str(self.file), "--out", str(self.folder / "none"), "--engine", "model"]
+        words = [
+            "sweep",
+            str(self.file),
+            "--out",
+            str(self.folder / "none"),
+            "--engine",
+            "model",
+        ]
         status, _, errors = ran(main, [*words, "--cluster", address])
         self.assertEqual(status, 2)
         self.assertIn(wanted, errors)
 
     def test_an_address_at_which_nobody_listens(self) -> None:
         with mock.patch.object(parallel, "SECONDS_TO_ANSWER", 1):
-            self.check_fault("tcp://127.0.0.1:9", "no Dask scheduler answers at tcp://127.0.0.1:9")
+            self.check_fault(
+                "tcp://127.0.0.1:9", "no Dask scheduler answers at tcp://127.0.0.1:9"
+            )
 
 
 class OtherMachines(InTemporary):

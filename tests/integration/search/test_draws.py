@@ -15,12 +15,18 @@ from tests.support.mutants import FOLDER
 
 
 class Drawing(InExplore):
-    def on_ring(self, network: str, hole: int, draws: Optional[SampleRequest]) -> ExploreAnswer:
+    def on_ring(
+        self, network: str, hole: int, draws: Optional[SampleRequest]
+    ) -> ExploreAnswer:
         """What the program finds of two agents on a ring, under all schedules or under those that are drawn."""
-        game, fixture = self.game("--network", network, "--hole", str(hole), "--agent", RING_STEP.words)
+        game, fixture = self.game(
+            "--network", network, "--hole", str(hole), "--agent", RING_STEP.words
+        )
         return self.answered(fixture, game.agents, draws=draws)
 
-    def drawn(self, network: str, hole: int, draws: SampleRequest) -> Tuple[Comes, SampleCounts]:
+    def drawn(
+        self, network: str, hole: int, draws: SampleRequest
+    ) -> Tuple[Comes, SampleCounts]:
         """The worst of schedules that are drawn, none of which fails, and the counts of all."""
         answered = self.on_ring(network, hole, draws)
         assert isinstance(answered.found, Comes) and answered.drawn
@@ -32,9 +38,17 @@ class Drawing(InExplore):
             assert isinstance(proved, Solves)
             for scheduler in SCHEDULERS:
                 with self.subTest(network=network, hole=hole, scheduler=scheduler):
-                    found, drawn = self.drawn(network, hole, SampleRequest(200, 1, scheduler, None))
+                    found, drawn = self.drawn(
+                        network, hole, SampleRequest(200, 1, scheduler, None)
+                    )
                     self.assertEqual((drawn.solved, drawn.failed), (200, 0))
-                    self.assertEqual([sum(times for _, times in of) for of in (drawn.moves, drawn.lost)], [200, 200])
+                    self.assertEqual(
+                        [
+                            sum(times for _, times in of)
+                            for of in (drawn.moves, drawn.lost)
+                        ],
+                        [200, 200],
+                    )
                     self.assertEqual(found.moves, drawn.moves[-1][0])
                     self.assertLessEqual(found.moves, proved.moves)
                     self.assertLessEqual(len(found.schedule), proved.turns)
@@ -42,36 +56,75 @@ class Drawing(InExplore):
                     self.assertLessEqual(drawn.lost[-1][0], proved.lost)
 
     def test_a_hunt_comes_to_the_most_moves(self) -> None:
-        for network, hole, scheduler in (("ring:5", 2, "fair"), ("ring:6", 4, "slow-agents")):
+        for network, hole, scheduler in (
+            ("ring:5", 2, "fair"),
+            ("ring:6", 4, "slow-agents"),
+        ):
             with self.subTest(network=network, hole=hole):
                 proved = self.on_ring(network, hole, None).found
-                hunted, _ = self.drawn(network, hole, SampleRequest(2000, 2, scheduler, "moves"))
+                hunted, _ = self.drawn(
+                    network, hole, SampleRequest(2000, 2, scheduler, "moves")
+                )
                 assert isinstance(proved, Solves)
                 self.assertEqual(hunted.moves, proved.moves)
 
     def test_schedules_are_drawn_as_the_schedulers_of_the_lab_draw(self) -> None:
         for scheduler in SCHEDULERS:
             with self.subTest(scheduler=scheduler):
-                _, drawn = self.drawn("ring:6", 3, SampleRequest(2000, 3, scheduler, None))
-                rows = lab.play("ring:6", RING.words, scheduler, count=2, holes=[3], seeds=300, engine="model")
+                _, drawn = self.drawn(
+                    "ring:6", 3, SampleRequest(2000, 3, scheduler, None)
+                )
+                rows = lab.play(
+                    "ring:6",
+                    RING.words,
+                    scheduler,
+                    count=2,
+                    holes=[3],
+                    seeds=300,
+                    engine="model",
+                )
                 moves = [row["moves"] for row in rows]
                 error = statistics.stdev(moves) / len(moves) ** 0.5
-                self.assertAlmostEqual(moves_of(drawn.moves).mean, statistics.fmean(moves), delta=5 * error + 0.01)
+                self.assertAlmostEqual(
+                    moves_of(drawn.moves).mean,
+                    statistics.fmean(moves),
+                    delta=5 * error + 0.01,
+                )
 
     def test_what_is_drawn_is_a_function_of_the_seed(self) -> None:
-        runs = [self.drawn("ring:6", 3, SampleRequest(100, seed, "slow-agents", None)) for seed in (1, 1, 2)]
+        runs = [
+            self.drawn("ring:6", 3, SampleRequest(100, seed, "slow-agents", None))
+            for seed in (1, 1, 2)
+        ]
         self.assertEqual(runs[0], runs[1])
         self.assertNotEqual(runs[0][1].turns, runs[2][1].turns)
 
     def test_the_agents_play_what_is_kept(self) -> None:
-        status = self.command("--network", "ring:5", "--agent", RING_STEP.words, "--draws", 200, "--objective",
-                              "moves", "--check", 2)
+        status = self.command(
+            "--network",
+            "ring:5",
+            "--agent",
+            RING_STEP.words,
+            "--draws",
+            200,
+            "--objective",
+            "moves",
+            "--check",
+            2,
+        )
         self.assertEqual(status, 0, self.said)
         self.assertIn("800 drawn schedules, ", self.said)
-        self.assertIn("checked, and all agree: 2 drawn schedules, 200 histories told in other processes\n", self.said)
-        self.assertIn("most moves: home 0 holes [1], solved moves 14 lost 1\n", self.said)
+        self.assertIn(
+            "checked, and all agree: 2 drawn schedules, 200 histories told in other processes\n",
+            self.said,
+        )
+        self.assertIn(
+            "most moves: home 0 holes [1], solved moves 14 lost 1\n", self.said
+        )
         self.assertIn("the program's verdict: solved moves 14 lost 1", self.said)
-        self.assertEqual(main(["replay", str(self.folder / "find"), "--program", program()]), 0)
+        self.assertEqual(
+            main(["replay", str(self.folder / "find"), "--program", program()]), 0
+        )
 
     def test_a_wrong_version_is_found_out(self) -> None:
         for hunt in ([], ["--objective", "lost"]):
@@ -80,13 +133,30 @@ class Drawing(InExplore):
                 match = ["--network", "ring:4", "--hole", 2, "--agent", agent]
                 self.assertEqual(self.command(*match, "--draws", 100, *hunt), 1)
                 self.assertIn("a schedule fails\nit comes to: ", self.said)
-                verdict = self.said.partition("it comes to: ")[2].partition("\n")[0].rpartition(", ")[2]
+                verdict = (
+                    self.said.partition("it comes to: ")[2]
+                    .partition("\n")[0]
+                    .rpartition(", ")[2]
+                )
                 self.assertIn(f"the program's verdict: {verdict}", self.said)
 
     def test_what_has_too_many_turns(self) -> None:
-        self.assertEqual(self.command("--network", "ring:5", "--agent", RING.words, "--draws", 5, "--max-states", 9),
-                         130)
-        self.assertIn("a drawn schedule has more turns than --max-states allows", self.said)
+        self.assertEqual(
+            self.command(
+                "--network",
+                "ring:5",
+                "--agent",
+                RING.words,
+                "--draws",
+                5,
+                "--max-states",
+                9,
+            ),
+            130,
+        )
+        self.assertIn(
+            "a drawn schedule has more turns than --max-states allows", self.said
+        )
 
     def test_a_quota_that_does_not_suffice(self) -> None:
         words = ["--network", "ring:5", "--agent", RING.words, "--draws", 5]
@@ -95,10 +165,12 @@ class Drawing(InExplore):
 
     def test_options_of_draws_need_draws(self) -> None:
         ring = ["--network", "ring:4", "--agent", RING.words]
-        for words, told in ((["--seed", 1], "--seed needs --draws"), (["--scheduler", "fair"],
-                                                                      "--scheduler needs --draws"),
-                            (["--objective", "lost"], "--objective needs --draws"),
-                            (["--draws", 2, "--search", "model"], "--draws needs the program's search")):
+        for words, told in (
+            (["--seed", 1], "--seed needs --draws"),
+            (["--scheduler", "fair"], "--scheduler needs --draws"),
+            (["--objective", "lost"], "--objective needs --draws"),
+            (["--draws", 2, "--search", "model"], "--draws needs the program's search"),
+        ):
             with self.subTest(words=words):
                 self.assertEqual(self.command(*ring, *words), 2)
                 self.assertIn(told, self.said)

@@ -23,17 +23,19 @@ from tests.support.mutants import FOLDER
 
 SOLVED = "every schedule that the lab tried solves, by histories of Python programs"
 # a program that asks nothing, and tells now and then how far it is
-LONG = '''#!/usr/bin/env python3
+LONG = """#!/usr/bin/env python3
 import time
 for states in (262144, 524288):
     print(f'{{"visited":{states},"depth":37}}', flush=True)
     time.sleep(0.3)
 print('{"found":"solves","moves":1,"lost":0,"turns":4}')
 print('{"states":600000}')
-'''
+"""
 # how many drawn ends, and drawn machines, are compared
 ENDS, MACHINES = 60, 20
-ODD = FAULTY + '''
+ODD = (
+    FAULTY
+    + """
 import hashlib
 
 
@@ -175,9 +177,10 @@ def command_of(what, board):
     if what < 12:
         return {"do": "look" if what < 10 else "sleep"}
     return {"do": "accuse", "port": what % 2} if what < 15 else {"do": "leave"}
-'''
+"""
+)
 # an agent of its own: it enters, departs by port 0 and accuses port 0, and declares where it is
-OWN = '''
+OWN = """
 import json, socket, sys
 line = socket.create_connection(("127.0.0.1", int(sys.argv[1]))).makefile("rw", newline="\\n")
 for place, command in enumerate([{"do": "enter", "key": sys.argv[2]}, {"do": "look"}, {"do": "depart", "port": 0},
@@ -186,7 +189,7 @@ for place, command in enumerate([{"do": "enter", "key": sys.argv[2]}, {"do": "lo
     line.flush()
     if line.readline() == '{"ok":"gone"}\\n':
         line.readline()
-'''
+"""
 
 
 class Exploring(InExplore):
@@ -201,24 +204,53 @@ class Exploring(InExplore):
     def test_the_most_moves_on_rings(self) -> None:
         for nodes, moves in {3: 4, 5: 14}.items():
             with self.subTest(nodes=nodes):
-                status = self.command("--network", f"ring:{nodes}", "--agent", RING.words, "--check", 2)
+                status = self.command(
+                    "--network", f"ring:{nodes}", "--agent", RING.words, "--check", 2
+                )
                 self.assertEqual(status, 0, self.said)
                 self.assertIn(SOLVED, self.said)
-                self.assertIn(f"most moves {moves}, most agents lost 1, most turns ", self.said)
+                self.assertIn(
+                    f"most moves {moves}, most agents lost 1, most turns ", self.said
+                )
                 self.assertNotIn("warning", self.said)
 
     def test_several_networks_end_in_a_table(self) -> None:
-        status = self.command("--network", "ring:3..4", "--network", "torus:3x3", "--agent", RING.words, "--check", 2)
+        status = self.command(
+            "--network",
+            "ring:3..4",
+            "--network",
+            "torus:3x3",
+            "--agent",
+            RING.words,
+            "--check",
+            2,
+        )
         self.assertEqual(status, 1, self.said)
-        table = self.said.partition("network matches states moves lost seconds\n")[2].split("\n")
-        self.assertEqual([row.split()[:5] for row in table[:2]],
-                         [["ring:3", "2", "106", "4", "1"], ["ring:4", "3", "1283", "9", "1"]])
+        table = self.said.partition("network matches states moves lost seconds\n")[
+            2
+        ].split("\n")
+        self.assertEqual(
+            [row.split()[:5] for row in table[:2]],
+            [["ring:3", "2", "106", "4", "1"], ["ring:4", "3", "1283", "9", "1"]],
+        )
         self.assertNotIn("torus", "".join(table))
 
     def test_other_sample_agents(self) -> None:
-        for words in (["--network", "hypercube:2", "--hole", "3", "--agent", KNOWN_MAP.words],
-                      ["--network", "ring:3", "--hole", "2", "--agents", "2", "--spurious-wakeups", "0", "--agent",
-                       MAP.words]):
+        for words in (
+            ["--network", "hypercube:2", "--hole", "3", "--agent", KNOWN_MAP.words],
+            [
+                "--network",
+                "ring:3",
+                "--hole",
+                "2",
+                "--agents",
+                "2",
+                "--spurious-wakeups",
+                "0",
+                "--agent",
+                MAP.words,
+            ],
+        ):
             with self.subTest(words=words):
                 self.assertEqual(self.command(*words), 0, self.said)
                 self.assertIn(SOLVED, self.said)
@@ -227,16 +259,28 @@ class Exploring(InExplore):
         for name, network in (("forgets_to_mark", "ring:4"), ("reads_once", "ring:4")):
             with self.subTest(name):
                 agent = f"{FOLDER / name}.py {{nodes}}"
-                self.assertEqual(self.command("--network", network, "--agent", agent), 1)
+                self.assertEqual(
+                    self.command("--network", network, "--agent", agent), 1
+                )
                 self.assertIn("a schedule fails\nit comes to: ", self.said)
-                verdict = self.said.partition("it comes to: ")[2].partition("\n")[0].rpartition(", ")[2]
+                verdict = (
+                    self.said.partition("it comes to: ")[2]
+                    .partition("\n")[0]
+                    .rpartition(", ")[2]
+                )
                 self.assertIn(f"the program's verdict: {verdict}", self.said)
-                self.assertEqual(main(["replay", str(self.folder / "find"), "--program", program()]), 0)
+                self.assertEqual(
+                    main(["replay", str(self.folder / "find"), "--program", program()]),
+                    0,
+                )
 
     def test_what_goes_on_for_ever(self) -> None:
         match = ["--network", "ring:3", "--hole", 1]
-        for names, fair in ((["enters_again"], "and it is not fair"), (["enters_again", "knows"], "and it is fair"),
-                            (["knows", "enters_again"], "and it is fair")):
+        for names, fair in (
+            (["enters_again"], "and it is not fair"),
+            (["enters_again", "knows"], "and it is fair"),
+            (["knows", "enters_again"], "and it is fair"),
+        ):
             with self.subTest(names):
                 agents = [word for name in names for word in self.odd(name)]
                 self.assertEqual(self.command(*match, *agents), 1, self.said)
@@ -245,35 +289,76 @@ class Exploring(InExplore):
     def test_an_agent_that_polls_spends_its_quota(self) -> None:
         for name in ("polls", "is_refused"):
             with self.subTest(name):
-                status = self.command("--network", "ring:3", "--hole", 1, "--quota", 4, *self.odd(name))
+                status = self.command(
+                    "--network", "ring:3", "--hole", 1, "--quota", 4, *self.odd(name)
+                )
                 self.assertEqual(status, 1, self.said)
-                self.assertRegex(self.said, "agent [01] may use 5 commands: the Python model's search takes over")
+                self.assertRegex(
+                    self.said,
+                    "agent [01] may use 5 commands: the Python model's search takes over",
+                )
 
     def test_agents_that_give_up_after_more_naps_are_told_of(self) -> None:
-        match = ["--network", "ring:3", "--hole", 2, *self.odd("writes_first"), *self.odd("gives_up")]
+        match = [
+            "--network",
+            "ring:3",
+            "--hole",
+            2,
+            *self.odd("writes_first"),
+            *self.odd("gives_up"),
+        ]
         for naps in (0, 2):
             with self.subTest(naps=naps):
-                self.assertEqual(self.command(*match, "--spurious-wakeups", naps), 0, self.said)
+                self.assertEqual(
+                    self.command(*match, "--spurious-wakeups", naps), 0, self.said
+                )
                 self.assertIn(f", if agents nap at most {naps} times\n", self.said)
-                self.assertIn("what they do when they wake once more is not known: "
-                              f"try --spurious-wakeups {naps + 1}\n", self.said)
+                self.assertIn(
+                    "what they do when they wake once more is not known: "
+                    f"try --spurious-wakeups {naps + 1}\n",
+                    self.said,
+                )
         self.assertEqual(self.command(*match, "--spurious-wakeups", 3), 1, self.said)
 
     def test_a_sleeper_that_waits_for_nothing(self) -> None:
-        self.assertEqual(self.command("--network", "ring:3", "--hole", 1, *self.odd("sleeps")), 1)
+        self.assertEqual(
+            self.command("--network", "ring:3", "--hole", 1, *self.odd("sleeps")), 1
+        )
         self.assertIn("sleeps, and nothing changes any more", self.said)
 
     def test_an_agent_fails_whatever_the_verdict(self) -> None:
-        at_the_end = "under a schedule agent 1 fails when it is told that the match is over"
+        at_the_end = (
+            "under a schedule agent 1 fails when it is told that the match is over"
+        )
         for names, found, fault in (
-                (["knows"], "", ""), (["knows_and_naps"], "", ""),
-                (["knows_and_raises"], "under a schedule agent 0 fails", "agent 0: raises KeyError: 'east'"),
-                (["knows_and_sleeps"], "under a schedule agent 0 fails", f"agent 0: {STUCK}"),
-                (["knows", "crashes_when_it_is_over 1"], at_the_end,
-                 "agent 1: raises AttributeError: nothing was seen"),
-                (["knows", "crashes_on_its_link"], "under a schedule agent 1 fails",
-                 "agent 1: raises AttributeError: nobody is told"),
-                (["knows", "stays_outside"], f"under a schedule agent 1 {STUCK}", f"agent 1: {STUCK}")):
+            (["knows"], "", ""),
+            (["knows_and_naps"], "", ""),
+            (
+                ["knows_and_raises"],
+                "under a schedule agent 0 fails",
+                "agent 0: raises KeyError: 'east'",
+            ),
+            (
+                ["knows_and_sleeps"],
+                "under a schedule agent 0 fails",
+                f"agent 0: {STUCK}",
+            ),
+            (
+                ["knows", "crashes_when_it_is_over 1"],
+                at_the_end,
+                "agent 1: raises AttributeError: nothing was seen",
+            ),
+            (
+                ["knows", "crashes_on_its_link"],
+                "under a schedule agent 1 fails",
+                "agent 1: raises AttributeError: nobody is told",
+            ),
+            (
+                ["knows", "stays_outside"],
+                f"under a schedule agent 1 {STUCK}",
+                f"agent 1: {STUCK}",
+            ),
+        ):
             with self.subTest(names=names):
                 agents = [word for name in names for word in self.odd(name)]
                 status = self.command("--network", "ring:3", "--hole", 2, *agents)
@@ -282,36 +367,64 @@ class Exploring(InExplore):
                 self.assertIn(f"\n{fault}", self.said)
 
     def test_agents_that_do_not_enter(self) -> None:
-        for name, fault in (("enters_as_another", "enters with the key of another agent"),
-                            ("looks_first", "raises NotEntered: enter")):
+        for name, fault in (
+            ("enters_as_another", "enters with the key of another agent"),
+            ("looks_first", "raises NotEntered: enter"),
+        ):
             with self.subTest(name):
-                self.assertEqual(self.command("--network", "ring:3", "--hole", 1, *self.odd(name)), 1)
+                self.assertEqual(
+                    self.command("--network", "ring:3", "--hole", 1, *self.odd(name)), 1
+                )
                 self.assertIn(f"agent 0: {fault}", self.said)
 
     def test_a_quota_that_does_not_suffice(self) -> None:
-        status = self.command("--network", "ring:3", "--hole", 2, "--quota", 5, *self.odd("counts"))
+        status = self.command(
+            "--network", "ring:3", "--hole", 2, "--quota", 5, *self.odd("counts")
+        )
         self.assertEqual(status, 1, self.said)
-        self.assertIn("agent 0 may use 6 commands: the Python model's search takes over", self.said)
+        self.assertIn(
+            "agent 0 may use 6 commands: the Python model's search takes over",
+            self.said,
+        )
 
     def test_too_many_states(self) -> None:
-        self.assertEqual(self.command("--network", "ring:5", "--max-states", 20, "--agent", RING.words), 130)
+        self.assertEqual(
+            self.command(
+                "--network", "ring:5", "--max-states", 20, "--agent", RING.words
+            ),
+            130,
+        )
         self.assertIn("more states than were to be visited", self.said)
         self.assertIn("stopped before all were visited", self.said)
 
     def test_ctrl_c_ends_it_with_what_was_found(self) -> None:
-        with mock.patch("arena_lab.search.program_search.ProgramRun.answer", side_effect=KeyboardInterrupt):
-            self.assertEqual(self.command("--network", "ring:3", "--agent", RING.words), 130)
-        self.assertIn("stopped before all were visited; no schedule failed until then", self.said)
+        with mock.patch(
+            "arena_lab.search.program_search.ProgramRun.answer",
+            side_effect=KeyboardInterrupt,
+        ):
+            self.assertEqual(
+                self.command("--network", "ring:3", "--agent", RING.words), 130
+            )
+        self.assertIn(
+            "stopped before all were visited; no schedule failed until then", self.said
+        )
 
     def test_it_is_told_how_long_the_program_works(self) -> None:
-        game, fixture = self.game("--network", "ring:6", "--hole", "1", "--agent", RING.words)
+        game, fixture = self.game(
+            "--network", "ring:6", "--hole", "1", "--agent", RING.words
+        )
         shown = mock.Mock()
         with mock.patch("arena_lab.search.program_search.PAUSE", 0.01):
             self.answered(fixture, game.agents, shown=shown)
-        self.assertRegex(shown.set_postfix_str.call_args.args[0], r"^the program works for \d+ s and takes \d+ MB$")
+        self.assertRegex(
+            shown.set_postfix_str.call_args.args[0],
+            r"^the program works for \d+ s and takes \d+ MB$",
+        )
 
     def test_it_is_told_how_far_a_long_search_is(self) -> None:
-        _, fixture = self.game("--network", "ring:3", "--hole", "1", "--agent", RING.words)
+        _, fixture = self.game(
+            "--network", "ring:3", "--hole", "1", "--agent", RING.words
+        )
         long = self.folder / "long"
         long.write_text(LONG, encoding="utf-8")
         long.chmod(0o755)
@@ -321,7 +434,9 @@ class Exploring(InExplore):
         self.assertEqual(answered.states, 600_000)
         all_told = [call.args[0] for call in shown.set_postfix_str.call_args_list]
         for states in ("262,144", "524,288"):
-            far = re.compile(rf" MB: {states} states, [\d,]+ a second, 37 turns on the path$")
+            far = re.compile(
+                rf" MB: {states} states, [\d,]+ a second, 37 turns on the path$"
+            )
             self.assertTrue(any(map(far.search, all_told)), states)
 
     def test_programs_of_their_own(self) -> None:
@@ -331,11 +446,15 @@ class Exploring(InExplore):
                 match = ["--network", "ring:3", "--hole", 2, "--agents", 1]
                 status = self.command(*match, "--command", team, "--check", 1)
                 self.assertEqual(status, 0, self.said)
-                self.assertIn("every schedule that the lab tried solves, by histories or declared memories of programs",
-                              self.said)
+                self.assertIn(
+                    "every schedule that the lab tried solves, by histories or declared memories of programs",
+                    self.said,
+                )
         built = self.folder / "ring"
         subprocess.run(["cc", "-O2", "-o", built, AGENTS / "ring.c"], check=True)
-        status = self.command("--network", "ring:3", "--command", f"{built} {{port}} {{key}} {{nodes}}")
+        status = self.command(
+            "--network", "ring:3", "--command", f"{built} {{port}} {{key}} {{nodes}}"
+        )
         self.assertEqual(status, 0, self.said)
         self.assertIn("most moves 4, most agents lost 1", self.said)
 
@@ -346,7 +465,9 @@ class Exploring(InExplore):
         self.assertEqual(answered.found, Fails("silent", 1, 0, (0, 0)))
 
     def test_an_agent_that_is_no_function_is_found_by_drawn_schedules(self) -> None:
-        game, fixture = self.game("--network", "ring:3", "--hole", "1", *self.odd("hides"))
+        game, fixture = self.game(
+            "--network", "ring:3", "--hole", "1", *self.odd("hides")
+        )
         for is_told_all in (True, False):
             with self.subTest(is_told_all=is_told_all), contextlib.ExitStack() as stack:
                 machines = Machines(fixture, game.agents, 5)
@@ -356,8 +477,15 @@ class Exploring(InExplore):
                     # one history for all whiteboards
                     plain = machines.next
                     empty = re.compile('"board":"[^"]*"')
-                    stack.enter_context(mock.patch.object(
-                        machines, "next", lambda before, news: plain(before, empty.sub('"board":""', news))))
+                    stack.enter_context(
+                        mock.patch.object(
+                            machines,
+                            "next",
+                            lambda before, news: plain(
+                                before, empty.sub('"board":""', news)
+                            ),
+                        )
+                    )
                     stack.enter_context(self.assertRaises(NoFunction))
                 for seed in range(20):
                     follow(fixture, game.agents, machines, seed, 5)
@@ -367,12 +495,21 @@ class Exploring(InExplore):
         kinds: Dict[str, int] = {}
         for seed in range(ENDS):
             naps = str(seed % 3)
-            game, fixture = self.game("--network", "ring:3", "--hole", "2", "--spurious-wakeups", naps,
-                                      *self.odd("knows"),
-                                      *self.odd(f"ends {seed}"))
+            game, fixture = self.game(
+                "--network",
+                "ring:3",
+                "--hole",
+                "2",
+                "--spurious-wakeups",
+                naps,
+                *self.odd("knows"),
+                *self.odd(f"ends {seed}"),
+            )
             found, beside = self.both(game, fixture, check=2)
             kinds[name_of(type(found))] = kinds.get(name_of(type(found)), 0) + 1
-            self.assertEqual(not isinstance(found, Solves), beside.has_failed, (seed, found, beside))
+            self.assertEqual(
+                not isinstance(found, Solves), beside.has_failed, (seed, found, beside)
+            )
         self.assertLessEqual({"solves", "breaks", "fails"}, set(kinds), kinds)
 
     def both(self, game: Game, fixture: Fixture, check: int = 0) -> Tuple[Finding, End]:
@@ -392,17 +529,36 @@ class Exploring(InExplore):
     def compared(self, seed: int) -> str:
         """Compares both searches of a drawn match; gives what the program found."""
         chance = random.Random(seed)
-        machines = [f"machine {chance.randrange(10 ** 6)} {chance.randrange(1, 4)}" for _ in range(2)]
-        if chance.random() < .5:
+        machines = [
+            f"machine {chance.randrange(10 ** 6)} {chance.randrange(1, 4)}"
+            for _ in range(2)
+        ]
+        if chance.random() < 0.5:
             machines[1] = machines[0]
         network = chance.choice(["ring:3", "ring:4"])
-        match = ["--network", network, "--hole", str(chance.randrange(1, int(network[-1])))]
-        match += ["--quota", str(chance.randrange(3, 9)), "--spurious-wakeups", str(chance.randrange(3))]
-        game, fixture = self.game(*match, *(word for it in machines for word in self.odd(it)))
+        match = [
+            "--network",
+            network,
+            "--hole",
+            str(chance.randrange(1, int(network[-1]))),
+        ]
+        match += [
+            "--quota",
+            str(chance.randrange(3, 9)),
+            "--spurious-wakeups",
+            str(chance.randrange(3)),
+        ]
+        game, fixture = self.game(
+            *match, *(word for it in machines for word in self.odd(it))
+        )
         found, beside = self.both(game, fixture)
         if isinstance(found, (Fails, Breaks)):
             self.assertTrue(beside.has_failed, (seed, found, beside))
         elif isinstance(found, Solves):
             self.assertFalse(beside.has_failed, (seed, found, beside))
-            self.assertEqual((beside.verdict.outcome, beside.verdict.moves), ("solved", found.moves), (seed, beside))
+            self.assertEqual(
+                (beside.verdict.outcome, beside.verdict.moves),
+                ("solved", found.moves),
+                (seed, beside),
+            )
         return name_of(type(found))

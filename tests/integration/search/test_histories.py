@@ -22,18 +22,30 @@ class Hides(NamedTuple):
 
 HIDDEN: Dict[str, Hides] = {
     "a local": Hides("", "b", "h"),
-    "a generator of numbers": Hides("import random", "random.Random(1 if b else 2)",
-                                    "'x' if h.random() == random.Random(1).random() else ''"),
+    "a generator of numbers": Hides(
+        "import random",
+        "random.Random(1 if b else 2)",
+        "'x' if h.random() == random.Random(1).random() else ''",
+    ),
     "lambdas of one line": Hides("", "(lambda: 'x') if b else (lambda: '')", "h()"),
     "an iterator": Hides("", "iter(b)", "next(h, '')"),
-    "the agent's lines": Hides("", "setattr(agent._lines, 'memo', b)", "agent._lines.memo"),
-    "a mutable default": Hides("def fn(x=None, m=['']):\n    if x is not None: m[0] = x\n    return m[0]",
-                               "fn(b) and None", "fn()"),
+    "the agent's lines": Hides(
+        "", "setattr(agent._lines, 'memo', b)", "agent._lines.memo"
+    ),
+    "a mutable default": Hides(
+        "def fn(x=None, m=['']):\n    if x is not None: m[0] = x\n    return m[0]",
+        "fn(b) and None",
+        "fn()",
+    ),
     "a table of a module": Hides("T = {'a': ''}", "T.__setitem__('a', b)", "T['a']"),
-    "the agent's greenlet": Hides("", "setattr(agent._lines._thread, 'memo', b)", "agent._lines._thread.memo"),
-    "an attribute of a class": Hides("class Bot:\n    memo = ''", "setattr(Bot, 'memo', b)", "Bot.memo"),
+    "the agent's greenlet": Hides(
+        "", "setattr(agent._lines._thread, 'memo', b)", "agent._lines._thread.memo"
+    ),
+    "an attribute of a class": Hides(
+        "class Bot:\n    memo = ''", "setattr(Bot, 'memo', b)", "Bot.memo"
+    ),
 }
-TEXT = '''{lines}
+TEXT = """{lines}
 def writer(agent, key):
     agent.enter(key)
     agent.write('', 'x')
@@ -45,8 +57,8 @@ def reader(agent, key):
     {waits}
     seen = {finds}
     agent.accuse(1 if seen == {good!r} else 0)
-'''
-ROLES = '''
+"""
+ROLES = """
 import random
 def by_key(agent, key):
     agent.enter(key)
@@ -86,7 +98,7 @@ def sleeper(agent, key, sleep):
 def goes(agent, key):
     agent.enter(key)
     agent.depart(0)
-'''
+"""
 
 
 class Histories(InExplore):
@@ -97,8 +109,13 @@ class Histories(InExplore):
     def hidden(self, hides: Hides, good: str) -> int:
         """The status of a team whose reader hides a text so, and is right if it finds this one again."""
         file = f"{self.folder}/hides.py"
-        return self.explored(TEXT.format(**hides._asdict(), good=good), "--agent", f"{file}:writer", "--agent",
-                             f"{file}:reader")
+        return self.explored(
+            TEXT.format(**hides._asdict(), good=good),
+            "--agent",
+            f"{file}:writer",
+            "--agent",
+            f"{file}:reader",
+        )
 
     def test_what_hides_a_bit_hides_nothing_from_its_history(self) -> None:
         for name, hides in HIDDEN.items():
@@ -110,34 +127,52 @@ class Histories(InExplore):
     def test_roles(self) -> None:
         for name in ("by_key", "by_key_later", "by_random", "by_number"):
             with self.subTest(name):
-                status = self.explored(ROLES, "--agents", 2, "--agent", f"{self.folder}/hides.py:{name}")
+                status = self.explored(
+                    ROLES, "--agents", 2, "--agent", f"{self.folder}/hides.py:{name}"
+                )
                 self.assertEqual(status, 1, self.said)
 
     def test_lines_after_the_end_and_before_the_arrival(self) -> None:
         words = ["--agents", 1, "--agent", f"{self.folder}/hides.py:after"]
         self.assertEqual(self.explored(ROLES, *words), 0, self.said)
-        self.assertEqual(self.explored(ROLES, *words, "--search", "model"), 0, self.said)
+        self.assertEqual(
+            self.explored(ROLES, *words, "--search", "model"), 0, self.said
+        )
         for more in ((), ("--search", "model")):
-            status = self.explored(ROLES, "--agents", 1, "--agent", f"{self.folder}/hides.py:early", *more)
+            status = self.explored(
+                ROLES, "--agents", 1, "--agent", f"{self.folder}/hides.py:early", *more
+            )
             self.assertEqual(status, 2, self.said)
             self.assertIn("sends a line before it has arrived", self.said)
 
     def test_who_sleeps_before_it_enters(self) -> None:
-        status = self.explored(ROLES, "--agents", 2, "--agent", f"{self.folder}/hides.py:sleeper")
+        status = self.explored(
+            ROLES, "--agents", 2, "--agent", f"{self.folder}/hides.py:sleeper"
+        )
         self.assertEqual(status, 0, self.said)
 
     def test_who_sleeps_before_it_enters_and_is_played_again(self) -> None:
         text = "import ring\ndef search(agent, key, nodes, sleep):\n    sleep(1)\n    ring.search(agent, key, nodes)\n"
         (self.folder / "hides.py").write_text(text, encoding="utf-8")
-        status = self.command("--network", "ring:4", "--hole", 1, "--agent", f"{self.folder}/hides.py {{nodes}}")
+        status = self.command(
+            "--network",
+            "ring:4",
+            "--hole",
+            1,
+            "--agent",
+            f"{self.folder}/hides.py {{nodes}}",
+        )
         self.assertEqual(status, 0, self.said)
 
     def test_a_held_link_that_leads_to_a_black_hole(self) -> None:
         """How many are lost is a bound then, which `replay` need not come to."""
-        cup = write_cup(self.folder, [match("red", networks.ring(3), [1], agents=1, held=[(0, 0)])])
+        cup = write_cup(
+            self.folder, [match("red", networks.ring(3), [1], agents=1, held=[(0, 0)])]
+        )
         (self.folder / "hides.py").write_text(ROLES, encoding="utf-8")
-        status = self.command("--tournament", cup, "--match", 0, "--agent",
-                              f"{self.folder}/hides.py:goes")
+        status = self.command(
+            "--tournament", cup, "--match", 0, "--agent", f"{self.folder}/hides.py:goes"
+        )
         self.assertEqual(status, 1, self.said)
         self.assertIn("silent moves 1 lost at most 1\n", self.said)
         self.assertIn("the program's verdict: silent moves 1 lost 0", self.said)
@@ -159,33 +194,58 @@ class Histories(InExplore):
             assert explorer.worst is not None
             explorer.worst = explorer.worst._replace(has_failed=True)
             return True
+
         with mock.patch.object(explore.Explorer, "_end", fails):
             self.assertEqual(self.command(*words), 1, self.said)
-        self.assertIn("no schedule fails by the program, and one by the Python model's search", self.said)
+        self.assertIn(
+            "no schedule fails by the program, and one by the Python model's search",
+            self.said,
+        )
 
     def test_who_changes_what_the_lab_plays_it_by_fails(self) -> None:
-        parts = dict.fromkeys(("number", "modules", "_team", "_heard", "_thread"), ("'x'", "None", "True"))
-        parts |= {"__dict__": ("{}", "dict(vars(agent._lines))",),
-                  "__class__": ("type('X', (type(agent._lines),), {'memo': b})",)}
+        parts = dict.fromkeys(
+            ("number", "modules", "_team", "_heard", "_thread"), ("'x'", "None", "True")
+        )
+        parts |= {
+            "__dict__": (
+                "{}",
+                "dict(vars(agent._lines))",
+            ),
+            "__class__": ("type('X', (type(agent._lines),), {'memo': b})",),
+        }
         for part, values in parts.items():
             for value in values:
                 with self.subTest(part, value=value):
                     sets = Hides("", f"setattr(agent._lines, {part!r}, {value})", "''")
                     self.assertEqual(self.hidden(sets, ""), 1, self.said)
                     said = "the class or the dict" if "__" in part else part
-                    self.assertIn(f"agent 1: has changed {said} of its lines, by which the lab plays it", self.said)
+                    self.assertIn(
+                        f"agent 1: has changed {said} of its lines, by which the lab plays it",
+                        self.said,
+                    )
 
     def test_an_agent_was_told_what_the_lab_has_told_it(self) -> None:
         """An agent that claims to have had the last reply plays on."""
-        text = "def good(agent, key):\n    agent.enter(key)\n    agent.accuse(0)\ndef wrong(agent, key):\n" \
-            "    agent.enter(key)\n    agent._lines.latest = '{\"ok\":\"over\"}'\n    agent.accuse(1)\n"
+        text = (
+            "def good(agent, key):\n    agent.enter(key)\n    agent.accuse(0)\ndef wrong(agent, key):\n"
+            '    agent.enter(key)\n    agent._lines.latest = \'{"ok":"over"}\'\n    agent.accuse(1)\n'
+        )
         file = f"{self.folder}/hides.py"
-        self.assertEqual(self.explored(text, "--agent", f"{file}:good", "--agent", f"{file}:wrong"), 1, self.said)
+        self.assertEqual(
+            self.explored(text, "--agent", f"{file}:good", "--agent", f"{file}:wrong"),
+            1,
+            self.said,
+        )
         self.assertIn("it comes to: home 0 holes [1], wrong", self.said)
 
     def test_a_line_that_is_no_text(self) -> None:
         for value in ("5", "b''", "[]"):
             with self.subTest(value):
-                sets = Hides("", f"setattr(agent._lines, 'line', {value})", "''", "agent._lines.receive()")
+                sets = Hides(
+                    "",
+                    f"setattr(agent._lines, 'line', {value})",
+                    "''",
+                    "agent._lines.receive()",
+                )
                 self.assertEqual(self.hidden(sets, ""), 2, self.said)
                 self.assertIn(f"agent 1 sends {value}, which is no line", self.said)

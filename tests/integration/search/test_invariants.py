@@ -13,12 +13,32 @@ from arena_lab.play.schedules import read
 from arena_lab.play.teams import INSIDE, AgentWords
 from arena_lab.rules.engines import TOP
 from arena_lab.rules.fixtures import Fixture, fixture_of
-from arena_lab.rules.model import AWAY, OUTSIDE, PRESENT, AgentState, Match, Object, Setup, command_of, judge, text_of
+from arena_lab.rules.model import (
+    AWAY,
+    OUTSIDE,
+    PRESENT,
+    AgentState,
+    Match,
+    Object,
+    Setup,
+    command_of,
+    judge,
+    text_of,
+)
 from arena_lab.rules.networks import flipped_ring, ring
 from arena_lab.search.explore import TooMany
 from arena_lab.search.invariants import Candidate, Walk, Walked, walked
 from arena_lab.search.history_tree import HistoryState
-from arena_lab.search.configurations import After, At, Before, Bound, Bounds, Configuration, Position, World
+from arena_lab.search.configurations import (
+    After,
+    At,
+    Before,
+    Bound,
+    Bounds,
+    Configuration,
+    Position,
+    World,
+)
 from arena_lab.support.progress import NO_PROGRESS
 from tests.support.matches import FAULTY, MAP, InFolder, program, two, under
 from tests.support.output import ran
@@ -39,14 +59,29 @@ class Mistake(NamedTuple):
 
 MISTAKES = {
     "both agents know of each other at each time": Mistake(
-        "(one.theirs == other.mine or other.theirs == one.mine)", "one.theirs == other.mine", 6,
-        "the candidate does not hold"),
+        "(one.theirs == other.mine or other.theirs == one.mine)",
+        "one.theirs == other.mine",
+        6,
+        "the candidate does not hold",
+    ),
     "no turn is spent on accusing": Mistake(
-        " + (memory.phase == ENDS)", "", 8, "left does not fall: it was 10 before the last turn and is 10"),
+        " + (memory.phase == ENDS)",
+        "",
+        8,
+        "left does not fall: it was 10 before the last turn and is 10",
+    ),
     "a move less": Mistake(
-        "sum(squares) - 1", "sum(squares) - 2", 9, "4 moves were made, and bounds says at most 3"),
+        "sum(squares) - 1",
+        "sum(squares) - 2",
+        9,
+        "4 moves were made, and bounds says at most 3",
+    ),
     "a command less": Mistake(
-        "** 2 + world.nodes", "** 2", 9, "agent 1 has used 5 commands, and bounds says at most 4"),
+        "** 2 + world.nodes",
+        "** 2",
+        9,
+        "agent 1 has used 5 commands, and bounds says at most 4",
+    ),
 }
 
 
@@ -65,7 +100,13 @@ def place_of(agent: AgentState) -> Position:
 def seen(match: Match) -> Tuple[Any, ...]:
     """What a picture shows of a match that was played, as the match has it."""
     used = tuple(agent.used for agent in match.agents)
-    return tuple(map(place_of, match.agents)), used, tuple(match.boards), frozenset(match.reached), judge(match).moves
+    return (
+        tuple(map(place_of, match.agents)),
+        used,
+        tuple(match.boards),
+        frozenset(match.reached),
+        judge(match).moves,
+    )
 
 
 def shown_by(picture: Configuration) -> Tuple[Any, ...]:
@@ -80,10 +121,12 @@ FAILURES = {
 
 
 def changed(values: Sequence[Any], place: int, value: Any) -> Tuple[Any, ...]:
-    return (*values[:place], value, *values[place + 1:])
+    return (*values[:place], value, *values[place + 1 :])
 
 
-def sight(world: World, position: Position, shown: Sequence[str]) -> Optional[Tuple[int, str]]:
+def sight(
+    world: World, position: Position, shown: Sequence[str]
+) -> Optional[Tuple[int, str]]:
     """The whiteboard that an agent has in front of it, and what it shows."""
     if isinstance(position, (Bound, After)):
         return None
@@ -91,49 +134,89 @@ def sight(world: World, position: Position, shown: Sequence[str]) -> Optional[Tu
     return node, shown[node]
 
 
-def turned(world: World, old: Configuration, agent: int, command: Optional[Object]) -> Configuration:
+def turned(
+    world: World, old: Configuration, agent: int, command: Optional[Object]
+) -> Configuration:
     """What the turn of an agent that moves makes of a picture, as `turn_in` of
     crates/bhs_protocols/specs/Configurations.antt
     says it: it says this command, or arrives, or wakes."""
     place = old.position[agent]
     if isinstance(place, Bound):
         node, label = world.far(place.node, place.port)
-        here = {"ok": "here", "ports": world.degree(node), "from": label, "board": old.shown[node]}
-        new = old._replace(position=changed(old.position, agent, At(node, label)), reached=old.reached | {node})
+        here = {
+            "ok": "here",
+            "ports": world.degree(node),
+            "from": label,
+            "board": old.shown[node],
+        }
+        new = old._replace(
+            position=changed(old.position, agent, At(node, label)),
+            reached=old.reached | {node},
+        )
         return told(world, old, new, agent, here)
     if command is None:
-        return old._replace(history=changed(old.history, agent, (None, *old.history[agent])),
-                            woken=changed(old.woken, agent, old.woken[agent] + 1))
+        return old._replace(
+            history=changed(old.history, agent, (None, *old.history[agent])),
+            woken=changed(old.woken, agent, old.woken[agent] + 1),
+        )
     return said(world, old, agent, command)
 
 
-def said(world: World, old: Configuration, agent: int, command: Object) -> Configuration:
+def said(
+    world: World, old: Configuration, agent: int, command: Object
+) -> Configuration:
     """What a command makes of a picture that is heard of an agent at a node, or of one that enters."""
     place, do = old.position[agent], command["do"]
     node = place.node if isinstance(place, At) else world.home
     came = place.came if isinstance(place, At) else None
-    reply = {"ok": "here", "ports": world.degree(node), "from": came, "board": old.shown[node]}
-    new = old if do == "enter" else old._replace(used=changed(old.used, agent, old.used[agent] + 1))
+    reply = {
+        "ok": "here",
+        "ports": world.degree(node),
+        "from": came,
+        "board": old.shown[node],
+    }
+    new = (
+        old
+        if do == "enter"
+        else old._replace(used=changed(old.used, agent, old.used[agent] + 1))
+    )
     if do == "enter":
         new = new._replace(position=changed(old.position, agent, At(node, None)))
     elif do == "write" and old.shown[node] == command["expect"]:
-        reply, new = {"ok": "written"}, new._replace(shown=changed(old.shown, node, command["put"]))
+        reply, new = {"ok": "written"}, new._replace(
+            shown=changed(old.shown, node, command["put"])
+        )
     elif do == "write":
         reply = {"ok": "changed", "board": old.shown[node]}
     elif do == "depart":
         reply = {"ok": "gone"}
-        new = new._replace(position=changed(old.position, agent, Bound(node, command["port"])), moves=old.moves + 1)
+        new = new._replace(
+            position=changed(old.position, agent, Bound(node, command["port"])),
+            moves=old.moves + 1,
+        )
     elif do == "accuse":
-        reply, accused = {"ok": "noted"}, changed(old.accused, agent, (node, command["port"]))
-        new = new._replace(position=changed(old.position, agent, After()), accused=accused)
+        reply, accused = {"ok": "noted"}, changed(
+            old.accused, agent, (node, command["port"])
+        )
+        new = new._replace(
+            position=changed(old.position, agent, After()), accused=accused
+        )
     return told(world, old, new, agent, reply)
 
 
-def told(world: World, old: Configuration, new: Configuration, agent: int, reply: Object) -> Configuration:
+def told(
+    world: World, old: Configuration, new: Configuration, agent: int, reply: Object
+) -> Configuration:
     """A picture in which an agent has heard a reply. Who faces another sight than before has not woken since."""
-    woken = tuple(times if sight(world, before, old.shown) == sight(world, after, new.shown) else 0
-                  for times, before, after in zip(old.woken, old.position, new.position))
-    return new._replace(history=changed(old.history, agent, (reply, *old.history[agent])), woken=woken)
+    woken = tuple(
+        times
+        if sight(world, before, old.shown) == sight(world, after, new.shown)
+        else 0
+        for times, before, after in zip(old.woken, old.position, new.position)
+    )
+    return new._replace(
+        history=changed(old.history, agent, (reply, *old.history[agent])), woken=woken
+    )
 
 
 class Noting:
@@ -174,11 +257,22 @@ class Following(Walk):
 class Invariants(InFolder):
     said = ""
 
-    def command(self, candidate: object, agents: Sequence[AgentWords], *words: object) -> int:
+    def command(
+        self, candidate: object, agents: Sequence[AgentWords], *words: object
+    ) -> int:
         """The exit status of `invariant`."""
         named = [word for agent in agents for word in ("--agent", agent.words)]
-        status, said, _ = ran(main, ["invariant", str(candidate), *named, *map(str, words), "--keep",
-                                     str(self.folder / "find")])
+        status, said, _ = ran(
+            main,
+            [
+                "invariant",
+                str(candidate),
+                *named,
+                *map(str, words),
+                "--keep",
+                str(self.folder / "find"),
+            ],
+        )
         self.said = said
         return status
 
@@ -194,39 +288,64 @@ class Invariants(InFolder):
         path.write_text(text.replace(mistake.old, mistake.new), encoding="utf-8")
         return path
 
-    def walked(self, fixture: Fixture, agents: Sequence[AgentWords], candidate: Any) -> Walked:
+    def walked(
+        self, fixture: Fixture, agents: Sequence[AgentWords], candidate: Any
+    ) -> Walked:
         return walked(fixture, agents, candidate, NO_PROGRESS, 100_000, 5)
 
-    def fixture(self, nodes: int, hole: int, labels: int, agents: int = 2, board: int = 4) -> Fixture:
+    def fixture(
+        self, nodes: int, hole: int, labels: int, agents: int = 2, board: int = 4
+    ) -> Fixture:
         network = flipped_ring(nodes, random.Random(labels)) if labels else ring(nodes)
         return fixture_of(Setup(nodes, network.links, 0, [hole], agents, 1000, board))
 
     def test_the_shuttle_keeps_its_invariant_on_small_rings(self) -> None:
-        self.assertEqual(self.command(INVARIANTS / "shuttle.py", SHUTTLE, "--network", "ring:3..5"), 0, self.said)
-        self.assertIn("pictures of 9 matches; pictures that no schedule reaches were not tried", self.said)
+        self.assertEqual(
+            self.command(INVARIANTS / "shuttle.py", SHUTTLE, "--network", "ring:3..5"),
+            0,
+            self.said,
+        )
+        self.assertIn(
+            "pictures of 9 matches; pictures that no schedule reaches were not tried",
+            self.said,
+        )
 
     def test_labels_of_ports_make_no_difference(self) -> None:
-        for agents, name, nodes in ((SHUTTLE, "shuttle.py", 4), (TRIANGLE, "triangle.py", 3)):
+        for agents, name, nodes in (
+            (SHUTTLE, "shuttle.py", 4),
+            (TRIANGLE, "triangle.py", 3),
+        ):
             candidate = Candidate(INVARIANTS / name)
             for labels in range(1, 5):
                 for hole in range(1, nodes):
                     with self.subTest(name, labels=labels, hole=hole):
-                        found = self.walked(self.fixture(nodes, hole, labels), agents, candidate)
+                        found = self.walked(
+                            self.fixture(nodes, hole, labels), agents, candidate
+                        )
                         self.assertTrue(found.is_whole)
                         self.assertIsNone(found.walk.breach)
 
     def test_each_order_of_turns_on_the_triangle_is_tried(self) -> None:
         """The agent that is lost has two turns, and the other six: any two numbers of turns make a picture."""
-        self.assertEqual(self.command(INVARIANTS / "triangle.py", TRIANGLE, "--network", "ring:3"), 0, self.said)
+        self.assertEqual(
+            self.command(INVARIANTS / "triangle.py", TRIANGLE, "--network", "ring:3"),
+            0,
+            self.said,
+        )
         self.assertEqual(self.said.count(": 21 pictures, holds, most moves 3, "), 2)
 
     def test_of_a_wrong_candidate_the_first_picture_is_told(self) -> None:
         for name, mistake in MISTAKES.items():
             with self.subTest(name):
                 words = ("--network", "ring:3")
-                self.assertEqual(self.command(self.wrong(mistake), SHUTTLE, *words), 1, self.said)
+                self.assertEqual(
+                    self.command(self.wrong(mistake), SHUTTLE, *words), 1, self.said
+                )
                 self.assertIn(f"after {mistake.turns} turns: {mistake.why}", self.said)
-                self.assertEqual(len(read(self.folder / "find" / "schedule.txt").choices), mistake.turns)
+                self.assertEqual(
+                    len(read(self.folder / "find" / "schedule.txt").choices),
+                    mistake.turns,
+                )
                 self.assertEqual(self.replayed("--engine", "model"), 0)
 
     def test_the_page_on_proofs_shows_what_is_told_of_a_wrong_candidate(self) -> None:
@@ -236,17 +355,23 @@ class Invariants(InFolder):
         path.write_text(text.replace("turns < 3", "turns < 2"), encoding="utf-8")
         self.assertEqual(self.command(path, TRIANGLE, "--network", "ring:3"), 1)
         page = (TOP / "docs" / "PROVING.md").read_text(encoding="utf-8")
-        shown = re.search(r"(?:^    .*\n)*^    .* does not hold.*\n(?:^    .*\n)*", page, re.MULTILINE)
+        shown = re.search(
+            r"(?:^    .*\n)*^    .* does not hold.*\n(?:^    .*\n)*", page, re.MULTILINE
+        )
         assert shown is not None
         for line in shown[0].splitlines():
             parts = [re.escape(part) for part in line.strip().split("..")]
-            self.assertRegex(self.said, re.compile("^" + ".*".join(parts) + "$", re.MULTILINE))
+            self.assertRegex(
+                self.said, re.compile("^" + ".*".join(parts) + "$", re.MULTILINE)
+            )
 
     def test_the_schedule_that_is_told_leads_to_the_picture(self) -> None:
         for name, mistake in MISTAKES.items():
             with self.subTest(name):
                 fixture = self.fixture(4, 2, 0)
-                breach = self.walked(fixture, SHUTTLE, Candidate(self.wrong(mistake))).walk.breach
+                breach = self.walked(
+                    fixture, SHUTTLE, Candidate(self.wrong(mistake))
+                ).walk.breach
                 assert breach is not None
                 choices = list(breach.choices)
                 played = under(schedulers.recorded(choices), fixture, SHUTTLE)
@@ -263,9 +388,12 @@ class Invariants(InFolder):
                 met: Set[Tuple[Any, ...]] = set()
                 fair = schedulers.NAMED["fair"](seed)
 
-                def choose(choices: Any, state: Any, fair: Any = fair, met: Any = met) -> Any:
+                def choose(
+                    choices: Any, state: Any, fair: Any = fair, met: Any = met
+                ) -> Any:
                     met.add(seen(state.match))
                     return fair(choices, state)
+
                 played = under(choose, fixture, SHUTTLE)
                 self.assertFalse(played.has_failed())
                 with self.subTest(hole=hole, seed=seed):
@@ -273,20 +401,36 @@ class Invariants(InFolder):
 
     def test_a_match_that_is_not_solved_is_told_whatever_the_candidate(self) -> None:
         path = self.folder / "always.py"
-        path.write_text("def holds(world, picture):\n    return True\n", encoding="utf-8")
-        reads_once = [AgentWords(INSIDE, f"{TOP / 'arena_lab' / 'mutants' / 'reads_once.py'} {{nodes}}")]
-        self.assertEqual(self.command(path, reads_once, "--network", "ring:4", "--hole", "2"), 1)
-        self.assertIn("nothing more can happen, and the match is not solved: silent", self.said)
+        path.write_text(
+            "def holds(world, picture):\n    return True\n", encoding="utf-8"
+        )
+        reads_once = [
+            AgentWords(
+                INSIDE, f"{TOP / 'arena_lab' / 'mutants' / 'reads_once.py'} {{nodes}}"
+            )
+        ]
+        self.assertEqual(
+            self.command(path, reads_once, "--network", "ring:4", "--hole", "2"), 1
+        )
+        self.assertIn(
+            "nothing more can happen, and the match is not solved: silent", self.said
+        )
         self.assertEqual(self.replayed("--program", program()), 0)
 
     def test_agents_that_fail_are_told_whatever_the_candidate(self) -> None:
         (self.folder / "faulty.py").write_text(FAULTY, encoding="utf-8")
         path = self.folder / "always.py"
-        path.write_text("def holds(world, picture):\n    return True\n", encoding="utf-8")
+        path.write_text(
+            "def holds(world, picture):\n    return True\n", encoding="utf-8"
+        )
         for words, said in FAILURES.items():
             with self.subTest(words):
                 agent = AgentWords(INSIDE, f"{self.folder / 'faulty.py'}:{words}")
-                self.assertEqual(self.command(path, [agent], "--network", "ring:3", "--hole", "1"), 1, self.said)
+                self.assertEqual(
+                    self.command(path, [agent], "--network", "ring:3", "--hole", "1"),
+                    1,
+                    self.said,
+                )
                 self.assertIn(said, self.said)
 
     def test_what_is_left_at_the_start_is_within_the_bound(self) -> None:
@@ -294,7 +438,10 @@ class Invariants(InFolder):
         text = (INVARIANTS / "triangle.py").read_text(encoding="utf-8")
         path.write_text(text.replace("turns=8", "turns=7"), encoding="utf-8")
         self.assertEqual(self.command(path, TRIANGLE, "--network", "ring:3"), 1)
-        self.assertIn("1 picture, at the start: left is 8 at the start, and bounds says at most 7 turns", self.said)
+        self.assertIn(
+            "1 picture, at the start: left is 8 at the start, and bounds says at most 7 turns",
+            self.said,
+        )
 
     def test_a_turn_makes_of_a_picture_what_the_definitions_say(self) -> None:
         met: Set[str] = set()
@@ -303,7 +450,13 @@ class Invariants(InFolder):
                 fixture = self.fixture(3, 1, 1, len(agents), board)._replace(naps=1)
                 team = Team(fixture.keys, {}, 5)
                 team.start()
-                walk = Following(fixture, team, [agent.script(fixture.setup) for agent in agents], 20_000, Noting())
+                walk = Following(
+                    fixture,
+                    team,
+                    [agent.script(fixture.setup) for agent in agents],
+                    20_000,
+                    Noting(),
+                )
                 with contextlib.suppress(TooMany):
                     for _ in walk.explore():
                         pass
@@ -311,9 +464,23 @@ class Invariants(InFolder):
                 self.assertIsNone(walk.breach)
                 self.assertEqual(walk.differ, [])
                 met |= walk.met
-        self.assertEqual(met, {"enter", "depart", "travels", "write", "look", "sleeps", "accuse"})
+        self.assertEqual(
+            met, {"enter", "depart", "travels", "write", "look", "sleeps", "accuse"}
+        )
 
     def test_a_search_that_is_stopped_says_so(self) -> None:
-        self.assertEqual(self.command(INVARIANTS / "shuttle.py", SHUTTLE, "--network", "ring:4", "--max-states", 50),
-                         130)
-        self.assertIn("stopped before all pictures were tried; the candidate held at those that were", self.said)
+        self.assertEqual(
+            self.command(
+                INVARIANTS / "shuttle.py",
+                SHUTTLE,
+                "--network",
+                "ring:4",
+                "--max-states",
+                50,
+            ),
+            130,
+        )
+        self.assertIn(
+            "stopped before all pictures were tried; the candidate held at those that were",
+            self.said,
+        )

@@ -15,7 +15,11 @@ from tests.support.matches import RING
 
 BOARDS = ("", "right going, left new", "right safe, left told 2")
 WRITTEN = spelled({"ok": "written"})
-HEARD = [spelled({"ok": "here", "ports": 2, "from": came, "board": board}) for came in (0, 1) for board in BOARDS]
+HEARD = [
+    spelled({"ok": "here", "ports": 2, "from": came, "board": board})
+    for came in (0, 1)
+    for board in BOARDS
+]
 DEPTH = 6
 History = Tuple[str, ...]
 
@@ -29,7 +33,10 @@ def news_of(step: AgentStep) -> List[str]:
     if b"depart" in step.line:
         return [spelled(GONE)]
     if b"write" in step.line:
-        return [WRITTEN, *(spelled({"ok": "changed", "board": board}) for board in BOARDS)]
+        return [
+            WRITTEN,
+            *(spelled({"ok": "changed", "board": board}) for board in BOARDS),
+        ]
     return HEARD[:2]
 
 
@@ -37,14 +44,22 @@ class Asked:
     """What is asked of a team's first agent, in one order or the other."""
 
     def __init__(self, is_backwards: bool) -> None:
-        [game] = games_of(parser().parse_args(["explore", "--network", "ring:5", "--agent", RING.words]))
+        [game] = games_of(
+            parser().parse_args(
+                ["explore", "--network", "ring:5", "--agent", RING.words]
+            )
+        )
         self.machines = Machines(game.fixtures()[0], game.agents, game.limit)
         self.found: Dict[History, int] = {}
         self._is_backwards = is_backwards
         self.machines.start()
         try:
             self._ask(self.machines.begin(0), ())
-            self.left = [one.player.state for left in self.machines._left.programs.values() for one in left]
+            self.left = [
+                one.player.state
+                for left in self.machines._left.programs.values()
+                for one in left
+            ]
         finally:
             self.machines.stop()
 
@@ -70,10 +85,20 @@ class Order(unittest.TestCase):
         for history in one.found:
             self.assertEqual(one.step(history), other.step(history), history)
         # both merge the same histories, and only those of programs that have ended
-        pairs = {(memory, other.found[history]) for history, memory in one.found.items()}
+        pairs = {
+            (memory, other.found[history]) for history, memory in one.found.items()
+        }
         self.assertEqual(len(pairs), len(set(one.found.values())))
         self.assertEqual(len(pairs), len(set(other.found.values())))
         by_memory = collections.Counter(one.found.values())
-        self.assertTrue(all(one.machines.steps[it].does == STOP for it, count in by_memory.items() if count > 1))
-        for asked, state in itertools.chain(((one, it) for it in one.left), ((other, it) for it in other.left)):
+        self.assertTrue(
+            all(
+                one.machines.steps[it].does == STOP
+                for it, count in by_memory.items()
+                if count > 1
+            )
+        )
+        for asked, state in itertools.chain(
+            ((one, it) for it in one.left), ((other, it) for it in other.left)
+        ):
             self.assertNotEqual(state, DONE, asked)

@@ -20,7 +20,9 @@ from tests.support import mutants
 WORST = {3: 4, 4: 9, 5: 14, 6: 23}
 BY_MODEL = ("--search", "model")
 # agents that do something else although they are told the same, or have other faults
-ODD = FAULTY + '''
+ODD = (
+    FAULTY
+    + """
 import random
 from ring import Search, Walker
 
@@ -34,7 +36,8 @@ def computes(agent, key):
     agent.enter(key)
     while True:
         pass
-'''
+"""
+)
 
 
 FORGETFUL = mutants.FOLDER / "forgets_to_mark.py"
@@ -63,50 +66,105 @@ class Exploring(Searches):
     def test_the_most_moves_on_rings(self) -> None:
         for nodes, moves in WORST.items():
             with self.subTest(nodes=nodes):
-                status = self.command("explore", *BY_MODEL, "--network", f"ring:{nodes}", "--agent", RING.words,
-                                      *self.kept())
+                status = self.command(
+                    "explore",
+                    *BY_MODEL,
+                    "--network",
+                    f"ring:{nodes}",
+                    "--agent",
+                    RING.words,
+                    *self.kept(),
+                )
                 self.assertEqual(status, 0, self.said)
                 self.assertIn("no schedule fails, of the Python model", self.said)
-                self.assertIn(f"the program's verdict: solved moves {moves} lost 1", self.said)
+                self.assertIn(
+                    f"the program's verdict: solved moves {moves} lost 1", self.said
+                )
 
     def test_steps_that_meet_nobody_need_no_other_order(self) -> None:
-        for words in (["--network", "ring:5", "--hole", "3", "--agent", RING.words],
-                      ["--network", "ring:3", "--hole", "2", "--agents", "3", "--agent", MAP.words]):
+        for words in (
+            ["--network", "ring:5", "--hole", "3", "--agent", RING.words],
+            [
+                "--network",
+                "ring:3",
+                "--hole",
+                "2",
+                "--agents",
+                "3",
+                "--agent",
+                MAP.words,
+            ],
+        ):
             with self.subTest(words=words):
                 few = self.explored(*words)
-                with mock.patch.object(history_tree.Pasts, "_is_local", lambda self, past: False):
+                with mock.patch.object(
+                    history_tree.Pasts, "_is_local", lambda self, past: False
+                ):
                     all_orders = self.explored(*words)
                 self.assertLess(few.states(), all_orders.states())
                 self.assertEqual(few.worst[:2], all_orders.worst[:2])
 
     def test_all_schedules_one_by_one_come_to_the_same(self) -> None:
-        for name, words in (("the search", RING.words), ("a wrong one", f"{FORGETFUL} {{nodes}}")):
+        for name, words in (
+            ("the search", RING.words),
+            ("a wrong one", f"{FORGETFUL} {{nodes}}"),
+        ):
             with self.subTest(name):
-                found = self.explored("--network", "ring:3", "--hole", "1", "--agent", words)
+                found = self.explored(
+                    "--network", "ring:3", "--hole", "1", "--agent", words
+                )
                 given = fixture(ring(3), 1)
                 scripts = [AgentWords(INSIDE, words).script(given.setup)] * 2
-                self.assertIsNone(played(given, scripts, 100), "there are few schedules")
+                self.assertIsNone(
+                    played(given, scripts, 100), "there are few schedules"
+                )
                 ends = played(given, scripts, 100_000)
                 assert ends is not None
                 self.assertIn((*found.worst.verdict, found.worst.has_failed), ends)
-                self.assertEqual(found.worst.has_failed, any(end.has_failed for end in ends))
+                self.assertEqual(
+                    found.worst.has_failed, any(end.has_failed for end in ends)
+                )
                 if not found.worst.has_failed:
-                    self.assertEqual(found.worst.verdict.moves, max(end.moves for end in ends))
+                    self.assertEqual(
+                        found.worst.verdict.moves, max(end.moves for end in ends)
+                    )
 
     def test_an_agent_that_is_no_function_is_told(self) -> None:
         agent = f"{self.folder}/odd.py:drawn 4"
-        status = self.command("explore", *BY_MODEL, "--network", "ring:4", "--agent", agent, *self.kept())
+        status = self.command(
+            "explore", *BY_MODEL, "--network", "ring:4", "--agent", agent, *self.kept()
+        )
         self.assertEqual(status, 2)
-        self.assertIn("explore needs agents that are functions of what they are told", self.said)
+        self.assertIn(
+            "explore needs agents that are functions of what they are told", self.said
+        )
 
     def test_it_stops_at_the_most_states(self) -> None:
-        words = ["explore", *BY_MODEL, "--network", "ring:6", "--max-states", "5000", "--agent", RING.words]
+        words = [
+            "explore",
+            *BY_MODEL,
+            "--network",
+            "ring:6",
+            "--max-states",
+            "5000",
+            "--agent",
+            RING.words,
+        ]
         self.assertEqual(self.command(*words, *self.kept()), 130)
         self.assertIn("stopped before all were visited", self.said)
 
     def test_what_is_kept_is_played_to_the_same_moves(self) -> None:
         """Also where agents sleep."""
-        words = ["--network", "ring:3", "--hole", "1", "--agents", "3", "--agent", MAP.words]
+        words = [
+            "--network",
+            "ring:3",
+            "--hole",
+            "1",
+            "--agents",
+            "3",
+            "--agent",
+            MAP.words,
+        ]
         worst = self.explored(*words).worst.verdict
         self.command("explore", *BY_MODEL, *words, *self.kept())
         self.assertIn(f"the program's verdict: {worst}", self.said)
@@ -114,9 +172,20 @@ class Exploring(Searches):
 
 class Hunting(Searches):
     def test_the_most_moves_of_a_ring(self) -> None:
-        status = self.command("hunt", "--network", "ring:8", "--agent", RING.words, "--objective", "moves", "--runs",
-                              "1000",
-                              "--database", str(self.folder / "db"), *self.kept())
+        status = self.command(
+            "hunt",
+            "--network",
+            "ring:8",
+            "--agent",
+            RING.words,
+            "--objective",
+            "moves",
+            "--runs",
+            "1000",
+            "--database",
+            str(self.folder / "db"),
+            *self.kept(),
+        )
         self.assertEqual(status, 0, self.said)
         self.assertIn("the program's verdict: solved moves 37 lost 1", self.said)
         self.assertEqual(self.command("replay", self.folder / "find"), 0)
@@ -126,32 +195,81 @@ class Hunting(Searches):
             place = mutants.PLANS[name].hunted
             network, count, words = place.network, place.agents, mutants.agent_of(name)
             with self.subTest(name):
-                game = Game(network, networks.named(network), [AgentWords(INSIDE, words)] * count)
-                first = next(it for it in itertools.count(1) if play_seed(game, "fair", it - 1, None).has_failed)
-                self.assertEqual(1, self.command("hunt", "--network", network, "--agent", words, "--agents", str(count),
-                                                 "--database", str(self.folder / "db"), *self.kept()))
-                found = re.search(r"^(\d+) schedules were tried: the team fails, first under number (\d+)$", self.said,
-                                  re.M)
+                game = Game(
+                    network,
+                    networks.named(network),
+                    [AgentWords(INSIDE, words)] * count,
+                )
+                first = next(
+                    it
+                    for it in itertools.count(1)
+                    if play_seed(game, "fair", it - 1, None).has_failed
+                )
+                self.assertEqual(
+                    1,
+                    self.command(
+                        "hunt",
+                        "--network",
+                        network,
+                        "--agent",
+                        words,
+                        "--agents",
+                        str(count),
+                        "--database",
+                        str(self.folder / "db"),
+                        *self.kept(),
+                    ),
+                )
+                found = re.search(
+                    r"^(\d+) schedules were tried: the team fails, first under number (\d+)$",
+                    self.said,
+                    re.M,
+                )
                 assert found is not None, self.said
                 self.assertEqual(int(found[2]), first)
                 # the find is made small
                 self.assertGreater(int(found[1]), first)
 
     def test_changed_schedules_come_next_and_earlier_finds_before(self) -> None:
-        words = ["hunt", "--network", "ring:8", "--agent", f"{mutants.FOLDER / 'divides_unevenly.py'} {{nodes}}",
-                 "--runs", "120", "--database", str(self.folder / "db"), *self.kept()]
-        for wanted in (r"first under number (6[1-9]|[789]\d|1[012]\d)$", r"first under number 1$"):
+        words = [
+            "hunt",
+            "--network",
+            "ring:8",
+            "--agent",
+            f"{mutants.FOLDER / 'divides_unevenly.py'} {{nodes}}",
+            "--runs",
+            "120",
+            "--database",
+            str(self.folder / "db"),
+            *self.kept(),
+        ]
+        for wanted in (
+            r"first under number (6[1-9]|[789]\d|1[012]\d)$",
+            r"first under number 1$",
+        ):
             self.assertEqual(self.command(*words), 1, self.said)
             self.assertRegex(self.said, re.compile(wanted, re.M))
 
     def test_agents_with_faults(self) -> None:
-        for name, fault in (("raises", "agent 0: raises KeyError: 'west'"),
-                            ("refused", "agent 0: was refused 1000 times in a row"),
-                            ("sleeps", "agent 0: sleeps, and nothing changes any more"),
-                            ("computes", "agent 0: has computed for 0.2 s, and neither sends nor waits")):
+        for name, fault in (
+            ("raises", "agent 0: raises KeyError: 'west'"),
+            ("refused", "agent 0: was refused 1000 times in a row"),
+            ("sleeps", "agent 0: sleeps, and nothing changes any more"),
+            (
+                "computes",
+                "agent 0: has computed for 0.2 s, and neither sends nor waits",
+            ),
+        ):
             with self.subTest(name):
-                status = self.command("run", "--network", "ring:3", "--timeout", "0.2", "--agent",
-                                      f"{self.folder}/odd.py:{name}")
+                status = self.command(
+                    "run",
+                    "--network",
+                    "ring:3",
+                    "--timeout",
+                    "0.2",
+                    "--agent",
+                    f"{self.folder}/odd.py:{name}",
+                )
                 self.assertEqual(status, 1)
                 self.assertIn(fault, self.said)
 
@@ -162,11 +280,24 @@ class Hunting(Searches):
             if next(tries, None) is None:
                 raise KeyboardInterrupt
             return real(*given)
+
         with mock.patch.object(hunt, "play", play):
-            status = self.command("hunt", "--network", "ring:8", "--agent", RING.words, "--objective", "moves",
-                                  "--database", str(self.folder / "db"), *self.kept())
+            status = self.command(
+                "hunt",
+                "--network",
+                "ring:8",
+                "--agent",
+                RING.words,
+                "--objective",
+                "moves",
+                "--database",
+                str(self.folder / "db"),
+                *self.kept(),
+            )
         self.assertEqual(status, 130, self.said)
-        self.assertIn("interrupted; this was found:\n10 schedules were tried", self.said)
+        self.assertIn(
+            "interrupted; this was found:\n10 schedules were tried", self.said
+        )
 
 
 class Mutants(Searches):
@@ -179,10 +310,27 @@ class Mutants(Searches):
 
     def test_a_timeout_fails_under_a_scheduler_if_agents_may_nap(self) -> None:
         agent = f"{mutants.FOLDER / 'counts_naps.py'} {{nodes}} {{links}}"
-        words = ["run", "--network", "ring:8", "--agents", "3", "--agent", agent, "--runs", "10", "--engine", "model"]
+        words = [
+            "run",
+            "--network",
+            "ring:8",
+            "--agents",
+            "3",
+            "--agent",
+            agent,
+            "--runs",
+            "10",
+            "--engine",
+            "model",
+        ]
         self.assertEqual(self.command(*words, "--spurious-wakeups", "1"), 0)
         self.assertEqual(self.command(*words, *self.kept()[:2]), 1)
-        self.assertEqual(self.command("replay", self.folder / "find", "--engine", "model"), 0)
+        self.assertEqual(
+            self.command("replay", self.folder / "find", "--engine", "model"), 0
+        )
 
     def test_each_has_a_plan(self) -> None:
-        self.assertEqual(sorted(path.stem for path in mutants.FOLDER.glob("*.py")), sorted(mutants.PLANS))
+        self.assertEqual(
+            sorted(path.stem for path in mutants.FOLDER.glob("*.py")),
+            sorted(mutants.PLANS),
+        )

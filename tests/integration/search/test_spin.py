@@ -12,17 +12,23 @@ from bench import promela
 from tests.support.matches import RING_STEP, program
 
 
-@unittest.skipUnless(promela.HAS_SPIN, "Debian's spin is not installed, or there is no C compiler")
+@unittest.skipUnless(
+    promela.HAS_SPIN, "Debian's spin is not installed, or there is no C compiler"
+)
 class TestSpin(unittest.TestCase):
     def test_spin_finds_the_same_most_moves(self) -> None:
         for nodes in range(3, 10):
-            proof = arena_lab.api.explore(f"ring:{nodes}", RING_STEP.words, engine=program(), check=0)
+            proof = arena_lab.api.explore(
+                f"ring:{nodes}", RING_STEP.words, engine=program(), check=0
+            )
             self.assertTrue(proof.solves)
             for model in (promela.NATURAL, promela.MERGED):
                 with self.subTest(nodes=nodes, model=model.name):
                     found = promela.search(model, nodes)
                     self.assertEqual(0, found.errors)
-                    self.assertEqual(max(row["moves"] for row in proof.rows), found.moves)
+                    self.assertEqual(
+                        max(row["moves"] for row in proof.rows), found.moves
+                    )
 
     def test_spin_finds_a_mistake(self) -> None:
         """An agent that does not look again before it writes overwrites what the other one has told."""
@@ -35,7 +41,12 @@ class TestSpin(unittest.TestCase):
     def test_the_benchmark_compares_them(self) -> None:
         with mock.patch.object(explore, "PROGRAM", program()):
             rows = bench_spin.rows_of(5)
-        names = ["SPIN, natural", "SPIN, merged", "./arena-lab explore", "arena explore alone",
-                 "arena explore --module"]
+        names = [
+            "SPIN, natural",
+            "SPIN, merged",
+            "./arena-lab explore",
+            "arena explore alone",
+            "arena explore --module",
+        ]
         self.assertEqual(names, [it.name for it in rows])
         self.assertEqual(1, len({it.moves for it in rows}))

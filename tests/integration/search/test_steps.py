@@ -11,7 +11,7 @@ from tests.integration.search.exploring import InExplore
 
 SOLVED = "every schedule that the lab tried solves, by memories of Python steps"
 # steps on the ring of 3, whose black hole is node 1
-STEPS = '''
+STEPS = """
 def knows(memory, reply):
     # to the other node, and back to accuse
     if memory is None:
@@ -60,10 +60,12 @@ def is_refused(memory, reply):
     if memory is None:
         return 1, {"do": "depart", "port": 9}
     return 1, knows(None if reply == {"no": "port"} else 1, reply)[1]
-'''
+"""
 
 
-def walker(memory: Any, reply: Dict[str, Any], nodes: int) -> Tuple[Any, Dict[str, Any]]:
+def walker(
+    memory: Any, reply: Dict[str, Any], nodes: int
+) -> Tuple[Any, Dict[str, Any]]:
     if memory is None:
         return nodes, {"do": "depart", "port": 1}
     return memory, {"do": "accuse", "port": 1 - reply["from"]}
@@ -79,70 +81,135 @@ class Steps(InExplore):
 
     def explored(self, *names: str, hole: int = 1) -> int:
         agents = [word for name in names for word in ("--agent", self.step(name))]
-        return self.command("--network", "ring:3", "--hole", hole, "--agents", len(names), *agents)
+        return self.command(
+            "--network", "ring:3", "--hole", hole, "--agents", len(names), *agents
+        )
 
-    def test_the_ring_search_does_command_for_command_what_the_program_does(self) -> None:
+    def test_the_ring_search_does_command_for_command_what_the_program_does(
+        self,
+    ) -> None:
         for seed in range(20):
             chance = random.Random(seed)
             nodes = chance.randrange(3, 10)
             fixture = ring_fixture(nodes, chance.randrange(1, nodes), chance)
             maker = chance.choice(list(schedulers.NAMED.values()))
             with self.subTest(seed):
-                one, other = (played(fixture, agent, seed, maker) for agent in (RING_STEP, RING))
+                one, other = (
+                    played(fixture, agent, seed, maker) for agent in (RING_STEP, RING)
+                )
                 self.assertEqual(one.replay, other.replay)
 
     def test_it_plays_outside(self) -> None:
         fixture = ring_fixture(5, 2, random.Random(0))
-        outside = AgentWords(OUTSIDE, f"/usr/bin/python3 {AGENTS / 'ring_step.py'} {{host}} {{port}} {{key}} {{nodes}}")
-        self.assertEqual(played(fixture, outside, 3).replay, played(fixture, RING_STEP, 3).replay)
+        outside = AgentWords(
+            OUTSIDE,
+            f"/usr/bin/python3 {AGENTS / 'ring_step.py'} {{host}} {{port}} {{key}} {{nodes}}",
+        )
+        self.assertEqual(
+            played(fixture, outside, 3).replay, played(fixture, RING_STEP, 3).replay
+        )
 
     def test_every_schedule_of_rings(self) -> None:
         for nodes, moves, states in ((3, 4, 44), (4, 9, 143), (6, 23, 704)):
             with self.subTest(nodes):
-                self.assertEqual(self.command("--network", f"ring:{nodes}", "--agent", RING_STEP.words), 0, self.said)
+                self.assertEqual(
+                    self.command(
+                        "--network", f"ring:{nodes}", "--agent", RING_STEP.words
+                    ),
+                    0,
+                    self.said,
+                )
                 self.assertIn(SOLVED, self.said)
-                self.assertIn(f"most moves {moves}, most agents lost 1, most turns ", self.said)
+                self.assertIn(
+                    f"most moves {moves}, most agents lost 1, most turns ", self.said
+                )
                 self.assertIn(f"\n{states} states in ", self.said)
 
     def test_steps_that_solve(self) -> None:
-        for names in (["knows"], ["knows", "knows"], ["is_refused"], ["writes", "waits"], ["counts 3"]):
+        for names in (
+            ["knows"],
+            ["knows", "knows"],
+            ["is_refused"],
+            ["writes", "waits"],
+            ["counts 3"],
+        ):
             with self.subTest(names):
                 self.assertEqual(self.explored(*names), 0, self.said)
                 self.assertIn(SOLVED, self.said)
 
     def test_steps_that_fail(self) -> None:
-        for name, why in (("raises", "raises KeyError: 'west' (steps.py, line "),
-                          ("no_command", "raises TypeError"), ("waits", "sleeps, and nothing changes any more"),
-                          ("holds_a_set", "raises NotPlain: its memory holds {''}, of type set: hold None,")):
+        for name, why in (
+            ("raises", "raises KeyError: 'west' (steps.py, line "),
+            ("no_command", "raises TypeError"),
+            ("waits", "sleeps, and nothing changes any more"),
+            (
+                "holds_a_set",
+                "raises NotPlain: its memory holds {''}, of type set: hold None,",
+            ),
+        ):
             with self.subTest(name):
                 self.assertEqual(self.explored(name), 1, self.said)
                 self.assertIn(f"agent 0: {why}", self.said)
 
     def test_a_step_that_computes_without_end(self) -> None:
-        words = ["--network", "ring:3", "--hole", 1, "--agents", 1, "--agent", self.step("computes"), "--timeout", 0.2]
+        words = [
+            "--network",
+            "ring:3",
+            "--hole",
+            1,
+            "--agents",
+            1,
+            "--agent",
+            self.step("computes"),
+            "--timeout",
+            0.2,
+        ]
         self.assertEqual(self.command(*words), 1, self.said)
         self.assertIn("agent 0: has computed for 0.2 s", self.said)
 
     def test_beside_a_program(self) -> None:
-        status = self.command("--network", "ring:4", "--agent", RING_STEP.words, "--agent", RING.words, "--check", 5)
+        status = self.command(
+            "--network",
+            "ring:4",
+            "--agent",
+            RING_STEP.words,
+            "--agent",
+            RING.words,
+            "--check",
+            5,
+        )
         self.assertEqual(status, 0, self.said)
-        self.assertIn("by memories of Python steps and histories of Python programs", self.said)
+        self.assertIn(
+            "by memories of Python steps and histories of Python programs", self.said
+        )
 
     def test_by_workers_and_drawn(self) -> None:
         words = ["--agent", RING_STEP.words, "--network"]
         self.assertEqual(self.command(*words, "ring:4", "--workers", 2), 0, self.said)
         self.assertIn("\n143 states in ", self.said)
-        status = self.command(*words, "ring:6", "--hole", 3, "--draws", 50, "--check", 2)
+        status = self.command(
+            *words, "ring:6", "--hole", 3, "--draws", 50, "--check", 2
+        )
         self.assertEqual(status, 0, self.said)
         self.assertIn("50 drawn schedules", self.said)
 
     def test_who_has_too_many_states_hears_of_steps(self) -> None:
         for words, is_told in ((RING.words, True), (RING_STEP.words, False)):
-            self.assertEqual(self.command("--network", "ring:5", "--max-states", 20, "--agent", words), 130)
-            self.assertEqual("an agent that is written as a step has fewer states" in self.said, is_told)
+            self.assertEqual(
+                self.command(
+                    "--network", "ring:5", "--max-states", 20, "--agent", words
+                ),
+                130,
+            )
+            self.assertEqual(
+                "an agent that is written as a step has fewer states" in self.said,
+                is_told,
+            )
 
     def test_a_function_of_this_process(self) -> None:
         found = lab.explore("ring:3", walker, holes=[1], engine=program())
         self.assertTrue(found.solves, found)
-        self.assertTrue(lab.explore("ring:4", walker, holes=[1], engine=program()).fails)
+        self.assertTrue(
+            lab.explore("ring:4", walker, holes=[1], engine=program()).fails
+        )
         self.assertEqual(lab.play("ring:3", walker, holes=[1])[0]["outcome"], "solved")

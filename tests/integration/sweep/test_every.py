@@ -25,8 +25,12 @@ name = "wrong"
 agent = "arena_lab/mutants/reads_once.py {nodes}"
 """
 # by network and team: what is said of every schedule, the most moves and the most lost agents
-FOUND = {("ring:3", "right"): ["solves", "4", "1"], ("ring:3", "wrong"): ["solves", "4", "1"],
-         ("ring:4", "right"): ["solves", "9", "1"], ("ring:4", "wrong"): ["one fails", "", ""]}
+FOUND = {
+    ("ring:3", "right"): ["solves", "4", "1"],
+    ("ring:3", "wrong"): ["solves", "4", "1"],
+    ("ring:4", "right"): ["solves", "9", "1"],
+    ("ring:4", "wrong"): ["one fails", "", ""],
+}
 
 
 class Every(InFolder):
@@ -37,7 +41,17 @@ class Every(InFolder):
 
     def swept(self, *more: str) -> Tuple[int, str]:
         """The exit status, and what was said."""
-        words = ["sweep", str(self.file), "--out", str(self.out), "--program", program(), "--workers", "2", *more]
+        words = [
+            "sweep",
+            str(self.file),
+            "--out",
+            str(self.out),
+            "--program",
+            program(),
+            "--workers",
+            "2",
+            *more,
+        ]
         status, said, errors = ran(main, words)
         return status, said + errors
 
@@ -52,41 +66,63 @@ class Every(InFolder):
     def found(self) -> Dict[Tuple[str, str], List[str]]:
         """What the summary says of every schedule."""
         with (self.out / sweeping.SUMMARY).open(newline="") as file:
-            return {(row["network"], row["team"]): [row[it] for it in (
-                "every schedule", "its most moves", "its most lost")] for row in csv.DictReader(file)}
+            return {
+                (row["network"], row["team"]): [
+                    row[it]
+                    for it in ("every schedule", "its most moves", "its most lost")
+                ]
+                for row in csv.DictReader(file)
+            }
 
     def test_what_is_found_stands_in_a_table_the_summary_and_the_report(self) -> None:
         status, said = self.swept("--explore", "100000")
         self.assertEqual(status, 1, said)
-        self.assertRegex(said, r"every schedule of 10 matches on .*: solved 9; failed 1; not tried as a whole 0; the")
+        self.assertRegex(
+            said,
+            r"every schedule of 10 matches on .*: solved 9; failed 1; not tried as a whole 0; the",
+        )
         self.assertEqual(self.found(), FOUND)
         page = (self.out / sweeping.REPORT).read_text()
         self.assertIn('<a href="every.csv">', page)
         self.assertEqual(page.count('<tr class="failed">'), 3, page)
         rows = self.rows()
-        self.assertEqual([row[1:9] for row in rows[4:6]], [["ring:4", "4", "4", "0", hole, "right", "2", "2"]
-                                                           for hole in "12"])
+        self.assertEqual(
+            [row[1:9] for row in rows[4:6]],
+            [["ring:4", "4", "4", "0", hole, "right", "2", "2"] for hole in "12"],
+        )
         self.assertEqual([row[9] for row in rows].count("solves"), 9)
         # by one process, and again, it is the same, and what is there is tried no more
         text, self.out = (self.out / every.EVERY).read_text(), self.folder / "alone"
         self.comes_to(1, "--explore", "100000", "--workers", "1")
         self.assertEqual((self.out / every.EVERY).read_text(), text)
-        with mock.patch.object(every.SweepExploreJob, "play", side_effect=AssertionError):
+        with mock.patch.object(
+            every.SweepExploreJob, "play", side_effect=AssertionError
+        ):
             self.comes_to(1, "--explore", "100000")
         # the command without it says what was found, too
         self.assertIn("every schedule of 10 matches", self.swept()[1])
         self.assertEqual(self.found(), FOUND)
-        self.assertIn("24 of 24 rows were played again: 0 differ", self.swept("--verify")[1])
+        self.assertIn(
+            "24 of 24 rows were played again: 0 differ", self.swept("--verify")[1]
+        )
         (self.out / sweeping.SUMMARY).write_text("")
-        self.assertIn("summary.csv is not what is made of the rows", self.swept("--verify")[1])
+        self.assertIn(
+            "summary.csv is not what is made of the rows", self.swept("--verify")[1]
+        )
 
     def test_a_match_of_too_many_states_is_tried_again_with_more(self) -> None:
         self.comes_to(0, "--explore", "60")
-        limited = [number for number, row in enumerate(self.rows()) if row[9] == every.LIMIT]
+        limited = [
+            number for number, row in enumerate(self.rows()) if row[9] == every.LIMIT
+        ]
         self.assertTrue(limited and len(limited) < 10)
-        self.assertEqual({row[10] for row in self.rows() if row[9] == every.LIMIT}, {"60"})
+        self.assertEqual(
+            {row[10] for row in self.rows() if row[9] == every.LIMIT}, {"60"}
+        )
         self.assertEqual(self.found()["ring:4", "right"], ["too many states", "", ""])
-        with mock.patch.object(parallel, "over_processes", side_effect=parallel.over_processes) as over:
+        with mock.patch.object(
+            parallel, "over_processes", side_effect=parallel.over_processes
+        ) as over:
             self.comes_to(1, "--explore", "100000")
         tried = [match.number for match in over.call_args.args[1]]
         self.assertEqual(tried, limited)
@@ -107,46 +143,105 @@ class Every(InFolder):
         rows = self.rows()
         rows[1] = tables.checked([*rows[1][:5], "1", *rows[1][6:-1]], every.COLUMNS)
         path.write_text("".join(map(tables.line_of, [every.COLUMNS, *rows])))
-        self.assertIn("line 3 is of another match than the sweep has there", self.swept()[1])
+        self.assertIn(
+            "line 3 is of another match than the sweep has there", self.swept()[1]
+        )
 
     def test_a_team_whose_agents_are_no_functions_is_told(self) -> None:
         text = TEXT.partition("[[team]]")[0].replace('"ring:3", "ring:4"', '"ring:3"')
-        self.file.write_text(text + TEXT[TEXT.index("[[team]]"):].replace('"right"', '"odd"'))
-        with mock.patch.object(every.driver, "here", side_effect=NoFunction("it is none")), \
-                mock.patch.object(parallel, "over_processes", lambda work, matches, *_, **__: (
-                    parallel.result_of(work, match) for match in matches)):
+        self.file.write_text(
+            text + TEXT[TEXT.index("[[team]]") :].replace('"right"', '"odd"')
+        )
+        with mock.patch.object(
+            every.driver, "here", side_effect=NoFunction("it is none")
+        ), mock.patch.object(
+            parallel,
+            "over_processes",
+            lambda work, matches, *_, **__: (
+                parallel.result_of(work, match) for match in matches
+            ),
+        ):
             status, said = self.swept("--explore", "100")
         self.assertEqual(status, 2, said)
-        self.assertIn("odd on ring:3 with black hole 1: it is none; the report is written without --explore", said)
+        self.assertIn(
+            "odd on ring:3 with black hole 1: it is none; the report is written without --explore",
+            said,
+        )
 
     def test_words_that_do_not_belong_together(self) -> None:
-        for words, why in ((["--engine", "model"], "leave --engine model out"), (["--verify"], "leave --explore out")):
+        for words, why in (
+            (["--engine", "model"], "leave --engine model out"),
+            (["--verify"], "leave --explore out"),
+        ):
             status, said = self.swept("--explore", "100", *words)
             self.assertEqual(status, 2, said)
             self.assertIn(why, said)
 
     def test_a_run_that_does_what_no_schedule_does_is_told(self) -> None:
-        run = {"run": "7", "network": "ring:3", "team": "a", "hole": "1", "outcome": "solved", "fault": "",
-               "moves": "4", "lost": "1"}
-        row = {"network": "ring:3", "team": "a", "hole": "1", "found": "solves", "moves": "4", "lost": "1"}
+        run = {
+            "run": "7",
+            "network": "ring:3",
+            "team": "a",
+            "hole": "1",
+            "outcome": "solved",
+            "fault": "",
+            "moves": "4",
+            "lost": "1",
+        }
+        row = {
+            "network": "ring:3",
+            "team": "a",
+            "hole": "1",
+            "found": "solves",
+            "moves": "4",
+            "lost": "1",
+        }
         every.check_runs([row], [run, {**run, "hole": "2", "moves": "9"}])
-        every.check_runs([{**row, "found": every.LIMIT, "moves": ""}], [{**run, "moves": "9"}])
-        for more in ({"moves": "5"}, {"lost": "2"}, {"outcome": "silent"}, {"fault": "agent 0: raises"}):
-            with self.subTest(more), self.assertRaisesRegex(Differs, "^run 7: .* at most 4 and 1: "):
+        every.check_runs(
+            [{**row, "found": every.LIMIT, "moves": ""}], [{**run, "moves": "9"}]
+        )
+        for more in (
+            {"moves": "5"},
+            {"lost": "2"},
+            {"outcome": "silent"},
+            {"fault": "agent 0: raises"},
+        ):
+            with self.subTest(more), self.assertRaisesRegex(
+                Differs, "^run 7: .* at most 4 and 1: "
+            ):
                 every.check_runs([row], [{**run, **more}])
 
     def test_matches_of_one_team_on_one_network_stand_behind_each_other(self) -> None:
-        found = [(match.number, match.case.network, match.case.team.name, match.case.hole, match.place)
-                 for match in every.matches_of(grid_of(TEXT))]
-        teams = [(network, team, hole, hole - 1) for network, most in (("ring:3", 2), ("ring:4", 3))
-                 for team in ("right", "wrong") for hole in range(1, most + 1)]
-        self.assertEqual(found, [(number, network, team, str(hole), place)
-                                 for number, (network, team, hole, place) in enumerate(teams)])
+        found = [
+            (
+                match.number,
+                match.case.network,
+                match.case.team.name,
+                match.case.hole,
+                match.place,
+            )
+            for match in every.matches_of(grid_of(TEXT))
+        ]
+        teams = [
+            (network, team, hole, hole - 1)
+            for network, most in (("ring:3", 2), ("ring:4", 3))
+            for team in ("right", "wrong")
+            for hole in range(1, most + 1)
+        ]
+        self.assertEqual(
+            found,
+            [
+                (number, network, team, str(hole), place)
+                for number, (network, team, hole, place) in enumerate(teams)
+            ],
+        )
 
 
 class Clusters(OnCluster):
     def test_a_cluster_finds_the_same(self) -> None:
-        self.file.write_text(TEXT.partition("[[team]]\nname = \"wrong\"")[0].replace(', "ring:4"', ""))
+        self.file.write_text(
+            TEXT.partition('[[team]]\nname = "wrong"')[0].replace(', "ring:4"', "")
+        )
         address, found = self.scheduler(), []
         self.worker(address)
         for out, more in (("here", []), ("there", ["--cluster", address])):

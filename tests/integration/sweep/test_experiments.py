@@ -16,10 +16,20 @@ from arena_lab.sweep.sweeping import SweepJob
 from tests.support.matches import InFolder, program
 
 DOCUMENT = make.DOCUMENT
-SMALL = {"rings": ("rings", ["ring:4", "ring:6"]), "no-map": ("no_map", ["hypercube:3"]),
-         "known-map": ("known_map", ["hypercube:3"])}
+SMALL = {
+    "rings": ("rings", ["ring:4", "ring:6"]),
+    "no-map": ("no_map", ["hypercube:3"]),
+    "known-map": ("known_map", ["hypercube:3"]),
+}
 # the tables of means
-SWEEPS = ("rings", "large-rings", "no-map", "large-no-map", "known-map", "large-known-map")
+SWEEPS = (
+    "rings",
+    "large-rings",
+    "no-map",
+    "large-no-map",
+    "known-map",
+    "large-known-map",
+)
 SMALL_EXPLORED = ("ring:3", "ring:4", "ring:5")
 # rings on which so few schedules show the most moves that were hunted
 SMALL_HUNTED, FEW = ("ring:4", "ring:8"), 150
@@ -33,7 +43,11 @@ def table(name: str) -> List[List[str]]:
 
 def hunted_in(rows: Dict[str, List[str]]) -> Dict[str, int]:
     """The most moves that were hunted, of each network on which that was done."""
-    return {network: int(row[HUNTED]) for network, row in rows.items() if row[HUNTED].isdigit()}
+    return {
+        network: int(row[HUNTED])
+        for network, row in rows.items()
+        if row[HUNTED].isdigit()
+    }
 
 
 def rows_by_network(name: str) -> Dict[str, List[str]]:
@@ -49,8 +63,13 @@ class Experiments(InFolder):
         for name, (file, networks) in SMALL.items():
             spec = grid.read(make.EXPERIMENTS / f"{file}.toml")._replace(names=networks)
             work = SweepJob("", None)
-            rows = [sweeping.row_for(case, *sweeping.played_case(work, spec, case), None) for case in spec.cases()]
-            groups = report.groups_of([dict(zip(tables.COLUMNS, row)) for row in rows], spec)
+            rows = [
+                sweeping.row_for(case, *sweeping.played_case(work, spec, case), None)
+                for case in spec.cases()
+            ]
+            groups = report.groups_of(
+                [dict(zip(tables.COLUMNS, row)) for row in rows], spec
+            )
             given = rows_by_network(name)
             hunted = hunted_in(given) if name == "rings" else {}
             for row in make.rows_of(groups, hunted)[1:]:
@@ -62,16 +81,24 @@ class Experiments(InFolder):
         for name in SWEEPS:
             spec = grid.read(make.EXPERIMENTS / f"{name.replace('-', '_')}.toml")
             most = max(network.nodes for network in spec.networks.values()) - 1
-            self.assertTrue(spec.holes == grid.DRAWN or spec.seeds >= most, f"{name}: draw its black holes")
+            self.assertTrue(
+                spec.holes == grid.DRAWN or spec.seeds >= most,
+                f"{name}: draw its black holes",
+            )
             with self.subTest(name):
-                self.assertTrue(all("±" in row[4] and "±" in row[6] for row in table(name)), "make the table anew")
+                self.assertTrue(
+                    all("±" in row[4] and "±" in row[6] for row in table(name)),
+                    "make the table anew",
+                )
 
     def test_small_hunts(self) -> None:
         for hunt in make.hunts(FEW):
             if hunt.network in SMALL_HUNTED:
                 with self.subTest(hunt.network):
-                    self.assertEqual(rows_by_network("rings")[hunt.network][HUNTED],
-                                     str(make.hunted_most(hunt, self.asked)))
+                    self.assertEqual(
+                        rows_by_network("rings")[hunt.network][HUNTED],
+                        str(make.hunted_most(hunt, self.asked)),
+                    )
 
     def test_small_networks_that_were_explored(self) -> None:
         found = {tuple(row[:2]): row for row in table("explored")}
@@ -85,27 +112,43 @@ class Experiments(InFolder):
 
     def test_a_small_ring_that_was_explored_by_a_module(self) -> None:
         rows = table("modules")
-        self.assertEqual([(row[0], int(row[3])) for row in rows],
-                         [(f"ring:{nodes}", most_moves(nodes)) for nodes in make.RINGS_OF_MODULE])
+        self.assertEqual(
+            [(row[0], int(row[3])) for row in rows],
+            [(f"ring:{nodes}", most_moves(nodes)) for nodes in make.RINGS_OF_MODULE],
+        )
         module = (TOP / make.AGENTS / make.MODULE).read_bytes()
-        self.assertIn(hashlib.sha256(module).hexdigest()[:12], DOCUMENT.read_text(encoding="utf-8"))
+        self.assertIn(
+            hashlib.sha256(module).hexdigest()[:12],
+            DOCUMENT.read_text(encoding="utf-8"),
+        )
         with mock.patch.object(explore, "PROGRAM", program()):
-            self.assertEqual(list(make.module_row(make.RINGS_OF_MODULE[0]))[:5], rows[0][:5])
+            self.assertEqual(
+                list(make.module_row(make.RINGS_OF_MODULE[0]))[:5], rows[0][:5]
+            )
 
     def test_the_count_agrees_with_what_was_explored_hunted_and_drawn(self) -> None:
-        explored = {int(row[0].partition(":")[2]): int(row[3]) for row in table("explored")
-                    if "`ring_step.py`" in row[1]}
-        self.assertEqual(explored, {nodes: most_moves(nodes) for nodes in make.RINGS_EXPLORED})
+        explored = {
+            int(row[0].partition(":")[2]): int(row[3])
+            for row in table("explored")
+            if "`ring_step.py`" in row[1]
+        }
+        self.assertEqual(
+            explored, {nodes: most_moves(nodes) for nodes in make.RINGS_EXPLORED}
+        )
         for row in table("rings"):
             nodes = int(row[0].partition(":")[2])
             with self.subTest(nodes=nodes):
                 self.assertEqual([int(row[5]), int(row[7])], [most_moves(nodes)] * 2)
         hunted = hunted_in(rows_by_network("rings"))
-        self.assertEqual(hunted, {f"ring:{nodes}": most_moves(nodes) for nodes in (4, 8, 16, 32, 64)})
+        self.assertEqual(
+            hunted, {f"ring:{nodes}": most_moves(nodes) for nodes in (4, 8, 16, 32, 64)}
+        )
 
     def test_the_search_by_thirds_stays_within_its_count(self) -> None:
         rows = table("thirds")
-        self.assertEqual([row[0] for row in rows], [f"ring:{nodes}" for nodes in make.SIZES])
+        self.assertEqual(
+            [row[0] for row in rows], [f"ring:{nodes}" for nodes in make.SIZES]
+        )
         for row in rows:
             nodes = int(row[0].partition(":")[2])
             halves, thirds = most_moves(nodes), Table(nodes, of_ring3).moves()
@@ -115,7 +158,9 @@ class Experiments(InFolder):
                 self.assertEqual(row[8:], [f"{bound(nodes):.0f}", *shares])
                 played = [int(cell) for cell in (row[4], row[5]) if cell != "–"]
                 self.assertTrue(all(moves <= thirds for moves in played))
-                self.assertTrue(all(int(cell) <= halves for cell in (row[1], row[2]) if cell != "–"))
+                self.assertTrue(
+                    all(int(cell) <= halves for cell in (row[1], row[2]) if cell != "–")
+                )
 
     def test_teams_with_one_agent_too_few(self) -> None:
         for hunt in make.TOO_FEW[:2]:
@@ -134,23 +179,47 @@ class Experiments(InFolder):
         document = DOCUMENT.read_text(encoding="utf-8")
         for series in growth.ALL_SERIES:
             found = growth.points(document, series)
-            self.assertEqual(len(found), sum(len(table(name)) for name in series.tables))
-            for row in (row for name in series.tables for row in growth.rows_in(document, name)):
+            self.assertEqual(
+                len(found), sum(len(table(name)) for name in series.tables)
+            )
+            for row in (
+                row for name in series.tables for row in growth.rows_in(document, name)
+            ):
                 nodes = networks.named(row["network"]).nodes
                 with self.subTest(series.name, network=row["network"]):
-                    self.assertEqual(f"{grid.BOUNDS[series.bound](nodes):.0f}", row[series.bound])
-                    self.assertIn((nodes, max(int(row[f"{it}: most"]) for it in ("fair", "slow-agents"))), found)
+                    self.assertEqual(
+                        f"{grid.BOUNDS[series.bound](nodes):.0f}", row[series.bound]
+                    )
+                    self.assertIn(
+                        (
+                            nodes,
+                            max(
+                                int(row[f"{it}: most"])
+                                for it in ("fair", "slow-agents")
+                            ),
+                        ),
+                        found,
+                    )
         self.assertTrue(growth.svg_of(growth.drawn(document)).startswith("<svg"))
 
     def test_a_table_says_which_program_played(self) -> None:
         said = io.StringIO()
-        with mock.patch.dict(make.TABLES, one=lambda asked: make.Made([("network",), ("ring:3",)], ["a command"])), \
-                mock.patch("sys.argv", ["make", "one", "--program", program()]), contextlib.redirect_stdout(said):
+        with mock.patch.dict(
+            make.TABLES,
+            one=lambda asked: make.Made([("network",), ("ring:3",)], ["a command"]),
+        ), mock.patch(
+            "sys.argv", ["make", "one", "--program", program()]
+        ), contextlib.redirect_stdout(
+            said
+        ):
             self.assertEqual(make.main(), 0)
         self.assertRegex(said.getvalue(), r"\| ring:3 \|\n\nEngine: .*\. \d+ s on ")
 
     def test_a_table_is_put_into_the_document(self) -> None:
         text = "a\n<!-- table one -->\nold\n<!-- end of one -->\nb\n"
-        self.assertEqual(make.written(text, "one", "new\n"), "a\n<!-- table one -->\nnew\n<!-- end of one -->\nb\n")
+        self.assertEqual(
+            make.written(text, "one", "new\n"),
+            "a\n<!-- table one -->\nnew\n<!-- end of one -->\nb\n",
+        )
         with self.assertRaises(SystemExit):
             make.written(text, "two", "new\n")

@@ -50,7 +50,9 @@ class Sweeps(InFolder):
     def test_the_rows_are_the_same_by_either_engine_and_by_more_workers(self) -> None:
         rows = self.swept("program", "--workers", "2", "--program", program())
         self.assertEqual(self.swept("model", "--workers", "1", *MODEL), rows)
-        self.assertEqual(self.swept("more", "--workers", "3", "--program", program(), *MODEL), rows)
+        self.assertEqual(
+            self.swept("more", "--workers", "3", "--program", program(), *MODEL), rows
+        )
         self.check_report(self.folder / "program", name_of(program()))
         self.check_report(self.folder / "more", BY_MODEL)
 
@@ -60,7 +62,9 @@ class Sweeps(InFolder):
         self.assertIn(f"played and judged by {engine}", page)
         links = re.findall('href="(worst/[^"]*)"', page)
         self.assertEqual(len(set(links)), 4)
-        digests = {row["run"]: row["replay"] for row in tables.rows_in(folder / tables.RUNS)}
+        digests = {
+            row["run"]: row["replay"] for row in tables.rows_in(folder / tables.RUNS)
+        }
         for link in links:
             self.assertTrue(link.endswith(".html") and (folder / link).is_file(), link)
             place = folder / pathlib.Path(link).parent
@@ -73,30 +77,49 @@ class Sweeps(InFolder):
         report = (self.folder / "whole" / sweeping.REPORT).read_bytes()
         self.swept("torn", *MODEL)
         path = self.folder / "torn" / tables.RUNS
-        path.write_bytes(rows[:len(rows) // 2])
+        path.write_bytes(rows[: len(rows) // 2])
         self.assertEqual(self.swept("torn", "--workers", "2", *MODEL), rows)
         self.assertEqual((self.folder / "torn" / sweeping.REPORT).read_bytes(), report)
 
     def test_who_interrupts_it_is_told_that_it_can_go_on(self) -> None:
         self.file.write_text(TEXT.replace("seeds = 6", "seeds = 500"))
-        words = [sys.executable, "-m", "arena_lab", *self.words("stopped", "--workers", "2", *MODEL)]
+        words = [
+            sys.executable,
+            "-m",
+            "arena_lab",
+            *self.words("stopped", "--workers", "2", *MODEL),
+        ]
         # a shell starts what runs in the background with this signal ignored
         heeds = functools.partial(signal.signal, signal.SIGINT, signal.SIG_DFL)
-        with subprocess.Popen(words, cwd=TOP, stdout=subprocess.PIPE, text=True, start_new_session=True,
-                              preexec_fn=heeds) as ran:
+        with subprocess.Popen(
+            words,
+            cwd=TOP,
+            stdout=subprocess.PIPE,
+            text=True,
+            start_new_session=True,
+            preexec_fn=heeds,
+        ) as ran:
             path = self.folder / "stopped" / tables.RUNS
             until = time.monotonic() + 120
-            while time.monotonic() < until and not (path.exists() and path.read_bytes().count(b"\n") > 5):
+            while time.monotonic() < until and not (
+                path.exists() and path.read_bytes().count(b"\n") > 5
+            ):
                 time.sleep(0.02)
             ran.send_signal(signal.SIGINT)
             said, _ = ran.communicate(timeout=120)
         self.assertEqual(ran.returncode, 130)
-        self.assertRegex(said, r"interrupted; \d+ of 4000 runs are done: the same command goes on there")
+        self.assertRegex(
+            said,
+            r"interrupted; \d+ of 4000 runs are done: the same command goes on there",
+        )
 
     def test_a_changed_file_needs_another_folder(self) -> None:
         self.swept("out", *MODEL)
         self.file.write_text(TEXT.replace("seeds = 6", "seeds = 7"))
-        self.assertIn("has rows that were made otherwise: sweep differ;", self.refused("out", *MODEL))
+        self.assertIn(
+            "has rows that were made otherwise: sweep differ;",
+            self.refused("out", *MODEL),
+        )
 
     def refused(self, out: str, *more: str) -> str:
         """What is said of a sweep that is refused."""
@@ -105,34 +128,65 @@ class Sweeps(InFolder):
         return errors
 
     def small(self, agent: pathlib.Path) -> None:
-        self.file.write_text(TEXT.partition("[[team]]")[0] + f'[[team]]\nname = "own"\nagent = "{agent} {{nodes}}"\n')
+        self.file.write_text(
+            TEXT.partition("[[team]]")[0]
+            + f'[[team]]\nname = "own"\nagent = "{agent} {{nodes}}"\n'
+        )
 
-    def test_it_does_not_go_on_once_a_file_that_an_agent_imports_has_changed(self) -> None:
+    def test_it_does_not_go_on_once_a_file_that_an_agent_imports_has_changed(
+        self,
+    ) -> None:
         agents, helper = TOP / "examples" / "agents", self.folder / "helper.py"
-        (self.folder / "own.py").write_text("def search(agent, key, nodes):\n    import helper\n"
-                                            "    helper.search(agent, key, nodes)\n")
+        (self.folder / "own.py").write_text(
+            "def search(agent, key, nodes):\n    import helper\n"
+            "    helper.search(agent, key, nodes)\n"
+        )
         helper.write_text((agents / "ring.py").read_text())
         self.small(self.folder / "own.py")
         self.assertEqual(ran(main, self.words("out", *MODEL)).status, 0)
-        self.assertEqual(ran(main, ["run", "--agent", f"{self.folder}/own.py {{nodes}}", "--keep",
-                                    str(self.folder / "find"), *MODEL]).status, 0)
+        self.assertEqual(
+            ran(
+                main,
+                [
+                    "run",
+                    "--agent",
+                    f"{self.folder}/own.py {{nodes}}",
+                    "--keep",
+                    str(self.folder / "find"),
+                    *MODEL,
+                ],
+            ).status,
+            0,
+        )
         helper.write_text((TOP / "arena_lab" / "mutants" / "reads_once.py").read_text())
         self.assertIn(f"made otherwise: {helper}", self.refused("out", *MODEL))
         errors = ran(main, ["replay", str(self.folder / "find"), *MODEL]).errors
-        self.assertIn(f"arena-lab: {helper} is another file than when the schedule was made", errors)
+        self.assertIn(
+            f"arena-lab: {helper} is another file than when the schedule was made",
+            errors,
+        )
 
     def test_another_program_does_not_go_on(self) -> None:
         self.small(TOP / "examples" / "agents" / "ring.py")
         self.assertEqual(ran(main, self.words("out", *MODEL)).status, 0)
-        self.assertIn("made otherwise: program differ;", self.refused("out", "--program", program()))
+        self.assertIn(
+            "made otherwise: program differ;",
+            self.refused("out", "--program", program()),
+        )
 
     def test_rows_are_verified_by_either_engine(self) -> None:
         self.small(TOP / "examples" / "agents" / "ring.py")
         self.assertEqual(ran(main, self.words("out", *MODEL)).status, 0)
-        self.assertEqual(self.verified(*MODEL), (0, "24 of 24 rows were played again: 0 differ", ""))
+        self.assertEqual(
+            self.verified(*MODEL), (0, "24 of 24 rows were played again: 0 differ", "")
+        )
         status, said, errors = self.verified("3", "--program", program())
-        self.assertEqual((status, said), (0, "3 of 24 rows were played again: 0 differ"))
-        self.assertIn("arena-lab: program is other than when the rows were made", errors)
+        self.assertEqual(
+            (status, said), (0, "3 of 24 rows were played again: 0 differ")
+        )
+        self.assertIn(
+            "arena-lab: program is other than when the rows were made", errors
+        )
         # a forger writes the check of what he has written
         path = self.folder / "out" / tables.RUNS
         rows = tables.cells_in(path)
@@ -140,7 +194,9 @@ class Sweeps(InFolder):
         rows[5][tables.CHECK] = tables.check_of(rows[5])
         path.write_text("".join(map(tables.line_of, [tables.COLUMNS, *rows])))
         status, said, errors = self.verified(*MODEL)
-        self.assertEqual((status, said), (1, "24 of 24 rows were played again: 1 differ"))
+        self.assertEqual(
+            (status, said), (1, "24 of 24 rows were played again: 1 differ")
+        )
         self.assertIn("run 5 comes out otherwise: moves\n", errors)
         self.assertIn("summary.csv is not what is made of the rows", errors)
 
@@ -155,7 +211,9 @@ class Sweeps(InFolder):
                 self.assertIn(text, before)
                 path.write_text(before.replace(text, text[::-1] + "1", 1))
                 status, said, errors = self.verified(*MODEL)
-                self.assertEqual((status, said), (1, "8 of 8 rows were played again: 0 differ"))
+                self.assertEqual(
+                    (status, said), (1, "8 of 8 rows were played again: 0 differ")
+                )
                 self.assertEqual(errors, f"{name} is not what is made of the rows\n")
                 path.write_text(before)
         self.assertEqual(self.verified(*MODEL)[0], 0)
@@ -173,42 +231,70 @@ class Sweeps(InFolder):
                 row[tables.CHECK] = tables.check_of(row)
             path.write_text("".join(map(tables.line_of, [tables.COLUMNS, *changed])))
             return self.refused("out", *MODEL)
-        copies = [list(row) for row in rows]
-        self.assertIn("line 7 is of another run than the sweep has there",
-                      written([*copies[:5], copies[6], copies[5], *copies[7:]]))
-        self.assertIn("it has 25 rows, and the sweep has 24 runs", written([list(row) for row in [*rows, rows[-1]]]))
 
-    def test_what_an_agent_reads_without_importing_it_by_its_name_is_noted(self) -> None:
+        copies = [list(row) for row in rows]
+        self.assertIn(
+            "line 7 is of another run than the sweep has there",
+            written([*copies[:5], copies[6], copies[5], *copies[7:]]),
+        )
+        self.assertIn(
+            "it has 25 rows, and the sweep has 24 runs",
+            written([list(row) for row in [*rows, rows[-1]]]),
+        )
+
+    def test_what_an_agent_reads_without_importing_it_by_its_name_is_noted(
+        self,
+    ) -> None:
         helper, table = self.folder / "helper.py", self.folder / "table.json"
         (self.folder / "own.py").write_text(
             "import importlib, json, pathlib\nHERE = pathlib.Path(__file__).parent\ndef search(agent, key, nodes):\n"
             "    helper = importlib.import_module('hel' + 'per')\n"
-            "    assert json.loads((HERE / 'table.json').read_text()) == [1]\n    helper.search(agent, key, nodes)\n")
+            "    assert json.loads((HERE / 'table.json').read_text()) == [1]\n    helper.search(agent, key, nodes)\n"
+        )
         helper.write_text((TOP / "examples" / "agents" / "ring.py").read_text())
         table.write_text("[1]")
         self.small(self.folder / "own.py")
         for workers in ("1", "2"):
-            self.assertEqual(ran(main, self.words(f"out{workers}", "--workers", workers, *MODEL)).status, 0)
-            for file, text in ((table, "[1 ]"), (helper, helper.read_text() + "# other\n")):
+            self.assertEqual(
+                ran(
+                    main, self.words(f"out{workers}", "--workers", workers, *MODEL)
+                ).status,
+                0,
+            )
+            for file, text in (
+                (table, "[1 ]"),
+                (helper, helper.read_text() + "# other\n"),
+            ):
                 with self.subTest(file, workers=workers):
                     before = file.read_text()
                     file.write_text(text)
-                    self.assertIn(f"made otherwise: {file}", self.refused(f"out{workers}", *MODEL))
+                    self.assertIn(
+                        f"made otherwise: {file}", self.refused(f"out{workers}", *MODEL)
+                    )
                     file.write_text(before)
             self.assertEqual(ran(main, self.words(f"out{workers}", *MODEL)).status, 0)
 
     def verified(self, *more: str) -> Tuple[int, str, str]:
         """The exit status of --verify, the end of its line, and what it says on standard error."""
         status, said, errors = ran(main, self.words("out", "--verify", *more))
-        return status, said.strip().rpartition("proved: ")[2].rpartition("proof: ")[2].rpartition(
-            "program: ")[2], errors
+        return (
+            status,
+            said.strip()
+            .rpartition("proved: ")[2]
+            .rpartition("proof: ")[2]
+            .rpartition("program: ")[2],
+            errors,
+        )
 
     def test_a_script_that_starts_the_program_is_not_called_proved(self) -> None:
         script = self.folder / "arena"
-        script.write_text(f"#!/bin/sh\nexec {program()} \"$@\"\n")
+        script.write_text(f'#!/bin/sh\nexec {program()} "$@"\n')
         script.chmod(0o755)
         self.small(TOP / "examples" / "agents" / "ring.py")
         self.file.write_text(self.file.read_text().replace("seeds = 6", "seeds = 1"))
         status, said, _ = ran(main, self.words("out", "--program", str(script)))
         self.assertEqual(status, 0)
-        self.assertIn("4 runs on a program of which no record says that it is proved: solved 4", said)
+        self.assertIn(
+            "4 runs on a program of which no record says that it is proved: solved 4",
+            said,
+        )

@@ -21,13 +21,27 @@ class Draws(unittest.TestCase):
         def play(asked: Any) -> Any:
             self.asked.append((asked.game.name, asked.scheduler))
             return mock.Mock(has_failed=len(self.asked) == fails_at)
+
         clock = mock.Mock(monotonic=mock.Mock(side_effect=itertools.count(0, pace)))
-        agent = Checked(AgentWords(INSIDE, "examples/agents/ring.py {nodes}"), 2, check.NETWORKS, 1.0, None, 60, True)
-        with mock.patch.object(check, "time", clock), mock.patch.object(check.Asked, "play", play), \
-                mock.patch.object(check, "under", return_value="to mend"), mock.patch.object(check, "bar"):
+        agent = Checked(
+            AgentWords(INSIDE, "examples/agents/ring.py {nodes}"),
+            2,
+            check.NETWORKS,
+            1.0,
+            None,
+            60,
+            True,
+        )
+        with mock.patch.object(check, "time", clock), mock.patch.object(
+            check.Asked, "play", play
+        ), mock.patch.object(check, "under", return_value="to mend"), mock.patch.object(
+            check, "bar"
+        ):
             return check.draw(agent, SEARCHED)
 
-    def test_a_busy_machine_draws_the_least_number_on_each_network_by_each_scheduler(self) -> None:
+    def test_a_busy_machine_draws_the_least_number_on_each_network_by_each_scheduler(
+        self,
+    ) -> None:
         self.assertEqual(self.drawn(1_000.0), (LEAST, None))
         self.assertEqual(set(self.asked), set(itertools.product(SEARCHED, DRAWN)))
 
@@ -46,16 +60,32 @@ class Said(unittest.TestCase):
         def checked(_: Any) -> Any:
             print("14 matches: all solved")
             return step
+
         out, errors = io.StringIO(), io.StringIO()
-        with mock.patch.object(check, "checked", checked), contextlib.redirect_stdout(out), \
-                contextlib.redirect_stderr(errors):
-            status = main(["check", "examples/agents/ring.py {nodes}", "--json", "--engine", "model", "--keep", "kept"])
+        with mock.patch.object(check, "checked", checked), contextlib.redirect_stdout(
+            out
+        ), contextlib.redirect_stderr(errors):
+            status = main(
+                [
+                    "check",
+                    "examples/agents/ring.py {nodes}",
+                    "--json",
+                    "--engine",
+                    "model",
+                    "--keep",
+                    "kept",
+                ]
+            )
         self.assertIn("14 matches", errors.getvalue())
         return status, json.loads(out.getvalue())
 
     def test_an_agent_that_is_right_and_one_that_is_to_be_mended(self) -> None:
-        self.assertEqual(self.said(("Right on all", None)), (0, {
-            "right": True, "said": ["Right on all"], "kept": None}))
+        self.assertEqual(
+            self.said(("Right on all", None)),
+            (0, {"right": True, "said": ["Right on all"], "kept": None}),
+        )
         record = mock.Mock(keep=lambda folder: [f"see {folder}"])
-        self.assertEqual(self.said(("", check.ToMend(["it fails", "so"], record))), (1, {
-            "right": False, "said": ["it fails", "so"], "kept": "kept"}))
+        self.assertEqual(
+            self.said(("", check.ToMend(["it fails", "so"], record))),
+            (1, {"right": False, "said": ["it fails", "so"], "kept": "kept"}),
+        )

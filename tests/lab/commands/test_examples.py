@@ -19,20 +19,45 @@ class Copies(InTemporary):
 
     def said(self, *words: str) -> str:
         """What a Python prints that knows no lab but the one of the copies."""
-        variables = {name: value for name, value in os.environ.items() if name != "PYTHONPATH"}
-        ran = subprocess.run([sys.executable, *words], cwd=self.folder / "examples", env=variables, text=True,
-                             stdout=subprocess.PIPE, stderr=subprocess.STDOUT, timeout=120)
+        variables = {
+            name: value for name, value in os.environ.items() if name != "PYTHONPATH"
+        }
+        ran = subprocess.run(
+            [sys.executable, *words],
+            cwd=self.folder / "examples",
+            env=variables,
+            text=True,
+            stdout=subprocess.PIPE,
+            stderr=subprocess.STDOUT,
+            timeout=120,
+        )
         self.assertEqual(ran.returncode, 0, ran.stdout)
         return ran.stdout
 
     def test_the_first_command_and_the_first_cell_of_the_notebook(self) -> None:
         self.assertIn("--watch", self.said("contest.py", "--help"))
-        cells = json.loads((TOP / "examples" / "notebook.ipynb").read_text(encoding="utf-8"))["cells"]
-        code = next("".join(cell["source"]) for cell in cells if cell["cell_type"] == "code")
+        cells = json.loads(
+            (TOP / "examples" / "notebook.ipynb").read_text(encoding="utf-8")
+        )["cells"]
+        code = next(
+            "".join(cell["source"]) for cell in cells if cell["cell_type"] == "code"
+        )
         self.assertIn(" solved ", self.said("-c", code))
 
     def test_the_search_of_the_kit_is_what_the_lab_calls(self) -> None:
         agent = str(self.folder / "examples" / "agents" / "python" / "careful.py")
-        said = ran(main, ["run", "--network", "ring:6", "--agent", f"{agent} {{nodes}}", "--engine", "model", "--runs",
-                          "5"]).said
+        said = ran(
+            main,
+            [
+                "run",
+                "--network",
+                "ring:6",
+                "--agent",
+                f"{agent} {{nodes}}",
+                "--engine",
+                "model",
+                "--runs",
+                "5",
+            ],
+        ).said
         self.assertIn("5 schedules: solved 5; failed 0", said)

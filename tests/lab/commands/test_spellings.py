@@ -29,11 +29,19 @@ class Commands(unittest.TestCase):
         return str(errors)
 
     def test_an_old_command_is_the_new_one(self) -> None:
-        for old, new, needs in (("pages t.toml cup", "page", "by --out FOLDER"),
-                                ("again t.toml 3", "tournament --again", "required: --out"),
-                                ("repeat out --workers 0", "grade --repeat-only", "--workers: 0 is not a whole")):
+        for old, new, needs in (
+            ("pages t.toml cup", "page", "by --out FOLDER"),
+            ("again t.toml 3", "tournament --again", "required: --out"),
+            (
+                "repeat out --workers 0",
+                "grade --repeat-only",
+                "--workers: 0 is not a whole",
+            ),
+        ):
             first, *others = self.refused(*old.split()).splitlines()
-            self.assertEqual(first, f"./arena-lab: {old.split()[0]} is called {new} now")
+            self.assertEqual(
+                first, f"./arena-lab: {old.split()[0]} is called {new} now"
+            )
             self.assertIn(f"arena-lab {new.split()[0]}: error: ", others[-1])
             self.assertIn(needs, others[-1])
 
@@ -41,33 +49,52 @@ class Commands(unittest.TestCase):
         for old, module in MODULES.items():
             self.assertNotIn(old, COMMANDS)
             self.assertIsNotNone(importlib.util.find_spec(module))
-            self.assertEqual(self.refused(old), f"./arena-lab: in a clone, {old} is called /usr/bin/python3 -m "
-                             f"{module} now\n")
+            self.assertEqual(
+                self.refused(old),
+                f"./arena-lab: in a clone, {old} is called /usr/bin/python3 -m "
+                f"{module} now\n",
+            )
 
     def test_what_does_not_belong_together_is_refused(self) -> None:
-        for words, said in (("page m0.jsonl --again again3", "name its TOURNAMENT"),
-                            ("page t.toml cup --out pages --twin 3", "have no --twin"),
-                            ("tournament --out cup", "or a match by --again"),
-                            ("tournament --again t.toml 3 --team red --out cup", "leave --team and --network out"),
-                            ("grade course.toml", "by --out FOLDER")):
+        for words, said in (
+            ("page m0.jsonl --again again3", "name its TOURNAMENT"),
+            ("page t.toml cup --out pages --twin 3", "have no --twin"),
+            ("tournament --out cup", "or a match by --again"),
+            (
+                "tournament --again t.toml 3 --team red --out cup",
+                "leave --team and --network out",
+            ),
+            ("grade course.toml", "by --out FOLDER"),
+        ):
             self.assertIn(said, self.refused(*words.split()))
 
 
 class Spellings(unittest.TestCase):
     def test_the_lab_is_called_by_the_command_that_was_installed(self) -> None:
-        for word, name in (("/usr/bin/arena-lab", "arena-lab"), ("/clone/arena_lab/__main__.py", "./arena-lab")):
+        for word, name in (
+            ("/usr/bin/arena-lab", "arena-lab"),
+            ("/clone/arena_lab/__main__.py", "./arena-lab"),
+        ):
             with mock.patch.object(sys, "argv", [word]):
                 self.assertEqual(called(), name)
 
     def test_an_old_spelling_does_what_the_new_one_does(self) -> None:
-        for command, old, value in (("run", "--naps", "7"), ("run", "--limit", "3.5"), ("explore", "--by", "starved"),
-                                    ("explore", "--hunt", "lost"), ("explore", "--states", "9"),
-                                    ("hunt", "--for", "moves"), ("invariant", "--states", "5")):
+        for command, old, value in (
+            ("run", "--naps", "7"),
+            ("run", "--limit", "3.5"),
+            ("explore", "--by", "starved"),
+            ("explore", "--hunt", "lost"),
+            ("explore", "--states", "9"),
+            ("hunt", "--for", "moves"),
+            ("invariant", "--states", "5"),
+        ):
             words = [command] if command != "invariant" else [command, "candidate.py"]
             new, silent = read(*words, SPELLINGS[old], value)
             found, said = read(*words, old, value)
             self.assertEqual((found, silent), (new, ""))
-            self.assertEqual(said, f"./arena-lab {command}: {old} is called {SPELLINGS[old]} now\n")
+            self.assertEqual(
+                said, f"./arena-lab {command}: {old} is called {SPELLINGS[old]} now\n"
+            )
 
     def test_a_value_is_refused_as_by_the_new_one(self) -> None:
         self.assertIn("invalid choice: 'nobody'", read("explore", "--by", "nobody")[1])

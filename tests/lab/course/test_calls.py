@@ -38,14 +38,33 @@ for call, *given in json.loads(sys.argv[5]):
     found.append(ctypes.get_errno() if done < 0 else 0)
 print(json.dumps(found))
 """
-HAS_SECCOMP = subprocess.run([DEBIANS_PYTHON, "-c", "import seccomp"], stderr=subprocess.DEVNULL).returncode == 0
-WITH_SECCOMP = unittest.skipUnless(HAS_SECCOMP, "Debian's python3-seccomp is not installed")
+HAS_SECCOMP = (
+    subprocess.run(
+        [DEBIANS_PYTHON, "-c", "import seccomp"], stderr=subprocess.DEVNULL
+    ).returncode
+    == 0
+)
+WITH_SECCOMP = unittest.skipUnless(
+    HAS_SECCOMP, "Debian's python3-seccomp is not installed"
+)
 
 
 def errors(language: str, made: List[List[Any]], more: str = "") -> List[int]:
     """The errors of calls under the filter of a language."""
-    ran = subprocess.run([DEBIANS_PYTHON, "-c", LOADS, str(isolation.FILTER.parent), str(calls.TABLE), language, more,
-                          json.dumps(made)], capture_output=True, text=True)
+    ran = subprocess.run(
+        [
+            DEBIANS_PYTHON,
+            "-c",
+            LOADS,
+            str(isolation.FILTER.parent),
+            str(calls.TABLE),
+            language,
+            more,
+            json.dumps(made),
+        ],
+        capture_output=True,
+        text=True,
+    )
     found: List[int] = json.loads(ran.stdout or f'"{ran.stderr}"')
     return found
 
@@ -55,14 +74,21 @@ class TestTable(unittest.TestCase):
         for call in ATTACKS:
             self.assertNotEqual(calls.never(call), "", call)
         for language in (*calls.languages(), calls.EVERY):
-            self.assertEqual(calls.allowed(language) & {it for row in calls.table()["never"] for it in row["calls"]},
-                             set(), language)
+            self.assertEqual(
+                calls.allowed(language)
+                & {it for row in calls.table()["never"] for it in row["calls"]},
+                set(),
+                language,
+            )
 
     def test_each_language_has_what_every_one_has_and_no_call_twice(self) -> None:
         every = calls.allowed(calls.EVERY)
         for language in calls.languages():
             self.assertLess(every, calls.allowed(language))
-        for name, it in {"every": calls.table()["every"], **calls.table()["languages"]}.items():
+        for name, it in {
+            "every": calls.table()["every"],
+            **calls.table()["languages"],
+        }.items():
             listed: List[str] = it["calls"]
             self.assertEqual(len(listed), len(set(listed)), name)
             self.assertFalse(name != "every" and set(listed) & every, name)
@@ -71,8 +97,13 @@ class TestTable(unittest.TestCase):
 
     def test_a_course_may_allow_more_but_no_attack(self) -> None:
         self.assertEqual(calls_of(["setpriority"]), ("setpriority",))
-        for name, why in (("flock", "calls has flock, which no course may allow: locks on files"),
-                          ("socket", "calls has socket, which no course may allow: it is allowed by its arguments")):
+        for name, why in (
+            ("flock", "calls has flock, which no course may allow: locks on files"),
+            (
+                "socket",
+                "calls has socket, which no course may allow: it is allowed by its arguments",
+            ),
+        ):
             with self.assertRaisesRegex(WrongFile, why):
                 calls_of([name])
 
@@ -84,52 +115,106 @@ class TestTable(unittest.TestCase):
     def test_the_language_of_a_command(self) -> None:
         def file(content: bytes) -> HandInEntry:
             return HandInEntry(tarfile.REGTYPE, content, True)
+
         entries: Dict[str, HandInEntry] = {
-            "careful": file(b"\x7fELF..."), "go.py": file(b"#!/usr/bin/env python3\nx"), "go.sh": file(b"#!/bin/sh\n"),
-            "odd": file(b"#!\n"), "in/it": file(b"\x7fELF...")}
+            "careful": file(b"\x7fELF..."),
+            "go.py": file(b"#!/usr/bin/env python3\nx"),
+            "go.sh": file(b"#!/bin/sh\n"),
+            "odd": file(b"#!\n"),
+            "in/it": file(b"\x7fELF..."),
+        }
         for words, language in (
-                ("python3 it.py {port}", "python"), ("node it.js", "javascript"), ("java -cp out It", "java"),
-                ("/usr/bin/python3 it.py", "python"), ("./careful {port}", "native"), ("in/../careful", "native"),
-                ("in/it", "native"), ("./go.py", "python"), ("./go.sh", "any"), ("bash go.sh", "any"), ("./odd", "any"),
-                ("./absent", "any"), ("ruby it.rb", "any")):
-            self.assertEqual(calls.language_of(words, HandIn(entries).content_of), language, words)
+            ("python3 it.py {port}", "python"),
+            ("node it.js", "javascript"),
+            ("java -cp out It", "java"),
+            ("/usr/bin/python3 it.py", "python"),
+            ("./careful {port}", "native"),
+            ("in/../careful", "native"),
+            ("in/it", "native"),
+            ("./go.py", "python"),
+            ("./go.sh", "any"),
+            ("bash go.sh", "any"),
+            ("./odd", "any"),
+            ("./absent", "any"),
+            ("ruby it.rb", "any"),
+        ):
+            self.assertEqual(
+                calls.language_of(words, HandIn(entries).content_of), language, words
+            )
 
 
 @WITH_SECCOMP
 class TestFilter(unittest.TestCase):
     def test_attacks_are_refused_in_each_language(self) -> None:
-        wanted = [(call, row.get("error", "EPERM")) for row in calls.table()["never"] for call in row["calls"]]
+        wanted = [
+            (call, row.get("error", "EPERM"))
+            for row in calls.table()["never"]
+            for call in row["calls"]
+        ]
         self.assertLessEqual(set(ATTACKS), {call for call, _ in wanted})
         for language in calls.languages():
             found = errors(language, [[call, 0, 0, 0, 0] for call, _ in wanted])
-            self.assertEqual([(call, errno.errorcode[it]) for (call, _), it in zip(wanted, found)], wanted, language)
+            self.assertEqual(
+                [(call, errno.errorcode[it]) for (call, _), it in zip(wanted, found)],
+                wanted,
+                language,
+            )
 
     def test_calls_of_no_list_are_as_if_the_system_had_none(self) -> None:
         later = [[number, 0, 0, 0, 0] for number in range(449, 480)]
-        others = [["setpriority", 0, 0, 0], ["sched_setaffinity", 0, 0, 0], ["landlock_create_ruleset", 0, 0, 0]]
+        others = [
+            ["setpriority", 0, 0, 0],
+            ["sched_setaffinity", 0, 0, 0],
+            ["landlock_create_ruleset", 0, 0, 0],
+        ]
         for language in calls.languages():
-            self.assertEqual(set(errors(language, later + others)), {errno.ENOSYS}, language)
-        self.assertEqual(errors("python", [["sched_setaffinity", 0, 0, 0]], "sched_setaffinity"), [errno.EINVAL])
+            self.assertEqual(
+                set(errors(language, later + others)), {errno.ENOSYS}, language
+            )
+        self.assertEqual(
+            errors("python", [["sched_setaffinity", 0, 0, 0]], "sched_setaffinity"),
+            [errno.EINVAL],
+        )
 
     def test_calls_are_allowed_by_their_arguments(self) -> None:
         past, refused = 1 << 32, errno.ENOSYS
         wanted = [
-            (["socket", 1, 1, 0], 0), (["socket", past + 1, 1, past], 0), (["socket", 2, 1, 6], 0),
-            (["socket", 10, 2, 17], 0), (["socket", past + 16, 3, past], errno.EAFNOSUPPORT),
-            (["socket", 2, 1, 99], refused), (["socket", 2, 1, 262], errno.EPROTONOSUPPORT),
-            *((["socket", family, 1, 0], errno.EAFNOSUPPORT) for family in range(3, 47) if family != 10),
-            (["socket", 99, 1, 0], refused), (["socketpair", 16, 1, 0, 0], refused),
-            (["fcntl", 0, 1], 0), (["fcntl", 0, 6, 0], errno.EPERM), (["fcntl", 0, past + 6, 0], errno.EPERM),
-            (["fcntl", 0, 1031, 0], refused), (["ioctl", 0, 0x80086601, 0], errno.ENOTTY),
-            (["ioctl", 0, 0x40045431, 0], refused), (["prctl", 4, 0, 0, 0, 0], refused),
-            (["getsockopt", 0, 1, 57, 0, 0], errno.ENOPROTOOPT), (["getsockopt", 0, 1, 77, 0, 0], errno.ENOPROTOOPT),
-            (["setsockopt", 0, 1, 76, 0, 0], refused), (["setsockopt", 0, 1, 50, 0, 0], refused),
+            (["socket", 1, 1, 0], 0),
+            (["socket", past + 1, 1, past], 0),
+            (["socket", 2, 1, 6], 0),
+            (["socket", 10, 2, 17], 0),
+            (["socket", past + 16, 3, past], errno.EAFNOSUPPORT),
+            (["socket", 2, 1, 99], refused),
+            (["socket", 2, 1, 262], errno.EPROTONOSUPPORT),
+            *(
+                (["socket", family, 1, 0], errno.EAFNOSUPPORT)
+                for family in range(3, 47)
+                if family != 10
+            ),
+            (["socket", 99, 1, 0], refused),
+            (["socketpair", 16, 1, 0, 0], refused),
+            (["fcntl", 0, 1], 0),
+            (["fcntl", 0, 6, 0], errno.EPERM),
+            (["fcntl", 0, past + 6, 0], errno.EPERM),
+            (["fcntl", 0, 1031, 0], refused),
+            (["ioctl", 0, 0x80086601, 0], errno.ENOTTY),
+            (["ioctl", 0, 0x40045431, 0], refused),
+            (["prctl", 4, 0, 0, 0, 0], refused),
+            (["getsockopt", 0, 1, 57, 0, 0], errno.ENOPROTOOPT),
+            (["getsockopt", 0, 1, 77, 0, 0], errno.ENOPROTOOPT),
+            (["setsockopt", 0, 1, 76, 0, 0], refused),
+            (["setsockopt", 0, 1, 50, 0, 0], refused),
             # a process as a file; new namespaces
-            *((["clone", flag | 17, 0, 0, 0, 0], refused) for flag in (0x1000, 0x20000, 0x10000000, 0x40000000)),
+            *(
+                (["clone", flag | 17, 0, 0, 0, 0], refused)
+                for flag in (0x1000, 0x20000, 0x10000000, 0x40000000)
+            ),
         ]
         for language in calls.languages():
             found = errors(language, [call for call, _ in wanted])
-            self.assertEqual([(call, it) for (call, _), it in zip(wanted, found)], wanted, language)
+            self.assertEqual(
+                [(call, it) for (call, _), it in zip(wanted, found)], wanted, language
+            )
 
 
 class TestTraces(unittest.TestCase):
@@ -146,22 +231,33 @@ clone(child_stack=NULL, flags=0x1000|17) = 3
 
     def test_what_a_program_needs_besides_is_told(self) -> None:
         said = calls.report_trace("python", self.TRACE.splitlines())
-        self.assertEqual(said.splitlines(), [
-            "python: of 4 calls that were traced 4 are refused",
-            "      1  clone 0x1011: by its arguments",
-            "      2  inotify_init1: locks on files, and notices when a file is opened or read",
-            "      1  setpriority: it is in no list",
-            "      1  socket 0x10 0x4: by its arguments",
-            'in course.toml this allows what is in no list: calls = ["setpriority"]'])
+        self.assertEqual(
+            said.splitlines(),
+            [
+                "python: of 4 calls that were traced 4 are refused",
+                "      1  clone 0x1011: by its arguments",
+                "      2  inotify_init1: locks on files, and notices when a file is opened or read",
+                "      1  setpriority: it is in no list",
+                "      1  socket 0x10 0x4: by its arguments",
+                'in course.toml this allows what is in no list: calls = ["setpriority"]',
+            ],
+        )
 
     def test_the_command(self) -> None:
         with tempfile.TemporaryDirectory() as folder:
             trace = pathlib.Path(folder) / "trace"
             trace.write_text("read(0, 0x1, 1) = 0\n")
-            for given, status, said in (([], 2, "Languages: python, javascript, java, native, shell, any, every"),
-                                        (["--help"], 0, "strace -f -X raw"), (["cobol", str(trace)], 2, "Languages"),
-                                        (["every", str(trace)], 0, "of 1 calls that were traced 0 are refused"),
-                                        (["every", os.path.join(folder, "no")], 1, "No such file")):
+            for given, status, said in (
+                (
+                    [],
+                    2,
+                    "Languages: python, javascript, java, native, shell, any, every",
+                ),
+                (["--help"], 0, "strace -f -X raw"),
+                (["cobol", str(trace)], 2, "Languages"),
+                (["every", str(trace)], 0, "of 1 calls that were traced 0 are refused"),
+                (["every", os.path.join(folder, "no")], 1, "No such file"),
+            ):
                 found, out, errors = ran(calls.main, given)
                 self.assertEqual(found, status)
                 self.assertIn(said, out + errors)

@@ -28,10 +28,31 @@ TEAM = '[[team]]\nname = "a"\nfiles = ["agent.py"]\ncommand = "python3 agent.py 
 SECRET = "0123456789abcdef"
 
 
-def row(run: int, team: str, moves: int, outcome: str = "solved", *faults: str) -> Dict[str, Any]:
+def row(
+    run: int, team: str, moves: int, outcome: str = "solved", *faults: str
+) -> Dict[str, Any]:
     network = "ring:4" if run % 2 == 0 else "ring:5"
     fault = faults[0] if faults else ""
-    values = [run, network, 4, 4, 0, 1, team, 2, "fair", run, outcome, moves, 1, 9, 9, "00", "", fault]
+    values = [
+        run,
+        network,
+        4,
+        4,
+        0,
+        1,
+        team,
+        2,
+        "fair",
+        run,
+        outcome,
+        moves,
+        1,
+        9,
+        9,
+        "00",
+        "",
+        fault,
+    ]
     return {**dict(zip(tables.COLUMNS, map(str, values))), "faults": list(faults)}
 
 
@@ -45,11 +66,18 @@ class Folder(InTemporary):
 
 
 class Files(Folder):
-    def test_each_team_plays_the_same_matches_in_an_order_of_its_own_one_team_after_the_other(self) -> None:
+    def test_each_team_plays_the_same_matches_in_an_order_of_its_own_one_team_after_the_other(
+        self,
+    ) -> None:
         orders = set()
         for number in range(8):
             for holes in ("[1, 3]", "2"):
-                text = HEAD + f"holes = {holes}\nseeds = 2\n" + TEAM + TEAM.replace('"a"', '"b"')
+                text = (
+                    HEAD
+                    + f"holes = {holes}\nseeds = 2\n"
+                    + TEAM
+                    + TEAM.replace('"a"', '"b"')
+                )
                 found = course_of(text, self.folder, f"{SECRET}{number}").cases()
                 self.assertEqual([case.number for case in found], list(range(16)))
                 played: Dict[str, List[tuple]] = {"a": [], "b": []}
@@ -63,38 +91,83 @@ class Files(Folder):
         one, other = self.course(), self.course("seeds = 2\n")
         keys = [key for case in one.cases() for key in one.fixture(case).keys]
         self.assertEqual(len(set(keys)), 4)
-        self.assertFalse(set(keys) & {key for case in other.cases() for key in other.fixture(case).keys})
+        self.assertFalse(
+            set(keys)
+            & {key for case in other.cases() for key in other.fixture(case).keys}
+        )
 
     def test_files_are_looked_for_in_the_folder_of_the_course(self) -> None:
-        (self.folder / "net.toml").write_text("nodes = 3\nlinks = [[0, 0, 1, 0], [1, 1, 2, 0], [2, 1, 0, 1]]\n")
-        found = course_of(HEAD.replace('"ring:4"', '"net.toml"') + TEAM, self.folder, SECRET)
+        (self.folder / "net.toml").write_text(
+            "nodes = 3\nlinks = [[0, 0, 1, 0], [1, 1, 2, 0], [2, 1, 0, 1]]\n"
+        )
+        found = course_of(
+            HEAD.replace('"ring:4"', '"net.toml"') + TEAM, self.folder, SECRET
+        )
         self.assertEqual(found.grid.networks["net.toml"].nodes, 3)
-        self.assertEqual({pathlib.Path(name).name for name in found.digests()}, {"net.toml", "secret.txt"})
+        self.assertEqual(
+            {pathlib.Path(name).name for name in found.digests()},
+            {"net.toml", "secret.txt"},
+        )
 
     def test_a_module_is_told_where_to_connect_by_its_player(self) -> None:
-        found = self.course("", TEAM.replace("python3 agent.py {port} {key}", "agent.wasm:{nodes}"))
+        found = self.course(
+            "", TEAM.replace("python3 agent.py {port} {key}", "agent.wasm:{nodes}")
+        )
         self.assertEqual(found.grid.teams[0].words.words, "agent.wasm:{nodes}")
 
     def test_what_is_refused(self) -> None:
         for middle, team, said in (
-                ("", "", "team must be given"), ("size = 1\n", TEAM, "a course has no key size; its keys are board,"),
-                ("bound = 'n^2'\n", TEAM, "a course has no key bound"), ("limit = 0\n", TEAM, "limit must be a whole"),
-                ("match_limit = 0\n", TEAM, "match_limit must be"), ("team_limit = 0\n", TEAM, "team_limit must be"),
-                ("tools = ['opt']\n", TEAM, "tools has opt, which is no folder that programs may see"),
-                ("tools = ['/']\n", TEAM, "tools has /, which is no folder that programs may see"),
-                ("proc = 1\n", TEAM, "proc must be true or false"),
-                ("match_space = 0\n", TEAM, "match_space must be a whole number of MB from 1"),
-                ("tries = -1\n", TEAM, "tries must be a whole number"), ("ports = 'some'\n", TEAM, "ports must be"),
-                ("holes = [4]\n", TEAM, "holes has 4, and a black hole of ring:4"),
-                ("", TEAM + TEAM, "two teams have the same name"),
-                ("", TEAM.replace('"a"', '"A b"'), "name must be given for each team, of 1 to 16 characters"),
-                ("", TEAM + "agent = 'x.py'\n", "a team of a course has no key agent"),
-                ("", TEAM.replace('["agent.py"]', "[]"), "files must be given for team a"),
-                ("", TEAM.replace("agent.py\"]", "no.py\"]"), "files of team a has no.py, and there is no "),
-                ("", TEAM.replace("{key}", "x"), "the command of team a has no {key}: the program is to connect"),
-                ("", TEAM.replace("{port}", "{prot}"), "the command of team a has 'prot'; it may have {host}, {port},"),
-                ("", TEAM.replace("{port}", "{"), "the command of team a cannot be read"),
-                ("", TEAM + "agents = 65\n", "agents must be 1 to 64")):
+            ("", "", "team must be given"),
+            ("size = 1\n", TEAM, "a course has no key size; its keys are board,"),
+            ("bound = 'n^2'\n", TEAM, "a course has no key bound"),
+            ("limit = 0\n", TEAM, "limit must be a whole"),
+            ("match_limit = 0\n", TEAM, "match_limit must be"),
+            ("team_limit = 0\n", TEAM, "team_limit must be"),
+            (
+                "tools = ['opt']\n",
+                TEAM,
+                "tools has opt, which is no folder that programs may see",
+            ),
+            (
+                "tools = ['/']\n",
+                TEAM,
+                "tools has /, which is no folder that programs may see",
+            ),
+            ("proc = 1\n", TEAM, "proc must be true or false"),
+            (
+                "match_space = 0\n",
+                TEAM,
+                "match_space must be a whole number of MB from 1",
+            ),
+            ("tries = -1\n", TEAM, "tries must be a whole number"),
+            ("ports = 'some'\n", TEAM, "ports must be"),
+            ("holes = [4]\n", TEAM, "holes has 4, and a black hole of ring:4"),
+            ("", TEAM + TEAM, "two teams have the same name"),
+            (
+                "",
+                TEAM.replace('"a"', '"A b"'),
+                "name must be given for each team, of 1 to 16 characters",
+            ),
+            ("", TEAM + "agent = 'x.py'\n", "a team of a course has no key agent"),
+            ("", TEAM.replace('["agent.py"]', "[]"), "files must be given for team a"),
+            (
+                "",
+                TEAM.replace('agent.py"]', 'no.py"]'),
+                "files of team a has no.py, and there is no ",
+            ),
+            (
+                "",
+                TEAM.replace("{key}", "x"),
+                "the command of team a has no {key}: the program is to connect",
+            ),
+            (
+                "",
+                TEAM.replace("{port}", "{prot}"),
+                "the command of team a has 'prot'; it may have {host}, {port},",
+            ),
+            ("", TEAM.replace("{port}", "{"), "the command of team a cannot be read"),
+            ("", TEAM + "agents = 65\n", "agents must be 1 to 64"),
+        ):
             with self.subTest(said), self.assertRaises(WrongFile) as fault:
                 self.course(middle, team)
             self.assertIn(said, str(fault.exception))
@@ -108,21 +181,29 @@ class Files(Folder):
             course.read(path, SECRET)
         (self.folder / "net.toml").write_text("nodes = 3\n")
         path.write_text(HEAD.replace("ring:4", "net.toml") + TEAM)
-        with self.assertRaisesRegex(WrongFile, "networks has net.toml, which is no network file"):
+        with self.assertRaisesRegex(
+            WrongFile, "networks has net.toml, which is no network file"
+        ):
             course.read(path, SECRET)
 
     def test_results_and_a_course_where_programs_look(self) -> None:
         """Results that programs can read show them the black holes and other teams' rows."""
         tools = [str(self.folder)]
         for path in ("/usr/share/course", "/lib/course", self.folder / "out"):
-            with self.subTest(path), self.assertRaisesRegex(WrongFile, "teams' programs see .*: name a folder else"):
-                course.check_walls(Isolation.ALL, [pathlib.Path("/srv"), pathlib.Path(path)], tools)
+            with self.subTest(path), self.assertRaisesRegex(
+                WrongFile, "teams' programs see .*: name a folder else"
+            ):
+                course.check_walls(
+                    Isolation.ALL, [pathlib.Path("/srv"), pathlib.Path(path)], tools
+                )
         course.check_walls(Isolation.ALL, [self.folder], [])
         course.check_walls(Isolation.NONE, [pathlib.Path("/usr/share/course")], tools)
 
     def test_limits_grow_with_the_matches(self) -> None:
         self.assertEqual(self.course().terms.limits, (20, 60, 600, 8, 256))
-        self.assertEqual(self.course("seeds = 100\n").terms.limits, (20, 60, 1000, 8, 400))
+        self.assertEqual(
+            self.course("seeds = 100\n").terms.limits, (20, 60, 1000, 8, 400)
+        )
         given = self.course("seeds = 100\nlimit = 1\nmatch_limit = 2\nteam_limit = 3\n")
         self.assertEqual(given.terms.limits[:3], (1, 2, 3))
 
@@ -148,31 +229,50 @@ class Places(Folder):
     def test_what_the_file_names_is_not_drawn(self) -> None:
         given = networks.named("ring:64").links
         for middle, expected in (
-                ("holes = [3]\n", {(3, 0, tuple(given))}),
-                ("holes = 1\nhome = 5\nports = 'given'\n", {(5, tuple(given))}),
-                ("holes = 1\nhome = 5\nports = 'shuffled:3'\n", {(5, tuple(networks.shuffled(
-                    networks.named("ring:64"), 3).links))})):
+            ("holes = [3]\n", {(3, 0, tuple(given))}),
+            ("holes = 1\nhome = 5\nports = 'given'\n", {(5, tuple(given))}),
+            (
+                "holes = 1\nhome = 5\nports = 'shuffled:3'\n",
+                {(5, tuple(networks.shuffled(networks.named("ring:64"), 3).links))},
+            ),
+        ):
             found = self.places(middle)
-            self.assertEqual({place[-len(min(expected)):] for place in found}, expected)
+            self.assertEqual(
+                {place[-len(min(expected)) :] for place in found}, expected
+            )
 
 
 class Secrets(Folder):
     """What a team that knows the course's file could work out, if it were not drawn from a secret."""
 
     def drawn(self, secret: str, holes: str) -> List[int]:
-        text = HEAD.replace("ring:5", "ring:64") + f"holes = {holes}\nseeds = 4\n" + TEAM
-        return [case.holes[0] for case in course_of(text, self.folder, secret).cases() if case.network == "ring:64"]
+        text = (
+            HEAD.replace("ring:5", "ring:64") + f"holes = {holes}\nseeds = 4\n" + TEAM
+        )
+        return [
+            case.holes[0]
+            for case in course_of(text, self.folder, secret).cases()
+            if case.network == "ring:64"
+        ]
 
     def test_black_holes(self) -> None:
         for holes in ("8", '"by seed"', '"drawn"'):
-            found = {tuple(self.drawn(f"{SECRET}{number}", holes)) for number in range(5)}
+            found = {
+                tuple(self.drawn(f"{SECRET}{number}", holes)) for number in range(5)
+            }
             self.assertEqual(len(found), 5, holes)
             self.assertEqual(self.drawn(SECRET, holes), self.drawn(SECRET, holes))
         self.assertEqual(set(self.drawn(SECRET, "[3]")), {3})
 
     def test_keys_and_what_schedulers_draw(self) -> None:
-        one, other = (course_of(HEAD + "seeds = 2\n" + TEAM, self.folder, f"{SECRET}{number}") for number in range(2))
-        keys = [{key for case in each.cases() for key in each.fixture(case).keys} for each in (one, other)]
+        one, other = (
+            course_of(HEAD + "seeds = 2\n" + TEAM, self.folder, f"{SECRET}{number}")
+            for number in range(2)
+        )
+        keys = [
+            {key for case in each.cases() for key in each.fixture(case).keys}
+            for each in (one, other)
+        ]
         self.assertFalse(keys[0] & keys[1])
         seeds = [[each.seed(case) for case in each.cases()] for each in (one, other)]
         self.assertFalse(set(seeds[0]) & set(seeds[1]))
@@ -181,7 +281,10 @@ class Secrets(Folder):
 
     def test_teams_get_the_same_draws(self) -> None:
         found = self.course("seeds = 2\n", TEAM + TEAM.replace('"a"', '"b"'))
-        seeds = [[found.seed(case) for case in found.cases() if case.team.name == name] for name in "ab"]
+        seeds = [
+            [found.seed(case) for case in found.cases() if case.team.name == name]
+            for name in "ab"
+        ]
         self.assertEqual(sorted(seeds[0]), sorted(seeds[1]))
 
     def test_it_is_kept_where_the_teacher_alone_reads_it(self) -> None:
@@ -190,13 +293,14 @@ class Secrets(Folder):
         self.assertEqual(stat.S_IMODE((out / course.SECRET).stat().st_mode), 0o600)
         self.assertEqual(course.secret_in(out, None), secret)
         self.assertNotEqual(course.secret_in(other, None), secret)
-        self.assertEqual(course.secret_in(self.folder / "again", out / course.SECRET), secret)
+        self.assertEqual(
+            course.secret_in(self.folder / "again", out / course.SECRET), secret
+        )
         with self.assertRaisesRegex(WrongFile, "is another secret than"):
             course.secret_in(other, out / course.SECRET)
         (self.folder / "short").write_text("guess me\n")
         with self.assertRaisesRegex(WrongFile, "at least 16 characters"):
             course.secret_in(self.folder / "new", self.folder / "short")
-
 
     def test_it_is_another_once_a_team_has_handed_in_something_else(self) -> None:
         """So who was shown the places of an earlier grading cannot use them. New teams change nothing."""
@@ -205,52 +309,135 @@ class Secrets(Folder):
         digests = {"team a": "1", "team b": "2"}
         tables.write_record(first, {"files": {**digests, "net.toml": "3"}})
         for name, handed_in, is_same in (
-                ("same", digests, True), ("more", {**digests, "team c": "4"}, True), ("fewer", {"team a": "1"}, True),
-                ("other", {**digests, "team b": "5"}, False)):
+            ("same", digests, True),
+            ("more", {**digests, "team c": "4"}, True),
+            ("fewer", {"team a": "1"}, True),
+            ("other", {**digests, "team b": "5"}, False),
+        ):
             with contextlib.redirect_stderr(io.StringIO()) as said:
-                found = course.secret_in(self.folder / name, first / course.SECRET, handed_in)
+                found = course.secret_in(
+                    self.folder / name, first / course.SECRET, handed_in
+                )
             self.assertEqual(found == secret, is_same, name)
-            self.assertEqual("team b has handed in something else than when" in said.getvalue(), not is_same)
+            self.assertEqual(
+                "team b has handed in something else than when" in said.getvalue(),
+                not is_same,
+            )
 
     def test_the_order_of_a_team_depends_on_no_other(self) -> None:
-        alone, both = (course_of(HEAD + "holes = 3\nseeds = 4\n" + teams, self.folder, SECRET).cases()
-                       for teams in (TEAM, TEAM + TEAM.replace('"a"', '"b"')))
-        played = [[case[1:3] + case[4:] for case in cases if case.team.name == "a"] for cases in (alone, both)]
+        alone, both = (
+            course_of(
+                HEAD + "holes = 3\nseeds = 4\n" + teams, self.folder, SECRET
+            ).cases()
+            for teams in (TEAM, TEAM + TEAM.replace('"a"', '"b"'))
+        )
+        played = [
+            [case[1:3] + case[4:] for case in cases if case.team.name == "a"]
+            for cases in (alone, both)
+        ]
         self.assertEqual(*played)
         self.assertNotEqual(played[0], sorted(played[0]))
 
 
 class Leagues(Folder):
-    def test_solved_first_then_moves_then_lost_agents_and_equals_share_a_place(self) -> None:
-        rows = [row(0, "a", 9), row(1, "a", 9), row(2, "b", 9), row(3, "b", 1, "silent"), row(4, "c", 10),
-                row(5, "c", 8), row(6, "d", 8), row(7, "d", 9)]
+    def test_solved_first_then_moves_then_lost_agents_and_equals_share_a_place(
+        self,
+    ) -> None:
+        rows = [
+            row(0, "a", 9),
+            row(1, "a", 9),
+            row(2, "b", 9),
+            row(3, "b", 1, "silent"),
+            row(4, "c", 10),
+            row(5, "c", 8),
+            row(6, "d", 8),
+            row(7, "d", 9),
+        ]
         found = [standing[:5] for standing in league.standings_of(rows, list("abcd"))]
-        self.assertEqual(found, [(1, "d", 2, 2, 17), (2, "a", 2, 2, 18), (2, "c", 2, 2, 18), (4, "b", 2, 1, 9)])
+        self.assertEqual(
+            found,
+            [
+                (1, "d", 2, 2, 17),
+                (2, "a", 2, 2, 18),
+                (2, "c", 2, 2, 18),
+                (4, "b", 2, 1, 9),
+            ],
+        )
 
     def test_moves_count_before_lost_agents_and_these_before_nothing(self) -> None:
-        few_lost, few_moves = {**row(0, "a", 9), "lost": "0"}, {**row(0, "b", 8), "lost": "5"}
-        rows = [few_lost, few_moves, {**row(0, "c", 9), "lost": "1"}, {**row(0, "d", 9), "lost": "0"}]
-        found = [(it.place, it.team, it.lost) for it in league.standings_of(rows, list("abcd"))]
+        few_lost, few_moves = {**row(0, "a", 9), "lost": "0"}, {
+            **row(0, "b", 8),
+            "lost": "5",
+        }
+        rows = [
+            few_lost,
+            few_moves,
+            {**row(0, "c", 9), "lost": "1"},
+            {**row(0, "d", 9), "lost": "0"},
+        ]
+        found = [
+            (it.place, it.team, it.lost)
+            for it in league.standings_of(rows, list("abcd"))
+        ]
         self.assertEqual(found, [(1, "b", 5), (2, "a", 0), (2, "d", 0), (4, "c", 1)])
 
     def test_a_fault_is_no_solution(self) -> None:
-        found = league.standings_of([row(0, "a", 9, "solved", "agent 1: has connected twice")], ["a"])
+        found = league.standings_of(
+            [row(0, "a", 9, "solved", "agent 1: has connected twice")], ["a"]
+        )
         self.assertEqual(found[0].solved, 0)
 
     def test_each_failure_is_called_by_its_kind(self) -> None:
         for kind, outcome, *faults in (
-                ("wrong", "wrong"), ("guess", "guess 3"), ("silent", "silent"), ("unfinished", "unfinished"),
-                ("crashed", "solved", "agent 1: has ended with status 1 in the middle of its match"),
-                ("crashed", "silent", "agent 0: has ended with status 1 before it connected: has sent no line for"),
-                ("crashed", "silent", "agent 0: has ended with status 1 before it connected: agent 1: not played"),
-                ("crashed", "silent", "agent 0: cannot be started: the hand-in is refused"),
-                ("does not repeat", "solved", "agent 0: says something else when it is told the same again, at command "
-                 "2: in the match `look`, alone `leave` (the program has ended with status 1)"),
-                ("crashed", "silent", "agent 0: has taken more than 2 GB of memory with all that it has started"),
-                ("hung", "silent", "agent 0: has sent no line for 20 s", "agent 1: has connected twice"),
-                ("hung", "silent", "agent 0: has used up the time of its match, 60 s in all"),
-                ("broke a rule", "silent", "agent 0: has connected twice"),
-                ("not played", "not played", "not played: the matches of the team have taken the 3 s that it has")):
+            ("wrong", "wrong"),
+            ("guess", "guess 3"),
+            ("silent", "silent"),
+            ("unfinished", "unfinished"),
+            (
+                "crashed",
+                "solved",
+                "agent 1: has ended with status 1 in the middle of its match",
+            ),
+            (
+                "crashed",
+                "silent",
+                "agent 0: has ended with status 1 before it connected: has sent no line for",
+            ),
+            (
+                "crashed",
+                "silent",
+                "agent 0: has ended with status 1 before it connected: agent 1: not played",
+            ),
+            ("crashed", "silent", "agent 0: cannot be started: the hand-in is refused"),
+            (
+                "does not repeat",
+                "solved",
+                "agent 0: says something else when it is told the same again, at command "
+                "2: in the match `look`, alone `leave` (the program has ended with status 1)",
+            ),
+            (
+                "crashed",
+                "silent",
+                "agent 0: has taken more than 2 GB of memory with all that it has started",
+            ),
+            (
+                "hung",
+                "silent",
+                "agent 0: has sent no line for 20 s",
+                "agent 1: has connected twice",
+            ),
+            (
+                "hung",
+                "silent",
+                "agent 0: has used up the time of its match, 60 s in all",
+            ),
+            ("broke a rule", "silent", "agent 0: has connected twice"),
+            (
+                "not played",
+                "not played",
+                "not played: the matches of the team have taken the 3 s that it has",
+            ),
+        ):
             with self.subTest(kind):
                 self.assertEqual(league.kind_of(row(0, "a", 1, outcome, *faults)), kind)
                 self.assertIn(kind, league.KINDS)
@@ -258,17 +445,39 @@ class Leagues(Folder):
     def test_the_league_has_a_column_for_each_network(self) -> None:
         rows = [row(0, "a", 9), row(1, "a", 9, "wrong"), row(2, "b", 9), row(3, "b", 1)]
         standings = league.standings_of(rows, ["a", "b"])
-        self.assertEqual(league.table(standings), [
-            ["place", "team", "matches", "solved", "moves", "lost", "ring:4", "ring:5"],
-            ["1", "b", "2", "2", "10", "2", "1", "1"], ["2", "a", "2", "1", "9", "1", "1", "0"]])
+        self.assertEqual(
+            league.table(standings),
+            [
+                [
+                    "place",
+                    "team",
+                    "matches",
+                    "solved",
+                    "moves",
+                    "lost",
+                    "ring:4",
+                    "ring:5",
+                ],
+                ["1", "b", "2", "2", "10", "2", "1", "1"],
+                ["2", "a", "2", "1", "9", "1", "1", "0"],
+            ],
+        )
 
     def test_a_row_has_a_field_for_each_fault(self) -> None:
         """So no program's last words can make it two faults."""
-        faults = ["agent 0: has ended with status 1: \"x\"; agent 1: forged, \\r", "agent 1: has connected twice"]
+        faults = [
+            'agent 0: has ended with status 1: "x"; agent 1: forged, \\r',
+            "agent 1: has connected twice",
+        ]
         path = self.folder / "runs.csv"
-        rows = [tables.checked([*["0"] * 17, *faults]), tables.checked([*["1"] * 17, ""])]
+        rows = [
+            tables.checked([*["0"] * 17, *faults]),
+            tables.checked([*["1"] * 17, ""]),
+        ]
         path.write_text("".join(map(tables.line_of, [tables.COLUMNS, *rows])))
-        self.assertEqual([found["faults"] for found in tables.rows_in(path)], [faults, []])
+        self.assertEqual(
+            [found["faults"] for found in tables.rows_in(path)], [faults, []]
+        )
 
 
 class Small(unittest.TestCase):
@@ -276,14 +485,19 @@ class Small(unittest.TestCase):
         numbers = [0, 0, 1, 1, 2, 0, 1, 0, 0]
         scheduler = in_runs(runs_of(numbers))
         choices = [Choice(ANSWER, agent) for agent in range(3)]
-        self.assertEqual([choices.index(scheduler(choices, None)) for _ in numbers], numbers)
+        self.assertEqual(
+            [choices.index(scheduler(choices, None)) for _ in numbers], numbers
+        )
         self.assertEqual(runs_of(numbers), [(0, 2), (1, 2), (2, 1), (0, 1), (1, 1)])
-        self.assertEqual(tidy([(1, 2), (1, 3), (0, 0), (2, 1), (0, 4)]), [(1, 5), (2, 1)])
+        self.assertEqual(
+            tidy([(1, 2), (1, 3), (0, 0), (2, 1), (0, 4)]), [(1, 5), (2, 1)]
+        )
 
     def test_a_schedule_is_made_small(self) -> None:
         def fails(runs: Runs) -> bool:
             numbers = [which for which, times in runs for _ in range(times)]
-            return 2 in numbers and 1 in numbers[numbers.index(2):]
+            return 2 in numbers and 1 in numbers[numbers.index(2) :]
+
         cut = Cut([(0, 9), (1, 4), (2, 7), (0, 3), (3, 2), (1, 8)], fails, 1000)
         self.assertEqual(cut.runs, [(2, 1), (1, 1)])
         few = Cut([(0, 9), (1, 4), (2, 7), (0, 3), (3, 2), (1, 8)], fails, 3)
@@ -294,8 +508,10 @@ class Small(unittest.TestCase):
         cut = Cut([(1, 4), (2, 7)], lambda runs: True, 1000)
         self.assertEqual((cut.runs, cut.tried), ([], 1))
         self.assertEqual(in_words([]), "of the agents that can go on, always the first")
-        self.assertEqual(in_words([(0, 7), (1, 1)]),
-                         "of the agents that can go on, the first 7 times, then the second once, then always the first")
+        self.assertEqual(
+            in_words([(0, 7), (1, 1)]),
+            "of the agents that can go on, the first 7 times, then the second once, then always the first",
+        )
 
 
 class Users(unittest.TestCase):
@@ -313,21 +529,30 @@ class Users(unittest.TestCase):
 
     def test_a_process_that_ends_meanwhile_is_passed_over(self) -> None:
         gone = mock.Mock(side_effect=ProcessLookupError(errno.ESRCH, "No such process"))
-        with mock.patch.multiple(pathlib.Path, exists=gone, read_bytes=gone, read_text=gone):
+        with mock.patch.multiple(
+            pathlib.Path, exists=gone, read_bytes=gone, read_text=gone
+        ):
             self.assertEqual(users.processes_of(os.geteuid()), [])
             self.assertEqual(processes.below(os.getpid()), [os.getpid()])
 
 
 class Words(unittest.TestCase):
     def test_what_is_shown_changes_nothing_where_it_is_shown(self) -> None:
-        self.assertEqual(mistakes.plain("\x1b[2J\x07 \x9b31m \u202e \u2028 \x00 \x7f \ufeff é = ☃ 'it'"),
-                         "\\x1b[2J\\x07 \\x9b31m \\u202e \\u2028 \\x00 \\x7f \\ufeff é = ☃ 'it'")
+        self.assertEqual(
+            mistakes.plain(
+                "\x1b[2J\x07 \x9b31m \u202e \u2028 \x00 \x7f \ufeff é = ☃ 'it'"
+            ),
+            "\\x1b[2J\\x07 \\x9b31m \\u202e \\u2028 \\x00 \\x7f \\ufeff é = ☃ 'it'",
+        )
 
     def test_a_match_has_a_time_of_its_own(self) -> None:
         clock = bounds.TimeBound(5, 7)
         self.assertEqual(clock.says("has sent no line for"), "has sent no line for 5 s")
         clock.waited = 3
-        self.assertIn("has used up the time of its match, 7 s in all", clock.says("has sent no line for"))
+        self.assertIn(
+            "has used up the time of its match, 7 s in all",
+            clock.says("has sent no line for"),
+        )
         with bounds.TimeBound(0.01, 1) as until, clock as later:
             self.assertGreater(later - until, 3)
 
@@ -335,24 +560,40 @@ class Words(unittest.TestCase):
 class Budgets(unittest.TestCase):
     def test_the_seconds_of_a_team_add_up_over_its_matches(self) -> None:
         """Four matches of six seconds each, and ten seconds in all: the third and fourth come too late."""
-        limited = pool.Limited(pool.Budget(10, {"red": 0.0}), lambda _: "red", lambda _: "late")
+        limited = pool.Limited(
+            pool.Budget(10, {"red": 0.0}), lambda _: "red", lambda _: "late"
+        )
         self.assertEqual(self.played(range(4), 1, limited), [0, 1, "late", "late"])
 
     def test_megabytes_do_too(self) -> None:
-        limited = pool.Limited(pool.Budget(99, {"red": 0.0}, 5, {"red": 1.0}), lambda _: "red", lambda _: "late")
+        limited = pool.Limited(
+            pool.Budget(99, {"red": 0.0}, 5, {"red": 1.0}),
+            lambda _: "red",
+            lambda _: "late",
+        )
         self.assertEqual(self.played(range(4), 1, limited), [0, 1, 2, "late"])
         self.assertIn("have taken the 5 MB of disk", limited.budget.says("red"))
 
     def test_a_team_whose_time_is_up_stops_no_other(self) -> None:
         """The matches of all teams are played by the same processes, and come in their order."""
         teams = "red", "blue"
-        limited = pool.Limited(pool.Budget(10, dict.fromkeys(teams, 0.0)), lambda it: teams[it % 2 and it > 5],
-                               lambda it: f"late {it}")
-        self.assertEqual(self.played(range(10), 3, limited),
-                         [0, 1, 2, "late 3", "late 4", "late 5", "late 6", 7, "late 8", 9])
+        limited = pool.Limited(
+            pool.Budget(10, dict.fromkeys(teams, 0.0)),
+            lambda it: teams[it % 2 and it > 5],
+            lambda it: f"late {it}",
+        )
+        self.assertEqual(
+            self.played(range(10), 3, limited),
+            [0, 1, 2, "late 3", "late 4", "late 5", "late 6", 7, "late 8", 9],
+        )
 
     def played(self, matches: Any, workers: int, limited: pool.Limited) -> List[Any]:
         """The results of matches, each of which takes six seconds and two megabytes, by threads."""
         job: Any = mock.Mock(play=lambda match: pool.TimedResult(match, 6.0, 2 << 20))
         with concurrent.futures.ThreadPoolExecutor(workers) as executor:
-            return [it.found for it in pool.MatchQueue(job, matches, limited).results(executor, workers)]
+            return [
+                it.found
+                for it in pool.MatchQueue(job, matches, limited).results(
+                    executor, workers
+                )
+            ]

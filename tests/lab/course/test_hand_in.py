@@ -25,25 +25,48 @@ class HandIns(unittest.TestCase):
         (self.team / "agent.py").write_text("pass")
 
     def read(self, *names: str) -> HandIn:
-        return hand_in.read([self.folder / name for name in names or ("team",)], self.folder)
+        return hand_in.read(
+            [self.folder / name for name in names or ("team",)], self.folder
+        )
 
     def unpacked(self, given: HandIn, **more: bytes) -> Dict[str, str]:
         """What an archive has: texts of files, and where links lead."""
         with tarfile.open(fileobj=io.BytesIO(given.archive(**more))) as tar:
-            return {it.name: tar.extractfile(it).read().decode() if it.isfile() else f"-> {it.linkname}" if it.issym()
-                    else "folder" for it in tar}
+            return {
+                it.name: tar.extractfile(it).read().decode()
+                if it.isfile()
+                else f"-> {it.linkname}"
+                if it.issym()
+                else "folder"
+                for it in tar
+            }
 
     def test_files_folders_and_links_are_taken(self) -> None:
         (self.team / "more").mkdir()
         (self.team / "more" / "run").write_text("#!")
         (self.team / "more" / "run").chmod(0o755)
         (self.team / "link").symlink_to("agent.py")
-        self.assertEqual(self.unpacked(self.read(), **{"network.toml": b"map"}), {
-            "agent.py": "pass", "link": "-> agent.py", "more": "folder", "more/run": "#!", "network.toml": "map"})
-        modes = {it.name: it.mode for it in tarfile.open(fileobj=io.BytesIO(self.read().archive()))}
-        self.assertEqual((modes["agent.py"], modes["more/run"], modes["more"]), (0o600, 0o700, 0o700))
+        self.assertEqual(
+            self.unpacked(self.read(), **{"network.toml": b"map"}),
+            {
+                "agent.py": "pass",
+                "link": "-> agent.py",
+                "more": "folder",
+                "more/run": "#!",
+                "network.toml": "map",
+            },
+        )
+        modes = {
+            it.name: it.mode
+            for it in tarfile.open(fileobj=io.BytesIO(self.read().archive()))
+        }
+        self.assertEqual(
+            (modes["agent.py"], modes["more/run"], modes["more"]), (0o600, 0o700, 0o700)
+        )
 
-    def test_the_same_files_give_the_same_archive_and_others_another_digest(self) -> None:
+    def test_the_same_files_give_the_same_archive_and_others_another_digest(
+        self,
+    ) -> None:
         first = self.read()
         self.assertEqual(self.read().archive(), first.archive())
         (self.team / "agent.py").write_text("Pass")
@@ -52,18 +75,38 @@ class HandIns(unittest.TestCase):
     def test_no_link_is_followed(self) -> None:
         """What it leads to may be another team's, or a file of the system that never ends, as /proc/kmsg is."""
         (self.folder / "secret").write_text("secret")
-        for name, leads in (("a", "../secret"), ("b", "/proc/kmsg"), ("c", "/dev/zero"), ("d", "d"), ("e", ".")):
+        for name, leads in (
+            ("a", "../secret"),
+            ("b", "/proc/kmsg"),
+            ("c", "/dev/zero"),
+            ("d", "d"),
+            ("e", "."),
+        ):
             (self.team / name).symlink_to(leads)
         found = self.unpacked(self.read())
-        self.assertEqual(found, {"agent.py": "pass", "a": "-> ../secret", "b": "-> /proc/kmsg", "c": "-> /dev/zero",
-                                 "d": "-> d", "e": "-> ."})
+        self.assertEqual(
+            found,
+            {
+                "agent.py": "pass",
+                "a": "-> ../secret",
+                "b": "-> /proc/kmsg",
+                "c": "-> /dev/zero",
+                "d": "-> d",
+                "e": "-> .",
+            },
+        )
 
     def test_a_link_that_the_course_names_is_refused(self) -> None:
         (self.folder / "secret").write_text("secret")
         (self.team / "it").symlink_to(self.folder / "secret")
         (self.team / "inside").symlink_to(self.folder)
-        self.assertEqual(self.read("team/it").refusal, "it is a link: name what it leads to")
-        self.assertEqual(self.read("team/inside/secret").refusal, "inside is a link: name what it leads to")
+        self.assertEqual(
+            self.read("team/it").refusal, "it is a link: name what it leads to"
+        )
+        self.assertEqual(
+            self.read("team/inside/secret").refusal,
+            "inside is a link: name what it leads to",
+        )
 
     def test_nothing_is_written_through_a_link(self) -> None:
         """Files that are named later take the place of those of the same name, and of links in their way."""
@@ -77,7 +120,15 @@ class HandIns(unittest.TestCase):
         (self.folder / "more" / "inside" / "it.txt").write_text("it")
         (self.folder / "more" / "full").write_text("file")
         found = self.unpacked(self.read("bad", "team", "more"))
-        self.assertEqual(found, {"agent.py": "pass", "inside": "folder", "inside/it.txt": "it", "full": "file"})
+        self.assertEqual(
+            found,
+            {
+                "agent.py": "pass",
+                "inside": "folder",
+                "inside/it.txt": "it",
+                "full": "file",
+            },
+        )
 
     def test_what_is_neither_file_nor_folder_nor_link_is_left_out(self) -> None:
         os.mkfifo(self.team / "pipe")
@@ -85,7 +136,9 @@ class HandIns(unittest.TestCase):
             made.bind(str(self.team / "socket"))
         (self.team / "x\n\x1b[31m<b>").write_text("x")
         pathlib.Path(os.fsdecode(os.fsencode(self.team) + b"/\xff")).write_text("y")
-        self.assertEqual(sorted(self.unpacked(self.read())), ["agent.py", "x\n\x1b[31m<b>", "\udcff"])
+        self.assertEqual(
+            sorted(self.unpacked(self.read())), ["agent.py", "x\n\x1b[31m<b>", "\udcff"]
+        )
 
     def test_bounds(self) -> None:
         with open(self.team / "big", "wb") as file:
@@ -96,7 +149,9 @@ class HandIns(unittest.TestCase):
         with mock.patch.object(hand_in, "MOST_FILES", 3):
             for name in "abc":
                 (self.team / name).touch()
-            self.assertEqual(self.read().refusal, "it has more than 3 files and folders")
+            self.assertEqual(
+                self.read().refusal, "it has more than 3 files and folders"
+            )
         at = os.open(self.team, os.O_RDONLY)
         for _ in range(1200):
             os.mkdir("d", dir_fd=at)

@@ -19,8 +19,24 @@ from arena_lab.hall.attempts.seen import Part, ended
 from arena_lab.hall.course import DRAWN, FIXED, Net, hall_of, read
 from arena_lab.hall.handins import unpacking
 from arena_lab.hall.handins.unpacking import NoHandIn, files_of
-from arena_lab.hall.machine import (ACTIVE, BEGIN, CANCEL, CANCELLED, CLAIM, ENDED, FAIL, FINISH, HELD, LOSE,
-                                    LOST, MOST_RUNS, OVER, RENEW, RUNNING, WAITING)
+from arena_lab.hall.machine import (
+    ACTIVE,
+    BEGIN,
+    CANCEL,
+    CANCELLED,
+    CLAIM,
+    ENDED,
+    FAIL,
+    FINISH,
+    HELD,
+    LOSE,
+    LOST,
+    MOST_RUNS,
+    OVER,
+    RENEW,
+    RUNNING,
+    WAITING,
+)
 from arena_lab.hall.place import HallFolder
 from arena_lab.hall.standings.rules import GradedTeam, league
 from arena_lab.rules.model import Match, Setup, spelled
@@ -34,7 +50,14 @@ COURSE = 'title = "x"\n[[network]]\nname = "it"\nnetwork = "ring:5"\n'
 HAND_INS = '[hand_ins]\ncommand = "python3 agent.py {host} {port} {key}"\nnetworks = ["ring:5"]\n'
 # what claims and loses work, two workers and a team do, each in this order
 PROCESSES = (
-    ((CLAIM, "one"), (LOSE, ""), (CLAIM, "two"), (LOSE, ""), (CLAIM, "one"), (LOSE, "")),
+    (
+        (CLAIM, "one"),
+        (LOSE, ""),
+        (CLAIM, "two"),
+        (LOSE, ""),
+        (CLAIM, "one"),
+        (LOSE, ""),
+    ),
     ((BEGIN, "one"), (RENEW, "one"), (FINISH, "one"), (FAIL, "one")),
     ((BEGIN, "two"), (RENEW, "two"), (FINISH, "two"), (FAIL, "two")),
     ((CANCEL, ""),),
@@ -62,9 +85,14 @@ class Machines(unittest.TestCase):
     def test_no_step_leads_out_of_an_end(self) -> None:
         for work in self.reached():
             if work.state in ENDED:
-                self.assertEqual([after(work, event, "one") for event in EVENTS], [None] * len(EVENTS))
+                self.assertEqual(
+                    [after(work, event, "one") for event in EVENTS],
+                    [None] * len(EVENTS),
+                )
 
-    def test_work_begins_twice_at_most_and_ends_however_often_workers_are_lost(self) -> None:
+    def test_work_begins_twice_at_most_and_ends_however_often_workers_are_lost(
+        self,
+    ) -> None:
         for work in self.reached():
             with self.subTest(work):
                 self.assertLessEqual(work.runs, MOST_RUNS)
@@ -81,7 +109,9 @@ class Machines(unittest.TestCase):
         return False
 
     def test_who_does_not_hold_the_work_changes_nothing(self) -> None:
-        for work, event in itertools.product(self.reached(), (BEGIN, RENEW, FINISH, FAIL)):
+        for work, event in itertools.product(
+            self.reached(), (BEGIN, RENEW, FINISH, FAIL)
+        ):
             for holder in {"one", "two", ""} - {work.holder}:
                 self.assertIsNone(after(work, event, holder))
             if work.state not in ACTIVE:
@@ -95,9 +125,12 @@ class Machines(unittest.TestCase):
 
     def test_all_orders_of_claims_two_workers_and_a_team_with_crashes(self) -> None:
         """Each process does its steps in order, and may stop before any of them. In each order the work is over at most
-        once, by a holder that had it then, and however it stands claims and losses bring it to an end."""
+        once, by a holder that had it then, and however it stands claims and losses bring it to an end.
+        """
         seen: Set[Tuple[Tuple[int, ...], JobState, int]] = set()
-        waiting: List[Tuple[Tuple[int, ...], JobState, int]] = [((0,) * len(PROCESSES), JobState(), 0)]
+        waiting: List[Tuple[Tuple[int, ...], JobState, int]] = [
+            ((0,) * len(PROCESSES), JobState(), 0)
+        ]
         while waiting:
             found = waiting.pop()
             if found in seen:
@@ -111,16 +144,27 @@ class Machines(unittest.TestCase):
                     made = after(work, event, holder)
                     is_over = made is not None and made.state == OVER
                     self.assertTrue(not is_over or work.holder == holder)
-                    next_done = (*done[:number], done[number] + 1, *done[number + 1:])
+                    next_done = (*done[:number], done[number] + 1, *done[number + 1 :])
                     waiting.append((next_done, made or work, ends + is_over))
         self.assertGreater(len(seen), 1_000)
 
     def test_the_table_reads_as_it_stands(self) -> None:
         self.assertEqual(rows()[WAITING], ["claim: held", "cancel: cancelled"])
-        self.assertEqual(rows()[RUNNING], ["renew: running", "finish: over", "fail: lost", "lose: waiting",
-                                                   "lose: lost", "cancel: cancelled"])
+        self.assertEqual(
+            rows()[RUNNING],
+            [
+                "renew: running",
+                "finish: over",
+                "fail: lost",
+                "lose: waiting",
+                "lose: lost",
+                "cancel: cancelled",
+            ],
+        )
         self.assertIsNone(after(JobState(CANCELLED), CANCEL))
-        self.assertEqual(after(JobState(RUNNING, 2, "one"), LOSE), JobState(LOST, 2, ""))
+        self.assertEqual(
+            after(JobState(RUNNING, 2, "one"), LOSE), JobState(LOST, 2, "")
+        )
 
 
 @needs("networkx")
@@ -138,12 +182,18 @@ class Courses(unittest.TestCase):
 
     def test_tables_that_are_none_are_refused(self) -> None:
         for name in ("team", "network"):
-            with self.assertRaisesRegex(WrongFile, rf"{name} must be given: write \[\[{name}\]\] and its keys below"):
+            with self.assertRaisesRegex(
+                WrongFile,
+                rf"{name} must be given: write \[\[{name}\]\] and its keys below",
+            ):
                 self.read(f'title = "x"\n{name} = [1]\n')
 
     def test_a_name_that_begins_with_a_hyphen_is_refused(self) -> None:
         """A program for tables would take such a team's token for a formula."""
-        self.assertEqual([it.name for it in self.read(COURSE + '[[team]]\nname = "a-b"\n').teams], ["a-b"])
+        self.assertEqual(
+            [it.name for it in self.read(COURSE + '[[team]]\nname = "a-b"\n').teams],
+            ["a-b"],
+        )
         with self.assertRaisesRegex(WrongFile, "which does not come first"):
             self.read(COURSE + '[[team]]\nname = "-a"\n')
 
@@ -155,11 +205,19 @@ class Courses(unittest.TestCase):
 
     def test_hand_ins_may_be_modules(self) -> None:
         words = "agent.wasm:{nodes}"
-        given = self.read(COURSE + HAND_INS.replace("python3 agent.py {host} {port} {key}", words))
+        given = self.read(
+            COURSE + HAND_INS.replace("python3 agent.py {host} {port} {key}", words)
+        )
         self.assertEqual(given.hand_ins[:2], (words, "agent.wasm"))
-        for other, why in (("agent.wasm:{ports}", "has 'ports'; it may"), ("/agent.wasm", "file must be the name")):
+        for other, why in (
+            ("agent.wasm:{ports}", "has 'ports'; it may"),
+            ("/agent.wasm", "file must be the name"),
+        ):
             with self.assertRaisesRegex(WrongFile, why):
-                self.read(COURSE + HAND_INS.replace("python3 agent.py {host} {port} {key}", other))
+                self.read(
+                    COURSE
+                    + HAND_INS.replace("python3 agent.py {host} {port} {key}", other)
+                )
 
 
 class Draws(InTemporary):
@@ -173,18 +231,31 @@ class Draws(InTemporary):
         setups = [it.fixture.setup for it in found]
         self.assertEqual({it.home for it in setups}, set(range(6)))
         self.assertEqual({hole for it in setups for hole in it.holes}, set(range(6)))
-        self.assertTrue(all(it.home not in it.holes and len(it.holes) == 1 for it in setups))
+        self.assertTrue(
+            all(it.home not in it.holes and len(it.holes) == 1 for it in setups)
+        )
         self.assertGreater(len({str(it.links) for it in setups}), 30)
         keys = [key for it in found for key in it.fixture.keys]
         self.assertEqual(len(set(keys)), len(keys))
         for it in found:
-            self.assertEqual(it.map, {"nodes": 6, "links": [list(link) for link in it.fixture.setup.links],
-                                      "home": it.fixture.setup.home})
+            self.assertEqual(
+                it.map,
+                {
+                    "nodes": 6,
+                    "links": [list(link) for link in it.fixture.setup.links],
+                    "home": it.fixture.setup.home,
+                },
+            )
 
     def test_fixed_labels_and_no_map(self) -> None:
         net = Net("ring", "ring:6", ring(6), 2, 1, 100, 40, FIXED, False)
-        self.assertEqual([(it.fixture.setup.links, it.map) for it in (drawn(net, "a"), drawn(net, "a"))],
-                         [(ring(6).links, None)] * 2)
+        self.assertEqual(
+            [
+                (it.fixture.setup.links, it.map)
+                for it in (drawn(net, "a"), drawn(net, "a"))
+            ],
+            [(ring(6).links, None)] * 2,
+        )
 
     def test_files_of_a_match_are_the_halls_alone(self) -> None:
         net = Net("ring", "ring:6", ring(6), 2, 1, 100, 40, DRAWN, False)
@@ -202,10 +273,17 @@ class Rules(unittest.TestCase):
     """Who stands before whom."""
 
     def test_programs_are_ranked_as_in_a_league(self) -> None:
-        found = [GradedTeam("a", 1, 2, 5, 1, {}), GradedTeam("b", 2, 2, 9, 1, {}), GradedTeam("c", 1, 2, 5, 1, {}),
-                 GradedTeam("d", 1, 2, 5, 0, {}), GradedTeam("e", 1, 2, 4, 9, {})]
-        self.assertEqual([(place, it.team) for place, it in league(found)],
-                         [(1, "b"), (2, "e"), (3, "d"), (4, "a"), (4, "c")])
+        found = [
+            GradedTeam("a", 1, 2, 5, 1, {}),
+            GradedTeam("b", 2, 2, 9, 1, {}),
+            GradedTeam("c", 1, 2, 5, 1, {}),
+            GradedTeam("d", 1, 2, 5, 0, {}),
+            GradedTeam("e", 1, 2, 4, 9, {}),
+        ]
+        self.assertEqual(
+            [(place, it.team) for place, it in league(found)],
+            [(1, "b"), (2, "e"), (3, "d"), (4, "a"), (4, "c")],
+        )
 
 
 def zipped(files: Dict[str, bytes], **links: str) -> bytes:
@@ -229,12 +307,26 @@ class Unpacking(unittest.TestCase):
 
     def test_a_file_and_a_zip(self) -> None:
         self.assertEqual(files_of(b"print()", "agent.py"), {"agent.py": b"print()"})
-        self.assertEqual(files_of(zipped({"agent.py": b"1", "a/b.py": b"2"}), "x"), {"agent.py": b"1", "a/b.py": b"2"})
-        self.assertEqual(files_of(zipped({"top/agent.py": b"1", "top/b.py": b"2"}), "x"),
-                         {"agent.py": b"1", "b.py": b"2"})
+        self.assertEqual(
+            files_of(zipped({"agent.py": b"1", "a/b.py": b"2"}), "x"),
+            {"agent.py": b"1", "a/b.py": b"2"},
+        )
+        self.assertEqual(
+            files_of(zipped({"top/agent.py": b"1", "top/b.py": b"2"}), "x"),
+            {"agent.py": b"1", "b.py": b"2"},
+        )
 
     def test_names_that_lead_elsewhere(self) -> None:
-        for name in ("../agent.py", "/etc/passwd", "a/../../b", "a//b", "./a", "a\\..\\b", "a/\x01", "a" * 101):
+        for name in (
+            "../agent.py",
+            "/etc/passwd",
+            "a/../../b",
+            "a//b",
+            "./a",
+            "a\\..\\b",
+            "a/\x01",
+            "a" * 101,
+        ):
             with self.subTest(name):
                 self.refused(zipped({name: b"x"}), "no name of a file inside")
         self.refused(zipped({}, link="/etc/passwd"), "is a link")
@@ -242,10 +334,15 @@ class Unpacking(unittest.TestCase):
         self.refused(zipped({"/".join(["d"] * 40): b""}), "more than 32 deep")
 
     def test_bombs(self) -> None:
-        self.refused(zipped({"zeros": bytes(unpacking.MOST_BYTES + 1)}), "more than 32 MB")
+        self.refused(
+            zipped({"zeros": bytes(unpacking.MOST_BYTES + 1)}), "more than 32 MB"
+        )
         half = bytes(unpacking.MOST_BYTES // 2 + 1)
         self.refused(zipped({"one": half, "two": half}), "more than 32 MB")
-        self.refused(zipped({f"f{number}": b"" for number in range(unpacking.MOST_FILES + 1)}), "2000 files")
+        self.refused(
+            zipped({f"f{number}": b"" for number in range(unpacking.MOST_FILES + 1)}),
+            "2000 files",
+        )
         self.refused(bytes(unpacking.MOST_SENT + 1), "more than 8 MB")
         self.refused(b"", "empty")
 
@@ -253,7 +350,7 @@ class Unpacking(unittest.TestCase):
         whole = bytearray(zipped({"agent.py": b"print()" * 50}))
         for place in range(0, len(whole), 3):
             broken = bytearray(whole)
-            broken[place] ^= 0xff
+            broken[place] ^= 0xFF
             try:
                 found = files_of(bytes(broken), "agent.py")
                 self.assertLessEqual(len(found), 1)
@@ -272,7 +369,9 @@ class Seen(InTemporary):
         return Match(Setup(6, ring(6).links, 0, [hole], 2, 100, 40))
 
     def write(self, match: Match) -> None:
-        self.path.write_text("".join(spelled(line) + "\n" for line in [match.head(), *match.log]))
+        self.path.write_text(
+            "".join(spelled(line) + "\n" for line in [match.head(), *match.log])
+        )
 
     def shown(self, match: Match) -> str:
         self.write(match)
@@ -290,9 +389,18 @@ class Seen(InTemporary):
                 match.tell(0, {"do": "depart", "port": 0})
             dead.deliver(0)
             for _ in range(steps):
-                command: Dict[str, Any] = chance.choice((
-                    {"do": "look"}, {"do": "write", "expect": "", "put": "x" * chance.randint(0, 60)},
-                    {"do": "depart", "port": 9}, {"do": "bad"}))
+                command: Dict[str, Any] = chance.choice(
+                    (
+                        {"do": "look"},
+                        {
+                            "do": "write",
+                            "expect": "",
+                            "put": "x" * chance.randint(0, 60),
+                        },
+                        {"do": "depart", "port": 9},
+                        {"do": "bad"},
+                    )
+                )
                 for match in (dead, alive):
                     match.tell(1, dict(command))
             self.assertEqual(self.shown(dead), self.shown(alive))
@@ -319,7 +427,9 @@ class Seen(InTemporary):
         for _ in range(30):
             match.tell(0, {"do": "look"})
         self.write(match)
-        self.assertEqual((part.shown()[0]["commands"], len(part.shown()[0]["lines"])), (31, 12))
+        self.assertEqual(
+            (part.shown()[0]["commands"], len(part.shown()[0]["lines"])), (31, 12)
+        )
 
     def test_after_the_close_losses_and_refused_lines_are_told(self) -> None:
         match = self.match(1)
@@ -333,8 +443,14 @@ class Seen(InTemporary):
         assert told is not None
         self.assertEqual(told.holes, [1])
         self.assertEqual(told.lost, [{"agent": 0, "port": 0, "event": 4}])
-        self.assertEqual([(it["do"], it["reply"]) for it in told.refused], [("depart", {"no": "port"})])
-        self.assertEqual(told.refused[0]["meaning"], "the node has no such port: ports are 0 to `ports` - 1")
+        self.assertEqual(
+            [(it["do"], it["reply"]) for it in told.refused],
+            [("depart", {"no": "port"})],
+        )
+        self.assertEqual(
+            told.refused[0]["meaning"],
+            "the node has no such port: ports are 0 to `ports` - 1",
+        )
         self.assertIsNone(ended(self.path.with_name("none")))
 
 
@@ -343,16 +459,23 @@ class Commands(InTemporary):
 
     @needs("networkx")
     def test_its_times_are_those_of_the_machine(self) -> None:
-        berlin, clock = self.folder / "zoneinfo/Europe/Berlin", self.folder / "localtime"
+        berlin, clock = (
+            self.folder / "zoneinfo/Europe/Berlin",
+            self.folder / "localtime",
+        )
         berlin.parent.mkdir(parents=True)
         for place in (berlin, self.folder / "a-copy"):
             place.touch()
             clock.symlink_to(place)
             course = self.folder / f"{place.name}.toml"
-            with mock.patch.object(hall, "LOCAL_TIME", str(clock)), contextlib.redirect_stdout(io.StringIO()):
+            with mock.patch.object(
+                hall, "LOCAL_TIME", str(clock)
+            ), contextlib.redirect_stdout(io.StringIO()):
                 hall.write_new(course)
             clock.unlink()
-            self.assertEqual(read(course).zone, "Europe/Berlin" if place == berlin else "UTC")
+            self.assertEqual(
+                read(course).zone, "Europe/Berlin" if place == berlin else "UTC"
+            )
 
     def test_a_backup_goes_on_behind_files_that_are_gone_meanwhile(self) -> None:
         """A part of a replay has become the replay, and the folder of a grading has its results' name."""
@@ -367,13 +490,19 @@ class Commands(InTemporary):
 
         def gone(entry: Any) -> Any:
             for path in (place.folder / "attempts").iterdir():
-                if entry.name.startswith("it.hall/attempts/") and not entry.name.endswith(path.name):
+                if entry.name.startswith(
+                    "it.hall/attempts/"
+                ) and not entry.name.endswith(path.name):
                     path.unlink()
             return kept(entry)
-        with mock.patch.object(backup, "dumped", return_value=self.folder / "hall.sqlite3"), \
-                mock.patch.object(backup, "kept", gone):
+
+        with mock.patch.object(
+            backup, "dumped", return_value=self.folder / "hall.sqlite3"
+        ), mock.patch.object(backup, "kept", gone):
             archive = backup.write(place, self.folder / "it.tar.gz")
         with tarfile.open(archive) as tar:
             found = tar.getnames()
         self.assertEqual(sum(it.startswith("it.hall/attempts/") for it in found), 1)
-        self.assertLessEqual({"it.toml", "it.hall/hall.sqlite3", "it.hall/hall.json"}, set(found))
+        self.assertLessEqual(
+            {"it.toml", "it.hall/hall.sqlite3", "it.hall/hall.json"}, set(found)
+        )

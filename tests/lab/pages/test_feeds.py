@@ -17,7 +17,9 @@ class Feeds(InTemporary):
         self.feed = Feed(str(self.part.with_name("m")), 0)
 
     def text(self) -> str:
-        return "".join(spelled(line) + "\n" for line in [self.match.head(), *self.match.log])
+        return "".join(
+            spelled(line) + "\n" for line in [self.match.head(), *self.match.log]
+        )
 
     def begun(self, at: int) -> None:
         """A part that was written at this second, and read."""

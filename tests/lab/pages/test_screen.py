@@ -3,7 +3,16 @@ import random
 import unittest
 from typing import Any, Dict, List
 
-from arena_lab.pages.screen import NOT_BEGUN, OVER, RUNS, WAITS, WatchedMatch, shown, standings, teams
+from arena_lab.pages.screen import (
+    NOT_BEGUN,
+    OVER,
+    RUNS,
+    WAITS,
+    WatchedMatch,
+    shown,
+    standings,
+    teams,
+)
 from arena_lab.rules.model import Match, Setup
 from arena_lab.rules.networks import flipped_ring, ring
 
@@ -15,8 +24,23 @@ def drawn_events(chance: random.Random, match: Match) -> List[Event]:
     events: List[Event] = []
     for _ in range(60):
         agent = chance.randrange(match.setup.agents)
-        do = chance.choice(["enter", "look", "depart", "depart", "deliver", "deliver", "accuse", "leave"])
-        event = {"do": do, "agent": agent, **({"port": chance.randrange(2)} if do in ("depart", "accuse") else {})}
+        do = chance.choice(
+            [
+                "enter",
+                "look",
+                "depart",
+                "depart",
+                "deliver",
+                "deliver",
+                "accuse",
+                "leave",
+            ]
+        )
+        event = {
+            "do": do,
+            "agent": agent,
+            **({"port": chance.randrange(2)} if do in ("depart", "accuse") else {}),
+        }
         events.append(event)
         match.play(event)
     return events
@@ -27,7 +51,11 @@ def lost_by(setup: Setup, events: List[Event]) -> List[bool]:
     match, found = Match(setup), []
     for event in events:
         agent = match.agents[event["agent"]]
-        goes = event["do"] == "deliver" and agent.standing == "away" and match.doomed(agent.node, agent.port)
+        goes = (
+            event["do"] == "deliver"
+            and agent.standing == "away"
+            and match.doomed(agent.node, agent.port)
+        )
         found.append(goes)
         match.play(event)
     return found
@@ -42,7 +70,9 @@ class Twins(unittest.TestCase):
             setup = Setup(6, network.links, 0, [3], 3, 1000, 8)
             match = Match(setup)
             events = drawn_events(chance, match)
-            free = [node for node in range(1, 6) if node != 3 and node not in match.reached]
+            free = [
+                node for node in range(1, 6) if node != 3 and node not in match.reached
+            ]
             if not free:
                 continue
             twin_setup = setup._replace(holes=[free[0]])
@@ -51,41 +81,70 @@ class Twins(unittest.TestCase):
                 here.play(event)
                 if not is_lost:
                     there.play(event)
-                one, two = (standings([WatchedMatch("red", it, 7), WatchedMatch("blue", None, None)]) for it in (here,
-                                                                                                                 there))
+                one, two = (
+                    standings(
+                        [WatchedMatch("red", it, 7), WatchedMatch("blue", None, None)]
+                    )
+                    for it in (here, there)
+                )
                 self.assertEqual(one, two)
-                self.assertEqual(teams(one, ["ring", "ring"]), teams(two, ["ring", "ring"]))
+                self.assertEqual(
+                    teams(one, ["ring", "ring"]), teams(two, ["ring", "ring"])
+                )
                 compared += 1
         self.assertGreater(compared, 5_000)
 
 
 class Rows(unittest.TestCase):
     def setUp(self) -> None:
-        self.match = Match(Setup(3, [(0, 0, 1, 0), (1, 1, 2, 0), (2, 1, 0, 1)], 0, [2], 2, 10, 8))
+        self.match = Match(
+            Setup(3, [(0, 0, 1, 0), (1, 1, 2, 0), (2, 1, 0, 1)], 0, [2], 2, 10, 8)
+        )
 
     def test_a_running_match_shows_who_has_entered(self) -> None:
-        self.assertEqual(shown(WatchedMatch("red", None, None), False), {"team": "red", "state": NOT_BEGUN})
+        self.assertEqual(
+            shown(WatchedMatch("red", None, None), False),
+            {"team": "red", "state": NOT_BEGUN},
+        )
         self.match.tell(0, {"do": "enter"})
         self.match.tell(0, {"do": "depart", "port": 1})
         self.match.deliver(0)
-        self.assertEqual(shown(WatchedMatch("red", self.match, 7), False),
-                         {"team": "red", "state": RUNS, "entered": 1, "agents": 2, "since": 7})
-        self.assertEqual(shown(WatchedMatch("red", self.match, None), False),
-                         {"team": "red", "state": WAITS, "entered": 1, "agents": 2})
+        self.assertEqual(
+            shown(WatchedMatch("red", self.match, 7), False),
+            {"team": "red", "state": RUNS, "entered": 1, "agents": 2, "since": 7},
+        )
+        self.assertEqual(
+            shown(WatchedMatch("red", self.match, None), False),
+            {"team": "red", "state": WAITS, "entered": 1, "agents": 2},
+        )
 
     def test_matches_stand_network_by_network(self) -> None:
         self.match.close()
-        rows = standings([WatchedMatch("red", None, None, "ring"), WatchedMatch("red", self.match, 7, "cube"),
-                          WatchedMatch("blue", self.match, 7, "ring")])
-        self.assertEqual([(row["network"], row["match"]) for row in rows], [("ring", 2), ("ring", 0), ("cube", 1)])
+        rows = standings(
+            [
+                WatchedMatch("red", None, None, "ring"),
+                WatchedMatch("red", self.match, 7, "cube"),
+                WatchedMatch("blue", self.match, 7, "ring"),
+            ]
+        )
+        self.assertEqual(
+            [(row["network"], row["match"]) for row in rows],
+            [("ring", 2), ("ring", 0), ("cube", 1)],
+        )
 
     def test_a_node_is_named_once_all_are_closed(self) -> None:
         self.match.tell(0, {"do": "enter"})
         self.match.tell(0, {"do": "accuse", "port": 1})
         self.match.close()
         row = {"team": "red", "state": OVER, "moves": 0, "lost": 0, "came": True}
-        self.assertEqual(shown(WatchedMatch("red", self.match, 7), False), {**row, "outcome": "guess"})
-        self.assertEqual(shown(WatchedMatch("red", self.match, 7), True), {**row, "outcome": "guess 1"})
+        self.assertEqual(
+            shown(WatchedMatch("red", self.match, 7), False),
+            {**row, "outcome": "guess"},
+        )
+        self.assertEqual(
+            shown(WatchedMatch("red", self.match, 7), True),
+            {**row, "outcome": "guess 1"},
+        )
 
     def test_pages_come_when_all_are_closed_and_the_best_stand_first(self) -> None:
         solved = Match(self.match.setup)
@@ -95,14 +154,22 @@ class Rows(unittest.TestCase):
         solved.tell(0, {"do": "accuse", "port": 1})
         solved.close()
         running = [WatchedMatch("red", self.match, 7), WatchedMatch("blue", solved, 7)]
-        self.assertEqual([(row["team"], row["page"]) for row in standings(running)], [("blue", False), ("red", False)])
+        self.assertEqual(
+            [(row["team"], row["page"]) for row in standings(running)],
+            [("blue", False), ("red", False)],
+        )
         self.match.close()
-        self.assertEqual([(row["team"], row["page"]) for row in standings(running)], [("blue", True), ("red", True)])
+        self.assertEqual(
+            [(row["team"], row["page"]) for row in standings(running)],
+            [("blue", True), ("red", True)],
+        )
 
 
 class TwoRows(unittest.TestCase):
     def setUp(self) -> None:
-        self.matches = [Match(Setup(3, ring(3).links, 0, [2], 2, 10, 8)) for _ in range(2)]
+        self.matches = [
+            Match(Setup(3, ring(3).links, 0, [2], 2, 10, 8)) for _ in range(2)
+        ]
 
     def test_running_matches_stand_in_their_order(self) -> None:
         """Whatever happens in them: the number of events is nothing that is shown."""
@@ -111,10 +178,17 @@ class TwoRows(unittest.TestCase):
                 match.tell(0, {"do": "enter"})
             for _ in range(5):
                 self.matches[busy].tell(0, {"do": "look"})
-            rows = standings([WatchedMatch(team, match, 7) for team, match in zip("ab", self.matches)])
+            rows = standings(
+                [
+                    WatchedMatch(team, match, 7)
+                    for team, match in zip("ab", self.matches)
+                ]
+            )
             self.assertEqual([row["match"] for row in rows], [0, 1])
 
     def test_who_has_ended_has_entered(self) -> None:
         self.matches[0].tell(0, {"do": "enter"})
         self.matches[0].tell(0, {"do": "leave"})
-        self.assertEqual(shown(WatchedMatch("a", self.matches[0], 7), False)["entered"], 1)
+        self.assertEqual(
+            shown(WatchedMatch("a", self.matches[0], 7), False)["entered"], 1
+        )

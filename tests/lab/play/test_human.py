@@ -16,10 +16,22 @@ from tests.support.output import ran
 
 RING = ring(4)
 # agent 0 departs over port 0, agent 1 over port 1 and back
-STEPS = (("say", 0, {"do": "enter"}), ("say", 0, {"do": "write", "expect": "", "put": "by 0"}),
-         ("say", 0, {"do": "depart", "port": 0}), ("say", 1, {"do": "enter"}), ("wait",), ("wait",),
-         ("say", 1, {"do": "depart", "port": 1}), ("wait",), ("wait",), ("wait",), ("wait",), ("deliver", 0),
-         ("deliver", 1), ("say", 1, {"do": "look"}))
+STEPS = (
+    ("say", 0, {"do": "enter"}),
+    ("say", 0, {"do": "write", "expect": "", "put": "by 0"}),
+    ("say", 0, {"do": "depart", "port": 0}),
+    ("say", 1, {"do": "enter"}),
+    ("wait",),
+    ("wait",),
+    ("say", 1, {"do": "depart", "port": 1}),
+    ("wait",),
+    ("wait",),
+    ("wait",),
+    ("wait",),
+    ("deliver", 0),
+    ("deliver", 1),
+    ("say", 1, {"do": "look"}),
+)
 
 
 def made(holes: List[int], is_held: bool) -> HumanMatch:
@@ -60,15 +72,23 @@ class Twins(unittest.TestCase):
 class Terminal(unittest.TestCase):
     def played(self, lines: str, *words: str) -> str:
         with mock.patch("sys.stdin", io.StringIO(lines)):
-            status, told, _ = ran(main, ["play", "--network", "ring:4", "--hole", "1", "--seed", "1", *words])
+            status, told, _ = ran(
+                main,
+                ["play", "--network", "ring:4", "--hole", "1", "--seed", "1", *words],
+            )
         self.assertEqual(0, status)
         return str(told)
 
     def test_a_search_from_its_beginning_to_its_end(self) -> None:
         wait = "wait\n" * 10
-        said = self.played(f"enter\nwrite by 0\n0\n\nenter\n1\n{wait}1\n{wait}accuse 1\nend\n")
+        said = self.played(
+            f"enter\nwrite by 0\n0\n\nenter\n1\n{wait}1\n{wait}accuse 1\nend\n"
+        )
         self.assertIn("the whiteboard says: by 0", said)
-        self.assertIn("Agent 0 is on a link; nothing is heard of it.", self.played("enter\n0\nwait\nwait\nwait\n"))
+        self.assertIn(
+            "Agent 0 is on a link; nothing is heard of it.",
+            self.played("enter\n0\nwait\nwait\nwait\n"),
+        )
         self.assertIn("The match is over: solved moves 3 lost 1", said)
         self.assertIn("agent 0 was at nodes 0, and was destroyed", said)
         before, _, _ = said.partition("The match is over")
@@ -86,7 +106,9 @@ class Terminal(unittest.TestCase):
     def test_a_riddle_has_a_black_hole_or_a_node_at_which_nobody_arrives(self) -> None:
         kinds = set()
         for seed in range(20):
-            words = mock.Mock(seed=seed, network="ring:4", hole=2, riddle=True, agents=2)
+            words = mock.Mock(
+                seed=seed, network="ring:4", hole=2, riddle=True, agents=2
+            )
             fixture = match_of(words).fixture
             kinds.add((tuple(fixture.setup.holes), tuple(fixture.held)))
         self.assertEqual({((2,), ()), ((), ((1, 0), (3, 1)))}, kinds)
@@ -94,9 +116,19 @@ class Terminal(unittest.TestCase):
     def test_the_end_of_a_riddle_names_the_node(self) -> None:
         found = set()
         for seed in range(9):
-            said = self.played("end\n", "--riddle", "--seed", str(seed), "--hole", "2").splitlines()
-            found |= {line for line in said if "black hole" in line and "behind" not in line}
-        self.assertEqual({"There is no black hole: nobody arrives at node 2.", "The black hole is node 2."}, found)
+            said = self.played(
+                "end\n", "--riddle", "--seed", str(seed), "--hole", "2"
+            ).splitlines()
+            found |= {
+                line for line in said if "black hole" in line and "behind" not in line
+            }
+        self.assertEqual(
+            {
+                "There is no black hole: nobody arrives at node 2.",
+                "The black hole is node 2.",
+            },
+            found,
+        )
 
     def test_a_second_person_has_no_page(self) -> None:
         status, _, told = ran(main, ["play", "--page", "--second-person"])

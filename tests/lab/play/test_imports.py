@@ -12,11 +12,19 @@ from tests.support.output import InTemporary
 
 FILES = {
     "agent.py": "import one\nfrom two import three\n\n"
-                "def search(agent, key):\n    import late\n    from four import *\n",
+    "def search(agent, key):\n    import late\n    from four import *\n",
     "one.py": "import importlib\nimportlib.import_module('named')\n__import__('again')\n",
-    "two/__init__.py": "from . import inner\n", "two/three.py": "from .deep.er import x\nimport agent\n",
-    "two/inner.py": "", "two/deep/er.py": "x = 1\n", "two/unused.py": "", "late.py": "", "named.py": "",
-    "again.py": "def broken(:\n", "unused.py": "", "four.py": "import json, missing\n", "data.txt": "import unused\n",
+    "two/__init__.py": "from . import inner\n",
+    "two/three.py": "from .deep.er import x\nimport agent\n",
+    "two/inner.py": "",
+    "two/deep/er.py": "x = 1\n",
+    "two/unused.py": "",
+    "late.py": "",
+    "named.py": "",
+    "again.py": "def broken(:\n",
+    "unused.py": "",
+    "four.py": "import json, missing\n",
+    "data.txt": "import unused\n",
 }
 
 
@@ -35,20 +43,42 @@ class Imports(InTemporary):
 
     def test_each_file_is_followed_once(self) -> None:
         found = {os.path.relpath(name, self.folder) for name in self.behind("agent.py")}
-        self.assertEqual(found, {"agent.py", "one.py", "two/__init__.py", "two/three.py", "two/inner.py",
-                                 "two/deep/er.py", "late.py", "named.py", "again.py", "four.py"})
+        self.assertEqual(
+            found,
+            {
+                "agent.py",
+                "one.py",
+                "two/__init__.py",
+                "two/three.py",
+                "two/inner.py",
+                "two/deep/er.py",
+                "late.py",
+                "named.py",
+                "again.py",
+                "four.py",
+            },
+        )
 
     def test_digests_are_those_of_the_files(self) -> None:
         for name, digest in self.behind("agent.py").items():
-            self.assertEqual(digest, hashlib.sha256(pathlib.Path(name).read_bytes()).hexdigest())
+            self.assertEqual(
+                digest, hashlib.sha256(pathlib.Path(name).read_bytes()).hexdigest()
+            )
         before = self.behind("agent.py")
         (self.folder / "two" / "inner.py").write_text("# changed\n")
-        changed = {name for name, digest in self.behind("agent.py").items() if before[name] != digest}
+        changed = {
+            name
+            for name, digest in self.behind("agent.py").items()
+            if before[name] != digest
+        }
         self.assertEqual(changed, {str(self.folder / "two" / "inner.py")})
 
     def test_names_are_paths_from_the_working_folder(self) -> None:
         os.chdir(self.folder)
-        self.assertEqual(sorted(files_behind(pathlib.Path("one.py"))), ["again.py", "named.py", "one.py"])
+        self.assertEqual(
+            sorted(files_behind(pathlib.Path("one.py"))),
+            ["again.py", "named.py", "one.py"],
+        )
 
     def test_what_is_not_in_python_is_not_looked_into(self) -> None:
         self.assertEqual(list(self.behind("data.txt")), [str(self.folder / "data.txt")])
@@ -67,7 +97,12 @@ class Imports(InTemporary):
 
     def test_an_agent_inside_has_its_client(self) -> None:
         path = self.folder / "two" / "inner.py"
-        inside, outside = AgentWords(INSIDE, str(path)), AgentWords(OUTSIDE, f"python3 {path} {{port}} {{key}}")
-        self.assertEqual([pathlib.Path(name).name for name in inside.digests()], ["inner.py", "client.py"])
+        inside, outside = AgentWords(INSIDE, str(path)), AgentWords(
+            OUTSIDE, f"python3 {path} {{port}} {{key}}"
+        )
+        self.assertEqual(
+            [pathlib.Path(name).name for name in inside.digests()],
+            ["inner.py", "client.py"],
+        )
         self.assertEqual(list(outside.digests()), [str(path)])
         self.assertEqual(digests_of([inside, outside, inside]), inside.digests())

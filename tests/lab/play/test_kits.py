@@ -13,7 +13,11 @@ class Kits(InTemporary):
             with self.subTest(language):
                 write_kit(language, self.folder / language)
                 found = {it.name for it in (self.folder / language).iterdir()}
-                kept = {it.name for it in (AGENTS / language).iterdir() if it.name not in MADE}
+                kept = {
+                    it.name
+                    for it in (AGENTS / language).iterdir()
+                    if it.name not in MADE
+                }
                 self.assertEqual(kept | set(kit.shared), found)
                 self.assertFalse(found & set(MADE))
 
@@ -28,11 +32,17 @@ class Kits(InTemporary):
             text = (AGENTS / language / "README.md").read_text(encoding="utf-8").split()
             for command in filter(None, (kit.build, kit.test, played(kit))):
                 with self.subTest(language, command=command):
-                    self.assertIn(" ".join(command.split()), " ".join(text).replace('"', ""))
+                    self.assertIn(
+                        " ".join(command.split()), " ".join(text).replace('"', "")
+                    )
 
     def test_it_says_how_to_go_on(self) -> None:
         status, told, _ = ran(main, ["new", "c", str(self.folder / "my agent")])
         self.assertEqual(status, 0)
-        for wanted in (f"cd '{self.folder / 'my agent'}'\n", "    make\n", "    make test\n",
-                       '--command "./careful {host} {port} {key} {nodes}"\n'):
+        for wanted in (
+            f"cd '{self.folder / 'my agent'}'\n",
+            "    make\n",
+            "    make test\n",
+            '--command "./careful {host} {port} {key} {nodes}"\n',
+        ):
             self.assertIn(wanted, told)

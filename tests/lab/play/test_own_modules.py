@@ -14,8 +14,20 @@ class Randoms(unittest.TestCase):
     def test_it_draws_as_a_generator_of_its_seed(self) -> None:
         made, wanted = random_from(3), random.Random(3)
         for _ in range(3):
-            self.assertEqual([made.random(), made.randint(1, 6), made.gauss(0, 1), made.sample(range(9), 4)],
-                             [wanted.random(), wanted.randint(1, 6), wanted.gauss(0, 1), wanted.sample(range(9), 4)])
+            self.assertEqual(
+                [
+                    made.random(),
+                    made.randint(1, 6),
+                    made.gauss(0, 1),
+                    made.sample(range(9), 4),
+                ],
+                [
+                    wanted.random(),
+                    wanted.randint(1, 6),
+                    wanted.gauss(0, 1),
+                    wanted.sample(range(9), 4),
+                ],
+            )
         self.assertEqual(made.getstate(), wanted.getstate())
 
     def test_its_draws_and_seeds_change_no_other(self) -> None:
@@ -37,7 +49,9 @@ class Randoms(unittest.TestCase):
 
 class Paths(unittest.TestCase):
     def test_imports_look_beside_the_agent_first_wherever_else_they_look(self) -> None:
-        with mock.patch.object(sys, "path", ["/other"]), mock.patch.object(own_modules, "FOLDERS", set()):
+        with mock.patch.object(sys, "path", ["/other"]), mock.patch.object(
+            own_modules, "FOLDERS", set()
+        ):
             modules = OwnModules(0)
             for number in range(2):
                 with modules:

@@ -4,7 +4,14 @@ from typing import Any, List, Optional
 
 from arena_lab.play.players import SLEEPS, TRAVELS, WAITS
 from arena_lab.play.programs import seed_of
-from arena_lab.play.repeating import Alone, Otherwise, Said, in_words, past_of, with_new_keys
+from arena_lab.play.repeating import (
+    Alone,
+    Otherwise,
+    Said,
+    in_words,
+    past_of,
+    with_new_keys,
+)
 from arena_lab.rules.fixtures import fixture_of
 from arena_lab.rules.model import GONE, Setup, spelled
 from arena_lab.rules.networks import ring
@@ -51,7 +58,12 @@ class Sleeps(Speaks):
             self.state, self.line = WAITS, self._kept
 
     def _sleep(self) -> None:
-        self.state, self._kept, self.line, self._due = SLEEPS, self.line, None, self._naps
+        self.state, self._kept, self.line, self._due = (
+            SLEEPS,
+            self.line,
+            None,
+            self._naps,
+        )
 
 
 class RepeatingTest(unittest.TestCase):
@@ -59,28 +71,43 @@ class RepeatingTest(unittest.TestCase):
 
     def lines(self, agent: int) -> List[Any]:
         """What an agent sent."""
-        return [{**said.command, "key": KEYS[agent]} if said.command["do"] == "enter" else said.command
-                for said in past_of(self.replay, agent)]
+        return [
+            {**said.command, "key": KEYS[agent]}
+            if said.command["do"] == "enter"
+            else said.command
+            for said in past_of(self.replay, agent)
+        ]
 
-    def repeated(self, agent: int, lines: List[Any], quota: int = QUOTA) -> Optional[Otherwise]:
+    def repeated(
+        self, agent: int, lines: List[Any], quota: int = QUOTA
+    ) -> Optional[Otherwise]:
         """Repeats an agent that says these lines."""
         self.player: Any = Speaks(agent, lines)
-        return Alone(self.player, KEYS[agent], quota).otherwise(past_of(self.replay, agent))
+        return Alone(self.player, KEYS[agent], quota).otherwise(
+            past_of(self.replay, agent)
+        )
 
     def test_who_says_the_same_is_told_what_the_replay_has(self) -> None:
         for agent in (0, 1):
             past = past_of(self.replay, agent)
             self.assertGreater(len(past), 2)
             self.assertIsNone(self.repeated(agent, self.lines(agent)))
-            self.assertEqual(self.player.told, [spelled(line) for said in past for line in said.told])
+            self.assertEqual(
+                self.player.told, [spelled(line) for said in past for line in said.told]
+            )
 
     def test_the_first_difference_is_told(self) -> None:
         lines = self.lines(0)
         for number in range(1, len(lines)):
-            said = self.repeated(0, [*lines[:number], {"do": "depart", "port": 9}, *lines[number + 1:]])
+            said = self.repeated(
+                0, [*lines[:number], {"do": "depart", "port": 9}, *lines[number + 1 :]]
+            )
             self.assertIsNotNone(said)
             if said:
-                self.assertEqual((said.number, said.in_match, said.alone["port"]), (number + 1, lines[number], 9))
+                self.assertEqual(
+                    (said.number, said.in_match, said.alone["port"]),
+                    (number + 1, lines[number], 9),
+                )
 
     def test_who_ends_before_has_left(self) -> None:
         said = self.repeated(0, self.lines(0)[:1])
@@ -97,16 +124,24 @@ class RepeatingTest(unittest.TestCase):
         self.assertIn(spelled({"no": "twice"}), self.player.told)
 
     def test_commands_beyond_the_quota_are_answered(self) -> None:
-        past = [Said({"do": "enter"}, [{}]), Said(LOOK, [{}]), Said({"do": "leave"}, [{}])]
+        past = [
+            Said({"do": "enter"}, [{}]),
+            Said(LOOK, [{}]),
+            Said({"do": "leave"}, [{}]),
+        ]
         for quota, expected in ((1, None), (2, 3)):
-            player: Any = Speaks(0, [{"do": "enter", "key": "ka"}, LOOK, LOOK, {"do": "leave"}])
+            player: Any = Speaks(
+                0, [{"do": "enter", "key": "ka"}, LOOK, LOOK, {"do": "leave"}]
+            )
             said = Alone(player, "ka", quota).otherwise(past)
             self.assertEqual(said.number if said else None, expected)
 
     def test_who_sleeps_wakes_until_it_says_something(self) -> None:
         """How often an agent has slept stands in no replay."""
         player: Any = Sleeps(0, self.lines(0), 3)
-        self.assertIsNone(Alone(player, KEYS[0], QUOTA).otherwise(past_of(self.replay, 0)))
+        self.assertIsNone(
+            Alone(player, KEYS[0], QUOTA).otherwise(past_of(self.replay, 0))
+        )
         self.assertGreater(player.woken, 9)
 
     def test_keys_are_new_each_time(self) -> None:
@@ -129,5 +164,5 @@ class RepeatingTest(unittest.TestCase):
     def test_a_seed_fits_everywhere_and_comes_from_the_key(self) -> None:
         found = [seed_of(f"k{number}") for number in range(200)]
         self.assertEqual(len(set(found)), 200)
-        self.assertTrue(all(0 <= seed < 2 ** 31 for seed in found))
+        self.assertTrue(all(0 <= seed < 2**31 for seed in found))
         self.assertEqual(seed_of("k0"), found[0])

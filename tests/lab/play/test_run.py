@@ -19,12 +19,26 @@ class Rows(unittest.TestCase):
         def prints(*_: Any) -> Any:
             print("not a row")
             yield mock.Mock(line=lambda: "a row")
+
         said, told = io.StringIO(), io.StringIO()
-        words = argparse.Namespace(json=True, seeds=None, seed=0, runs=1, scheduler="fair", repeat=False, workers=1)
-        with contextlib.redirect_stdout(said), contextlib.redirect_stderr(told), mock.patch.object(
-                command, "program_of"), mock.patch.object(command, "game_of"), mock.patch.object(
-                command.games, "rows_of", prints), mock.patch.object(command, "Tally", mock.Mock(
-                    return_value=mock.Mock(best=None))):
+        words = argparse.Namespace(
+            json=True,
+            seeds=None,
+            seed=0,
+            runs=1,
+            scheduler="fair",
+            repeat=False,
+            workers=1,
+        )
+        with contextlib.redirect_stdout(said), contextlib.redirect_stderr(
+            told
+        ), mock.patch.object(command, "program_of"), mock.patch.object(
+            command, "game_of"
+        ), mock.patch.object(
+            command.games, "rows_of", prints
+        ), mock.patch.object(
+            command, "Tally", mock.Mock(return_value=mock.Mock(best=None))
+        ):
             command.run(words)
         self.assertEqual((said.getvalue(), told.getvalue()), ("a row\n", "not a row\n"))
 
@@ -34,14 +48,21 @@ class Words(unittest.TestCase):
         self.assertEqual(list(seeds("3:6")), [3, 4, 5])
         self.assertEqual(list(seeds("-2:0")), [-2, -1])
         for wrong in ("3", "3:3", "4:3", "a:b", "1:2:3", ""):
-            with self.assertRaisesRegex(argparse.ArgumentTypeError, "write A:B for those from A up to B"):
+            with self.assertRaisesRegex(
+                argparse.ArgumentTypeError, "write A:B for those from A up to B"
+            ):
                 seeds(wrong)
 
 
 class Tallies(unittest.TestCase):
     def test_the_most_moves_or_the_shortest_failure(self) -> None:
         tally: Any = Tally()
-        for given in (row(), row(moves=7), row(moves=6), row(failed=True, outcome="guess 1", choices=20)):
+        for given in (
+            row(),
+            row(moves=7),
+            row(moves=6),
+            row(failed=True, outcome="guess 1", choices=20),
+        ):
             tally.add(given)
         self.assertEqual(tally.outcomes, {"solved": 3, "guess": 1})
         self.assertEqual((tally.failed, tally.best["choices"]), (1, 20))
@@ -59,4 +80,7 @@ class Tallies(unittest.TestCase):
         best.match().played.refused = []
         best.__getitem__ = mock.Mock(return_value=0)
         report(tally, best, None, said)
-        self.assertIn("60 schedules: solved 60; failed 60, of which 60 solved, but an agent failed\n", said.getvalue())
+        self.assertIn(
+            "60 schedules: solved 60; failed 60, of which 60 solved, but an agent failed\n",
+            said.getvalue(),
+        )

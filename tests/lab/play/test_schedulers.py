@@ -4,7 +4,14 @@ from types import SimpleNamespace
 from typing import Any, List
 
 from arena_lab.play import schedulers
-from arena_lab.play.schedulers import ANSWER, ARRIVE, WAKE, Choice, ScheduleEnded, Impossible
+from arena_lab.play.schedulers import (
+    ANSWER,
+    ARRIVE,
+    WAKE,
+    Choice,
+    ScheduleEnded,
+    Impossible,
+)
 
 ANSWERS = [Choice(ANSWER, agent) for agent in range(3)]
 # a seed whose links have other paces
@@ -22,14 +29,20 @@ class Schedulers(unittest.TestCase):
     def test_a_seed_gives_the_same_choices(self) -> None:
         for name, maker in schedulers.NAMED.items():
             with self.subTest(name):
-                one, two = ([choose(ARRIVALS, state([2, 0, 1])) for _ in range(50)] for choose in (maker(1), maker(1)))
+                one, two = (
+                    [choose(ARRIVALS, state([2, 0, 1])) for _ in range(50)]
+                    for choose in (maker(1), maker(1))
+                )
                 self.assertEqual(one, two)
 
     def test_each_that_draws_chooses_each_in_the_end(self) -> None:
         for name in ("fair", "slow-agents", "slow-links"):
             choose = schedulers.NAMED[name](3)
             with self.subTest(name):
-                self.assertEqual({choose(ARRIVALS, state([0, 1, 2])) for _ in range(5000)}, set(ARRIVALS))
+                self.assertEqual(
+                    {choose(ARRIVALS, state([0, 1, 2])) for _ in range(5000)},
+                    set(ARRIVALS),
+                )
 
     def test_slow_agents_are_slow_for_the_whole_match(self) -> None:
         choose = schedulers.slow_agents(1)
@@ -48,20 +61,27 @@ class Schedulers(unittest.TestCase):
             answered[choose(ANSWERS, state([])).agent] += 1
         self.assertGreater(min(answered) * 3, max(answered))
 
-    def test_the_last_that_departed_arrives_first_once_nobody_is_to_be_answered(self) -> None:
+    def test_the_last_that_departed_arrives_first_once_nobody_is_to_be_answered(
+        self,
+    ) -> None:
         choose = schedulers.last_departed(0)
         self.assertEqual(choose(ARRIVALS, state([1, 2, 0])), Choice(ARRIVE, 0))
         self.assertEqual(choose([ARRIVALS[0], ANSWERS[1]], state([0])), ANSWERS[1])
 
     def test_the_starved_wait_for_all_others(self) -> None:
         choose = schedulers.starved(1)
-        self.assertNotIn(Choice(ANSWER, 1), {choose(ANSWERS, state([])) for _ in range(100)})
+        self.assertNotIn(
+            Choice(ANSWER, 1), {choose(ANSWERS, state([])) for _ in range(100)}
+        )
         self.assertEqual(choose([Choice(WAKE, 1)], state([])), Choice(WAKE, 1))
 
     def test_runs(self) -> None:
         choose = schedulers.in_runs([(1, 2), (2, 1), (4, 1)])
         lone = [ANSWERS[0]]
-        found = [choose(choices, state([])).agent for choices in (ANSWERS, lone, ANSWERS, ANSWERS, ANSWERS, ANSWERS)]
+        found = [
+            choose(choices, state([])).agent
+            for choices in (ANSWERS, lone, ANSWERS, ANSWERS, ANSWERS, ANSWERS)
+        ]
         self.assertEqual(found, [1, 0, 1, 2, 1, 0])
 
     def test_a_recorded_schedule(self) -> None:

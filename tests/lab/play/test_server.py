@@ -6,7 +6,12 @@ from typing import List, Optional
 
 from arena_lab.play.server import Contest
 from arena_lab.rules.delays import Delays
-from arena_lab.rules.fixtures import Tournament, fixture_of, read_tournament, tournament_text
+from arena_lab.rules.fixtures import (
+    Tournament,
+    fixture_of,
+    read_tournament,
+    tournament_text,
+)
 from arena_lab.rules.model import AWAY, Setup
 from arena_lab.rules.networks import ring
 from tests.support.output import InTemporary
@@ -22,7 +27,9 @@ def contest_on_ring(delays: Optional[Delays]) -> Contest:
     return Contest(Tournament(SEED, [fixture], delays))
 
 
-def turns_of_moves(delays: Optional[Delays], is_other_destroyed: bool, moves: int) -> List[int]:
+def turns_of_moves(
+    delays: Optional[Delays], is_other_destroyed: bool, moves: int
+) -> List[int]:
     """After how many turns each move of agent 0 ends, on a ring whose black hole agent 1 departs for or not."""
     contest = contest_on_ring(delays)
     for agent in range(2):
@@ -50,7 +57,9 @@ class Clients(unittest.TestCase):
             with self.assertRaises(TimeoutError):
                 while True:
                     ours.sendall(b'{"do":"look"}\n' * 1000)
-            other = threading.Thread(target=contest.take, args=(1, b'{"do":"enter","key":"k1"}'), daemon=True)
+            other = threading.Thread(
+                target=contest.take, args=(1, b'{"do":"enter","key":"k1"}'), daemon=True
+            )
             other.start()
             other.join(20)
             self.assertFalse(other.is_alive())
@@ -62,17 +71,26 @@ class DelaysTest(InTemporary):
         self.assertEqual({word: DELAYS.by_word(word) for word in rows}, rows)
 
     def test_turns_tell_nothing_of_who_is_destroyed(self) -> None:
-        self.assertEqual(*(turns_of_moves(DELAYS, destroyed, 40) for destroyed in (False, True)))
-        self.assertNotEqual(*(turns_of_moves(None, destroyed, 40) for destroyed in (False, True)))
+        self.assertEqual(
+            *(turns_of_moves(DELAYS, destroyed, 40) for destroyed in (False, True))
+        )
+        self.assertNotEqual(
+            *(turns_of_moves(None, destroyed, 40) for destroyed in (False, True))
+        )
 
     def test_agents_wait_for_their_delays(self) -> None:
-        means = [turns_of_moves(Delays(scales, 4), False, 200)[-1] / 200 for scales in (0, 3)]
+        means = [
+            turns_of_moves(Delays(scales, 4), False, 200)[-1] / 200 for scales in (0, 3)
+        ]
         self.assertLess(means[0] + 1, means[1])
 
     def test_a_tournament_with_delays_is_written_and_read(self) -> None:
         path = self.folder / "t.toml"
         for delays in (None, DELAYS):
-            path.write_text(tournament_text("0" * 64, [], delays) + ("" if delays else "match = []\n"))
+            path.write_text(
+                tournament_text("0" * 64, [], delays)
+                + ("" if delays else "match = []\n")
+            )
             text = path.read_text()
             self.assertEqual(text.splitlines()[0], f"version = {3 if delays else 2}")
             if delays:

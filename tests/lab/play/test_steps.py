@@ -6,10 +6,49 @@ from typing import Any
 from arena_lab.play.agent_files import NoAgent, function_of
 from arena_lab.play.steps import NotPlain, check, fresh, is_step, memory_of, name_of
 
-PLAIN = [None, True, False, 0, 1, -1, 10 ** 40, 0.0, -0.0, 1.5, math.inf, "", "\u20ac", "a\x00\ud800", (), [], {}, (1,),
-         [1], [1.0], {"a": 1, "b": 2}, {"b": 2, "a": 1}, (1, [True, {"x": (None, "y")}]), ("1",), 1.0]
-OTHERS = [b"x", {1}, frozenset((1,)), object(), len, lambda: None, bytearray(b"x"), 1j, type("T", (tuple,), {})((1,)),
-          type("I", (int,), {})(1), type("S", (str,), {})("x"), range(3), ..., [(1, {"a": {2}})]]
+PLAIN = [
+    None,
+    True,
+    False,
+    0,
+    1,
+    -1,
+    10**40,
+    0.0,
+    -0.0,
+    1.5,
+    math.inf,
+    "",
+    "\u20ac",
+    "a\x00\ud800",
+    (),
+    [],
+    {},
+    (1,),
+    [1],
+    [1.0],
+    {"a": 1, "b": 2},
+    {"b": 2, "a": 1},
+    (1, [True, {"x": (None, "y")}]),
+    ("1",),
+    1.0,
+]
+OTHERS = [
+    b"x",
+    {1},
+    frozenset((1,)),
+    object(),
+    len,
+    lambda: None,
+    bytearray(b"x"),
+    1j,
+    type("T", (tuple,), {})((1,)),
+    type("I", (int,), {})(1),
+    type("S", (str,), {})("x"),
+    range(3),
+    ...,
+    [(1, {"a": {2}})],
+]
 
 
 class Memories(unittest.TestCase):
@@ -25,14 +64,20 @@ class Memories(unittest.TestCase):
 
     def test_equal_values_have_one_name_whatever_they_share(self) -> None:
         text = "".join(["le", "ft"])
-        for one, other in (((text, text), (text, "".join(["le", "ft"]))), (["left"], [text])):
+        for one, other in (
+            ((text, text), (text, "".join(["le", "ft"]))),
+            (["left"], [text]),
+        ):
             self.assertEqual(name_of(one), name_of(other))
 
     def test_other_values_are_refused(self) -> None:
         for value in OTHERS:
             with self.subTest(repr(value)), self.assertRaises(NotPlain):
                 check(value)
-        with self.assertRaisesRegex(NotPlain, r"^its memory holds \{1\}, of type set: hold None, True, False, numbers"):
+        with self.assertRaisesRegex(
+            NotPlain,
+            r"^its memory holds \{1\}, of type set: hold None, True, False, numbers",
+        ):
             name_of((0, {1}))
 
     def test_a_step_keeps_nothing_in_what_it_gives(self) -> None:
@@ -41,6 +86,7 @@ class Memories(unittest.TestCase):
         def step(memory: Any, _reply: Any) -> Any:
             kept.append(memory)
             return kept if memory is None else memory, {"do": "look"}
+
         first, _ = fresh(step)(None, {})
         self.assertEqual(first, [None])
         kept.append(7)

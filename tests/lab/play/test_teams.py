@@ -8,8 +8,19 @@ from arena_lab.rules.model import Match, Setup, Verdict
 from arena_lab.rules.networks import ring
 
 
-def came(team: str, outcome: Optional[str], moves: int = 0, network: str = "r", has_entered: bool = True) -> Came:
-    return Came(team, network, None if outcome is None else Verdict(outcome, moves, 1), has_entered)
+def came(
+    team: str,
+    outcome: Optional[str],
+    moves: int = 0,
+    network: str = "r",
+    has_entered: bool = True,
+) -> Came:
+    return Came(
+        team,
+        network,
+        None if outcome is None else Verdict(outcome, moves, 1),
+        has_entered,
+    )
 
 
 class Standings(unittest.TestCase):
@@ -17,32 +28,73 @@ class Standings(unittest.TestCase):
         return [(row.place, row.team, row.solved, row.moves) for row in ranked(found)]
 
     def test_one_row_a_team_by_what_it_solved_and_then_by_moves(self) -> None:
-        found = [came("a", "solved", 9), came("a", "guess", 1), came("b", "solved", 5), came("b", "solved", 7, "s"),
-                 came("c", "solved", 8), came("c", None)]
-        self.assertEqual(self.places(found), [(1, "b", 2, 12), (2, "c", 1, 8), (3, "a", 1, 9)])
+        found = [
+            came("a", "solved", 9),
+            came("a", "guess", 1),
+            came("b", "solved", 5),
+            came("b", "solved", 7, "s"),
+            came("c", "solved", 8),
+            came("c", None),
+        ]
+        self.assertEqual(
+            self.places(found), [(1, "b", 2, 12), (2, "c", 1, 8), (3, "a", 1, 9)]
+        )
         self.assertEqual(ranked(found)[0].networks, {"r": (1, 1), "s": (1, 1)})
         self.assertEqual(networks_of(found), ["r", "s"])
 
     def test_equal_teams_share_a_place_and_who_never_came_stands_last(self) -> None:
-        found = [came("late", "silent", has_entered=False), came("a", "silent"), came("b", "wrong", 30),
-                 came("none", None, has_entered=False)]
-        self.assertEqual([(row.place, row.team, row.is_absent) for row in ranked(found)],
-                         [(1, "a", False), (1, "b", False), (3, "late", True), (3, "none", True)])
+        found = [
+            came("late", "silent", has_entered=False),
+            came("a", "silent"),
+            came("b", "wrong", 30),
+            came("none", None, has_entered=False),
+        ]
+        self.assertEqual(
+            [(row.place, row.team, row.is_absent) for row in ranked(found)],
+            [(1, "a", False), (1, "b", False), (3, "late", True), (3, "none", True)],
+        )
 
     def test_traps_are_counted_apart(self) -> None:
         def trap(team: str, outcome: str) -> Came:
             return came(team, outcome)._replace(is_trap=True)
-        found = [came("a", "solved", 9), trap("a", "silent"), came("b", "solved", 5), trap("b", "wrong"),
-                 came("c", "solved", 9), trap("c", "unfinished")]
+
+        found = [
+            came("a", "solved", 9),
+            trap("a", "silent"),
+            came("b", "solved", 5),
+            trap("b", "wrong"),
+            came("c", "solved", 9),
+            trap("c", "unfinished"),
+        ]
         rows = ranked(found)
-        self.assertEqual([(row.place, row.team, row.traps, row.deceived) for row in rows],
-                         [(1, "a", 1, 0), (1, "c", 1, 0), (3, "b", 1, 1)])
+        self.assertEqual(
+            [(row.place, row.team, row.traps, row.deceived) for row in rows],
+            [(1, "a", 1, 0), (1, "c", 1, 0), (3, "b", 1, 1)],
+        )
         self.assertEqual(rows[0].networks, {"r": (1, 1)})
 
     def test_which_matches_are_traps_is_told_once_all_are_closed(self) -> None:
-        over = {"team": "red", "state": "is over", "outcome": "silent", "moves": 1, "lost": 0, "came": True, "match": 0}
-        runs = {"team": "red", "state": "runs", "entered": 1, "agents": 2, "since": 7, "match": 1}
-        ((now,), (later,)) = (teams([over, it], ["r", "r"], [0])["rows"] for it in (runs, {**over, "match": 1}))
+        over = {
+            "team": "red",
+            "state": "is over",
+            "outcome": "silent",
+            "moves": 1,
+            "lost": 0,
+            "came": True,
+            "match": 0,
+        }
+        runs = {
+            "team": "red",
+            "state": "runs",
+            "entered": 1,
+            "agents": 2,
+            "since": 7,
+            "match": 1,
+        }
+        ((now,), (later,)) = (
+            teams([over, it], ["r", "r"], [0])["rows"]
+            for it in (runs, {**over, "match": 1})
+        )
         self.assertEqual((now["traps"], now["networks"]), (0, [(0, 2)]))
         self.assertEqual((later["traps"], later["networks"]), (1, [(0, 1)]))
 
@@ -56,11 +108,33 @@ class Standings(unittest.TestCase):
         running.tell(0, {"do": "enter"})
         for match in (solved, empty):
             match.close()
-        rows = standings([WatchedMatch(team, match, 7) for team, match in
-                          (("red", running), ("blue", empty), ("red", solved), ("green", None))])
+        rows = standings(
+            [
+                WatchedMatch(team, match, 7)
+                for team, match in (
+                    ("red", running),
+                    ("blue", empty),
+                    ("red", solved),
+                    ("green", None),
+                )
+            ]
+        )
         told = teams(rows, ["r", "r", "s", "s"])
         self.assertEqual(told["networks"], ["r", "s"])
-        self.assertEqual([(row["place"], row["team"], row["solved"], row["is_absent"], row["networks"])
-                          for row in told["rows"]],
-                         [(1, "red", 1, False, [(0, 1), (1, 1)]), (2, "blue", 0, True, [(0, 1), None]),
-                          (2, "green", 0, True, [None, (0, 1)])])
+        self.assertEqual(
+            [
+                (
+                    row["place"],
+                    row["team"],
+                    row["solved"],
+                    row["is_absent"],
+                    row["networks"],
+                )
+                for row in told["rows"]
+            ],
+            [
+                (1, "red", 1, False, [(0, 1), (1, 1)]),
+                (2, "blue", 0, True, [(0, 1), None]),
+                (2, "green", 0, True, [None, (0, 1)]),
+            ],
+        )

@@ -2,7 +2,14 @@
 import os
 import unittest
 
-from arena_lab.rules.fixtures import SEED, NoMatch, checked, fixture_of, read_tournament, tournament_text
+from arena_lab.rules.fixtures import (
+    SEED,
+    NoMatch,
+    checked,
+    fixture_of,
+    read_tournament,
+    tournament_text,
+)
 from arena_lab.rules.model import Match, Setup
 from arena_lab.rules.networks import NoNetwork, in_file, ring, text_of
 from tests.support.output import InTemporary
@@ -13,7 +20,11 @@ RIGHT = Setup(4, NETWORK.links, 0, [2], 2, 1000, 4096)
 
 class Setups(unittest.TestCase):
     def test_a_right_one_is_taken(self) -> None:
-        for setup in (RIGHT, RIGHT._replace(holes=[1, 3]), RIGHT._replace(holes=[], dark=[(0, 0), (0, 1)])):
+        for setup in (
+            RIGHT,
+            RIGHT._replace(holes=[1, 3]),
+            RIGHT._replace(holes=[], dark=[(0, 0), (0, 1)]),
+        ):
             self.assertEqual(checked(setup), setup)
 
     def test_what_is_refused(self) -> None:
@@ -36,10 +47,15 @@ class Setups(unittest.TestCase):
 
 
 class Versions(unittest.TestCase):
-    def test_later_versions_are_written_only_if_the_earlier_ones_cannot_say_it(self) -> None:
-        for setup, file, replay in ((RIGHT, 2, 2), (RIGHT._replace(quota=1001), 3, 3),
-                                    (RIGHT._replace(board=4097), 3, 3),
-                                    (RIGHT._replace(quota=65_535, board=65_535), 3, 3)):
+    def test_later_versions_are_written_only_if_the_earlier_ones_cannot_say_it(
+        self,
+    ) -> None:
+        for setup, file, replay in (
+            (RIGHT, 2, 2),
+            (RIGHT._replace(quota=1001), 3, 3),
+            (RIGHT._replace(board=4097), 3, 3),
+            (RIGHT._replace(quota=65_535, board=65_535), 3, 3),
+        ):
             with self.subTest(setup=setup):
                 text = tournament_text(SEED, [(fixture_of(setup), "network.toml")])
                 self.assertEqual(text.splitlines()[0], f"version = {file}")
@@ -48,24 +64,35 @@ class Versions(unittest.TestCase):
     def test_networks(self) -> None:
         for nodes, version in ((256, 1), (257, 2), (4096, 2)):
             with self.subTest(nodes):
-                self.assertEqual(text_of(ring(nodes)).splitlines()[0], f"version = {version}")
-        self.assertEqual(Match(Setup(257, ring(257).links, 0, [2], 1, 10, 8)).head()["replay"], 3)
+                self.assertEqual(
+                    text_of(ring(nodes)).splitlines()[0], f"version = {version}"
+                )
+        self.assertEqual(
+            Match(Setup(257, ring(257).links, 0, [2], 1, 10, 8)).head()["replay"], 3
+        )
 
 
 class Files(InTemporary):
     def test_files_of_another_kind_are_told(self) -> None:
         file = self.folder / "file"
-        for text, why in (("# words", "it has no key 'nodes'"), ("nodes = 3\nlinks = 4", "not iterable"),
-                          ("nodes", "Expected '=' after a key")):
+        for text, why in (
+            ("# words", "it has no key 'nodes'"),
+            ("nodes = 3\nlinks = 4", "not iterable"),
+            ("nodes", "Expected '=' after a key"),
+        ):
             file.write_text(text, encoding="utf-8")
             with self.subTest(text), self.assertRaisesRegex(NoNetwork, why):
                 in_file(str(file))
-            with self.subTest(text), self.assertRaisesRegex(NoMatch, "it is no tournament"):
+            with self.subTest(text), self.assertRaisesRegex(
+                NoMatch, "it is no tournament"
+            ):
                 read_tournament(str(file))
 
     def test_a_key_that_is_missing_and_one_that_version_3_does_not_have(self) -> None:
         (self.folder / "four.toml").write_text(text_of(NETWORK))
-        cup, text = self.folder / "cup.toml", tournament_text(SEED, [(fixture_of(RIGHT), "four.toml")])
+        cup, text = self.folder / "cup.toml", tournament_text(
+            SEED, [(fixture_of(RIGHT), "four.toml")]
+        )
         # a match without black holes lacks the key of later versions
         cup.write_text(text.replace("holes", "hloes"))
         with self.assertRaisesRegex(NoMatch, "it has no key 'holes'"):
@@ -76,7 +103,9 @@ class Files(InTemporary):
                 cup.write_text(strange)
                 self.assertEqual(len(read_tournament(str(cup)).fixtures), 1)
                 cup.write_text(strange.replace("version = 2", "version = 3"))
-                with self.assertRaisesRegex(NoMatch, "unknown key hled: the keys here are"):
+                with self.assertRaisesRegex(
+                    NoMatch, "unknown key hled: the keys here are"
+                ):
                     read_tournament(str(cup))
 
     def test_a_network_is_looked_for_as_the_program_does(self) -> None:
@@ -85,10 +114,14 @@ class Files(InTemporary):
             place.mkdir()
             (place / "net.toml").write_text(text_of(ring(nodes)), encoding="utf-8")
         tournament = folder / "t.toml"
-        tournament.write_text(tournament_text(SEED, [(fixture_of(RIGHT), "net.toml")]), encoding="utf-8")
+        tournament.write_text(
+            tournament_text(SEED, [(fixture_of(RIGHT), "net.toml")]), encoding="utf-8"
+        )
         before = os.getcwd()
         self.addCleanup(os.chdir, before)
         for place, nodes in ((self.folder, 5), (elsewhere, 4), (folder, 5)):
             os.chdir(place)
-            self.assertEqual(read_tournament(str(tournament)).fixtures[0].setup.nodes, nodes)
+            self.assertEqual(
+                read_tournament(str(tournament)).fixtures[0].setup.nodes, nodes
+            )
         os.chdir(before)

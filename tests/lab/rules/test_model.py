@@ -1,7 +1,15 @@
 """The Python model: worked rows on the triangle."""
 import unittest
 
-from arena_lab.rules.model import Match, Setup, Verdict, command_of, judge, outcome_of, rank
+from arena_lab.rules.model import (
+    Match,
+    Setup,
+    Verdict,
+    command_of,
+    judge,
+    outcome_of,
+    rank,
+)
 
 TRIANGLE = [(0, 0, 1, 0), (1, 1, 2, 0), (2, 1, 0, 1)]
 ENTER, LOOK, LEAVE = ({"do": word} for word in ("enter", "look", "leave"))
@@ -25,17 +33,24 @@ class Model(unittest.TestCase):
         match.tell(0, accuse(1))
         match.close()
         self.assertEqual(judge(match), ("guess 1", 0, 0))
-        self.assertEqual(match.replay().splitlines(), [
-            '{"agents":2,"board":8,"dark":[],"holes":[2],"home":0,"links":[[0,0,1,0],[0,1,2,1],[1,1,2,0]],"nodes":3,'
-            '"quota":10,"replay":2}',
-            '{"agent":0,"do":"enter","reply":{"board":"","from":null,"ok":"here","ports":2}}',
-            '{"agent":0,"do":"accuse","port":1,"reply":{"ok":"noted"}}',
-            '{"do":"close","reply":null}',
-            '{"end":3}',
-        ])
+        self.assertEqual(
+            match.replay().splitlines(),
+            [
+                '{"agents":2,"board":8,"dark":[],"holes":[2],"home":0,"links":[[0,0,1,0],[0,1,2,1],[1,1,2,0]],"nodes":3,'
+                '"quota":10,"replay":2}',
+                '{"agent":0,"do":"enter","reply":{"board":"","from":null,"ok":"here","ports":2}}',
+                '{"agent":0,"do":"accuse","port":1,"reply":{"ok":"noted"}}',
+                '{"do":"close","reply":null}',
+                '{"end":3}',
+            ],
+        )
 
     def test_verdicts(self) -> None:
-        for commands, outcome in (([], "silent"), ([accuse(1)], "solved"), ([accuse(0)], "wrong")):
+        for commands, outcome in (
+            ([], "silent"),
+            ([accuse(1)], "solved"),
+            ([accuse(0)], "wrong"),
+        ):
             match = self.triangle()
             match.tell(0, ENTER)
             match.tell(0, depart(0))
@@ -60,9 +75,16 @@ class Model(unittest.TestCase):
         self.assertEqual(outcome_of(self.triangle(holes=())), "silent")
 
     def test_the_order_of_the_table(self) -> None:
-        rows = [(Verdict("solved", 2, 9), "z"), (Verdict("solved", 3, 0), "a"), (Verdict("solved", 3, 1), "a"),
-                (Verdict("solved", 3, 1), "b"), (Verdict("guess 7", 0, 0), "a"), (Verdict("unfinished", 0, 0), "a"),
-                (Verdict("silent", 0, 0), "a"), (Verdict("wrong", 0, 0), "a")]
+        rows = [
+            (Verdict("solved", 2, 9), "z"),
+            (Verdict("solved", 3, 0), "a"),
+            (Verdict("solved", 3, 1), "a"),
+            (Verdict("solved", 3, 1), "b"),
+            (Verdict("guess 7", 0, 0), "a"),
+            (Verdict("unfinished", 0, 0), "a"),
+            (Verdict("silent", 0, 0), "a"),
+            (Verdict("wrong", 0, 0), "a"),
+        ]
         self.assertEqual(sorted(reversed(rows), key=lambda row: rank(*row)), rows)
 
     def test_a_dark_link_destroys_and_is_accused(self) -> None:
@@ -80,17 +102,31 @@ class Model(unittest.TestCase):
 
     def test_refusals_in_order(self) -> None:
         match = self.triangle()
-        told = [match.tell(0, command) for command in (LOOK, ENTER, ENTER, depart(0), LOOK, LEAVE, LOOK)]
+        told = [
+            match.tell(0, command)
+            for command in (LOOK, ENTER, ENTER, depart(0), LOOK, LEAVE, LOOK)
+        ]
         whys = [reply.get("no") or reply["ok"] for reply in told]
-        self.assertEqual(whys, ["outside", "here", "twice", "gone", "away", "bye", "ended"])
+        self.assertEqual(
+            whys, ["outside", "here", "twice", "gone", "away", "bye", "ended"]
+        )
 
     def test_lines(self) -> None:
-        for line, do in (('{"do":"look","x":1}', "look"), ('{"do":"depart","port":1.0}', "bad"), ("[]", "bad"),
-                         ('{"do":"depart","port":true}', "bad"), ('{"do":"enter"}', "bad"), ("{", "bad"),
-                         ('{"do":"look","x":' + "1" * 400 + "}", "bad"),
-                         ('{"do":"depart","port":-0}', "bad"), ('{"do":"depart","port":0}', "depart"),
-                         ('{"do":"look","x":NaN}', "bad"), ('{"do":"look","x":1e999}', "bad"),
-                         ('{"do":"look","x":"\\ud800"}', "bad"), ('{"do":"look","x":"\\ud83d\\ude00"}', "look"),
-                         ('{"do":"look","x":' + "[" * 126 + "]" * 126 + "}", "look"),
-                         ('{"do":"look","x":' + "[" * 127 + "]" * 127 + "}", "bad")):
+        for line, do in (
+            ('{"do":"look","x":1}', "look"),
+            ('{"do":"depart","port":1.0}', "bad"),
+            ("[]", "bad"),
+            ('{"do":"depart","port":true}', "bad"),
+            ('{"do":"enter"}', "bad"),
+            ("{", "bad"),
+            ('{"do":"look","x":' + "1" * 400 + "}", "bad"),
+            ('{"do":"depart","port":-0}', "bad"),
+            ('{"do":"depart","port":0}', "depart"),
+            ('{"do":"look","x":NaN}', "bad"),
+            ('{"do":"look","x":1e999}', "bad"),
+            ('{"do":"look","x":"\\ud800"}', "bad"),
+            ('{"do":"look","x":"\\ud83d\\ude00"}', "look"),
+            ('{"do":"look","x":' + "[" * 126 + "]" * 126 + "}", "look"),
+            ('{"do":"look","x":' + "[" * 127 + "]" * 127 + "}", "bad"),
+        ):
             self.assertEqual(command_of(line)["do"], do)

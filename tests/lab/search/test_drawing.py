@@ -14,22 +14,38 @@ from arena_lab.search.program_search import SampleRequest
 from tests.support.output import ran
 
 
-def tried(hole: int, moves: int, lost: int, solved: int = 7, failed: int = 0) -> MatchResult:
+def tried(
+    hole: int, moves: int, lost: int, solved: int = 7, failed: int = 0
+) -> MatchResult:
     """A match whose drawn schedules come to this."""
     fixture = Fixture("lab", Setup(3, ring(3).links, 0, [hole], 1, 10, 8), ["k"], [])
-    return MatchResult(fixture, ExploreAnswer(Comes(moves, lost, ()), 1.0, drawn=SampleCounts(solved, failed, 9)))
+    return MatchResult(
+        fixture,
+        ExploreAnswer(
+            Comes(moves, lost, ()), 1.0, drawn=SampleCounts(solved, failed, 9)
+        ),
+    )
 
 
 class Drawing(unittest.TestCase):
     def told(self, tries: List[MatchResult], hunt: Any = None) -> str:
-        search, draws = mock.Mock(tries=tries, checks="checked", seconds=1.25), SampleRequest(7, 1, "fair", hunt)
+        search, draws = mock.Mock(
+            tries=tries, checks="checked", seconds=1.25
+        ), SampleRequest(7, 1, "fair", hunt)
         with mock.patch.object(explore_samples, "keep"):
-            status, said, _ = ran(explore_samples.report_samples, mock.Mock(), draws, search)
+            status, said, _ = ran(
+                explore_samples.report_samples, mock.Mock(), draws, search
+            )
         self.assertEqual(status, 0)
         return said
 
-    def test_counts_are_those_of_all_matches_and_the_seconds_those_that_passed(self) -> None:
-        self.assertIn("14 drawn schedules, 18 steps in 1.2 s: none of them fails", self.told([tried(2, 1, 0)] * 2))
+    def test_counts_are_those_of_all_matches_and_the_seconds_those_that_passed(
+        self,
+    ) -> None:
+        self.assertIn(
+            "14 drawn schedules, 18 steps in 1.2 s: none of them fails",
+            self.told([tried(2, 1, 0)] * 2),
+        )
 
     def test_the_worst_of_all_matches_is_told(self) -> None:
         few, many = tried(1, 2, 1), tried(2, 3, 0)
@@ -38,5 +54,7 @@ class Drawing(unittest.TestCase):
             self.assertIn("holes [1], solved moves 2 lost 1", self.told(tries, "lost"))
 
     def test_a_failure_that_is_only_counted_is_no_success(self) -> None:
-        with self.assertRaisesRegex(Differs, "counts 2 drawn schedules that fail, and tells one that solves"):
+        with self.assertRaisesRegex(
+            Differs, "counts 2 drawn schedules that fail, and tells one that solves"
+        ):
             self.told([tried(2, 1, 0, 5, 2)])

@@ -12,34 +12,88 @@ from arena_lab.rules.fixtures import Fixture
 from arena_lab.rules.model import Setup, Verdict
 from arena_lab.rules.networks import ring
 from arena_lab.search import driver
-from arena_lab.search.findings import (Breaks, Comes, Endless, Exceeds, ExploreAnswer, Fails, Finding, Solves,
-                                       answer_of, turns_of, verdict_of)
+from arena_lab.search.findings import (
+    Breaks,
+    Comes,
+    Endless,
+    Exceeds,
+    ExploreAnswer,
+    Fails,
+    Finding,
+    Solves,
+    answer_of,
+    turns_of,
+    verdict_of,
+)
 from arena_lab.search.match_results import MatchResult
 
 COUNTS = {"states": 5, "memories": 5, "stances": 6, "boards": 2}
-DRAWN = {"solved": 3, "failed": 1, "turns": 20, "moves": [[1, 3], [4, 1]], "lost": [[0, 4]], "memories": 6}
+DRAWN = {
+    "solved": 3,
+    "failed": 1,
+    "turns": 20,
+    "moves": [[1, 3], [4, 1]],
+    "lost": [[0, 4]],
+    "memories": 6,
+}
 # lines of the program, what they say, and what `explore` prints of them
 LINES: List[Tuple[Dict[str, Any], Finding, str]] = [
-    ({"found": "solves", "moves": 1, "lost": 0, "turns": 4, "naps": 2, "commands": [2, 0]}, Solves(1, 0, 4),
-     "5 states, every schedule solves, most moves 1"),
-    ({"found": "fails", "outcome": "silent", "moves": 2, "lost": 1, "schedule": [1, 0]},
-     Fails("silent", 2, 1, (1, 0)), "5 states, a schedule fails, its moves 2"),
-    ({"found": "breaks", "agent": 1, "failure": "asleep", "schedule": [0, 1]}, Breaks(1, "asleep", (0, 1)),
-     "5 states, under a schedule agent 1 sleeps, and nothing changes any more"),
-    ({"found": "endless", "schedule": [0], "round": [1, 0], "fair": False}, Endless((0,), (1, 0), False),
-     "5 states, a schedule goes on for ever, and it is not fair: an agent that can move never has a turn"),
+    (
+        {
+            "found": "solves",
+            "moves": 1,
+            "lost": 0,
+            "turns": 4,
+            "naps": 2,
+            "commands": [2, 0],
+        },
+        Solves(1, 0, 4),
+        "5 states, every schedule solves, most moves 1",
+    ),
+    (
+        {
+            "found": "fails",
+            "outcome": "silent",
+            "moves": 2,
+            "lost": 1,
+            "schedule": [1, 0],
+        },
+        Fails("silent", 2, 1, (1, 0)),
+        "5 states, a schedule fails, its moves 2",
+    ),
+    (
+        {"found": "breaks", "agent": 1, "failure": "asleep", "schedule": [0, 1]},
+        Breaks(1, "asleep", (0, 1)),
+        "5 states, under a schedule agent 1 sleeps, and nothing changes any more",
+    ),
+    (
+        {"found": "endless", "schedule": [0], "round": [1, 0], "fair": False},
+        Endless((0,), (1, 0), False),
+        "5 states, a schedule goes on for ever, and it is not fair: an agent that can move never has a turn",
+    ),
 ]
 DRAWS: List[Tuple[Dict[str, Any], Finding, str]] = [
-    ({"found": "comes", "moves": 4, "lost": 0, "schedule": [0, 0]}, Comes(4, 0, (0, 0)), ""),
-    ({"found": "breaks", "agent": 0, "failure": "program", "schedule": []}, Breaks(0, "program", ()),
-     ", under a schedule agent 0 fails"),
+    (
+        {"found": "comes", "moves": 4, "lost": 0, "schedule": [0, 0]},
+        Comes(4, 0, (0, 0)),
+        "",
+    ),
+    (
+        {"found": "breaks", "agent": 0, "failure": "program", "schedule": []},
+        Breaks(0, "program", ()),
+        ", under a schedule agent 0 fails",
+    ),
 ]
-SAID = "3 solved, 1 failed, moves least 1 mean 1.8 median 1 most 4, 20 steps, 10 a second"
+SAID = (
+    "3 solved, 1 failed, moves least 1 mean 1.8 median 1 most 4, 20 steps, 10 a second"
+)
 FIXTURE = Fixture("lab", Setup(3, ring(3).links, 0, [2], 1, 10, 8), ["k"], [])
 GAME = Game("ring:3", ring(3), [AgentWords(INSIDE, "ring.py")], 0, [], [], 10, 8, 1, 5)
 
 
-def read(told: Dict[str, Any], counts: Dict[str, Any], *modules: Dict[str, Any]) -> MatchResult:
+def read(
+    told: Dict[str, Any], counts: Dict[str, Any], *modules: Dict[str, Any]
+) -> MatchResult:
     """A match of which the program said this, after two seconds."""
     return MatchResult(FIXTURE, answer_of(told, counts, modules, 2.0))
 
@@ -50,28 +104,65 @@ class Findings(unittest.TestCase):
             with self.subTest(told["found"]):
                 tried = read(told, COUNTS)
                 self.assertEqual(tried.answered, ExploreAnswer(found, 2.0, 5))
-                self.assertEqual(explore_program.line_of(tried), f"home 0 holes [2]: {said}, 2.0 s")
-                self.assertEqual((tried.is_whole(), tried.has_failed()), (True, told["found"] != "solves"))
+                self.assertEqual(
+                    explore_program.line_of(tried), f"home 0 holes [2]: {said}, 2.0 s"
+                )
+                self.assertEqual(
+                    (tried.is_whole(), tried.has_failed()),
+                    (True, told["found"] != "solves"),
+                )
 
     def test_drawn_schedules_are_read_and_told(self) -> None:
         for told, found, more in DRAWS:
             with self.subTest(told["found"]):
                 tried = read(told, DRAWN)
-                self.assertEqual((tried.answered.found, tried.answered.states), (found, None))
-                self.assertEqual(explore_samples.line_of(tried), f"home 0 holes [2]: {SAID}{more}, 2.0 s")
+                self.assertEqual(
+                    (tried.answered.found, tried.answered.states), (found, None)
+                )
+                self.assertEqual(
+                    explore_samples.line_of(tried),
+                    f"home 0 holes [2]: {SAID}{more}, 2.0 s",
+                )
 
     def test_more_commands_than_the_quota_are_no_result(self) -> None:
         tried = read({"found": "exceeds", "agent": 1, "commands": 11}, COUNTS)
-        self.assertEqual((tried.answered.found, tried.is_whole(), tried.has_failed()), (Exceeds(1, 11), False, False))
-        self.assertEqual(explore_samples.line_of(tried), "home 0 holes [2]: under a schedule agent 1 uses 11 commands, "
-                                                         "and its quota is less, 2.0 s")
+        self.assertEqual(
+            (tried.answered.found, tried.is_whole(), tried.has_failed()),
+            (Exceeds(1, 11), False, False),
+        )
+        self.assertEqual(
+            explore_samples.line_of(tried),
+            "home 0 holes [2]: under a schedule agent 1 uses 11 commands, "
+            "and its quota is less, 2.0 s",
+        )
 
     def test_a_module_that_fails_is_told_with_its_function(self) -> None:
-        failed, other = {"module": "31", "arguments": [8], "failure": "fuel", "function": 7}, {"module": "32"}
-        for agent, modules in ((0, [failed]), (1, [failed]), (0, [failed, other]), (1, [other, failed])):
-            tried = read({"found": "breaks", "agent": agent, "failure": "program", "schedule": []}, COUNTS, *modules)
-            self.assertIn(f"agent {agent} fails: it executes too many instructions in function 7",
-                          explore_program.line_of(tried))
+        failed, other = {
+            "module": "31",
+            "arguments": [8],
+            "failure": "fuel",
+            "function": 7,
+        }, {"module": "32"}
+        for agent, modules in (
+            (0, [failed]),
+            (1, [failed]),
+            (0, [failed, other]),
+            (1, [other, failed]),
+        ):
+            tried = read(
+                {
+                    "found": "breaks",
+                    "agent": agent,
+                    "failure": "program",
+                    "schedule": [],
+                },
+                COUNTS,
+                *modules,
+            )
+            self.assertIn(
+                f"agent {agent} fails: it executes too many instructions in function 7",
+                explore_program.line_of(tried),
+            )
 
     def test_a_match_that_was_stopped_says_why(self) -> None:
         tried = MatchResult(FIXTURE, ExploreAnswer(None, 2.0, why="stopped"))
@@ -84,27 +175,47 @@ class Findings(unittest.TestCase):
 
     def test_what_a_schedule_comes_to(self) -> None:
         found = Comes(4, 1, ()), Fails("silent", 2, 1, ()), Breaks(0, "", ())
-        self.assertEqual(list(map(verdict_of, found)),
-                         [Verdict("solved", 4, 1), Verdict("silent", 2, 1), None])
+        self.assertEqual(
+            list(map(verdict_of, found)),
+            [Verdict("solved", 4, 1), Verdict("silent", 2, 1), None],
+        )
 
     def test_rows_of_python_programs_are_those_of_the_lines(self) -> None:
         start = {"network": "ring:3", "nodes": 3, "home": 0, "holes": [2]}
         end = {"seconds": 2.0, "why": ""}
-        for told, counts, drawn in [*((told, COUNTS, None) for told, *_ in LINES), (DRAWS[0][0], DRAWN, 4)]:
+        for told, counts, drawn in [
+            *((told, COUNTS, None) for told, *_ in LINES),
+            (DRAWS[0][0], DRAWN, 4),
+        ]:
             with self.subTest(told["found"]):
                 row = api.row_of(GAME, read(told, counts))
                 said = {name: told.get(name) for name in ("moves", "lost", "turns")}
-                self.assertEqual(json.dumps(row), json.dumps({
-                    **start, "found": told["found"], "states": counts.get("states"), **said, "drawn": drawn, **end}))
+                self.assertEqual(
+                    json.dumps(row),
+                    json.dumps(
+                        {
+                            **start,
+                            "found": told["found"],
+                            "states": counts.get("states"),
+                            **said,
+                            "drawn": drawn,
+                            **end,
+                        }
+                    ),
+                )
 
 
 class Driver(unittest.TestCase):
     """What is tried of a game with two matches."""
 
-    def tried(self, *answers: ExploreAnswer, after: driver.After = lambda tried, _: tried) -> List[MatchResult]:
+    def tried(
+        self, *answers: ExploreAnswer, after: driver.After = lambda tried, _: tried
+    ) -> List[MatchResult]:
         """The matches that are tried, if the program answers so."""
         job = driver.ExploreJob(GAME.matches(), "arena", 10, 0)
-        with mock.patch.object(driver, "asked", side_effect=answers), mock.patch.object(driver, "Machines") as machines:
+        with mock.patch.object(driver, "asked", side_effect=answers), mock.patch.object(
+            driver, "Machines"
+        ) as machines:
             machines.return_value.configure_mock(modules=[], seen=frozenset)
             machines.return_value.beside.configure_mock(checked=0, merged=0)
             search = driver.Search(job, after=after)
@@ -114,14 +225,29 @@ class Driver(unittest.TestCase):
         return found
 
     def test_matches_are_tried_up_to_one_that_fails_or_is_stopped(self) -> None:
-        solves, stopped = ExploreAnswer(Solves(1, 0, 4), 1.0, 5), ExploreAnswer(None, 1.0)
-        self.assertEqual([it.fixture.setup.holes for it in self.tried(solves, solves)], [[1], [2]])
-        for last in (stopped, ExploreAnswer(Breaks(0, "program", ()), 1.0, 5), ExploreAnswer(Exceeds(0, 11), 1.0, 5)):
+        solves, stopped = ExploreAnswer(Solves(1, 0, 4), 1.0, 5), ExploreAnswer(
+            None, 1.0
+        )
+        self.assertEqual(
+            [it.fixture.setup.holes for it in self.tried(solves, solves)], [[1], [2]]
+        )
+        for last in (
+            stopped,
+            ExploreAnswer(Breaks(0, "program", ()), 1.0, 5),
+            ExploreAnswer(Exceeds(0, 11), 1.0, 5),
+        ):
             self.assertEqual([it.answered for it in self.tried(last, solves)], [last])
 
     def test_what_is_made_of_a_match_says_whether_it_goes_on(self) -> None:
         beside = mock.Mock(is_whole=True, rank=lambda: (False, 3))
-        exceeds, solves = ExploreAnswer(Exceeds(0, 11), 1.0, 5), ExploreAnswer(Solves(1, 0, 4), 1.0, 5)
-        tries = self.tried(exceeds, solves, after=lambda tried, _: tried._replace(
-            beside=beside if tried.answered is exceeds else None))
+        exceeds, solves = ExploreAnswer(Exceeds(0, 11), 1.0, 5), ExploreAnswer(
+            Solves(1, 0, 4), 1.0, 5
+        )
+        tries = self.tried(
+            exceeds,
+            solves,
+            after=lambda tried, _: tried._replace(
+                beside=beside if tried.answered is exceeds else None
+            ),
+        )
         self.assertEqual([it.beside for it in tries], [beside, None])

@@ -14,8 +14,10 @@ from arena_lab.support import memory
 
 class Fitting(unittest.TestCase):
     def test_what_linux_says_is_left(self) -> None:
-        for text, wanted in (("MemTotal: 9 kB\nMemAvailable:      2048 kB\nBuffers: 7 kB\n", 2 ** 21),
-                             ("MemTotal: 9 kB\n", None)):
+        for text, wanted in (
+            ("MemTotal: 9 kB\nMemAvailable:      2048 kB\nBuffers: 7 kB\n", 2**21),
+            ("MemTotal: 9 kB\n", None),
+        ):
             with tempfile.TemporaryDirectory() as name:
                 file = pathlib.Path(name) / "meminfo"
                 file.write_text(text)
@@ -35,10 +37,12 @@ class Fitting(unittest.TestCase):
         self.assertEqual(self.states(left), 1_000_000)
         self.assertEqual(self.states(left, "--workers", "4"), 250_000)
         self.assertEqual(self.states(0), 1)
-        self.assertEqual(self.states(2 ** 60), 2 ** 32 - 1)
+        self.assertEqual(self.states(2**60), 2**32 - 1)
 
     def test_where_memory_says_nothing(self) -> None:
         """Unknown memory, workers elsewhere, and turns of drawn schedules."""
         self.assertEqual(self.states(None), MOST_STATES)
-        self.assertEqual(self.states(0, "--cluster", "tcp://192.0.2.7:8786"), MOST_STATES)
+        self.assertEqual(
+            self.states(0, "--cluster", "tcp://192.0.2.7:8786"), MOST_STATES
+        )
         self.assertEqual(self.states(0, "--draws", "5"), MOST_STATES)

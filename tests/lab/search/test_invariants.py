@@ -5,12 +5,22 @@ from arena_lab.rules.engines import TOP
 from arena_lab.rules.model import Match, Setup
 from arena_lab.rules.networks import ring
 from arena_lab.search.invariants import Candidate, NoCandidate, Wrong
-from arena_lab.search.configurations import After, At, Before, Bounds, Configuration, World, held_after
+from arena_lab.search.configurations import (
+    After,
+    At,
+    Before,
+    Bounds,
+    Configuration,
+    World,
+    held_after,
+)
 from tests.support.output import InTemporary
 
 NETWORK = ring(3)
 WORLD = World(Match(Setup(3, NETWORK.links, 0, [1], 1, 10, 4)))
-BLANK = Configuration((Before(),), ((),), (0,), (0,), ("", "", ""), (None,), frozenset(), 0)
+BLANK = Configuration(
+    (Before(),), ((),), (0,), (0,), ("", "", ""), (None,), frozenset(), 0
+)
 # a candidate's file, and what is said of it when it is read
 FILES = {
     "def hold(world, picture): return True": "it has no function holds",
@@ -44,13 +54,19 @@ class Files(InTemporary):
         for text, said in SAYS.items():
             with self.subTest(text), self.assertRaises(Wrong) as raised:
                 self.candidate(text).holds(WORLD, BLANK)
-            self.assertTrue(str(raised.exception).startswith(said), str(raised.exception))
-        negative = self.candidate("def holds(world, picture): return True\ndef left(world, picture): return -1")
+            self.assertTrue(
+                str(raised.exception).startswith(said), str(raised.exception)
+            )
+        negative = self.candidate(
+            "def holds(world, picture): return True\ndef left(world, picture): return -1"
+        )
         with self.assertRaises(Wrong):
             negative.left(WORLD, BLANK)
 
     def test_a_file_may_leave_out_all_but_the_test(self) -> None:
-        candidate = self.candidate("def holds(world, picture): return picture.moves == 0")
+        candidate = self.candidate(
+            "def holds(world, picture): return picture.moves == 0"
+        )
         self.assertTrue(candidate.holds(WORLD, BLANK))
         self.assertFalse(candidate.holds(WORLD, BLANK._replace(moves=1)))
         self.assertIsNone(candidate.left(WORLD, BLANK))
@@ -58,25 +74,41 @@ class Files(InTemporary):
 
     def test_a_file_imports_what_stands_beside_it(self) -> None:
         (self.folder / "beside.py").write_text("MOST = 7", encoding="utf-8")
-        candidate = self.candidate("from arena_lab.search.configurations import Bounds\nfrom beside import MOST\n"
-                                   "def holds(world, picture): return True\n"
-                                   "def bounds(world): return Bounds(moves=MOST)\n")
+        candidate = self.candidate(
+            "from arena_lab.search.configurations import Bounds\nfrom beside import MOST\n"
+            "def holds(world, picture): return True\n"
+            "def bounds(world): return Bounds(moves=MOST)\n"
+        )
         self.assertEqual(candidate.bounds(WORLD).moves, 7)
 
     def test_the_examples_hold_at_the_start(self) -> None:
-        both = BLANK._replace(position=(Before(),) * 2, history=((),) * 2, woken=(0,) * 2, used=(0,) * 2,
-                              accused=(None,) * 2)
+        both = BLANK._replace(
+            position=(Before(),) * 2,
+            history=((),) * 2,
+            woken=(0,) * 2,
+            used=(0,) * 2,
+            accused=(None,) * 2,
+        )
         for path in sorted((TOP / "examples" / "invariants").glob("*.py")):
             with self.subTest(path.name):
                 candidate = Candidate(path)
                 self.assertTrue(candidate.holds(WORLD, both))
-                self.assertEqual(candidate.left(WORLD, both), candidate.bounds(WORLD).turns)
+                self.assertEqual(
+                    candidate.left(WORLD, both), candidate.bounds(WORLD).turns
+                )
 
 
 class Words(unittest.TestCase):
-    def test_what_is_held_after_a_history_is_what_its_items_make_in_their_order(self) -> None:
+    def test_what_is_held_after_a_history_is_what_its_items_make_in_their_order(
+        self,
+    ) -> None:
         history = ({"ok": "noted"}, None, {"ok": "gone"})
-        self.assertEqual(held_after("", lambda text, item: text + (item or {"ok": "woke"})["ok"][0], history), "gwn")
+        self.assertEqual(
+            held_after(
+                "", lambda text, item: text + (item or {"ok": "woke"})["ok"][0], history
+            ),
+            "gwn",
+        )
 
     def test_positions_of_different_kinds_differ(self) -> None:
         self.assertNotEqual(Before(), After())
@@ -85,5 +117,7 @@ class Words(unittest.TestCase):
     def test_a_world_says_where_links_lead(self) -> None:
         far, label = WORLD.far(0, 0)
         self.assertEqual(WORLD.far(far, label), (0, 0))
-        self.assertEqual([WORLD.doomed(0, port) for port in (0, 1)], [far == 1, far != 1])
+        self.assertEqual(
+            [WORLD.doomed(0, port) for port in (0, 1)], [far == 1, far != 1]
+        )
         self.assertEqual(WORLD.degree(2), 2)

@@ -13,11 +13,19 @@ class Drawn:
     """What it does next is drawn by all that it has heard."""
 
     def __init__(self, salt, lines, sleep, is_early):
-        self._heard, self._lines, self._sleep, self._is_early = salt, lines, sleep, is_early
+        self._heard, self._lines, self._sleep, self._is_early = (
+            salt,
+            lines,
+            sleep,
+            is_early,
+        )
 
     def draw(self, below):
         self._heard += "."
-        return int.from_bytes(hashlib.sha256(self._heard.encode()).digest()[:4], "big") % below
+        return (
+            int.from_bytes(hashlib.sha256(self._heard.encode()).digest()[:4], "big")
+            % below
+        )
 
     def hear(self):
         line = self._lines.receive()
@@ -62,12 +70,18 @@ class Drawn:
         if kind < 6:
             return self.say({"do": "depart", "port": self.draw(2)})
         if kind < 10:
-            return self.say({"do": "write", "expect": board, "put": ("", "a", "b")[self.draw(3)]})
+            return self.say(
+                {"do": "write", "expect": board, "put": ("", "a", "b")[self.draw(3)]}
+            )
         if kind < 13:
             self._sleep(1)
             return {}
         if kind in (15, 16):
-            return self.end({"do": "accuse", "port": self.draw(2)} if kind == 15 else {"do": "leave"})
+            return self.end(
+                {"do": "accuse", "port": self.draw(2)}
+                if kind == 15
+                else {"do": "leave"}
+            )
         if kind == 18:
             raise ValueError("a mistake")
         return None if kind == 19 else self.say({"do": "bad" if kind == 17 else "look"})
@@ -90,5 +104,6 @@ class Drawn:
 def search(agent, key, seed, length, early, roles, sleep):
     """Each agent of a match has a role of its own: by its key, or by what its module `random` draws."""
     import random
+
     role = (key, str(random.random()), "")[roles]
     Drawn(f"{seed}-{role}", agent._lines, sleep, bool(early)).run(key, length)

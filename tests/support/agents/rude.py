@@ -19,7 +19,9 @@ def main() -> None:
     server = socket.create_connection((host, int(port)))
     if how == "silent":
         # what it starts is to be ended too
-        subprocess.Popen([sys.executable, "-c", f"import time; time.sleep({HOURS})", mark])
+        subprocess.Popen(
+            [sys.executable, "-c", f"import time; time.sleep({HOURS})", mark]
+        )
         time.sleep(HOURS)
     if how == "garbage":
         server.sendall(b"\xff\xfe jump\n")

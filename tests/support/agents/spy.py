@@ -10,7 +10,19 @@ import sys
 
 WORD = re.compile(rb"TREASURE-[a-z]+|\b[0-9a-f]{20}\b")
 MOST_BYTES = 100_000
-SYSTEM = {"/bin", "/etc", "/lib", "/lib32", "/lib64", "/libx32", "/opt", "/proc", "/sbin", "/sys", "/usr"}
+SYSTEM = {
+    "/bin",
+    "/etc",
+    "/lib",
+    "/lib32",
+    "/lib64",
+    "/libx32",
+    "/opt",
+    "/proc",
+    "/sbin",
+    "/sys",
+    "/usr",
+}
 
 
 def below(place):
@@ -18,7 +30,9 @@ def below(place):
     try:
         for path in pathlib.Path(place).resolve().iterdir():
             if str(path) not in SYSTEM:
-                yield from below(path) if path.is_dir() and not path.is_symlink() else [path]
+                yield from below(path) if path.is_dir() and not path.is_symlink() else [
+                    path
+                ]
     except OSError:
         return
 
@@ -42,8 +56,12 @@ def words_in(path):
 
 def main():
     key, *places = sys.argv[1:]
-    found = {word for path in files([".", "..", *places]) for word in words_in(path)} - {key.encode()}
-    sys.exit("found " + (", ".join(sorted(word.decode() for word in found)) or "nothing"))
+    found = {
+        word for path in files([".", "..", *places]) for word in words_in(path)
+    } - {key.encode()}
+    sys.exit(
+        "found " + (", ".join(sorted(word.decode() for word in found)) or "nothing")
+    )
 
 
 if __name__ == "__main__":

@@ -7,7 +7,9 @@ from django.db import migrations, models
 
 def say(apps: Any, _: Any) -> None:
     """Says once, in the log too, what became of matches that counted."""
-    count = apps.get_model("attempts", "Attempt").objects.exclude(kind="practice").count()
+    count = (
+        apps.get_model("attempts", "Attempt").objects.exclude(kind="practice").count()
+    )
     if count:
         said = f"{count} rated attempts and matches of contests are practice now: only hand-ins are ranked"
         apps.get_model("teams", "Entry").objects.create(who="hall", what=said)
@@ -15,23 +17,30 @@ def say(apps: Any, _: Any) -> None:
 
 
 class Migration(migrations.Migration):
-
     dependencies = [
-        ('attempts', '0002_traps'),
-        ('teams', '0001_initial'),
+        ("attempts", "0002_traps"),
+        ("teams", "0001_initial"),
     ]
 
     operations = [
         migrations.RunPython(say, migrations.RunPython.noop),
-        migrations.RemoveIndex('attempt', 'attempts_at_team_id_45b7fa_idx'),
-        migrations.RemoveField('attempt', 'kind'),
-        migrations.RemoveField('attempt', 'contest'),
-        migrations.RemoveField('attempt', 'series'),
-        migrations.RemoveField('attempt', 'traps'),
-        migrations.RemoveField('attempt', 'counts'),
-        migrations.RemoveField('match', 'is_trap'),
-        migrations.DeleteModel('Contest'),
-        migrations.AddIndex('attempt', models.Index(fields=['team', 'asked'], name='attempts_of_team')),
-        migrations.AlterModelOptions('attempt', {
-            'ordering': ['-pk'], 'verbose_name': 'match', 'verbose_name_plural': 'matches'}),
+        migrations.RemoveIndex("attempt", "attempts_at_team_id_45b7fa_idx"),
+        migrations.RemoveField("attempt", "kind"),
+        migrations.RemoveField("attempt", "contest"),
+        migrations.RemoveField("attempt", "series"),
+        migrations.RemoveField("attempt", "traps"),
+        migrations.RemoveField("attempt", "counts"),
+        migrations.RemoveField("match", "is_trap"),
+        migrations.DeleteModel("Contest"),
+        migrations.AddIndex(
+            "attempt", models.Index(fields=["team", "asked"], name="attempts_of_team")
+        ),
+        migrations.AlterModelOptions(
+            "attempt",
+            {
+                "ordering": ["-pk"],
+                "verbose_name": "match",
+                "verbose_name_plural": "matches",
+            },
+        ),
     ]
