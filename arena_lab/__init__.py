@@ -1,5 +1,5 @@
-"""The lab: agents for the arena are played under schedules that the user chooses. arena_lab/README.md says how to
-begin."""
+"""The lab: agents for the arena are played under schedules that the user chooses.
+arena_lab/README.md says how to begin."""
 
 import os
 import pathlib
@@ -8,18 +8,20 @@ import sys
 VERSION = "1"
 
 # how one calls the lab, in a clone or an archive and where it was installed
-IN_CLONE, INSTALLED = "./arena-lab", "arena-lab"
+IN_CLONE = "./arena-lab"
+INSTALLED = "arena-lab"
 
 
 def called() -> str:
-    """How one calls this lab: by the command that pip or Debian has installed, or else by the script of a clone."""
+    """How one calls this lab: by the command that pip or Debian has installed, or else
+    by the script of a clone."""
     return INSTALLED if pathlib.PurePath(sys.argv[0]).name == INSTALLED else IN_CLONE
 
 
 def with_one_order() -> None:
-    """Starts this process anew if Python draws in which order sets of texts are gone through: agents inside the lab
-    would do other things from start to start. Workers and programs have the same order then.
-    """
+    """Starts this process anew if Python draws in which order sets of texts are gone
+    through: agents inside the lab would do other things from start to start. Workers
+    and programs have the same order then."""
     if os.environ.get("PYTHONHASHSEED") != "0":
         os.environ["PYTHONHASHSEED"] = "0"
         os.execv(sys.executable, [sys.executable, *sys.orig_argv[1:]])

@@ -17,11 +17,13 @@ from arena_lab.support.missing import Missing, missing_of
 from arena_lab.support.signals import Terminated, come_again, end
 
 # modules of Debian's packages: to play agents inside the lab, to lay out pages
-PLAYS, PAGES = ("greenlet", "tqdm"), ("jinja2", "networkx", "numpy", "scipy")
+PLAYS = ("greenlet", "tqdm")
+PAGES = ("jinja2", "networkx", "numpy", "scipy")
 
 
 class Command(NamedTuple):
-    """A command: what it does in a line, and the modules that it needs of Debian's packages."""
+    """A command: what it does in a line, and the modules that it needs of Debian's
+    packages."""
 
     about: str
     needs: Tuple[str, ...] = PLAYS
@@ -90,8 +92,8 @@ if it was stopped too early to say"""
 def parser(
     name_of_lab: str = IN_CLONE, called: Collection[str] = tuple(COMMANDS)
 ) -> argparse.ArgumentParser:
-    """Reads the command line of the lab under this name. Only the commands that are called have their words: each
-    imports its own part of the lab."""
+    """Reads the command line of the lab under this name. Only the commands that are
+    called have their words: each imports its own part of the lab."""
     made = argparse.ArgumentParser(
         name_of_lab,
         description=ABOUT.replace(IN_CLONE, name_of_lab),

@@ -6,17 +6,20 @@
     pandas.DataFrame(rows)                  # a row for each seed
     rows[3].match()                         # the match of a row: a notebook shows it to be watched
 
-A network is a name, as `--network` takes it, a networkx graph, or a `Network`. An agent is what `--agent` takes,
-`lab.program("..")` for what `--command` takes, or a function of this process:
+A network is a name, as `--network` takes it, a networkx graph, or a `Network`. An agent
+is what `--agent` takes, `lab.program("..")` for what `--command` takes, or a function
+of this process:
 
     def search(agent, key, nodes):
         here = agent.enter(key)
         ..
 
-Behind the agent and its key the function may have the parameters `nodes`, `links`, `home`, `network` and `sleep`. If
-one agent is named, all `count` agents of the team are alike; a list names each of them. A scheduler is a name, or a
-function of the seed that gives a function of (choices, state). `engine` is "model" for the Python model, which is not
-verified, "program" for the program that `./arena-lab` takes, or the path of a program.
+Behind the agent and its key the function may have the parameters `nodes`, `links`,
+`home`, `network` and `sleep`. If one agent is named, all `count` agents of the team are
+alike; a list names each of them. A scheduler is a name, or a function of the seed that
+gives a function of (choices, state). `engine` is "model" for the Python model, which is
+not verified, "program" for the program that `./arena-lab` takes, or the path of a
+program.
 
     found = lab.explore("ring:3..6", "examples/agents/ring_step.py {nodes}", engine="program")
     found.solves, found.most_moves          # under every schedule that the lab tried
@@ -134,16 +137,17 @@ def game(
     naps: int = NAPS,
     limit: float = LIMIT,
 ) -> Game:
-    """What is played. If neither `holes` nor `dark` destroys, each seed has a black hole of its own. A dark link is
-    (node, port)."""
+    """What is played. If neither `holes` nor `dark` destroys, each seed has a black
+    hole of its own. A dark link is (node, port)."""
     if isinstance(network, str):
-        name, found = network, networks.named(network)
+        name = network
+        found = networks.named(network)
     elif isinstance(network, Network):
-        name, found = f"{network.nodes} nodes", network
+        name = f"{network.nodes} nodes"
+        found = network
     else:
-        name, found = str(
-            getattr(network, "name", "")
-        ) or f"graph of {len(network)} nodes", networks.of_graph(network)
+        name = str(getattr(network, "name", "")) or f"graph of {len(network)} nodes"
+        found = networks.of_graph(network)
     return Game(
         name,
         networks.checked(found, name),
@@ -172,7 +176,8 @@ def path_of(engine: str) -> Optional[str]:
 
 
 def engine_name(engine: str) -> str:
-    """How the lab calls an engine: "the proved program" is said of a program alone whose build recorded its proof."""
+    """How the lab calls an engine: "the proved program" is said of a program alone
+    whose build recorded its proof."""
     return name_of(path_of(engine))
 
 
@@ -186,8 +191,10 @@ def play(
     workers: int = 1,
     **more: Any,
 ) -> List[Row]:
-    """Plays a match for each seed, and gives their rows. `seeds` is how many, or which; `more` is what `game` takes."""
-    asked_game, path = game(network, agents, **more), path_of(engine)
+    """Plays a match for each seed, and gives their rows. `seeds` is how many, or which;
+    `more` is what `game` takes."""
+    asked_game = game(network, agents, **more)
+    path = path_of(engine)
     if isinstance(seeds, int) and seeds < 0:
         raise ValueError(
             f"seeds is how many there are, or a list of which, and not {seeds}"
@@ -203,8 +210,9 @@ def said_of(record: Record) -> str:
 
 
 class Exploration(NamedTuple):
-    """What came of all schedules of some matches: how many states there are, whether all were visited, and the first
-    match that fails, or else the one with the most moves, if any has ended."""
+    """What came of all schedules of some matches: how many states there are, whether
+    all were visited, and the first match that fails, or else the one with the most
+    moves, if any has ended."""
 
     states: int
     is_whole: bool
@@ -237,9 +245,10 @@ class Exploration(NamedTuple):
 
 
 class SearchResult(NamedTuple):
-    """What the program found of all schedules of some matches, or of those that it drew: a row for each match, what was
-    checked of how agents are taken for machines, and the match that fails, if one does. A match that was not tried as a
-    whole has no `found`."""
+    """What the program found of all schedules of some matches, or of those that it
+    drew: a row for each match, what was checked of how agents are taken for machines,
+    and the match that fails, if one does. A match that was not tried as a whole has no
+    `found`."""
 
     rows: List[Dict[str, Any]]
     checked: str
@@ -324,15 +333,15 @@ def explore(
     check: int = CHECKED,
     **more: Any,
 ) -> Union[Exploration, SearchResult]:
-    """Tries every schedule on a network, or on several: a list, or a range of sizes such as "ring:3..8". Each node but
-    the home base is the black hole unless something that destroys is named. The program tries them, up to the first
-    match that fails; with `draws` it draws schedules instead. The engine "model" searches without it. Of `check` drawn
-    schedules the agents play on each network, what they do is compared with what they answered. `states`
-    are the most of a match to visit: as many as take half of the memory that is left, unless you name a number.
-    """
-    all_asked, path = [
-        game(one, agents, **more) for one in networks_in(network)
-    ], path_of(engine)
+    """Tries every schedule on a network, or on several: a list, or a range of sizes
+    such as "ring:3..8". Each node but the home base is the black hole unless something
+    that destroys is named. The program tries them, up to the first match that fails;
+    with `draws` it draws schedules instead. The engine "model" searches without it. Of
+    `check` drawn schedules the agents play on each network, what they do is compared
+    with what they answered. `states` are the most of a match to visit: as many as take
+    half of the memory that is left, unless you name a number."""
+    all_asked = [game(one, agents, **more) for one in networks_in(network)]
+    path = path_of(engine)
     if path is not None:
         most = exploring.MOST_STATES if draws is not None else fitting(OF_PROGRAM)
         return by_program(
@@ -347,7 +356,8 @@ def explore(
             for one in all_asked
         ]
     found = [it for _, of_one in by_game for it in of_one]
-    worst, record = max(found, key=exploring.Explored.rank), None
+    worst = max(found, key=exploring.Explored.rank)
+    record = None
     if worst.explorer.worst:
         record = play_again(
             worst.schedule(next(one for one, of_one in by_game if worst in of_one)),
@@ -372,14 +382,17 @@ def networks_in(
 
 
 def by_program(games: Sequence[Game], job: ExploreJob) -> SearchResult:
-    """What the program finds of the schedules of games, up to the first match that fails or is not tried as a whole.
-    All are tried as the job says of one."""
-    rows, counted, worst = [], Counted(), None
+    """What the program finds of the schedules of games, up to the first match that
+    fails or is not tried as a whole. All are tried as the job says of one."""
+    rows = []
+    counted = Counted()
+    worst = None
     for one in games:
         search = Search(job._replace(matches=one.matches()))
         with bar(None, "answer") as shown:
             rows += [row_of(one, tried) for tried in search.tried(shown)]
-        counted, last = counted.more(search.checks), search.tries[-1]
+        counted = counted.more(search.checks)
+        last = search.tries[-1]
         if last.has_failed():
             worst = play_again(failing(one, last), job.program)
         if last.has_failed() or not last.is_whole():
@@ -400,14 +413,12 @@ def failing(given: Game, tried: MatchResult) -> Schedule:
 
 
 def row_of(given: Game, tried: MatchResult) -> Dict[str, Any]:
-    """A match that was tried, as a row: what was found, in how many states, and the most moves and lost agents. What
-    the program does not say is None."""
-    setup, answered, found, drawn = (
-        tried.fixture.setup,
-        tried.answered,
-        tried.answered.found,
-        tried.answered.drawn,
-    )
+    """A match that was tried, as a row: what was found, in how many states, and the
+    most moves and lost agents. What the program does not say is None."""
+    setup = tried.fixture.setup
+    answered = tried.answered
+    found = tried.answered.found
+    drawn = tried.answered.drawn
     return {
         "network": given.name,
         "nodes": setup.nodes,
@@ -423,7 +434,8 @@ def row_of(given: Game, tried: MatchResult) -> Dict[str, Any]:
 
 
 class HuntResult(NamedTuple):
-    """What a hunt found: how many schedules were tried, whether the team fails, and the best match."""
+    """What a hunt found: how many schedules were tried, whether the team fails, and the
+    best match."""
 
     tried: int
     fails: bool
@@ -455,9 +467,9 @@ def hunt(
     engine: str = MODEL,
     **more: Any,
 ) -> HuntResult:
-    """Looks for a schedule after which the team fails, or with the most "moves" or "lost" agents. The Python model
-    searches, and the engine plays what is found. Earlier finds are tried first if a `database`, a folder, is named.
-    """
+    """Looks for a schedule after which the team fails, or with the most "moves" or
+    "lost" agents. The Python model searches, and the engine plays what is found.
+    Earlier finds are tried first if a `database`, a folder, is named."""
     if looking_for not in (hunting.FAILURE, hunting.MOVES, hunting.LOST):
         raise ValueError(
             f"{looking_for}: look for {hunting.FAILURE}, {hunting.MOVES} or {hunting.LOST}"

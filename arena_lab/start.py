@@ -1,4 +1,5 @@
-"""What pip and Debian install as commands: `arena` starts the program, `arena-lab` the lab."""
+"""What pip and Debian install as commands: `arena` starts the program, `arena-lab` the
+lab."""
 import os
 import sys
 
@@ -7,8 +8,8 @@ from arena_lab.support import built
 
 
 def arena() -> int:
-    """Becomes the program that was installed with the lab; `--version` says what it was built of, and so does the first
-    line of a contest's log."""
+    """Becomes the program that was installed with the lab; `--version` says what it was
+    built of, and so does the first line of a contest's log."""
     program = built.ARENA.in_release()
     if program is None:
         print(

@@ -1,13 +1,16 @@
-"""Measures how fast the program tries every schedule of a match, apart from the host that plays the agents.
+"""Measures how fast the program tries every schedule of a match, apart from the host
+that plays the agents.
 
     tools/build               # proves and builds the program, if that is not done yet
     /usr/bin/python3 -m bench.explore [--max-states N] NETWORK=AGENT ..
 
-Each network is named as for the lab, such as ring:16, and AGENT names an agent of examples/agents, such as ring. Two
-agents play, and each node but the home base is the black hole in turn. First the lab answers the program's questions,
-and the answers are kept. Then the program reads them from a file, so what it takes is its own. A line has the network,
-the most moves, the states of all matches, the seconds of the whole and of the program alone, states a second of the
-latter, and the most memory of one match. The program is ./arena, or what ARENA names.
+Each network is named as for the lab, such as ring:16, and AGENT names an agent of
+examples/agents, such as ring. Two agents play, and each node but the home base is the
+black hole in turn. First the lab answers the program's questions, and the answers are
+kept. Then the program reads them from a file, so what it takes is its own. A line has
+the network, the most moves, the states of all matches, the seconds of the whole and of
+the program alone, states a second of the latter, and the most memory of one match. The
+program is ./arena, or what ARENA names.
 """
 import argparse
 import json
@@ -37,11 +40,13 @@ NUMBERS = {"map": " {nodes} {links}", "known_map": ""}
 STATES = 1_000_000_000
 # seconds between two looks at the memory of the program
 PAUSE = 0.002
-OWN, CHILDREN = resource.RUSAGE_SELF, resource.RUSAGE_CHILDREN
+OWN = resource.RUSAGE_SELF
+CHILDREN = resource.RUSAGE_CHILDREN
 
 
 class Taken(NamedTuple):
-    """What one match took: the whole in seconds, and in those of a processor, of which the program took its own."""
+    """What one match took: the whole in seconds, and in those of a processor, of which
+    the program took its own."""
 
     states: int
     moves: int
@@ -64,7 +69,8 @@ class Answers:
 
 
 def alone(fixture: Fixture, answers: Answers, states: int) -> Tuple[float, float]:
-    """The seconds of a processor that the program takes which reads its answers from a file, and its megabytes."""
+    """The seconds of a processor that the program takes which reads its answers from a
+    file, and its megabytes."""
     with tempfile.TemporaryDirectory(prefix="bench-") as name:
         folder = pathlib.Path(name)
         write_tournament(fixture, folder)
@@ -81,7 +87,8 @@ def alone(fixture: Fixture, answers: Answers, states: int) -> Tuple[float, float
 
 
 def by_module(fixture: Fixture, module: str, states: int) -> Taken:
-    """What one match takes whose agents run a module (a word of `--module`), all schedules of which solve it."""
+    """What one match takes whose agents run a module (a word of `--module`), all
+    schedules of which solve it."""
     started = time.monotonic()
     with tempfile.TemporaryDirectory(
         prefix="bench-"
@@ -93,7 +100,8 @@ def by_module(fixture: Fixture, module: str, states: int) -> Taken:
         )
         printed.seek(0)
         told, counts = (json.loads(line) for line in printed.read().splitlines()[:2])
-    found, whole = solved(finding_of(told)), time.monotonic() - started
+    found = solved(finding_of(told))
+    whole = time.monotonic() - started
     return Taken(
         counts["states"], found.moves, found.lost, whole, program, program, memory
     )
@@ -109,7 +117,8 @@ def solved(found: Optional[Finding]) -> Solves:
 
 
 def watched(child: "subprocess.Popen[bytes]") -> Tuple[float, float]:
-    """The seconds of a processor that a program takes to its end, and the most megabytes that it was seen to take."""
+    """The seconds of a processor that a program takes to its end, and the most
+    megabytes that it was seen to take."""
     peak = 0.0
     while True:
         ended, status, used = os.wait4(child.pid, os.WNOHANG)
@@ -121,7 +130,8 @@ def watched(child: "subprocess.Popen[bytes]") -> Tuple[float, float]:
 
 
 def processor_seconds() -> float:
-    """The seconds of a processor that the lab and the programs that it waited for have taken so far."""
+    """The seconds of a processor that the lab and the programs that it waited for have
+    taken so far."""
     return sum(
         used.ru_utime + used.ru_stime
         for used in map(resource.getrusage, (OWN, CHILDREN))
@@ -130,17 +140,16 @@ def processor_seconds() -> float:
 
 def tried(fixture: Fixture, machines: Machines, states: int) -> Taken:
     """What one match takes, all schedules of which solve it."""
-    answers, started, before, plain = (
-        Answers(),
-        time.monotonic(),
-        processor_seconds(),
-        ProgramRun.answer,
-    )
+    answers = Answers()
+    started = time.monotonic()
+    before = processor_seconds()
+    plain = ProgramRun.answer
     with mock.patch.object(
         ProgramRun, "answer", lambda run, question: answers.noted(plain(run, question))
     ):
         answered = asked(PROGRAM, fixture, machines, states)
-    whole, processor = time.monotonic() - started, processor_seconds() - before
+    whole = time.monotonic() - started
+    processor = processor_seconds() - before
     found = solved(answered.found)
     return Taken(
         answered.states or 0,
@@ -158,7 +167,8 @@ def words_of(agent: str) -> str:
 
 
 def measured_by_module(network: str, module: str, states: int) -> List[Taken]:
-    """What the matches of a network take whose agents run a module with the number of nodes as its argument."""
+    """What the matches of a network take whose agents run a module with the number of
+    nodes as its argument."""
     given = parser().parse_args(
         ["explore", "--network", network, "--agent", words_of("ring_step")]
     )
@@ -176,7 +186,8 @@ def measured(network: str, agent: str, states: int) -> List[Taken]:
     )
     [game] = games_of(given)
     fixtures = game.fixtures()
-    machines, found = Machines(fixtures[0], game.agents, game.limit), []
+    machines = Machines(fixtures[0], game.agents, game.limit)
+    found = []
     machines.start()
     try:
         for fixture in fixtures:
@@ -203,10 +214,10 @@ def main() -> None:
     for match in words.matches:
         network, _, agent = match.partition("=")
         found = measured(network, agent, words.max_states)
-        states, program = sum(it.states for it in found), sum(
-            it.program for it in found
-        )
-        moves, whole = max(it.moves for it in found), sum(it.whole for it in found)
+        states = sum(it.states for it in found)
+        program = sum(it.program for it in found)
+        moves = max(it.moves for it in found)
+        whole = sum(it.whole for it in found)
         print(
             f"| {network} | {agent} | {moves} | {states:,} | {whole:.1f} | {program:.1f} | {states / program:,.0f} | "
             f"{max(it.memory for it in found):.0f} |",

@@ -1,14 +1,17 @@
-"""Floods a contest with clients that have no key, and measures how long honest agents wait for their answers.
+"""Floods a contest with clients that have no key, and measures how long honest agents
+wait for their answers.
 
     tools/build               # proves and builds the program, if that is not done yet
     python3 -m bench.flood [--teams N] [--nodes N] [--rate R] [--turns K] [--pause MS]
 
-Teams of two agents each (`examples/agents/ring.py`) search a ring, 50 teams by default. Meanwhile R clients a second
-connect, 500 by default: of three one says nothing, one half a line, and one a wrong key, and each stays until the
-server closes it or four seconds have passed. How long an agent waits is measured for each of its commands, up to the
-first line of the answer, and once for its enter, from before it connects. Then the same is played without the flood. A
-line for each says how many teams solved their networks, and how long the slowest enter, the slowest command, and 99 of
-100 commands took. The program is ./arena, or what ARENA names.
+Teams of two agents each (`examples/agents/ring.py`) search a ring, 50 teams by default.
+Meanwhile R clients a second connect, 500 by default: of three one says nothing, one
+half a line, and one a wrong key, and each stays until the server closes it or four
+seconds have passed. How long an agent waits is measured for each of its commands, up to
+the first line of the answer, and once for its enter, from before it connects. Then the
+same is played without the flood. A line for each says how many teams solved their
+networks, and how long the slowest enter, the slowest command, and 99 of 100 commands
+took. The program is ./arena, or what ARENA names.
 """
 import argparse
 import concurrent.futures
@@ -33,7 +36,8 @@ client = client_module()
 search = importlib.import_module("ring").search
 
 HOST = "127.0.0.1"
-QUOTA, BOARD = 1000, 64
+QUOTA = 1000
+BOARD = 64
 # teams whose agents share a process
 SHARE = 5
 # seconds that a client of the flood stays at most
@@ -103,7 +107,8 @@ def flood(port: int, rate: float, stop: Any, count: Any) -> None:
     """Connects this often a second, and counts how often it did."""
     selector = selectors.DefaultSelector()
     waiting: List[Tuple[float, socket.socket]] = []
-    begun, sent = time.monotonic(), 0
+    begun = time.monotonic()
+    sent = 0
     while not stop.is_set():
         now = time.monotonic()
         while sent < (now - begun) * rate:
@@ -146,7 +151,8 @@ def heard(client: Any) -> bool:
 
 
 def contest(rules: Rules, rate: float) -> Tuple[str, float, Waits]:
-    """The table of a contest under a flood, how many clients a second it had, and how long the agents waited."""
+    """The table of a contest under a flood, how many clients a second it had, and how
+    long the agents waited."""
     keys = [f"t{team}-{agent}" for team in range(rules.teams) for agent in range(2)]
     shares = [
         keys[place : place + 2 * SHARE] for place in range(0, len(keys), 2 * SHARE)
@@ -171,13 +177,16 @@ def contest(rules: Rules, rate: float) -> Tuple[str, float, Waits]:
             folder, MAX_SESSIONS, rules.turns, rules.pause, "--early"
         ) as server:
             port = server.port
-            stop, count = multiprocessing.Event(), multiprocessing.Value("q", 0)
+            stop = multiprocessing.Event()
+            count = multiprocessing.Value("q", 0)
             flooding = multiprocessing.Process(
                 target=flood, args=(port, rate, stop, count), daemon=True
             )
             flooding.start()
             time.sleep(1.0 if rate else 0.0)
-            begun, before, found = time.monotonic(), count.value, Waits([], [])
+            begun = time.monotonic()
+            before = count.value
+            found = Waits([], [])
             table: List[str] = []
             reading = threading.Thread(
                 target=lambda: table.append(server.child.stdout.read().decode())

@@ -1,15 +1,18 @@
-"""How a hall stands a course: many teams that ask for attempts, play them and hand in programs, while one more team
-floods it.
+"""How a hall stands a course: many teams that ask for attempts, play them and hand in
+programs, while one more team floods it.
 
     /usr/bin/python3 -m bench.hall [--teams 60] [--attempts 600] [--hand-ins 60] [--minutes 60] [--no-flood]
         [--program PATH]
 
-Starts a hall with its usual limits. The teams ask for their attempts at times that are drawn over the minutes, and play
-each with two sample agents on a ring of 8 nodes. They hand in the sample agent at times that are drawn too; each is
-graded in a sandbox. Meanwhile one more team asks for the standings as fast as it can, by eight connections at a time.
-Prints how many attempts were solved; how long it took from the request until the keys were there, and how long requests
-of the other teams took; how many programs solved their networks, and how long they waited for it; what the flood was
-answered; and the hall's processor seconds. A course has 600 attempts an hour; fewer minutes are a heavier load.
+Starts a hall with its usual limits. The teams ask for their attempts at times that are
+drawn over the minutes, and play each with two sample agents on a ring of 8 nodes. They
+hand in the sample agent at times that are drawn too; each is graded in a sandbox.
+Meanwhile one more team asks for the standings as fast as it can, by eight connections
+at a time. Prints how many attempts were solved; how long it took from the request until
+the keys were there, and how long requests of the other teams took; how many programs
+solved their networks, and how long they waited for it; what the flood was answered; and
+the hall's processor seconds. A course has 600 attempts an hour; fewer minutes are a
+heavier load.
 """
 import argparse
 import contextlib
@@ -27,8 +30,12 @@ from typing import Any, Callable, Dict, Iterator, List
 from arena_lab.rules.engines import program_at
 from tests.support.halls import Served, play, sample_program
 
-# seconds between two looks at a match, and at a program that is to be graded: a team has 120 requests a minute
-SEED, FLOODS, EVERY, SELDOM = 5, 8, 1.0, 5.0
+# seconds between two looks at a match, and at a program that is to be graded: a team
+# has 120 requests a minute
+SEED = 5
+FLOODS = 8
+EVERY = 1.0
+SELDOM = 5.0
 # tests of processes that are killed take workers for gone earlier
 USUAL_LEASE = "30"
 COURSE = """
@@ -47,7 +54,8 @@ class Load:
     """A hall and its teams, and what they have measured."""
 
     def __init__(self, hall: Served, tokens: Dict[str, str]) -> None:
-        self._hall, self._tokens = hall, tokens
+        self._hall = hall
+        self._tokens = tokens
         self.asked: List[float] = []
         self.waited: List[float] = []
         self.graded: List[float] = []
@@ -81,7 +89,8 @@ class Load:
         if told.status != 201:
             self.outcomes[f"hand-in refused {told.status}"] += 1
             return
-        path, found = f"/api/hand-ins/{told.json()['id']}", told.json()
+        path = f"/api/hand-ins/{told.json()['id']}"
+        found = told.json()
         while found["state"] not in ("over", "lost"):
             time.sleep(SELDOM)
             found = self.request("GET", path, name)

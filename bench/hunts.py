@@ -2,10 +2,12 @@
 
     /usr/bin/python3 -m bench.hunts [--seeds N] [--most N] [NAME ..]
 
-Plays each agent of arena_lab/mutants on the network on which `tests.support.mutants` hunts it. For each seed (--seeds) it
-counts the schedules of a hunt up to the first after which the team fails, and those of `run`, which begins with the
-hunt's first draw and is given up after --most. A row has the median and the most of each. The exit status is 1 if a
-hunt took more schedules than `run`. The Python model plays, so nothing needs to be built.
+Plays each agent of arena_lab/mutants on the network on which `tests.support.mutants`
+hunts it. For each seed (--seeds) it counts the schedules of a hunt up to the first
+after which the team fails, and those of `run`, which begins with the hunt's first draw
+and is given up after --most. A row has the median and the most of each. The exit status
+is 1 if a hunt took more schedules than `run`. The Python model plays, so nothing needs
+to be built.
 """
 import argparse
 import sys
@@ -18,7 +20,8 @@ from arena_lab.rules import networks
 from arena_lab.search.hunt import DRAWS, Hunt, Hunter, hunted
 from tests.support.mutants import PLANS, agent_of
 
-SEEDS, MOST = 10, 400
+SEEDS = 10
+MOST = 400
 
 
 def game_of(name: str) -> Game:
@@ -43,7 +46,8 @@ class UntilFailure:
 
 
 def hunts(name: str, seed: int) -> Optional[int]:
-    """After how many schedules a hunt finds that the team fails; None if it does not."""
+    """After how many schedules a hunt finds that the team fails; None if it does
+    not."""
     shown = UntilFailure()
     shown.hunter = Hunter(Hunt(game_of(name), seed=seed), shown)
     hunted(shown.hunter)
@@ -51,7 +55,8 @@ def hunts(name: str, seed: int) -> Optional[int]:
 
 
 def runs(name: str, seed: int, most: int) -> Optional[int]:
-    """After how many schedules `run` finds that the team fails; None if not within this number."""
+    """After how many schedules `run` finds that the team fails; None if not within this
+    number."""
     game = game_of(name)
     tried = (
         count

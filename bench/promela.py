@@ -1,9 +1,11 @@
-"""Runs the model checker SPIN on models of the sample search of rings, to compare it with `./arena-lab explore`.
+"""Runs the model checker SPIN on models of the sample search of rings, to compare it
+with `./arena-lab explore`.
 
-SPIN (G. J. Holzmann, "The Model Checker SPIN", 1997) makes a program of a model, which searches all states of one match
-after another: each node but the home base is the black hole in turn. `models/ring_natural.pml` is the search as one
-would write it down, for SPIN's own partial order reduction; in `models/ring_merged.pml` departures and arrivals that
-nobody can know of are merged by hand into the step before.
+SPIN (G. J. Holzmann, "The Model Checker SPIN", 1997) makes a program of a model, which
+searches all states of one match after another: each node but the home base is the black
+hole in turn. `models/ring_natural.pml` is the search as one would write it down, for
+SPIN's own partial order reduction; in `models/ring_merged.pml` departures and arrivals
+that nobody can know of are merged by hand into the step before.
 """
 import os
 import pathlib
@@ -31,7 +33,8 @@ MERGED = Model("ring_merged", ["-DSAFETY", "-DNOREDUCE"])
 
 
 class Searched(NamedTuple):
-    """What a search came to, in how many seconds of a processor, with how many megabytes."""
+    """What a search came to, in how many seconds of a processor, with how many
+    megabytes."""
 
     states: int
     moves: int
@@ -41,8 +44,8 @@ class Searched(NamedTuple):
 
 
 def search(model: Model, nodes: int, source: str = "") -> Searched:
-    """Searches all schedules of a model, or of another source, on a ring of this many nodes. To compile the program
-    takes no part of the time."""
+    """Searches all schedules of a model, or of another source, on a ring of this many
+    nodes. To compile the program takes no part of the time."""
     with tempfile.TemporaryDirectory(prefix="spin-") as name:
         folder = pathlib.Path(name)
         text = source or (MODELS / f"{model.name}.pml").read_text(encoding="utf-8")

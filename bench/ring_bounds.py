@@ -1,10 +1,13 @@
-"""Draws the moves of two agents on rings: what every team must make, what searches made, and what halves make at most.
+"""Draws the moves of two agents on rings: what every team must make, what searches
+made, and what halves make at most.
 
     /usr/bin/python3 -m bench.ring_bounds [FILE]
 
-Writes an SVG picture to FILE (docs/ring-bounds.svg). Its lines are `least_moves` and the second bound of `bhs_bounds`,
-and `most_moves` of `bhs_protocols`, each divided by the number of nodes n, over n. Its points are the most moves under
-every schedule in docs/EXPERIMENTS.md, by halves (`ring_step.py`) and by thirds (`ring3.py`). Needs python3-matplotlib.
+Writes an SVG picture to FILE (docs/ring-bounds.svg). Its lines are `least_moves` and
+the second bound of `bhs_bounds`, and `most_moves` of `bhs_protocols`, each divided by
+the number of nodes n, over n. Its points are the most moves under every schedule in
+docs/EXPERIMENTS.md, by halves (`ring_step.py`) and by thirds (`ring3.py`). Needs
+python3-matplotlib.
 """
 import argparse
 import pathlib
@@ -18,7 +21,8 @@ from arena_lab.sweep.report import new_figure, svg_of
 TOP = pathlib.Path(__file__).resolve().parents[1]
 PICTURE = TOP / "docs" / "ring-bounds.svg"
 EXPERIMENTS = TOP / "docs" / "EXPERIMENTS.md"
-FIRST, LAST = 3, 256
+FIRST = 3
+LAST = 256
 # a row of explored networks: the ring, the team, its states, and the most moves
 ROW = r"^\| ring:(\d+) \| 2, `{}` \| \d+ \| (\d+) \|"
 AGENTS = {
@@ -28,7 +32,8 @@ AGENTS = {
 
 
 def explored(agent: str) -> Dict[int, int]:
-    """The most moves of two agents of this program by the number of nodes, where every schedule was tried."""
+    """The most moves of two agents of this program by the number of nodes, where every
+    schedule was tried."""
     rows = re.findall(
         ROW.format(re.escape(agent)), EXPERIMENTS.read_text(encoding="utf-8"), re.M
     )

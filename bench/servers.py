@@ -1,4 +1,5 @@
-"""What the programs share that start a server: its words, and how many files may be open."""
+"""What the programs share that start a server: its words, and how many files may be
+open."""
 import pathlib
 import resource
 import signal
@@ -30,8 +31,8 @@ def serving(
 
 
 def prepare(files: int) -> None:
-    """Lets this program and those that it starts have this many files open. Has it clean up even if it is told to
-    end."""
+    """Lets this program and those that it starts have this many files open. Has it
+    clean up even if it is told to end."""
     soft, hard = resource.getrlimit(resource.RLIMIT_NOFILE)
     if hard != resource.RLIM_INFINITY and hard < files:
         raise SystemExit(

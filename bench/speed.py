@@ -2,9 +2,10 @@
 
     /usr/bin/python3 -m bench.speed [--rounds N] [--program PATH]
 
-A step is one choice of a scheduler: an agent is answered, arrives or wakes. Two agents search a ring of 64 nodes under
-slow-agents. A line for each engine and each kind of player has the median of the rounds. A last line says how many
-states a second `explore` visits on a ring of 7 nodes. Other work on the machine slows it down.
+A step is one choice of a scheduler: an agent is answered, arrives or wakes. Two agents
+search a ring of 64 nodes under slow-agents. A line for each engine and each kind of
+player has the median of the rounds. A last line says how many states a second `explore`
+visits on a ring of 7 nodes. Other work on the machine slows it down.
 """
 import argparse
 import statistics
@@ -28,7 +29,9 @@ from arena_lab.search import explore
 from arena_lab.support.progress import bar
 
 AGENT = AGENTS / "ring.py"
-NODES, HOLE, SMALL = 64, 20, 7
+NODES = 64
+HOLE = 20
+SMALL = 7
 ROUNDS = 5
 TEAMS = {
     "agents inside the lab": AgentWords(INSIDE, f"{AGENT} {{nodes}}"),

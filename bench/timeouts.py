@@ -1,18 +1,21 @@
-"""Measures what teams gain that take an agent for lost after a timeout, beside teams that decide nothing by time.
+"""Measures what teams gain that take an agent for lost after a timeout, beside teams
+that decide nothing by time.
 
     tools/build               # proves and builds the program, if that is not done yet
     python3 -m bench.timeouts [--contests N] [--nodes N] [--turns K] [--pause MS] [--schedule NAME]
         [--timeouts TURNS ..] [--traps]
 
-Each contest has a match of the honest search `examples/agents/ring.py` and one match for each timeout of 1, 8, 64 and
-512 turns (or those of --timeouts), all on a ring and with the black hole opposite the home base. In a timed team one
-agent steps to the next node and comes back, node after node; the other waits behind it, and if its companion has not
-come back in time, it takes the node ahead for the black hole, visits all others, and accuses it from behind. Such a
-team needs about three moves a node, and honest agents need some log n times as many. With --traps hasty teams play too,
-which accuse at once, and each team also plays a match without a black hole, in which nobody arrives at that node and at
-the next (`./arena-lab tournament --traps`). As many contests are played in one as a tournament of 64 matches has room
-for. The
-program is ./arena, or what ARENA names.
+Each contest has a match of the honest search `examples/agents/ring.py` and one match
+for each timeout of 1, 8, 64 and 512 turns (or those of --timeouts), all on a ring and
+with the black hole opposite the home base. In a timed team one agent steps to the next
+node and comes back, node after node; the other waits behind it, and if its companion
+has not come back in time, it takes the node ahead for the black hole, visits all
+others, and accuses it from behind. Such a team needs about three moves a node, and
+honest agents need some log n times as many. With --traps hasty teams play too, which
+accuse at once, and each team also plays a match without a black hole, in which nobody
+arrives at that node and at the next (`./arena-lab tournament --traps`). As many
+contests are played in one as a tournament of 64 matches has room for. The program is
+./arena, or what ARENA names.
 """
 import argparse
 import collections
@@ -41,11 +44,13 @@ MOST_MATCHES = 64
 TRAP = "t"
 # accuses as soon as its time is up, and visits no other node before
 HASTY = "hasty"
-QUOTA, BOARD = 1000, 64
+QUOTA = 1000
+BOARD = 64
 SCHEDULES = {"adaptive": None, "oblivious": Delays(10, 32)}
 SEED = "07" * 32
 OUTCOMES = ("solved", "guess", "unfinished", "silent", "wrong")
-BACK, AHEAD = 1, 0
+BACK = 1
+AHEAD = 0
 
 
 class Rules(NamedTuple):
@@ -59,7 +64,8 @@ class Rules(NamedTuple):
     has_traps: bool
 
     def kinds(self) -> List[str]:
-        """The teams of a contest: `honest`, `timeout-8` and so on, and again in traps as `honest-t`."""
+        """The teams of a contest: `honest`, `timeout-8` and so on, and again in traps
+        as `honest-t`."""
         found = ["honest", *(f"timeout-{turns}" for turns in self.timeouts)]
         if not self.has_traps:
             return found
@@ -74,7 +80,8 @@ def teams(rules: Rules, contests: int) -> List[str]:
 
 def fixtures(rules: Rules, names: List[str]) -> List[Fixture]:
     """The matches of these teams."""
-    network, node = networks.ring(rules.nodes), rules.nodes // 2
+    network = networks.ring(rules.nodes)
+    node = rules.nodes // 2
     ends = networks.places_into(network.links, (node, node + 1))
     return [
         match(
@@ -102,8 +109,8 @@ def step_out(agent: client.Agent, nodes: int) -> None:
 def watch(
     agent: client.Agent, nodes: int, seconds: float, every: float, is_hasty: bool
 ) -> None:
-    """Follows while the other comes back in time; else visits the nodes that are left, and accuses from behind, or
-    accuses at once."""
+    """Follows while the other comes back in time; else visits the nodes that are left,
+    and accuses from behind, or accuses at once."""
     safe = 0
     while is_back(agent, seconds, every):
         agent.depart(AHEAD)
@@ -126,7 +133,8 @@ def is_back(agent: client.Agent, seconds: float, every: float) -> bool:
 
 def plays(port: int, rules: Rules, name: str, number: int) -> Callable[[], None]:
     """What an agent of a team does."""
-    key, pause = f"{name}-{number}", rules.pause / 1000
+    key = f"{name}-{number}"
+    pause = rules.pause / 1000
 
     def play() -> None:
         agent = client.Agent.connect("127.0.0.1", port)

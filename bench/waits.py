@@ -1,13 +1,14 @@
-"""Measures what an agent learns by waiting: how many turns its moves take while the other agent of its match stands at
-home, was destroyed, or is on a held link.
+"""Measures what an agent learns by waiting: how many turns its moves take while the
+other agent of its match stands at home, was destroyed, or is on a held link.
 
     tools/build               # proves and builds the program, if that is not done yet
     python3 -m bench.waits [--moves N] [--pause MS]
 
-Two agents are served on a ring of eight nodes. The first stands, or departs for the black hole or over a held link;
-then the second goes to a node and back, N moves in all, and each move is timed. Turns are times divided by the pause.
-Under the adaptive schedule the rows differ; under the oblivious one they are equal within their errors, with and
-without delays. The program is ./arena, or what ARENA names.
+Two agents are served on a ring of eight nodes. The first stands, or departs for the
+black hole or over a held link; then the second goes to a node and back, N moves in all,
+and each move is timed. Turns are times divided by the pause. Under the adaptive
+schedule the rows differ; under the oblivious one they are equal within their errors,
+with and without delays. The program is ./arena, or what ARENA names.
 """
 import argparse
 import json
@@ -86,7 +87,8 @@ def waits(place: str, schedule: str, moves: int, pause: int) -> List[float]:
             "07" * 32,
         )
         with serving(folder, 8, TURNS, pause) as server:
-            first, second = entered(server.port, "red-0"), entered(server.port, "red-1")
+            first = entered(server.port, "red-0")
+            second = entered(server.port, "red-1")
             if place != "stands":
                 first.says(do="depart", port=0)
                 time.sleep(50 * pause / 1000)

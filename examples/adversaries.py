@@ -1,13 +1,14 @@
 """Schedulers for `./arena-lab run --scheduler`: adversaries that one writes oneself.
 
-Each is a function of a seed that gives a function of what may happen next and of how the match stands.
+Each is a function of a seed that gives a function of what may happen next and of how
+the match stands.
 """
 import random
 
 
 def writers_wait(seed):
-    """Whoever wants to write waits as long as anything else can happen: so whiteboards change between a reading and
-    the writing that rests on it."""
+    """Whoever wants to write waits as long as anything else can happen: so whiteboards
+    change between a reading and the writing that rests on it."""
     chance = random.Random(seed)
 
     def choose(choices, state):

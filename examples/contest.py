@@ -1,21 +1,25 @@
 #!/usr/bin/env python3
-"""Plays a contest on this machine: the server, four teams of the sample agents, and the table.
+"""Plays a contest on this machine: the server, four teams of the sample agents, and the
+table.
 
     python3 examples/contest.py [--keep FOLDER] [--pages FOLDER] [--watch] [--kill]
 
-Starts the server on examples/contest.toml, and then the agents of each team as programs of their own, as teams would
-do. Waits for the server to end, and prints its table and which teams solved their networks. All of them must: else the
-exit status is 1.
+Starts the server on examples/contest.toml, and then the agents of each team as programs
+of their own, as teams would do. Waits for the server to end, and prints its table and
+which teams solved their networks. All of them must: else the exit status is 1.
 
-The server is `./arena serve`. Where tools/build has not built the proved program, ./arena compiles one without a proof
-first, in a minute or two, and says at each start that it is not proved. Without the toolchain it is the server in
-Python, `./arena-lab serve`, and a line says so.
+The server is `./arena serve`. Where tools/build has not built the proved program,
+./arena compiles one without a proof first, in a minute or two, and says at each start
+that it is not proved. Without the toolchain it is the server in Python, `./arena-lab
+serve`, and a line says so.
 
-With --kill the agents of the team green are killed in the middle of their search, and the other teams must solve
-theirs. Files go to a temporary folder; --keep has the replays of the matches written to a folder, --pages also a page
-of each and a list of them (./arena-lab page). With --watch a browser shows the contest while it goes on (./arena-lab
-watch); turns are slower then, and the page stays until you press Enter. ARENA in the environment names another server,
-as ARENA="./arena-lab" for the one in Python.
+With --kill the agents of the team green are killed in the middle of their search, and
+the other teams must solve theirs. Files go to a temporary folder; --keep has the
+replays of the matches written to a folder, --pages also a page of each and a list of
+them (./arena-lab page). With --watch a browser shows the contest while it goes on
+(./arena-lab watch); turns are slower then, and the page stays until you press Enter.
+ARENA in the environment names another server, as ARENA="./arena-lab" for the one in
+Python.
 """
 import argparse
 import contextlib
@@ -47,8 +51,8 @@ PAUSE = 2
 # milliseconds: what the matches wait for their agents
 GATHER = 10_000
 PATIENCE = 60
-# whose agents are killed, if any are, after how many seconds, and in turns of how many milliseconds: by then they have
-# entered, and they need longer to search
+# whose agents are killed, if any are, after how many seconds, and in turns of how many
+# milliseconds: by then they have entered, and they need longer to search
 VICTIM = "green"
 LIFE = 1.5
 SLOW_PAUSE = 12
@@ -77,8 +81,8 @@ TEAMS: Dict[str, List[str]] = {
 
 
 def arena() -> List[str]:
-    """The command that ARENA names, or ./arena of this folder or beside the lab, which a wheel does not have; or the
-    server in Python, if there is no program."""
+    """The command that ARENA names, or ./arena of this folder or beside the lab, which
+    a wheel does not have; or the server in Python, if there is no program."""
     if "ARENA" in os.environ:
         return shlex.split(os.environ["ARENA"])
     launcher = next(
@@ -145,7 +149,8 @@ def start_server(
 def play(
     command: List[str], folder: pathlib.Path, replays: str, pause: int, kills: bool
 ) -> str:
-    """Plays the contest, and answers the server's table. The agents of one team may be killed meanwhile."""
+    """Plays the contest, and answers the server's table. The agents of one team may be
+    killed meanwhile."""
     build(folder)
     port = free_port()
     server = start_server(command, port, replays, pause)
@@ -187,7 +192,8 @@ def outcomes(table: str) -> Dict[str, str]:
 
 
 def write_pages(replays: str, folder: pathlib.Path) -> None:
-    """Writes a page of each match and one that lists them, by the program that served them, or by the model."""
+    """Writes a page of each match and one that lists them, by the program that served
+    them, or by the model."""
     server = arena()
     is_model = pathlib.Path(server[0]).name == LAB or len(server) > 1
     program = (

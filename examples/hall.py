@@ -1,16 +1,19 @@
 #!/usr/bin/env python3
-"""Shows a hall on this machine: three sample teams practise and hand in programs, and a fourth never comes.
+"""Shows a hall on this machine: three sample teams practise and hand in programs, and a
+fourth never comes.
 
     python3 examples/hall.py [--demo-seconds N] [--port N] [--no-browser]
 
-Starts `./arena-lab hall` on examples/hall/course.toml in a temporary folder, opens its page in a browser, and has the
-teams play until Enter is pressed, or for N seconds. Then all of it ends, and the standings are printed. It says by
-which token one logs in as a team, and by which password as the teacher.
+Starts `./arena-lab hall` on examples/hall/course.toml in a temporary folder, opens its
+page in a browser, and has the teams play until Enter is pressed, or for N seconds. Then
+all of it ends, and the standings are printed. It says by which token one logs in as a
+team, and by which password as the teacher.
 
-It needs Debian's packages python3-django, python3-djangorestframework, python3-waitress, python3-whitenoise,
-python3-networkx, python3-numpy, python3-scipy, python3-greenlet, python3-tqdm and python3-jinja2. The program is the
-proved one if it is built, else one without a proof, which is compiled in a minute or two and says so; ARENA in the
-environment names another.
+It needs Debian's packages python3-django, python3-djangorestframework,
+python3-waitress, python3-whitenoise, python3-networkx, python3-numpy, python3-scipy,
+python3-greenlet, python3-tqdm and python3-jinja2. The program is the proved one if it
+is built, else one without a proof, which is compiled in a minute or two and says so;
+ARENA in the environment names another.
 """
 import argparse
 import csv
@@ -36,19 +39,15 @@ sys.path.insert(0, str(TOP))
 
 from arena_lab.support.ports import free_port  # noqa: E402
 
-AGENTS, PRACTISE = (
-    TOP / "examples" / "agents",
-    TOP / "examples" / "hall" / "practise.py",
-)
+AGENTS = TOP / "examples" / "agents"
+PRACTISE = TOP / "examples" / "hall" / "practise.py"
 COURSE = TOP / "examples" / "hall" / "course.toml"
 DEBIANS_PYTHON = "/usr/bin/python3"
 PATIENCE = 120
 ENTERS = ["{host}", "{port}", "{key}"]
-ON_RINGS, WITH_SIDE, WITH_MAP = (
-    [*ENTERS, "{nodes}"],
-    [*ENTERS, "{nodes}", "{agent}"],
-    [*ENTERS, "{network}", "{home}"],
-)
+ON_RINGS = [*ENTERS, "{nodes}"]
+WITH_SIDE = [*ENTERS, "{nodes}", "{agent}"]
+WITH_MAP = [*ENTERS, "{network}", "{home}"]
 
 
 class Turn(NamedTuple):
@@ -73,7 +72,8 @@ class Demo:
     """A hall, and the teams that play in it."""
 
     def __init__(self, folder: pathlib.Path, port: int) -> None:
-        self.folder, self.port = folder / "course.hall", port
+        self.folder = folder / "course.hall"
+        self.port = port
         self.address = f"http://127.0.0.1:{port}"
         self._is_over = threading.Event()
         course = shutil.copy2(COURSE, folder)
@@ -191,7 +191,8 @@ class Demo:
 
 
 def wait(seconds: Optional[float]) -> None:
-    """Waits for this number of seconds, or until Enter is pressed; where nobody can press it, until a signal comes."""
+    """Waits for this number of seconds, or until Enter is pressed; where nobody can
+    press it, until a signal comes."""
     if seconds is not None:
         time.sleep(seconds)
         return

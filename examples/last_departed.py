@@ -1,8 +1,10 @@
-"""Plays two agents on the built-in network against an adversary that delivers the agent that departed last.
+"""Plays two agents on the built-in network against an adversary that delivers the agent
+that departed last.
 
     python3 examples/last_departed.py [PROGRAM ..]
 
-PROGRAM is `./arena` if no other is named. The adversary chooses each line of the script by what the agents were sent.
+PROGRAM is `./arena` if no other is named. The adversary chooses each line of the script
+by what the agents were sent.
 """
 import json
 import subprocess

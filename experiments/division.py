@@ -1,14 +1,18 @@
-"""Worst cases of searches on a ring that divide what is left: a dynamic program over how much that is.
+"""Worst cases of searches on a ring that divide what is left: a dynamic program over
+how much that is.
 
     /usr/bin/python3 -m experiments.division table 9 16 27 32 64 81 128 243
     /usr/bin/python3 -m experiments.division attain 9 16 27     plays the worst case of ring3.py with its own code
 
-Two agents have divided when L of n nodes are left. The safe nodes between the agents are a way of D = n - 1 - L links.
-The left agent is to explore s nodes, the right one t, and m in the middle are for the first that says so at the box,
-which is p links from the left agent and q = D - p from the right one. The adversary says who is first and how far the
-other comes meanwhile. An agent that goes on costs three moves a node: to it, back and to it again. It makes the last
-of these only when it goes on, so a way to somewhere and back is two moves shorter. V(L) is the most that ways cost from
-the division on, with the way of the divider back, and M(x) that of x nodes of which the adversary first lets i go:
+Two agents have divided when L of n nodes are left. The safe nodes between the agents
+are a way of D = n - 1 - L links. The left agent is to explore s nodes, the right one t,
+and m in the middle are for the first that says so at the box, which is p links from the
+left agent and q = D - p from the right one. The adversary says who is first and how far
+the other comes meanwhile. An agent that goes on costs three moves a node: to it, back
+and to it again. It makes the last of these only when it goes on, so a way to somewhere
+and back is two moves shorter. V(L) is the most that ways cost from the division on,
+with the way of the divider back, and M(x) that of x nodes of which the adversary first
+lets i go:
 
     M(x) = max over i < x of i + V(x - i),       V(1) = 0,       V(L) = D + the least, over divisions, of the most of
     m = 0:  the right agent is first    0 if s = 1, else D + t - 2 + M(s)
@@ -18,7 +22,8 @@ the division on, with the way of the divider back, and M(x) that of x nodes of w
                the left one is first    if m = 1: 2 (p + s) - 2, else D + s + t - 2 + M(m)
             the left agent takes it: the same with s, p and t, q exchanged
 
-A search makes 3 (n - 2) + 1 + V(n - 1) moves, with D = 0 at first; it starts at the home base.
+A search makes 3 (n - 2) + 1 + V(n - 1) moves, with D = 0 at first; it starts at the
+home base.
 """
 import math
 import sys
@@ -32,12 +37,14 @@ from arena_lab.search.ring_bounds import most_moves
 
 ring3 = loaded(AGENTS / "ring3.py")
 
-LEFT, RIGHT = 1, 0
+LEFT = 1
+RIGHT = 0
 BACK = 2
 
 
 class Division(NamedTuple):
-    """What is left to each agent and in the middle, and how far the box is from the left agent."""
+    """What is left to each agent and in the middle, and how far the box is from the
+    left agent."""
 
     s: int
     m: int
@@ -46,8 +53,9 @@ class Division(NamedTuple):
 
 
 class Case(NamedTuple):
-    """One answer of the adversary: what ways cost until the next division or the end, the runs that lead there, as
-    (agent, nodes), and how many nodes of what share are then left."""
+    """One answer of the adversary: what ways cost until the next division or the end,
+    the runs that lead there, as (agent, nodes), and how many nodes of what share are
+    then left."""
 
     moves: int
     runs: List[Run]
@@ -58,13 +66,15 @@ Divide = Callable[[int, int], Division]
 
 
 def of_ring3(left: int, way: int) -> Division:
-    """How ring3.py divides. Its box is in the middle, or a link nearer to the left agent."""
+    """How ring3.py divides. Its box is in the middle, or a link nearer to the left
+    agent."""
     t, m = ring3.parts(left)
     return Division(left - m - t, m, t, way // 2)
 
 
 def cases(left: int, way: int, division: Division) -> List[Case]:
-    """All answers of the adversary, without how far the one that comes last has come."""
+    """All answers of the adversary, without how far the one that comes last has
+    come."""
     s, m, t, p = division
     found = []
     for first, mine, last, theirs, near, far in (
@@ -102,7 +112,8 @@ def least(cost: "np.ndarray", *division: "np.ndarray") -> Costed:
 
 
 class Table:
-    """V and M of a ring, for a way to divide, or for the best of all if none is given."""
+    """V and M of a ring, for a way to divide, or for the best of all if none is
+    given."""
 
     def __init__(self, nodes: int, divide: Optional[Divide] = None) -> None:
         self.nodes = nodes
@@ -124,13 +135,15 @@ class Table:
         return 3 * (self.nodes - 2) + 1 + int(self.value[self.nodes - 1])
 
     def _best(self, left: int, way: int) -> Division:
-        """The best division, of all sizes and places of the box. Of two that are each other's mirror one is tried."""
+        """The best division, of all sizes and places of the box. Of two that are each
+        other's mirror one is tried."""
         return min([self._best_halves(left, way), *self._best_thirds(left, way)])[1]
 
     def _best_halves(self, left: int, way: int) -> Costed:
         share = self.share
         s = np.arange(1, left // 2 + 1)
-        t, none = left - s, np.zeros_like(s)
+        t = left - s
+        none = np.zeros_like(s)
         cost = np.maximum(
             np.where(s == 1, 0, way + t - BACK + share[s]),
             np.where(t == 1, 0, way + s - BACK + share[t]),
@@ -138,20 +151,23 @@ class Table:
         return least(cost, s, none, t, none)
 
     def _best_thirds(self, left: int, way: int) -> List[Costed]:
-        """The best with a middle of several nodes, and with a middle of one node, if there are such."""
+        """The best with a middle of several nodes, and with a middle of one node, if
+        there are such."""
         share = self.share
         s, t = (
             it.ravel() for it in np.meshgrid(np.arange(1, left), np.arange(1, left))
         )
         fits = (s <= t) & (s + t < left)
-        s, t = s[fits], t[fits]
+        s = s[fits]
+        t = t[fits]
         m = left - s - t
         found: List[Costed] = []
         if len(s):
             right = np.where(s == 1, 0, way + t + m - BACK + share[s])
             left_ = np.where(t == 1, 0, way + s + m - BACK + share[t])
             middle = way + s + t - BACK + share[m]
-            x, y = np.maximum(right, middle), np.maximum(left_, middle)
+            x = np.maximum(right, middle)
+            y = np.maximum(left_, middle)
             # the two sides cost the same about there
             even = np.floor_divide(2 * way + 2 * t - 2 * s + x - y, 4)
             for p in (np.clip(even, 0, way), np.clip(even + 1, 0, way)):
@@ -160,7 +176,10 @@ class Table:
                     least(np.where(m == 1, np.iinfo(np.int64).max, cost), s, m, t, p)
                 )
             one = m == 1
-            s, t, right, left_ = s[one], t[one], right[one], left_[one]
+            s = s[one]
+            t = t[one]
+            right = right[one]
+            left_ = left_[one]
             p = np.arange(way + 1)[:, None]
             q = way - p
             cost = np.maximum(
@@ -171,12 +190,15 @@ class Table:
         return found
 
     def runs(self) -> Tuple[List[Run], int]:
-        """The runs of a worst case, as (agent, nodes), and how many nodes the right agent has then explored."""
-        left, runs = self.nodes - 1, []
+        """The runs of a worst case, as (agent, nodes), and how many nodes the right
+        agent has then explored."""
+        left = self.nodes - 1
+        runs = []
         while left > 1:
             case = max(self.cases(left), key=lambda it: it.moves + self.share[it.rest])
             i = max(range(case.rest), key=lambda i: i + self.value[case.rest - i])
-            first, last = case.runs[:-1], case.runs[-1]
+            first = case.runs[:-1]
+            last = case.runs[-1]
             runs += first + ([(1 - last[0], i)] if i else []) + [last]
             left = case.rest - i
         return runs, sum(count for agent, count in runs if agent == RIGHT)
@@ -192,8 +214,10 @@ def table(sizes: List[int]) -> None:
         "n | best division | ring3.py | ring.py | 3 n log3 n | best / bound | ring3 / bound | ring3 / ring"
     )
     for nodes in sizes:
-        best, thirds = Table(nodes).moves(), Table(nodes, of_ring3).moves()
-        halves, most = most_moves(nodes), bound(nodes)
+        best = Table(nodes).moves()
+        thirds = Table(nodes, of_ring3).moves()
+        halves = most_moves(nodes)
+        most = bound(nodes)
         print(
             f"{nodes} | {best} | {thirds} | {halves} | {most:.1f} | {best / most:.3f} | {thirds / most:.3f} | "
             f"{thirds / halves:.3f}",

@@ -1,9 +1,10 @@
-"""Draws how moves grow with nodes: the most moves in the tables of docs/EXPERIMENTS.md, beside the bounds.
+"""Draws how moves grow with nodes: the most moves in the tables of docs/EXPERIMENTS.md,
+beside the bounds.
 
     /usr/bin/python3 -m experiments.growth [FILE]
 
-Writes an SVG picture to FILE (docs/growth.svg). `python3 -m experiments.make --write` draws it too, from its tables.
-Needs python3-matplotlib.
+Writes an SVG picture to FILE (docs/growth.svg). `python3 -m experiments.make --write`
+draws it too, from its tables. Needs python3-matplotlib.
 """
 import pathlib
 import sys
@@ -14,13 +15,15 @@ from arena_lab.support.built import TOP
 from arena_lab.sweep.grid import BOUNDS
 from arena_lab.sweep.report import COLOURS, new_figure, svg_of
 
-DOCUMENT, PICTURE = TOP / "docs" / "EXPERIMENTS.md", TOP / "docs" / "growth.svg"
+DOCUMENT = TOP / "docs" / "EXPERIMENTS.md"
+PICTURE = TOP / "docs" / "growth.svg"
 # how the heads of columns with the most moves end
 MOST = ": most"
 
 
 class Series(NamedTuple):
-    """The networks of some tables, the bound that they have there, and the mark of their points."""
+    """The networks of some tables, the bound that they have there, and the mark of
+    their points."""
 
     name: str
     tables: Sequence[str]

@@ -1,6 +1,6 @@
-"""A small world in which two agents of a ring search act by turns: each goes on until it is on its link into a node
-that nobody has reached. There is no black hole: it is the last node that nobody has reached, before which an agent
-waits."""
+"""A small world in which two agents of a ring search act by turns: each goes on until
+it is on its link into a node that nobody has reached. There is no black hole: it is the
+last node that nobody has reached, before which an agent waits."""
 from typing import Any, Dict, List, NamedTuple, Sequence, Set, Tuple
 
 from greenlet import greenlet
@@ -14,7 +14,8 @@ Run = Tuple[int, int]
 
 
 class Ended(NamedTuple):
-    """How a search ended: its moves, the node that was accused, and how many commands each agent used."""
+    """How a search ended: its moves, the node that was accused, and how many commands
+    each agent used."""
 
     moves: int
     hole: int
@@ -22,7 +23,8 @@ class Ended(NamedTuple):
 
 
 class World:
-    """A ring, its whiteboards, and two agents, each of which waits before a new node."""
+    """A ring, its whiteboards, and two agents, each of which waits before a new
+    node."""
 
     def __init__(self, search: Any, nodes: int) -> None:
         self.nodes = nodes
@@ -43,7 +45,9 @@ class Client:
     """What an agent of the world calls."""
 
     def __init__(self, world: World) -> None:
-        self.world, self.node, self.commands = world, 0, 1
+        self.world = world
+        self.node = 0
+        self.commands = 1
 
     def enter(self, key: str) -> Any:
         return client.Here(2, None, self.world.boards.get(0, ""))

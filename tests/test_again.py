@@ -11,7 +11,8 @@ from tools.prove import again
 class Compared(InTemporary):
     def setUp(self) -> None:
         super().setUp()
-        self.one, self.other = self.folder / "one", self.folder / "other"
+        self.one = self.folder / "one"
+        self.other = self.folder / "other"
         self.bytes = pathlib.Path(sys.executable).resolve().read_bytes()
         self.one.write_bytes(self.bytes)
 

@@ -1,4 +1,5 @@
-"""The page for those who write agents: its conversations are played, and it names each kit, answer and refusal."""
+"""The page for those who write agents: its conversations are played, and it names each
+kit, answer and refusal."""
 import json
 import re
 import unittest

@@ -1,5 +1,5 @@
-"""./arena-lab runs from any folder, leaves PYTHONPATH to the agents as it is, and takes the Python that has the lab's
-packages: an active environment's, or else Debian's."""
+"""./arena-lab runs from any folder, leaves PYTHONPATH to the agents as it is, and takes
+the Python that has the lab's packages: an active environment's, or else Debian's."""
 import os
 import pathlib
 import subprocess
@@ -7,7 +7,8 @@ import subprocess
 from tests.support.output import InTemporary, write
 
 TOP = pathlib.Path(__file__).resolve().parent.parent
-# stands for the Python of an environment: says whether it has packages, or which words it was given
+# stands for the Python of an environment: says whether it has packages, or which words
+# it was given
 PYTHON = """#!/bin/sh
 case $2 in *find_spec*) exit {status} ;; esac
 shift 2

@@ -1,4 +1,5 @@
-"""The published count of what a reader must believe is that of the definitions as they stand."""
+"""The published count of what a reader must believe is that of the definitions as they
+stand."""
 import unittest
 
 from tests import TOP

@@ -13,7 +13,8 @@ from tests.support.output import InTemporary, ran, write
 
 class Inputs(InTemporary):
     def plays(self, play: instructions.Play, events: int, verdict: str) -> None:
-        """A replay of version 1 has the events of its match, and a node that nobody reaches."""
+        """A replay of version 1 has the events of its match, and a node that nobody
+        reaches."""
         head, *lines = instructions.replay(play, 3)
         values = json.loads(head)
         self.assertEqual((values.pop("replay"), len(lines)), (1, events + 1))
@@ -50,7 +51,8 @@ class Counts(InTemporary):
         return str(write(self.folder / name, f"#!/bin/sh\n{text}\n", 0o700))
 
     def printed(self, said: str) -> str:
-        """What is printed of two programs, with this script in the place of valgrind."""
+        """What is printed of two programs, with this script in the place of
+        valgrind."""
         programs = [self.made("one", "exit"), "--peer", self.made("two", "exit")]
         with unittest.mock.patch.object(
             instructions, "VALGRIND", self.made("valgrind", said)
@@ -80,9 +82,8 @@ class Counts(InTemporary):
 
     def test_each_run_is_compared_with_what_is_kept(self) -> None:
         titles = list(tomllib.loads(instructions.KEPT.read_text()))
-        kept, valgrind = self.folder / "kept.toml", self.made(
-            "valgrind", "echo ==7== Collected : 2000000 >&2"
-        )
+        kept = self.folder / "kept.toml"
+        valgrind = self.made("valgrind", "echo ==7== Collected : 2000000 >&2")
         for number, last in ((2, "8 passed, 0 failed"), (1, "0 passed, 8 failed")):
             kept.write_text("".join(f'"{title}" = {number}\n' for title in titles))
             with unittest.mock.patch.multiple(

@@ -1,4 +1,5 @@
-"""The functions without a clause are those that tools/prove/tested.toml lists, and the page of contracts has them."""
+"""The functions without a clause are those that tools/prove/tested.toml lists, and the
+page of contracts has them."""
 import collections
 import pathlib
 import re
@@ -72,9 +73,10 @@ def named_by_others() -> Dict[str, Set[str]]:
 
 
 def calls_that_want_memory() -> Iterator[Tuple[str, str]]:
-    """The crates and names of open functions that take an allocator or can say that memory ran out, if another crate
-    names them, or their types."""
-    types, named = contracts.memory_types(), named_by_others()
+    """The crates and names of open functions that take an allocator or can say that
+    memory ran out, if another crate names them, or their types."""
+    types = contracts.memory_types()
+    named = named_by_others()
     for crate in crates_given([]):
         for path in sorted((CRATES / crate / "src").rglob("*.rt")):
             for one in contracts.contracts_in(path):
@@ -89,9 +91,8 @@ def calls_that_want_memory() -> Iterator[Tuple[str, str]]:
 
 class ClausesTest(unittest.TestCase):
     def test_the_table_has_each_function_without_a_clause(self) -> None:
-        table, found = listed(), {
-            f"{one.crate} {one.name}" for one in without_clause(crates_given([]))
-        }
+        table = listed()
+        found = {f"{one.crate} {one.name}" for one in without_clause(crates_given([]))}
         self.assertEqual(
             sorted(found - table), [], "the table lacks functions without a clause"
         )

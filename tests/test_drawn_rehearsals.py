@@ -1,4 +1,5 @@
-"""The rehearsals that the program is compared with: worked calls, and what the drawn ones have in them."""
+"""The rehearsals that the program is compared with: worked calls, and what the drawn
+ones have in them."""
 import collections
 import unittest
 from typing import Counter

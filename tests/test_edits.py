@@ -1,4 +1,5 @@
-"""How tools/prove/edits.py reads edits, finds the function that one changes, and takes the prover's answers."""
+"""How tools/prove/edits.py reads edits, finds the function that one changes, and takes
+the prover's answers."""
 import os
 import pathlib
 import sys
@@ -35,7 +36,8 @@ impl<'a, R: Read> From<Broken<R>> for Fault {
 """
 # a prover that ends as its working folder's file says, once for --only and once without
 PROVER = "import sys; print(open('src/only' if '--only' in sys.argv else 'src/whole').read())"
-# a prover that can't read a text with MOST for a fault, and otherwise proves none of the functions that it is to check
+# a prover that can't read a text with MOST for a fault, and otherwise proves none of
+# the functions that it is to check
 PROVER_OF_MANY = """
 import sys
 functions = [word for before, word in zip(sys.argv, sys.argv[1:]) if before == "--only"]
@@ -48,7 +50,8 @@ print(f"only={len(functions)} proved=0")
 
 class Functions(unittest.TestCase):
     def at(self, text: str, path: str = "src/halls/doors.rt", *others: str) -> str:
-        """The function that a text of CODE stands in, if CODE is that file of a crate, beside files of other texts."""
+        """The function that a text of CODE stands in, if CODE is that file of a crate,
+        beside files of other texts."""
         folder = pathlib.Path(self.enterContext(tempfile.TemporaryDirectory()))
         for file, code in (path, CODE), *(
             (f"src/other_{place}.rt", other) for place, other in enumerate(others)
@@ -274,7 +277,8 @@ class Together(unittest.TestCase):
         self.enterContext(unittest.mock.patch.object(edits, "CRATES", crates))
 
     def refused(self, *said: str):
-        """What is refused of two edits that are made at once, by a prover that says this."""
+        """What is refused of two edits that are made at once, by a prover that says
+        this."""
         with tempfile.TemporaryDirectory() as kept:
             words = [
                 sys.executable,

@@ -1,4 +1,5 @@
-"""The rules of networks as tests/program/network_faults.py has them, on lists worked out by hand."""
+"""The rules of networks as tests/program/network_faults.py has them, on lists worked
+out by hand."""
 import collections
 import unittest
 

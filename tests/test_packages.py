@@ -1,4 +1,5 @@
-"""The wheel and the Debian package of a release, man pages and completions: what they have, and that bytes are alike.
+"""The wheel and the Debian package of a release, man pages and completions: what they
+have, and that bytes are alike.
 
 What is installed is tried by tests/release/installed.py.
 """
@@ -22,9 +23,12 @@ from tests.support.output import InTemporary, write
 from tests.test_gate import module
 
 release = module(TOP / "tools" / "release")
-debian, manual, wheel = release.debian, release.manual, release.wheel
+debian = release.debian
+manual = release.manual
+wheel = release.wheel
 PROJECT = (TOP / "pyproject.toml").read_bytes()
-READABLE, RUNNABLE = wheel.READABLE, wheel.RUNNABLE
+READABLE = wheel.READABLE
+RUNNABLE = wheel.RUNNABLE
 PROGRAMS = ("arena", "bhs_player")
 RELEASED = {
     "README.md": "read\n",

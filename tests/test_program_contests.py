@@ -1,4 +1,5 @@
-"""What the words of a stream say of a replay: deliveries that they make, and such as wrong bodies make."""
+"""What the words of a stream say of a replay: deliveries that they make, and such as
+wrong bodies make."""
 import random
 import unittest
 from typing import List, Sequence, Set
@@ -56,7 +57,9 @@ def replay(
     rule: Rule = ADAPTIVE,
 ) -> str:
     """The replay of a match whose agents come after some turns, with these words."""
-    chance, match, left = random.Random(seed), match_of(side), list(side.agents)
+    chance = random.Random(seed)
+    match = match_of(side)
+    left = list(side.agents)
     for word in words[:idle]:
         turn(match, held, word, rule)
     for agent in range(len(left)):

@@ -1,4 +1,5 @@
-"""The picture of bounds on rings draws what PROTOCOLS says, and every search lies between the bounds."""
+"""The picture of bounds on rings draws what PROTOCOLS says, and every search lies
+between the bounds."""
 import pathlib
 import re
 import unittest

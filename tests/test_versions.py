@@ -1,4 +1,5 @@
-"""The version of the project stands in the file VERSION; what says it elsewhere says the same."""
+"""The version of the project stands in the file VERSION; what says it elsewhere says
+the same."""
 import re
 import unittest
 

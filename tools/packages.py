@@ -1,4 +1,5 @@
-"""Debian's packages that the tests need: which there are, which are missing, and how they are installed."""
+"""Debian's packages that the tests need: which there are, which are missing, and how
+they are installed."""
 import os
 import pathlib
 import subprocess
@@ -60,7 +61,8 @@ def advice(packages: Sequence[str]) -> str:
 
 
 def apt(*words: str, folder: Optional[pathlib.Path] = None) -> bool:
-    """Runs a command of apt-get in a folder, which tells on standard error what it does: whether it succeeded."""
+    """Runs a command of apt-get in a folder, which tells on standard error what it
+    does: whether it succeeded."""
     try:
         return (
             subprocess.run(
@@ -77,8 +79,8 @@ def apt(*words: str, folder: Optional[pathlib.Path] = None) -> bool:
 
 
 def install(packages: Sequence[str]) -> str:
-    """Installs those of these packages that are missing. Gives nothing if all are there then, else a line that says
-    what to install."""
+    """Installs those of these packages that are missing. Gives nothing if all are there
+    then, else a line that says what to install."""
     absent = missing(packages)
     if absent and os.geteuid() == 0:
         words = ["install", "--no-install-recommends", *absent]
@@ -92,8 +94,8 @@ def install(packages: Sequence[str]) -> str:
 
 
 def fetched(package: str, folder: pathlib.Path) -> Optional[pathlib.Path]:
-    """The archive of a package's sources, fetched into a folder from where this machine has its packages: nothing if it
-    cannot be. No list of apt-get's own is changed."""
+    """The archive of a package's sources, fetched into a folder from where this machine
+    has its packages: nothing if it cannot be. No list of apt-get's own is changed."""
     written = folder / "sources.list"
     places = {
         "Dir::State::Lists": folder / "lists",

@@ -1,17 +1,20 @@
-"""Plays the adversary of docs/PROTOCOLS.md against two agents on a ring: it makes every team that finds the black hole
-move.
+"""Plays the adversary of docs/PROTOCOLS.md against two agents on a ring: it makes every
+team that finds the black hole move.
 
     ./arena-lab adversary --network ring:16 --agent "examples/agents/ring.py {nodes}"
 
-The adversary lets one agent go on alone, then perhaps the other, and decides last which node is the black hole. After
-each phase the command prints how many moves it has forced, and how many nodes are new: nobody has reached them. It goes
-on until two are new, makes one of them the black hole, and plays on until nothing can happen any more. Every two agents
-that find the black hole of a ring of n nodes, wherever it is, come to R (n - 2) + 1 moves, with R the least number such
-that 2^R >= n - 1: that is proved (`bhs_bounds`).
+The adversary lets one agent go on alone, then perhaps the other, and decides last which
+node is the black hole. After each phase the command prints how many moves it has
+forced, and how many nodes are new: nobody has reached them. It goes on until two are
+new, makes one of them the black hole, and plays on until nothing can happen any more.
+Every two agents that find the black hole of a ring of n nodes, wherever it is, come to
+R (n - 2) + 1 moves, with R the least number such that 2^R >= n - 1: that is proved
+(`bhs_bounds`).
 
-A team that fails on the way is refuted: the command says why, and the exit status is 1. The schedule is written to a
-folder, with a script, a replay and a page, as those of `hunt`. Not every wrong team is refuted: `hunt` and `explore`
-look for other schedules. The adversary chooses the black hole, whatever --hole says.
+A team that fails on the way is refuted: the command says why, and the exit status is 1.
+The schedule is written to a folder, with a script, a replay and a page, as those of
+`hunt`. Not every wrong team is refuted: `hunt` and `explore` look for other schedules.
+The adversary chooses the black hole, whatever --hole says.
 """
 import argparse
 import pathlib
@@ -47,7 +50,8 @@ def run(words: argparse.Namespace) -> int:
 
 
 def played(adversary: Adversary) -> Arcs:
-    """Plays all phases, and prints a line for each. Gives where the last one has led."""
+    """Plays all phases, and prints a line for each. Gives where the last one has
+    led."""
     arcs = None
     for phase in adversary.phases():
         print(line_of(phase, arcs), flush=True)
@@ -80,7 +84,8 @@ def report_failure(
 def report_moves(
     adversary: Adversary, arcs: Arcs, keep: pathlib.Path, program: Optional[str]
 ) -> int:
-    """Makes one of the last two nodes the black hole, with which the team moves more, and keeps the schedule."""
+    """Makes one of the last two nodes the black hole, with which the team moves more,
+    and keeps the schedule."""
     ends = [adversary.at_rest(hole, arcs.turns) for hole in arcs.ends()]
     played, schedule = max(
         ends, key=lambda it: (it[0].has_failed(), it[0].verdict().moves)

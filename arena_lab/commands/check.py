@@ -4,17 +4,19 @@
     ./arena-lab check "examples/agents/ring.py {nodes}"
     ./arena-lab check "examples/agents/wasm/ring.wasm:{nodes}"
 
-AGENT is the words that start the program of one agent, with {host}, {port} and {key}. Without {port} it is a file in
-Python that is written against `client.py`: it plays inside the lab and is checked faster. FILE.wasm[:N,..] is a
-WebAssembly module.
+AGENT is the words that start the program of one agent, with {host}, {port} and {key}.
+Without {port} it is a file in Python that is written against `client.py`: it plays
+inside the lab and is checked faster. FILE.wasm[:N,..] is a WebAssembly module.
 
-Two agents play a few matches on small networks (rings of 3 to 8 and 12 nodes, unless you name others by --network),
-each under a fair schedule and under one with slow agents. Each agent is repeated alone, as in a course, and refused
-lines are reported. A program is kept waiting for an arrival, longer by the clock than a link takes in a contest of the
-usual delays. Then schedules are drawn and hunted on rings of 5, 6 and 8, for a minute and at least 24 draws. Every
-schedule of a ring of 5 is tried, if that takes three minutes at most. In the end one sentence says that the agent is
-right, and on what. Or the command says what to mend first, one fact a line, and how to see it again; then the exit
-status is 1.
+Two agents play a few matches on small networks (rings of 3 to 8 and 12 nodes, unless
+you name others by --network), each under a fair schedule and under one with slow
+agents. Each agent is repeated alone, as in a course, and refused lines are reported. A
+program is kept waiting for an arrival, longer by the clock than a link takes in a
+contest of the usual delays. Then schedules are drawn and hunted on rings of 5, 6 and 8,
+for a minute and at least 24 draws. Every schedule of a ring of 5 is tried, if that
+takes three minutes at most. In the end one sentence says that the agent is right, and
+on what. Or the command says what to mend first, one fact a line, and how to see it
+again; then the exit status is 1.
 
 Under --network the searches take the smallest three of the networks that you name.
 """
@@ -55,33 +57,41 @@ from arena_lab.support.progress import bar
 
 NETWORKS = ("ring:3", "ring:4", "ring:5", "ring:6", "ring:7", "ring:8", "ring:12")
 SCHEDULERS = ("fair", "slow-agents")
-# the networks of drawn and hunted schedules, and the one of all schedules; and who draws, fair draws more often
-SEARCHED, EXPLORED = ("ring:5", "ring:6", "ring:8"), "ring:5"
+# the networks of drawn and hunted schedules, and the one of all schedules; and who
+# draws, fair draws more often
+SEARCHED = ("ring:5", "ring:6", "ring:8")
+EXPLORED = "ring:5"
 DRAWN = ("fair", "slow-agents", "fair", "slow-links")
 FOLDER = pathlib.Path("out/check")
-SECONDS, LONGER, MOST = 60, 3, 100_000
-# how many schedules are drawn at least, however slow the machine is, and of each network drawn and hunted at most
-LEAST, DRAWS, HUNTS = 24, 300, 1000
+SECONDS = 60
+LONGER = 3
+MOST = 100_000
+# how many schedules are drawn at least, however slow the machine is, and of each
+# network drawn and hunted at most
+LEAST = 24
+DRAWS = 300
+HUNTS = 1000
 # seconds between two interrupts of a search whose time is up
 AGAIN = 5.0
 
 
 class ToMend(NamedTuple):
-    """The first thing to mend: what is wrong, fact by fact, and the match that shows it; and whether the match shows it
-    again when it is played without a clock."""
+    """The first thing to mend: what is wrong, fact by fact, and the match that shows
+    it; and whether the match shows it again when it is played without a clock."""
 
     said: List[str]
     record: Record
     is_repeatable: bool = True
 
 
-# what an agent is right on, as a part of the last line, and what is to be mended first, if anything is
+# what an agent is right on, as a part of the last line, and what is to be mended first,
+# if anything is
 Step = Tuple[str, Optional[ToMend]]
 
 
 class Checked(NamedTuple):
-    """An agent that is checked: its words, how many of it there are, on which networks, by which program, and how long
-    each search may take."""
+    """An agent that is checked: its words, how many of it there are, on which networks,
+    by which program, and how long each search may take."""
 
     agent: AgentWords
     agents: int
@@ -103,7 +113,8 @@ class Checked(NamedTuple):
         )
 
     def smallest(self, usual: Sequence[str]) -> Sequence[str]:
-        """The networks of a search: the smallest that were named, if other networks than the usual ones were."""
+        """The networks of a search: the smallest that were named, if other networks
+        than the usual ones were."""
         if self.networks == NETWORKS:
             return usual
         return sorted(self.networks, key=lambda name: networks.named(name).nodes)[
@@ -274,7 +285,8 @@ def failure(record: Record, where: str) -> List[str]:
 
 
 def wait(asked: Checked) -> Step:
-    """Keeps programs waiting for their first arrivals. An agent inside the lab has no clock that could run out."""
+    """Keeps programs waiting for their first arrivals. An agent inside the lab has no
+    clock that could run out."""
     if asked.agent.kind == INSIDE:
         return "", None
     name = asked.smallest([EXPLORED])[0]
@@ -304,16 +316,16 @@ def search(asked: Checked) -> Step:
 
 
 def draw(asked: Checked, names: Sequence[str]) -> Tuple[int, Optional[ToMend]]:
-    """Draws schedules on each network in turn, for half of the time and the least number; gives how many."""
-    until, number = time.monotonic() + asked.seconds / 2, 0
+    """Draws schedules on each network in turn, for half of the time and the least
+    number; gives how many."""
+    until = time.monotonic() + asked.seconds / 2
+    number = 0
     with bar(None, "schedule") as shown:
         while (
             number < LEAST or number < DRAWS * len(names) and time.monotonic() < until
         ):
-            name, scheduler = (
-                names[number % len(names)],
-                DRAWN[number // len(names) % len(DRAWN)],
-            )
+            name = names[number % len(names)]
+            scheduler = DRAWN[number // len(names) % len(DRAWN)]
             record = Asked(asked.game(name), scheduler, number, None).play()
             if record.has_failed:
                 shown.clear()
@@ -327,7 +339,8 @@ def draw(asked: Checked, names: Sequence[str]) -> Tuple[int, Optional[ToMend]]:
 
 
 def hunt(asked: Checked, names: Sequence[str]) -> Tuple[int, Optional[ToMend]]:
-    """Hunts on each network, for half of the time in all; gives how many schedules were tried."""
+    """Hunts on each network, for half of the time in all; gives how many schedules were
+    tried."""
     tried = 0
     for name in names:
         hunter = hunted(asked, name, asked.seconds / 2 / len(names))
@@ -360,8 +373,10 @@ def under(schedule: Schedule, where: str, asked: Checked) -> ToMend:
 
 
 def every(asked: Checked) -> Step:
-    """Tries every schedule of a small network, unless they are too many or the agent cannot be explored."""
-    name, alarm = asked.smallest([EXPLORED])[0], Alarm(LONGER * asked.seconds)
+    """Tries every schedule of a small network, unless they are too many or the agent
+    cannot be explored."""
+    name = asked.smallest([EXPLORED])[0]
+    alarm = Alarm(LONGER * asked.seconds)
     try:
         with alarm:
             found: Any = api.explore(
@@ -396,10 +411,12 @@ def every(asked: Checked) -> Step:
 
 
 class TimedProgress:
-    """A bar that ends a hunt behind the first schedule after its time, as Ctrl-C would."""
+    """A bar that ends a hunt behind the first schedule after its time, as Ctrl-C
+    would."""
 
     def __init__(self, shown: Any, seconds: float) -> None:
-        self._shown, self._until = shown, time.monotonic() + seconds
+        self._shown = shown
+        self._until = time.monotonic() + seconds
 
     def is_over(self) -> bool:
         return time.monotonic() > self._until
@@ -414,12 +431,14 @@ class TimedProgress:
 
 
 class Alarm:
-    """Used by `with`, interrupts the main thread, as Ctrl-C does, once its time is up and now and then after that: a
-    single interrupt may be lost, as in what runs when Python collects garbage. A search gives then what it has found.
-    Says whether it has rung."""
+    """Used by `with`, interrupts the main thread, as Ctrl-C does, once its time is up
+    and now and then after that: a single interrupt may be lost, as in what runs when
+    Python collects garbage. A search gives then what it has found. Says whether it has
+    rung."""
 
     def __init__(self, seconds: float) -> None:
-        self.has_rung, self._seconds = False, seconds
+        self.has_rung = False
+        self._seconds = seconds
         self._stopped = threading.Event()
 
     def __enter__(self) -> None:
@@ -431,5 +450,6 @@ class Alarm:
     def _wait(self) -> None:
         seconds = self._seconds
         while not self._stopped.wait(seconds):
-            self.has_rung, seconds = True, AGAIN
+            self.has_rung = True
+            seconds = AGAIN
             signal.pthread_kill(threading.main_thread().ident or 0, signal.SIGINT)

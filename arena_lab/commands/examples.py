@@ -3,9 +3,9 @@
     ./arena-lab examples
     ./arena-lab examples FOLDER
 
-They are the sample agents and the kits, a tournament for practice, the lessons, a course that is graded, the
-experiments, and the documents. FOLDER gets a copy of all that is yours to change, and a link to the lab, by which the
-copies run.
+They are the sample agents and the kits, a tournament for practice, the lessons, a
+course that is graded, the experiments, and the documents. FOLDER gets a copy of all
+that is yours to change, and a link to the lab, by which the copies run.
 """
 import argparse
 import pathlib

@@ -105,10 +105,8 @@ from arena_lab.sweep.tables import alone_in
 
 FOLDER = kept_matches.FOLDER
 # whose turn it is in drawn schedules, and what is hunted for
-SCHEDULERS, HUNTS = ("fair", "last-departed", "starved", "slow-agents", "slow-links"), (
-    "moves",
-    "lost",
-)
+SCHEDULERS = ("fair", "last-departed", "starved", "slow-agents", "slow-links")
+HUNTS = ("moves", "lost")
 
 
 def add_words(parser: argparse.ArgumentParser) -> None:
@@ -200,13 +198,13 @@ def add_words(parser: argparse.ArgumentParser) -> None:
 
 
 def run(words: argparse.Namespace) -> int:
-    games, engine = games_of(words), program_of(words)
+    games = games_of(words)
+    engine = program_of(words)
     draws = draws_of(words)
     check_way(words)
     if (words.search or words.engine) == PROGRAM:
-        program, way = engine or program_at(words.program, words.needs), Parallelism(
-            words.workers, words.cluster
-        )
+        program = engine or program_at(words.program, words.needs)
+        way = Parallelism(words.workers, words.cluster)
         states = words.states or states_of(words)
         wanted = [
             explore_program.ExploreRequest(
@@ -227,8 +225,8 @@ def run(words: argparse.Namespace) -> int:
 
 
 def states_of(words: argparse.Namespace) -> int:
-    """How many states of a match are visited at most, if no number is named. Workers elsewhere have other memory, and
-    drawn schedules take none for their turns."""
+    """How many states of a match are visited at most, if no number is named. Workers
+    elsewhere have other memory, and drawn schedules take none for their turns."""
     if words.draws is not None or words.cluster:
         return MOST_STATES
     return fitting(OF_PROGRAM, words.workers)
@@ -250,7 +248,8 @@ def check_way(words: argparse.Namespace) -> None:
 def written(
     words: argparse.Namespace, wanted: List[explore_program.ExploreRequest]
 ) -> int:
-    """Tries the schedules of all matches that have no row yet, and writes rows and a plot."""
+    """Tries the schedules of all matches that have no row yet, and writes rows and a
+    plot."""
     check("matplotlib")
     games = [one.game for one in wanted]
     with alone_in(words.out):

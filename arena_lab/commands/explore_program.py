@@ -1,7 +1,6 @@
 """`explore` by the program: it tries the schedules, and the lab answers what agents do
-(arena_lab/search/program_search.py).
-Where
-the program says nothing, as an agent may use more than its quota, the Python model's search takes over, and says so."""
+(arena_lab/search/program_search.py). Where the program says nothing, as an agent may
+use more than its quota, the Python model's search takes over, and says so."""
 import pathlib
 from typing import Any, Callable, List, NamedTuple, Optional, Sequence, Tuple
 
@@ -28,12 +27,11 @@ from arena_lab.search.program_search import SampleRequest
 from arena_lab.support import built
 from arena_lab.support.progress import bar
 
-SOLVED_ALL, SOLVED_MODULE = (
-    "every schedule that the lab tried solves",
-    "every schedule solves",
-)
+SOLVED_ALL = "every schedule that the lab tried solves"
+SOLVED_MODULE = "every schedule solves"
 # by what agents are told apart: steps, others inside the lab, and programs of their own
-OF_STEPS, OF_PYTHON = "memories of Python steps", "histories of Python programs"
+OF_STEPS = "memories of Python steps"
+OF_PYTHON = "histories of Python programs"
 OF_PROGRAMS = "histories or declared memories of programs"
 AS_STEPS = "an agent that is written as a step has fewer states: see `./arena-lab explore --help`"
 # how an agent fails under a schedule that the program tells
@@ -79,13 +77,14 @@ class ExploreRequest(NamedTuple):
         )
 
     def elsewhere(self) -> Optional[Parallelism]:
-        """Who else tries them, if this process does not. What is written is tried by a process that reads no other
-        files."""
+        """Who else tries them, if this process does not. What is written is tried by a
+        process that reads no other files."""
         return None if self.way == Parallelism() and not self.write else self.way
 
 
 def run(all_wanted: Sequence[ExploreRequest]) -> int:
-    """Tries the schedules of all matches of some games, up to the first game in which one fails or is not tried."""
+    """Tries the schedules of all matches of some games, up to the first game in which
+    one fails or is not tried."""
     return in_turn(all_wanted, tried_one)
 
 
@@ -106,8 +105,8 @@ def in_turn(
     all_wanted: Sequence[ExploreRequest],
     one: Callable[[ExploreRequest], Tuple[int, Search]],
 ) -> int:
-    """Tries games one after the other, until one does not end well. If there are several, a table says in the end what
-    they came to."""
+    """Tries games one after the other, until one does not end well. If there are
+    several, a table says in the end what they came to."""
     rows: List[Tuple[str, ...]] = [COLUMNS]
     status = 0
     for wanted in all_wanted:
@@ -169,8 +168,10 @@ def all_tried(
 
 
 def beside(wanted: ExploreRequest, tried: MatchResult, shown: Any) -> MatchResult:
-    """The match with what the Python model's search says of it, if the program says nothing."""
-    found, game = tried.answered.found, wanted.game
+    """The match with what the Python model's search says of it, if the program says
+    nothing."""
+    found = tried.answered.found
+    game = wanted.game
     if not isinstance(found, Exceeds):
         return tried
     why = f"agent {found.agent} may use {found.commands} commands"
@@ -204,7 +205,9 @@ def line_of(tried: MatchResult) -> str:
     """What was found of one match."""
     if tried.beside is not None:
         return by_model(tried.beside)
-    setup, answered, found = tried.fixture.setup, tried.answered, tried.answered.found
+    setup = tried.fixture.setup
+    answered = tried.answered
+    found = tried.answered.found
     said = f"{answered.states} states, " if found else answered.why
     if isinstance(found, Endless):
         said += f"a schedule goes on for ever, {FAIRNESS[found.fair]}"
@@ -221,7 +224,8 @@ def line_of(tried: MatchResult) -> str:
 
 def report_matches(wanted: ExploreRequest, search: Search) -> int:
     """Says what was found of all matches, and writes the schedule that fails."""
-    tries, last = search.tries, search.tries[-1]
+    tries = search.tries
+    last = search.tries[-1]
     counts = f"{states_of(search)} states in {search.seconds:.1f} s"
     if last.beside is not None and (last.has_failed() or not last.is_whole()):
         return told_by_model(wanted.game, [last.beside], wanted.keep, wanted.engine)
@@ -247,7 +251,8 @@ def report_matches(wanted: ExploreRequest, search: Search) -> int:
     )
     print(f"{counts}: {said}{by}; {search.checks}")
     moves, lost = zip(*(tried.bounds() for tried in tries))
-    naps, found = wanted.game.naps, [tried.answered.found for tried in tries]
+    naps = wanted.game.naps
+    found = [tried.answered.found for tried in tries]
     turns = [one.turns for one in found if isinstance(one, Solves)]
     more = (
         ""
@@ -286,13 +291,16 @@ def told_apart(game: Game, answered: ExploreAnswer) -> str:
 
 
 def do_not_repeat(game: Game) -> List[str]:
-    """What the agents of one drawn match say otherwise when each is repeated alone, with another key."""
+    """What the agents of one drawn match say otherwise when each is repeated alone,
+    with another key."""
     return games.play_seed(game, "fair", 0, None).repeated(game.limit).played.faults
 
 
 def shown_failure(wanted: ExploreRequest, tried: MatchResult) -> int:
-    """Prints the outcome of the failing schedule and keeps its match; gives the exit status."""
-    found, setup = tried.answered.found, tried.fixture.setup
+    """Prints the outcome of the failing schedule and keeps its match; gives the exit
+    status."""
+    found = tried.answered.found
+    setup = tried.fixture.setup
     if isinstance(found, Endless):
         print(
             f"home {setup.home} holes {setup.holes}: after {len(found.schedule)} choices, the last "
@@ -310,8 +318,10 @@ def shown_failure(wanted: ExploreRequest, tried: MatchResult) -> int:
 
 
 def keep(wanted: ExploreRequest, tried: MatchResult) -> None:
-    """Writes the schedule that the program tells, once the agents have played it to what the program says."""
-    found, same = told_in(tried), 2 if tried.fixture.held else 3
+    """Writes the schedule that the program tells, once the agents have played it to
+    what the program says."""
+    found = told_in(tried)
+    same = 2 if tried.fixture.held else 3
     verdict = verdict_of(found)
     try:
         played = kept_matches.keep(
@@ -338,7 +348,8 @@ def keep(wanted: ExploreRequest, tried: MatchResult) -> None:
 
 def by_model(found: Explored) -> str:
     """What was found of one match."""
-    explorer, setup = found.explorer, found.explorer.fixture.setup
+    explorer = found.explorer
+    setup = found.explorer.fixture.setup
     has_failed = found.rank()[0]
     said = (
         "a schedule fails"
@@ -358,16 +369,16 @@ def told_by_model(
     game: Game, all_found: List[Explored], keep: pathlib.Path, program: Optional[str]
 ) -> int:
     """Says what was found of all matches, and writes what is to be kept."""
-    worst, is_whole = max(all_found, key=Explored.rank), all(
-        found.is_whole for found in all_found
-    )
+    worst = max(all_found, key=Explored.rank)
+    is_whole = all(found.is_whole for found in all_found)
     states, seconds = (
         sum(it)
         for it in zip(
             *((found.explorer.states(), found.seconds) for found in all_found)
         )
     )
-    counts, end = f"{states} states in {seconds:.1f} s", worst.explorer.worst
+    counts = f"{states} states in {seconds:.1f} s"
+    end = worst.explorer.worst
     has_failed = end is not None and end.has_failed
     if has_failed:
         print(f"{counts}: a schedule fails")

@@ -1,5 +1,6 @@
-"""`explore --draws` by the program: it draws schedules of matches that have too many to try, and the lab answers what
-agents do (arena_lab/search/program_search.py). The worst schedule is kept, and the agents play it."""
+"""`explore --draws` by the program: it draws schedules of matches that have too many to
+try, and the lab answers what agents do (arena_lab/search/program_search.py). The worst
+schedule is kept, and the agents play it."""
 import bisect
 import itertools
 import statistics
@@ -31,7 +32,8 @@ class MoveStatistics(NamedTuple):
 
 
 def moves_of(pairs: Pairs) -> MoveStatistics:
-    """Sums up pairs of a number of moves and how many schedules made it, in order of the moves."""
+    """Sums up pairs of a number of moves and how many schedules made it, in order of
+    the moves."""
     numbers, times = zip(*pairs)
     ends = list(itertools.accumulate(times))
     middle = [
@@ -47,7 +49,8 @@ def moves_of(pairs: Pairs) -> MoveStatistics:
 
 
 def run(all_wanted: Sequence[ExploreRequest], draws: SampleRequest) -> int:
-    """Draws schedules of all matches of some games, up to the first game in which one fails."""
+    """Draws schedules of all matches of some games, up to the first game in which one
+    fails."""
 
     def drawn(wanted: ExploreRequest) -> Tuple[int, Search]:
         search = all_tried(
@@ -60,16 +63,17 @@ def run(all_wanted: Sequence[ExploreRequest], draws: SampleRequest) -> int:
 
 def line_of(tried: MatchResult) -> str:
     """What the drawn schedules of one match come to."""
-    setup, answered, found = tried.fixture.setup, tried.answered, tried.answered.found
-    said, seconds = answered.why, answered.seconds
+    setup = tried.fixture.setup
+    answered = tried.answered
+    found = tried.answered.found
+    said = answered.why
+    seconds = answered.seconds
     if isinstance(found, Exceeds):
         said = f"under a schedule agent {found.agent} uses {found.commands} commands, and its quota is less"
     elif answered.drawn:
-        drawn, moves, speed = (
-            answered.drawn,
-            moves_of(answered.drawn.moves),
-            answered.drawn.turns / max(seconds, 1e-9),
-        )
+        drawn = answered.drawn
+        moves = moves_of(answered.drawn.moves)
+        speed = answered.drawn.turns / max(seconds, 1e-9)
         said = (
             f"{drawn.solved} solved, {drawn.failed} failed, moves least {moves.least} mean {moves.mean:.1f} "
             f"median {moves.median:g} most {moves.most}, {drawn.turns} steps, {speed:.0f} a second"
@@ -81,7 +85,8 @@ def line_of(tried: MatchResult) -> str:
 
 def report_samples(wanted: ExploreRequest, draws: SampleRequest, search: Search) -> int:
     """Says what the drawn schedules of all matches come to, and keeps the worst."""
-    tries, last = search.tries, search.tries[-1]
+    tries = search.tries
+    last = search.tries[-1]
     solved, failed, turns = map(
         sum,
         zip(*((tried.answered.drawn or SampleCounts(0, 0, 0))[:3] for tried in tries)),
@@ -114,12 +119,14 @@ def report_samples(wanted: ExploreRequest, draws: SampleRequest, search: Search)
 def shown_worst(
     wanted: ExploreRequest, draws: SampleRequest, tries: List[MatchResult]
 ) -> None:
-    """Writes the schedule with the most moves, or with the most agents lost, once the agents have played it."""
+    """Writes the schedule with the most moves, or with the most agents lost, once the
+    agents have played it."""
     is_lost = draws.hunt == "lost"
     worst = max(
         tries, key=lambda tried: tried.bounds()[::-1] if is_lost else tried.bounds()
     )
-    setup, what = worst.fixture.setup, "agents lost" if is_lost else "moves"
+    setup = worst.fixture.setup
+    what = "agents lost" if is_lost else "moves"
     print(
         f"most {what}: home {setup.home} holes {setup.holes}, {verdict_of(told_in(worst))}"
     )

@@ -2,17 +2,21 @@
 
     ./arena-lab hunt --network ring:32 --agent "examples/agents/ring.py {nodes}" --objective moves
 
-A hunt for a failure first plays schedules that are drawn as those of `run`, on the Python model: half of --runs, and at
-most 300. Then Hypothesis (Debian's python3-hypothesis) draws schedules and changes the most promising ones. It draws a
-schedule as runs: which of the possible choices, and how often in a row. What is found is made small. If you name
-neither a black hole nor a dark link, it draws the black hole too, and with --any-home the home base. A team fails by
-any verdict but `solved`; it also fails if an agent raises an exception, is refused without end, or is stuck. A failure
-ends every hunt. The program plays and judges the find, and the command writes it to a folder: its schedule, the script
-for `arena rehearse`, its replay and a page. The exit status is 1 if the team fails.
+A hunt for a failure first plays schedules that are drawn as those of `run`, on the
+Python model: half of --runs, and at most 300. Then Hypothesis (Debian's
+python3-hypothesis) draws schedules and changes the most promising ones. It draws a
+schedule as runs: which of the possible choices, and how often in a row. What is found
+is made small. If you name neither a black hole nor a dark link, it draws the black hole
+too, and with --any-home the home base. A team fails by any verdict but `solved`; it
+also fails if an agent raises an exception, is refused without end, or is stuck. A
+failure ends every hunt. The program plays and judges the find, and the command writes
+it to a folder: its schedule, the script for `arena rehearse`, its replay and a page.
+The exit status is 1 if the team fails.
 
-Agents may be programs in any language (--command). Each schedule starts them anew, so it tries some ten a second: give
---runs. They must be functions of what they are told. With --repeat each agent of a match is started again, alone, and
-told what it was told; a team fails if one of its agents does not say the same, as in a course.
+Agents may be programs in any language (--command). Each schedule starts them anew, so
+it tries some ten a second: give --runs. They must be functions of what they are told.
+With --repeat each agent of a match is started again, alone, and told what it was told;
+a team fails if one of its agents does not say the same, as in a course.
 """
 import argparse
 import pathlib
@@ -111,7 +115,8 @@ def report_hunt(
     hunter: Hunter, best: Trial, keep: pathlib.Path, program: Optional[str]
 ) -> int:
     """Says what was found, and keeps it."""
-    looked_for, setup = hunter.asked.looked_for, best.fixture.setup
+    looked_for = hunter.asked.looked_for
+    setup = best.fixture.setup
     said = (
         f"the team fails, first under number {hunter.failed_at}"
         if best.has_failed

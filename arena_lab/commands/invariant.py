@@ -72,10 +72,12 @@ def add_words(parser: argparse.ArgumentParser) -> None:
 
 
 def run(words: argparse.Namespace) -> int:
-    games, candidate = games_of(words), Candidate(file_of(words.candidate))
+    games = games_of(words)
+    candidate = Candidate(file_of(words.candidate))
     for game in games:
         check_inside(game)
-    count, matches = 0, 0
+    count = 0
+    matches = 0
     for game in games:
         for found in tried(game, candidate, words.states):
             if found.walk.breach is not None:
@@ -86,7 +88,8 @@ def run(words: argparse.Namespace) -> int:
                     "stopped before all pictures were tried; the candidate held at those that were"
                 )
                 return 130
-            count, matches = count + found.walk.states(), matches + 1
+            count = count + found.walk.states()
+            matches = matches + 1
     print(
         f"the candidate holds at all {count} pictures of {counted(matches, 'match', 'matches')}; {REACHED_ALONE}"
     )
@@ -126,7 +129,8 @@ def counted(count: int, one: str, more: str) -> str:
 def report_breach(
     game: Game, found: Walked, breach: Breach, keep: pathlib.Path
 ) -> None:
-    """Prints the schedule to a picture at which a candidate is wrong, and the picture; keeps the schedule."""
+    """Prints the schedule to a picture at which a candidate is wrong, and the picture;
+    keeps the schedule."""
     for choice in breach.choices:
         print(f"{choice.do} {choice.agent}")
     print("\n".join(configuration_text(breach)))
@@ -134,7 +138,8 @@ def report_breach(
 
 
 def configuration_text(breach: Breach) -> List[str]:
-    """A picture in words: a line for each agent, for each whiteboard that shows something, and for the rest."""
+    """A picture in words: a line for each agent, for each whiteboard that shows
+    something, and for the rest."""
     picture = breach.picture
     lines = [
         f"agent {agent} {place_in_words(picture, agent)}, {it}"
@@ -154,7 +159,8 @@ def configuration_text(breach: Breach) -> List[str]:
 
 def place_in_words(picture: Configuration, agent: int) -> str:
     """Where an agent is, and what it has used and accused."""
-    position, accused = picture.position[agent], picture.accused[agent]
+    position = picture.position[agent]
+    accused = picture.accused[agent]
     if isinstance(position, Before):
         return "has not entered"
     used = f"has used {counted(picture.used[agent], 'command', 'commands')}"

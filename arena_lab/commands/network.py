@@ -4,8 +4,9 @@
     ./arena-lab network random:40:deg4:seed7 --ports shuffled:3
     ./arena-lab network petersen:5x2 --page petersen.html
 
-A network must stay connected when any one node is taken away. The command refuses another, and names the node. With
---ports shuffled:SEED the ports of each node are numbered anew, so that a label says nothing of where a link leads.
+A network must stay connected when any one node is taken away. The command refuses
+another, and names the node. With --ports shuffled:SEED the ports of each node are
+numbered anew, so that a label says nothing of where a link leads.
 """
 import argparse
 import pathlib

@@ -4,9 +4,10 @@
     ./arena-lab new java my-agent
     ./arena-lab new wasm my-agent
 
-The folder has a client, which speaks to the server, and an agent that searches a ring with it: change it into your own.
-It also has a test, and a README with the commands to build, test and play the agent. `wasm` and `wasm-rust` are agents
-in C and Rust that are compiled to WebAssembly modules: what `explore` finds of a module is proved of it.
+The folder has a client, which speaks to the server, and an agent that searches a ring
+with it: change it into your own. It also has a test, and a README with the commands to
+build, test and play the agent. `wasm` and `wasm-rust` are agents in C and Rust that are
+compiled to WebAssembly modules: what `explore` finds of a module is proved of it.
 docs/AGENTS.md has the commands of agents and their answers.
 """
 import argparse
@@ -45,7 +46,8 @@ def run(words: argparse.Namespace) -> int:
 
 
 def next_commands(kit: Kit) -> List[str]:
-    """The commands by which a kit is built, tested and played on a ring of eight nodes, in its folder."""
+    """The commands by which a kit is built, tested and played on a ring of eight nodes,
+    in its folder."""
     called = (
         shlex.quote(str(TOP / "arena-lab"))
         if arena_lab.called() == arena_lab.IN_CLONE

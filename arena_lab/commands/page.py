@@ -3,19 +3,23 @@
     ./arena-lab page REPLAY [--out PAGE] [--twin V] [--program PATH | --engine model]
     ./arena-lab page TOURNAMENT PREFIX --out FOLDER [--again FOLDER] [--program PATH | --engine model]
 
-The page is one HTML file that opens without a network: REPLAY with the ending `.html`, or PAGE. With --twin it shows
-beside the match its twin whose black hole is node V. The program `arena` judges the replay, explains it and makes the
-twin; a replay that it refuses is refused here with its line and its status. With --engine model the Python model judges
-and explains, which needs no build of the program and proves nothing; it makes no twins.
+The page is one HTML file that opens without a network: REPLAY with the ending `.html`,
+or PAGE. With --twin it shows beside the match its twin whose black hole is node V. The
+program `arena` judges the replay, explains it and makes the twin; a replay that it
+refuses is refused here with its line and its status. With --engine model the Python
+model judges and explains, which needs no build of the program and proves nothing; it
+makes no twins.
 
-Of a contest, TOURNAMENT is the file that was served, and PREFIX what its --replay named: the replay of match M is
-PREFIXM.jsonl. The folder gets index.html, which has the table of the contest with links, and beside it the page and the
-replay of each match. A match without a replay, as after a server that was killed, is listed so. --again FOLDER takes
-another try of a match in: the folder is that of `./arena-lab tournament --again`, in which its server was started. The
-better of the tries counts, or the last one with --take last.
+Of a contest, TOURNAMENT is the file that was served, and PREFIX what its --replay
+named: the replay of match M is PREFIXM.jsonl. The folder gets index.html, which has the
+table of the contest with links, and beside it the page and the replay of each match. A
+match without a replay, as after a server that was killed, is listed so. --again FOLDER
+takes another try of a match in: the folder is that of `./arena-lab tournament --again`,
+in which its server was started. The better of the tries counts, or the last one with
+--take last.
 
-Networks are laid out by Debian's package python3-networkx with python3-numpy and python3-scipy, which that package
-recommends.
+Networks are laid out by Debian's package python3-networkx with python3-numpy and
+python3-scipy, which that package recommends.
 """
 import argparse
 import pathlib

@@ -4,18 +4,20 @@
     ./arena-lab play --network ring:6 --page
     ./arena-lab play --network ring:6 --riddle
 
-Two agents (--agents N) search a network for its black hole. You say what each of them does, and switch between them.
-Time passes when you say so: then one of the agents that are on links is chosen by chance, and arrives if it can. With
---second-person nothing is chosen: another person says who arrives, by `arrive N`, and tries to lead you astray.
+Two agents (--agents N) search a network for its black hole. You say what each of them
+does, and switch between them. Time passes when you say so: then one of the agents that
+are on links is chosen by chance, and arrives if it can. With --second-person nothing is
+chosen: another person says who arrives, by `arrive N`, and tries to lead you astray.
 
-With --riddle the network has a black hole, or else a node at which nobody arrives, as all links into it are slow for
-ever. In the end you are told which of the two it is. Can you find out before?
+With --riddle the network has a black hole, or else a node at which nobody arrives, as
+all links into it are slow for ever. In the end you are told which of the two it is. Can
+you find out before?
 
-With --page you play in a browser, on a page that this machine alone sees: click a port to depart through it. It needs
-Debian's package python3-aiohttp, and Ctrl-C ends it.
+With --page you play in a browser, on a page that this machine alone sees: click a port
+to depart through it. It needs Debian's package python3-aiohttp, and Ctrl-C ends it.
 
-The Python model plays by the rules of a contest. At the end the whole match is shown; --keep FOLDER writes its replay
-and a page on which one can watch it.
+The Python model plays by the rules of a contest. At the end the whole match is shown;
+--keep FOLDER writes its replay and a page on which one can watch it.
 """
 import argparse
 import pathlib
@@ -126,7 +128,8 @@ def run(words: argparse.Namespace) -> int:
 
 
 def match_of(words: argparse.Namespace) -> HumanMatch:
-    """The match of the words. In a riddle without a black hole nobody arrives where it would be."""
+    """The match of the words. In a riddle without a black hole nobody arrives where it
+    would be."""
     chance = random.Random(words.seed)
     network = networks.biconnected(words.network)
     hole = words.hole if words.hole is not None else chance.randrange(1, network.nodes)
@@ -194,7 +197,8 @@ def done(match: HumanMatch, now: int, line: List[str], by_second_person: bool) -
 
 def command_in(match: HumanMatch, now: int, line: List[str]) -> Optional[Object]:
     """The command that a line is."""
-    word, rest = line[0], line[1] if len(line) > 1 else ""
+    word = line[0]
+    rest = line[1] if len(line) > 1 else ""
     if word.isdecimal():
         return {"do": "depart", "port": int(word)}
     plain: Dict[str, Callable[[], Object]] = {
@@ -209,7 +213,8 @@ def command_in(match: HumanMatch, now: int, line: List[str]) -> Optional[Object]
 
 
 def sight(match: HumanMatch, now: int) -> str:
-    """What the person sees: the agent that is played, and that the others are elsewhere."""
+    """What the person sees: the agent that is played, and that the others are
+    elsewhere."""
     seen = match.seen[now]
     if seen.standing != AT_A_NODE:
         return f"\nAgent {now} {PLACES[seen.standing]}."
@@ -226,7 +231,9 @@ def sight(match: HumanMatch, now: int) -> str:
 
 def end_of(match: HumanMatch) -> List[str]:
     """Ends the match, and says all of it."""
-    found, setup, far = match.end(), match.fixture.setup, match.match.far
+    found = match.end()
+    setup = match.fixture.setup
+    far = match.match.far
     lines = ["", f"The match is over: {found}", f"The home base is node {setup.home}."]
     if setup.holes:
         lines.append(f"The black hole is node {setup.holes[0]}.")

@@ -2,13 +2,15 @@
 
     ./arena-lab replay FOLDER|SCHEDULE [--against REPLAY]
 
-FOLDER is one that `run`, `hunt` or `explore` wrote. The command plays its schedule and compares the replay with the one
-in the folder, and the files beside it with what would be written now. The exit status is 1 if something differs, or if
-the agents' files are others. You may change a schedule by hand: it has one choice a line.
+FOLDER is one that `run`, `hunt` or `explore` wrote. The command plays its schedule and
+compares the replay with the one in the folder, and the files beside it with what would
+be written now. The exit status is 1 if something differs, or if the agents' files are
+others. You may change a schedule by hand: it has one choice a line.
 
-With --follow a program that was mended is tried against what it failed under: its schedule is followed as far as the
-agents go along, the command says where they left it, and what comes then is drawn fairly. The exit status is 1 if the
-team fails. --keep writes what came of it.
+With --follow a program that was mended is tried against what it failed under: its
+schedule is followed as far as the agents go along, the command says where they left it,
+and what comes then is drawn fairly. The exit status is 1 if the team fails. --keep
+writes what came of it.
 
     ./arena-lab replay out/find --follow
 """
@@ -64,13 +66,12 @@ def add_words(parser: argparse.ArgumentParser) -> None:
 
 
 def run(words: argparse.Namespace) -> int:
-    path, against = words.schedule, words.against
+    path = words.schedule
+    against = words.against
     folder = path if path.is_dir() else None
     if folder:
-        path, against = (
-            folder / kept_matches.SCHEDULE,
-            against or folder / kept_matches.REPLAY,
-        )
+        path = folder / kept_matches.SCHEDULE
+        against = against or folder / kept_matches.REPLAY
     schedule = read(path)
     if words.limit is not None:
         schedule = schedule._replace(limit=words.limit)
@@ -124,7 +125,8 @@ def follow(words: argparse.Namespace, schedule: Schedule) -> int:
 
 
 def other_files(schedule: Schedule) -> List[str]:
-    """The files of agents that are others than when the schedule was made, or that its head does not name."""
+    """The files of agents that are others than when the schedule was made, or that its
+    head does not name."""
     now = digests_of(schedule.agents)
     return sorted(
         file

@@ -3,17 +3,20 @@
     ./arena-lab run --network ring:8 --agent "examples/agents/ring.py {nodes}" --scheduler slow-agents --runs 300
     ./arena-lab run --network ring:8 --command "python3 examples/agents/ring.py {host} {port} {key} 8"
 
-The command says what the matches came to. It names the seed of the shortest match in which the team failed, or else of
-the match with the most moves. With --keep it writes that match to a folder: its schedule, the script for `arena
-rehearse`, its replay and a page.
+The command says what the matches came to. It names the seed of the shortest match in
+which the team failed, or else of the match with the most moves. With --keep it writes
+that match to a folder: its schedule, the script for `arena rehearse`, its replay and a
+page.
 
-With --repeat each agent of a match is started again after the match, alone and with another key, and gets the same
-replies. It must send the same commands, or the team fails, and a line names the first command that differs. A course
-counts a match only if it repeats so (`./arena-lab grade`): a program may use its replies and the number in ARENA_SEED,
-and nothing else.
+With --repeat each agent of a match is started again after the match, alone and with
+another key, and gets the same replies. It must send the same commands, or the team
+fails, and a line names the first command that differs. A course counts a match only if
+it repeats so (`./arena-lab grade`): a program may use its replies and the number in
+ARENA_SEED, and nothing else.
 
---workers spreads the matches over processes; the rows are the same. With --json each match is a line of JSON on
-standard output, and what they came to is said on standard error:
+--workers spreads the matches over processes; the rows are the same. With --json each
+match is a line of JSON on standard output, and what they came to is said on standard
+error:
 
     ./arena-lab run --agent "examples/agents/ring.py {nodes}" --seeds 100:120 --workers 4 --json > out/rows.jsonl
 
@@ -55,7 +58,8 @@ class Tally:
         self.failed = 0
         # how many failed though the network was solved, since an agent did
         self.beside = 0
-        # the shortest match in which the team failed, or else the match with the most moves
+        # the shortest match in which the team failed, or else the match with the most
+        # moves
         self.best: Optional[Row] = None
 
     def add(self, row: Row) -> None:
@@ -127,18 +131,17 @@ def add_words(parser: argparse.ArgumentParser) -> None:
 
 
 def run(words: argparse.Namespace) -> int:
-    program, game = program_of(words), game_of(words)
+    program = program_of(words)
+    game = game_of(words)
     games.maker_of(words.scheduler)
     numbers = words.seeds or range(words.seed, words.seed + words.runs)
     asked = [
         Asked(game, words.scheduler, seed, program, words.repeat) for seed in numbers
     ]
-    tally, was_stopped, out, printed = (
-        Tally(),
-        False,
-        sys.stderr if words.json else sys.stdout,
-        sys.stdout,
-    )
+    tally = Tally()
+    was_stopped = False
+    out = sys.stderr if words.json else sys.stdout
+    printed = sys.stdout
     try:
         # what agents print is no row
         with contextlib.redirect_stdout(out):

@@ -1,12 +1,15 @@
-"""A stand-in for `arena serve`, for authors of agents who do not want to build the program.
+"""A stand-in for `arena serve`, for authors of agents who do not want to build the
+program.
 
     ./arena-lab serve T [--port N] [--sessions S] [--turns K] [--pause MS] [--replay P]
         [--grace MS] [--gather MS] [--early]
 
-It takes the words of `arena serve`, with the same defaults, and listens on 127.0.0.1. It prints `listening N`, and
-serves up to S sessions on the matches of tournament T. It takes K turns by the tournament's schedule, MS milliseconds
-apart, and closes the matches. Then it writes the replays to P0.jsonl, P1.jsonl and so on, and prints a table. Each turn
-delivers the agent that the arena would deliver. Nothing of it is proved, it judges no contest and it writes no parts.
+It takes the words of `arena serve`, with the same defaults, and listens on 127.0.0.1.
+It prints `listening N`, and serves up to S sessions on the matches of tournament T. It
+takes K turns by the tournament's schedule, MS milliseconds apart, and closes the
+matches. Then it writes the replays to P0.jsonl, P1.jsonl and so on, and prints a table.
+Each turn delivers the agent that the arena would deliver. Nothing of it is proved, it
+judges no contest and it writes no parts.
 """
 import argparse
 import pathlib

@@ -1,4 +1,5 @@
-"""Old spellings of commands and options: they still work for a release, and say what is called so now."""
+"""Old spellings of commands and options: they still work for a release, and say what is
+called so now."""
 import argparse
 import sys
 from typing import Any, List
@@ -26,7 +27,8 @@ MODULES = {
 
 
 def command_of_today(lab: str, line: List[str]) -> List[str]:
-    """A command line with the command of today. If it has an old one, the new one is named on standard error."""
+    """A command line with the command of today. If it has an old one, the new one is
+    named on standard error."""
     old = line[0] if line else ""
     if old in MODULES:
         print(
@@ -57,7 +59,8 @@ class OldSpelling(argparse.Action):
 
 
 def take_old_spellings(parser: argparse.ArgumentParser) -> None:
-    """Has a command take the old spellings of the options that it has. Its help does not show them."""
+    """Has a command take the old spellings of the options that it has. Its help does
+    not show them."""
     known = dict(parser._option_string_actions)
     for old, new in SPELLINGS.items():
         if new in known and old not in known:

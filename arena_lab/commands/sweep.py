@@ -1,32 +1,41 @@
-"""Plays teams over a grid of networks, black holes, schedulers and seeds, and writes a report.
+"""Plays teams over a grid of networks, black holes, schedulers and seeds, and writes a
+report.
 
     ./arena-lab sweep experiments/rings.toml --out out/rings
 
-The folder gets `runs.csv`, with a row for each run, `summary.csv`, `report.html`, which opens without a network, and
-the runs with the most moves, each with its schedule, its replay and its page. If you interrupt the command, run it
-again: it goes on behind the last row. The same file gives the same rows, however many --workers there are. The summary
-counts the different matches of each group: schedulers such as `starved` play few, however many seeds there are, and
-then the confidence of the mean says little. With holes = "by seed" and fewer seeds than nodes it says nothing of the
-other black holes; with holes = "drawn" the seeds' black holes are a sample.
+The folder gets `runs.csv`, with a row for each run, `summary.csv`, `report.html`, which
+opens without a network, and the runs with the most moves, each with its schedule, its
+replay and its page. If you interrupt the command, run it again: it goes on behind the
+last row. The same file gives the same rows, however many --workers there are. The
+summary counts the different matches of each group: schedulers such as `starved` play
+few, however many seeds there are, and then the confidence of the mean says little. With
+holes = "by seed" and fewer seeds than nodes it says nothing of the other black holes;
+with holes = "drawn" the seeds' black holes are a sample.
 
-With --cluster the runs are spread over the workers of a Dask scheduler (Debian's python3-distributed), on this machine
-or others: `dask-scheduler`, then `dask-worker ADDRESS` for each, then `--cluster ADDRESS`. The rows are the same.
+With --cluster the runs are spread over the workers of a Dask scheduler (Debian's
+python3-distributed), on this machine or others: `dask-scheduler`, then `dask-worker
+ADDRESS` for each, then `--cluster ADDRESS`. The rows are the same.
 
-A row has the verdict of the program on the replay, and the replay's SHA-256. With `--engine model` the Python model
-plays and judges, which is faster and proves nothing; the rows are the same. If you name a program with it by --program,
-the program plays the runs that are kept once more, and their replays must be the same.
+A row has the verdict of the program on the replay, and the replay's SHA-256. With
+`--engine model` the Python model plays and judges, which is faster and proves nothing;
+the rows are the same. If you name a program with it by --program, the program plays the
+runs that are kept once more, and their replays must be the same.
 
-With --explore N the program also tries every schedule of each match of the sweep, as `explore` does: of each network,
-team and choice of black holes. `every.csv` gets a row for each, and the summary and the report say whether every
-schedule solves, and with how many moves and lost agents at most, beside what the runs came to. Agents nap at most twice
-where nothing has changed. A match that has more than N states is said to have too many; the same command with a larger
-N tries it again. A run that does what no schedule does ends the command, and says so.
+With --explore N the program also tries every schedule of each match of the sweep, as
+`explore` does: of each network, team and choice of black holes. `every.csv` gets a row
+for each, and the summary and the report say whether every schedule solves, and with how
+many moves and lost agents at most, beside what the runs came to. Agents nap at most
+twice where nothing has changed. A match that has more than N states is said to have too
+many; the same command with a larger N tries it again. A run that does what no schedule
+does ends the command, and says so.
 
-`made.json` has the SHA-256 of all that rows depend on: the sweep, the files of agents and schedulers with what they
-import, the files that agents inside the lab read while they play, the lab, the program and Python. If one of them is
-another, or a row is not of the run that the sweep has there, the command refuses to go on in the folder. With --verify
-it plays rows again and says which come out otherwise, and whether `summary.csv` and `report.html` are what is made of
-the rows; another engine than the first may play them.
+`made.json` has the SHA-256 of all that rows depend on: the sweep, the files of agents
+and schedulers with what they import, the files that agents inside the lab read while
+they play, the lab, the program and Python. If one of them is another, or a row is not
+of the run that the sweep has there, the command refuses to go on in the folder. With
+--verify it plays rows again and says which come out otherwise, and whether
+`summary.csv` and `report.html` are what is made of the rows; another engine than the
+first may play them.
 """
 import argparse
 import pathlib
@@ -84,7 +93,8 @@ def add_words(parser: argparse.ArgumentParser) -> None:
 
 def run(words: argparse.Namespace) -> int:
     check(*NEEDED)
-    spec, text = grid.read(words.file), words.file.read_text(encoding="utf-8")
+    spec = grid.read(words.file)
+    text = words.file.read_text(encoding="utf-8")
     work = SweepJob(text, program_of(words))
     for name in spec.schedulers:
         maker_of(name)

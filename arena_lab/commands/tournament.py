@@ -3,27 +3,33 @@
     ./arena-lab tournament --team red --team blue --network ring:8 --network torus:5x5 --holes 2 --out contest
     ./arena-lab tournament --again contest/tournament.toml 3 --out again3
 
-The folder gets the file of the tournament, a file for each network, and a sheet of keys for each team. Keys and the
-tournament's seed are drawn by the operating system's source of secrets. So are black holes, unless you name them by
---hole or ask for all of them. On one network with one black hole all teams play the same match. The tournament has the
-oblivious schedule, under which no agent learns by waiting what others do; examples/README.md says how to choose its
-delays and how many turns a match takes.
+The folder gets the file of the tournament, a file for each network, and a sheet of keys
+for each team. Keys and the tournament's seed are drawn by the operating system's source
+of secrets. So are black holes, unless you name them by --hole or ask for all of them.
+On one network with one black hole all teams play the same match. The tournament has the
+oblivious schedule, under which no agent learns by waiting what others do;
+examples/README.md says how to choose its delays and how many turns a match takes.
 
-With --traps N each team gets N matches more, on networks that are drawn, without a black hole: two nodes are drawn
-instead, and the links into them let nobody arrive. No agent can tell such a match from one in which either is the black
-hole and the links into the other are slow. So a team that decides nothing by time is `silent` there; one that takes a
-long silence for a black hole is `wrong`, and the standings of `./arena-lab page` and `./arena-lab watch` say how often
-it was deceived. All matches stand in an order that is drawn. A trap goes on until its last turn, as its agents wait.
+With --traps N each team gets N matches more, on networks that are drawn, without a
+black hole: two nodes are drawn instead, and the links into them let nobody arrive. No
+agent can tell such a match from one in which either is the black hole and the links
+into the other are slow. So a team that decides nothing by time is `silent` there; one
+that takes a long silence for a black hole is `wrong`, and the standings of `./arena-lab
+page` and `./arena-lab watch` say how often it was deceived. All matches stand in an
+order that is drawn. A trap goes on until its last turn, as its agents wait.
 
-Give each team its own sheet and no other file of the folder. A file of a network has no black hole: a team may have it
-if its agents are to know the map. Run `arena check tournament.toml` and `arena serve tournament.toml` in the folder.
+Give each team its own sheet and no other file of the folder. A file of a network has no
+black hole: a team may have it if its agents are to know the map. Run `arena check
+tournament.toml` and `arena serve tournament.toml` in the folder.
 
---again TOURNAMENT M writes another try of match M alone, for a team whose program crashed once it had entered: a key is
-used once. It has the team, the network, the home base and the limits of match M, and everything else anew: keys, the
-labels of ports, the tournament's seed, and what destroys or lets nobody arrive. It is served beside the contest, on
-another port, and the first match stays as it is. Give the team its new sheet, and the network's file if it had that.
-`./arena-lab page tournament.toml PREFIX --again again3 --out pages` counts the better of the two tries, or the last one
-with --take last.
+--again TOURNAMENT M writes another try of match M alone, for a team whose program
+crashed once it had entered: a key is used once. It has the team, the network, the home
+base and the limits of match M, and everything else anew: keys, the labels of ports, the
+tournament's seed, and what destroys or lets nobody arrive. It is served beside the
+contest, on another port, and the first match stays as it is. Give the team its new
+sheet, and the network's file if it had that. `./arena-lab page tournament.toml PREFIX
+--again again3 --out pages` counts the better of the two tries, or the last one with
+--take last.
 """
 import argparse
 import pathlib
@@ -41,11 +47,14 @@ from arena_lab.rules.limits import MOST_AGENTS, SMALL_BOARD, SMALL_QUOTA
 from arena_lab.rules.model import Setup
 from arena_lab.rules.networks import Network, NoNetwork
 
-ALL, DEGREE = "all", "degree"
+ALL = "all"
+DEGREE = "degree"
 MOST_MATCHES = 64
-MOST_SCALES, MOST_ODDS = 24, 65_535
+MOST_SCALES = 24
+MOST_ODDS = 65_535
 NETWORK = "network0.toml"
-QUOTA, BOARD = SMALL_QUOTA, SMALL_BOARD
+QUOTA = SMALL_QUOTA
+BOARD = SMALL_BOARD
 
 
 class TournamentMatch(NamedTuple):
@@ -91,8 +100,8 @@ def check_words(words: argparse.Namespace) -> None:
 
 
 def entries_of(words: argparse.Namespace) -> List[TournamentMatch]:
-    """The matches, network by network, hole by hole and team by team; with traps among them, in an order that is
-    drawn."""
+    """The matches, network by network, hole by hole and team by team; with traps among
+    them, in an order that is drawn."""
     places = [
         place
         for number, name in enumerate(words.network)
@@ -124,7 +133,8 @@ def entries_of(words: argparse.Namespace) -> List[TournamentMatch]:
 
 
 class Planned(NamedTuple):
-    """A match that all teams are to play: its setup, the links over which nobody arrives, and its network's file."""
+    """A match that all teams are to play: its setup, the links over which nobody
+    arrives, and its network's file."""
 
     setup: Setup
     held: List[Tuple[int, int]]
@@ -132,9 +142,9 @@ class Planned(NamedTuple):
 
 
 def trap_on(words: argparse.Namespace, number: int, name: str) -> Planned:
-    """A match without a black hole. Nobody arrives at two nodes that are drawn: if it were one, it would be the last
-    that is left to a team which has visited all others, and every team would accuse it.
-    """
+    """A match without a black hole. Nobody arrives at two nodes that are drawn: if it
+    were one, it would be the last that is left to a team which has visited all others,
+    and every team would accuse it."""
     place = places_on(words, number, name)[0]
     setup = place.setup
     nodes = secrets.SystemRandom().sample(
@@ -146,7 +156,8 @@ def trap_on(words: argparse.Namespace, number: int, name: str) -> Planned:
 
 
 def file_of(names: Sequence[str], number: int) -> str:
-    """The file of a network, which is called by its name, as pages and tables call it."""
+    """The file of a network, which is called by its name, as pages and tables call
+    it."""
     called = [
         re.sub(r"\W+", "-", pathlib.PurePath(name).name.removesuffix(".toml")).strip(
             "-"
@@ -364,7 +375,8 @@ def write_all(words: argparse.Namespace) -> int:
     entries = entries_of(words)
     setups = {words.out / entry.file: entry.fixture.setup for entry in entries}
     for file in setups:
-        # it may be the very file that --network names, with what its author wrote beside the links
+        # it may be the very file that --network names, with what its author wrote
+        # beside the links
         if file.exists():
             raise NoNetwork(
                 f"{file}: there is a file of this name: name another folder by --out"
@@ -435,8 +447,10 @@ def write_again(out: pathlib.Path, file: str, match: str) -> int:
 
 
 def drawn_anew(fixture: Fixture) -> Fixture:
-    """The same match with other keys and labels, and with other nodes that destroy or at which nobody arrives."""
-    setup, chance = fixture.setup, secrets.SystemRandom()
+    """The same match with other keys and labels, and with other nodes that destroy or
+    at which nobody arrives."""
+    setup = fixture.setup
+    chance = secrets.SystemRandom()
     if setup.dark:
         raise NoNetwork("the match has dark links: write another try of it by hand")
     network = networks.shuffled(
@@ -447,7 +461,8 @@ def drawn_anew(fixture: Fixture) -> Fixture:
         [it for it in range(setup.nodes) if it != setup.home],
         len(setup.holes) + len(closed),
     )
-    holes, others = sorted(drawn[: len(setup.holes)]), drawn[len(setup.holes) :]
+    holes = sorted(drawn[: len(setup.holes)])
+    others = drawn[len(setup.holes) :]
     return fixture._replace(
         setup=setup._replace(links=network.links, holes=holes),
         keys=[key_of(fixture.team) for _ in fixture.keys],

@@ -1,4 +1,5 @@
-"""Words that commands share: which match is played by whom, which program plays, and how many processes."""
+"""Words that commands share: which match is played by whom, which program plays, and
+how many processes."""
 import argparse
 import os
 import re

@@ -1,5 +1,5 @@
-"""What a graded course is written as for gradebooks: Gradescope's results, Moodle's import of grades, JUnit's XML and a
-table.
+"""What a graded course is written as for gradebooks: Gradescope's results, Moodle's
+import of grades, JUnit's XML and a table.
 
     gradescope    gradescope-TEAM.json for each team: the `results.json` of an autograder
     moodle        moodle.csv: a row for each student, as Moodle's import of grades reads it; `students.csv`, a table
@@ -20,7 +20,10 @@ from arena_lab.support.fields import WrongFile
 from arena_lab.sweep.report import is_solved
 from arena_lab.sweep.tables import line_of
 
-GRADESCOPE, MOODLE, JUNIT, CSV = "gradescope", "moodle", "junit", "csv"
+GRADESCOPE = "gradescope"
+MOODLE = "moodle"
+JUNIT = "junit"
+CSV = "csv"
 KINDS = (GRADESCOPE, MOODLE, JUNIT, CSV)
 STUDENTS = "students.csv"
 # of each column of students how Moodle calls it
@@ -30,8 +33,9 @@ NO_XML = re.compile("[^\t\n\r\u0020-\ud7ff\ue000-\ufffd\U00010000-\U0010ffff]")
 
 
 class Marks(NamedTuple):
-    """What is exported: the course's title, how points are given, of each team the points of its matches, in the order
-    of the league, and of each match what is said of lines that were refused."""
+    """What is exported: the course's title, how points are given, of each team the
+    points of its matches, in the order of the league, and of each match what is said of
+    lines that were refused."""
 
     title: str
     points: Points
@@ -60,7 +64,8 @@ def in_all(marks: Sequence[Mark]) -> Tuple[int, int]:
 
 def summary(marks: Sequence[Mark]) -> str:
     """What a team has, in a line."""
-    (score, most), solved = in_all(marks), sum(is_solved(it.row) for it in marks)
+    (score, most) = in_all(marks)
+    solved = sum(is_solved(it.row) for it in marks)
     return (
         f"{solved} of {len(marks)} matches solved, {text(score)} of {text(most)} points"
     )
@@ -185,7 +190,8 @@ def junit(marks: Marks) -> str:
                 name=as_xml(it.name()),
             )
             if not is_solved(it.row):
-                kind, said = league.kind_of(it.row), as_xml(marks.said(it))
+                kind = league.kind_of(it.row)
+                said = as_xml(marks.said(it))
                 node = ElementTree.SubElement(
                     case,
                     "error" if it in unplayed else "failure",
@@ -223,7 +229,8 @@ def table(marks: Marks) -> str:
 
 
 class Export(NamedTuple):
-    """What is to be exported, and the students of the teams if a gradebook needs them."""
+    """What is to be exported, and the students of the teams if a gradebook needs
+    them."""
 
     kinds: Sequence[str] = ()
     students: Sequence[Student] = ()

@@ -1,7 +1,9 @@
-"""What a team hands in: files and folders, read once and kept as an archive. Each of its programs has a copy.
+"""What a team hands in: files and folders, read once and kept as an archive. Each of
+its programs has a copy.
 
-No link is followed, as what it leads to may be another's: a link is handed in as a link. What is neither file, folder
-nor link is left out. A hand-in has bounds, and one beyond them is refused by a line that says which.
+No link is followed, as what it leads to may be another's: a link is handed in as a
+link. What is neither file, folder nor link is left out. A hand-in has bounds, and one
+beyond them is refused by a line that says which.
 """
 import contextlib
 import errno
@@ -17,7 +19,9 @@ from typing import Dict, Iterator, NamedTuple, Optional, Sequence, Tuple
 
 from arena_lab.play.imports import SUFFIX, files_behind
 
-MOST_BYTES, MOST_FILES, MOST_DEPTH = 32 << 20, 2_000, 32
+MOST_BYTES = 32 << 20
+MOST_FILES = 2_000
+MOST_DEPTH = 32
 # the file of the network, for programs that have the map
 NETWORK = "network.toml"
 
@@ -27,7 +31,8 @@ class HandInRefused(Exception):
 
 
 class HandInEntry(NamedTuple):
-    """A file, a folder or a link: what kind it is, and a file's content or where a link leads."""
+    """A file, a folder or a link: what kind it is, and a file's content or where a link
+    leads."""
 
     kind: bytes
     content: bytes = b""
@@ -35,7 +40,8 @@ class HandInEntry(NamedTuple):
 
 
 class HandIn(NamedTuple):
-    """A team's files by their names, a folder before what is in it; or why they are refused."""
+    """A team's files by their names, a folder before what is in it; or why they are
+    refused."""
 
     entries: Dict[str, HandInEntry]
     refusal: str = ""
@@ -54,8 +60,8 @@ class HandIn(NamedTuple):
         return found.hexdigest()
 
     def digests(self, words: str) -> Dict[str, str]:
-        """The SHA-256 of each of its files that these words of a command name, and of those that they import, by its
-        name in the hand-in."""
+        """The SHA-256 of each of its files that these words of a command name, and of
+        those that they import, by its name in the hand-in."""
         names = {
             str(pathlib.PurePath(word.partition(":")[0])) for word in words.split()
         }
@@ -94,7 +100,8 @@ class HandIn(NamedTuple):
 
     def write_file(self, name: str, folder: pathlib.Path) -> None:
         """Writes the file of a name there, if it is one and no link."""
-        content, path = self.content_of(name), folder / os.path.normpath(name)
+        content = self.content_of(name)
+        path = folder / os.path.normpath(name)
         if content is not None:
             path.parent.mkdir(parents=True, exist_ok=True)
             path.write_bytes(content)
@@ -108,10 +115,8 @@ class HandIn(NamedTuple):
         with tarfile.open(fileobj=made, mode="w", format=tarfile.GNU_FORMAT) as tar:
             for name, entry in entries.items():
                 head = tarfile.TarInfo(name)
-                head.type, head.mode = (
-                    entry.kind,
-                    0o600 if entry.kind == tarfile.REGTYPE else 0o700,
-                )
+                head.type = entry.kind
+                head.mode = 0o600 if entry.kind == tarfile.REGTYPE else 0o700
                 head.mode |= 0o100 if entry.is_program else 0
                 if entry.kind == tarfile.SYMTYPE:
                     head.linkname = os.fsdecode(entry.content)
@@ -142,8 +147,8 @@ def unpacked(archive: bytes, refusal: str = "") -> HandIn:
 
 
 def read(paths: Sequence[pathlib.Path], course: pathlib.Path) -> HandIn:
-    """The hand-in of these files, and of all that is in these folders, which a course's file names. What is named later
-    takes the place of what has the same name."""
+    """The hand-in of these files, and of all that is in these folders, which a course's
+    file names. What is named later takes the place of what has the same name."""
     entries: Dict[str, HandInEntry] = {}
     try:
         left = MOST_BYTES
@@ -169,7 +174,8 @@ def named(path: pathlib.Path, course: pathlib.Path) -> Iterator[Tuple[str, str]]
     if not os.path.isdir(top):
         yield path.name, top
         return
-    count, waiting = 0, [("", top, 0)]
+    count = 0
+    waiting = [("", top, 0)]
     while waiting:
         prefix, folder, depth = waiting.pop()
         if depth > MOST_DEPTH:
@@ -186,7 +192,8 @@ def named(path: pathlib.Path, course: pathlib.Path) -> Iterator[Tuple[str, str]]
 
 
 def entry_at(path: str, most: int) -> Optional[HandInEntry]:
-    """What is at a path, of at most this many bytes; None if it is neither file, folder nor link."""
+    """What is at a path, of at most this many bytes; None if it is neither file, folder
+    nor link."""
     mode = os.lstat(path).st_mode
     if stat.S_ISLNK(mode):
         return HandInEntry(tarfile.SYMTYPE, os.fsencode(os.readlink(path)))
@@ -210,7 +217,8 @@ def entry_at(path: str, most: int) -> Optional[HandInEntry]:
 
 
 def put(entries: Dict[str, HandInEntry], name: str, entry: HandInEntry) -> None:
-    """Puts an entry in its place: nothing is left there that it would be written through or into."""
+    """Puts an entry in its place: nothing is left there that it would be written
+    through or into."""
     parts = name.split("/")
     for above in ("/".join(parts[:count]) for count in range(1, len(parts))):
         if entries.get(above, entry).kind != tarfile.DIRTYPE:

@@ -1,5 +1,5 @@
-"""What a graded course keeps beside its results, so that a hand-in is read once and its agents can be repeated later,
-also on another machine:
+"""What a graded course keeps beside its results, so that a hand-in is read once and its
+agents can be repeated later, also on another machine:
 
     course.toml         the course's file
     hand-ins/TEAM.tar   what a team has handed in
@@ -18,7 +18,8 @@ from arena_lab.course.reading import CANNOT, SECONDS
 from arena_lab.support.built import TOP
 from arena_lab.sweep.tables import NoTable
 
-COURSE, HAND_INS = "course.toml", "hand-ins"
+COURSE = "course.toml"
+HAND_INS = "hand-ins"
 # in the record of what rows depend on: the name of a team's hand-in
 TEAM = "team "
 # reads a hand-in, in a process of its own
@@ -26,7 +27,8 @@ READ = f"import sys; sys.path.insert(0, {str(TOP)!r}); from arena_lab.course imp
 
 
 class HandInRecord(NamedTuple):
-    """A hand-in that was read: its digest, why it is refused, and the SHA-256 of each file of its program."""
+    """A hand-in that was read: its digest, why it is refused, and the SHA-256 of each
+    file of its program."""
 
     digest: str
     refusal: str
@@ -40,8 +42,9 @@ def take(
     folder: pathlib.Path,
     words: str,
 ) -> HandInRecord:
-    """Reads what a team hands in, whose program is started by these words, and keeps it. A process of its own reads it,
-    within bounds of memory and time, so whatever is in it stops nothing else."""
+    """Reads what a team hands in, whose program is started by these words, and keeps
+    it. A process of its own reads it, within bounds of memory and time, so whatever is
+    in it stops nothing else."""
     archive, record = places(out, team)
     archive.parent.mkdir(parents=True, exist_ok=True)
     given = json.dumps([str(archive), str(folder), words, *map(str, paths)])

@@ -8,7 +8,10 @@ from arena_lab.play.repeating import SAYS_OTHERWISE
 from arena_lab.sweep.grid import Grid
 from arena_lab.sweep.report import FAULTS, Row, is_solved
 
-TABLE, PAGE, FAILED, SMALLEST = "league.csv", "league.html", "failed", "smallest"
+TABLE = "league.csv"
+PAGE = "league.html"
+FAILED = "failed"
+SMALLEST = "smallest"
 HEAD = ("place", "team", "matches", "solved", "moves", "lost")
 # what is kept of a match: its page, if there is one, its schedule and its replay
 FILES = {
@@ -28,8 +31,12 @@ MATCH_HEAD = (
 )
 
 # how a match may fail besides by its verdict, each by what its first fault says
-UNPLAYED, LAB_FAILED = "not played", "not played, as the lab failed"
-CRASHED, HUNG, RUDE, SILENT = "crashed", "hung", "broke a rule", "silent"
+UNPLAYED = "not played"
+LAB_FAILED = "not played, as the lab failed"
+CRASHED = "crashed"
+HUNG = "hung"
+RUDE = "broke a rule"
+SILENT = "silent"
 OTHERWISE = "does not repeat"
 NOT_REPEATED = "is not repeated"
 KINDS_OF_FAULTS = {
@@ -60,8 +67,9 @@ KINDS = {
 
 
 class LeagueRow(NamedTuple):
-    """A team in the league. Moves and lost agents are those of the matches that it solved; by the network's name stands
-    how many of its matches it solved, and by their kinds how many matches failed."""
+    """A team in the league. Moves and lost agents are those of the matches that it
+    solved; by the network's name stands how many of its matches it solved, and by their
+    kinds how many matches failed."""
 
     place: int
     team: str
@@ -100,7 +108,8 @@ class Failure(NamedTuple):
 
 
 def standings_of(rows: Sequence[Row], teams: Sequence[str]) -> List[LeagueRow]:
-    """The teams, best first. Equal teams share a place, and stand in the order of the course's file."""
+    """The teams, best first. Equal teams share a place, and stand in the order of the
+    course's file."""
     found = []
     for team in teams:
         own = [row for row in rows if row["team"] == team]
@@ -140,14 +149,16 @@ def by_kind(rows: Sequence[Row]) -> Dict[str, int]:
 
 
 def kind_of(row: Row) -> str:
-    """How a match failed. A fault says more than the verdict, which may be a consequence of it."""
+    """How a match failed. A fault says more than the verdict, which may be a
+    consequence of it."""
     if not row[FAULTS]:
         return str(row["outcome"]).split()[0]
     return next((kind for kind in KINDS_OF_FAULTS if is_of(kind, row[FAULTS][0])), RUDE)
 
 
 def is_of(kind: str, fault: str) -> bool:
-    """Whether a fault is of this kind. Only its beginning tells, as a program's last words may stand at its end."""
+    """Whether a fault is of this kind. Only its beginning tells, as a program's last
+    words may stand at its end."""
     return re.sub(r"^agent \d+: ", "", fault).startswith(KINDS_OF_FAULTS[kind])
 
 
@@ -243,7 +254,8 @@ def league_page(grid: Grid, standings: Sequence[LeagueRow], engine: str) -> str:
 
 
 def refused_in(rows: Sequence[Row], refused: Refused) -> List[Tuple[str, List[int]]]:
-    """What is said of lines of a team's matches that were refused, each once, with the numbers of the matches."""
+    """What is said of lines of a team's matches that were refused, each once, with the
+    numbers of the matches."""
     found: Dict[str, List[int]] = {}
     for row in rows:
         for said in refused.get(int(row["run"]), ()):
@@ -294,7 +306,8 @@ def failed_match(row: Row, failure: Failure) -> Dict[str, Any]:
 def cards(
     failed: Sequence[Dict[str, Any]]
 ) -> List[Tuple[Dict[str, Any], List[Dict[str, Any]]]]:
-    """Failed matches as cards: the first of each network that failed in a way and with these faults, and the others."""
+    """Failed matches as cards: the first of each network that failed in a way and with
+    these faults, and the others."""
     found: Dict[Tuple[str, ...], List[Dict[str, Any]]] = {}
     for it in failed:
         found.setdefault(
@@ -309,7 +322,8 @@ def cards(
 
 
 def alike(fault: str) -> str:
-    """A fault without how long the lab has waited, which is less once a team has hung twice."""
+    """A fault without how long the lab has waited, which is less once a team has hung
+    twice."""
     return re.sub(rf"({bounds.SENT_NOTHING}|{bounds.READ_NOTHING}) \d+ s", r"\1", fault)
 
 

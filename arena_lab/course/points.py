@@ -16,7 +16,8 @@
                   and each dark link (0)
     visibility    when students see a match on Gradescope: "visible", "hidden", "after_due_date" or "after_published"
 
-A match that is not solved, or does not repeat, has no points, and none has fewer than 0. Points have two decimals.
+A match that is not solved, or does not repeat, has no points, and none has fewer than
+0. Points have two decimals.
 """
 import math
 from typing import Any, Dict, List, Mapping, NamedTuple, Sequence, Union
@@ -53,7 +54,8 @@ class Points(NamedTuple):
 
 
 class Mark(NamedTuple):
-    """The points of a match, and the most that it could have, in hundredths; and what took points away."""
+    """The points of a match, and the most that it could have, in hundredths; and what
+    took points away."""
 
     row: Row
     score: int
@@ -140,7 +142,8 @@ def of_networks(said: Any, played: Grid) -> Dict[str, int]:
 
 
 def marks(points: Points, rows: Sequence[Row]) -> List[Mark]:
-    """The points of a team's matches. Those of a network sum up to what it has, to the last hundredth."""
+    """The points of a team's matches. Those of a network sum up to what it has, to the
+    last hundredth."""
     count: Dict[str, int] = {}
     for row in rows:
         count[row["network"]] = count.get(row["network"], 0) + 1
@@ -148,7 +151,8 @@ def marks(points: Points, rows: Sequence[Row]) -> List[Mark]:
     found = []
     for row in rows:
         name = row["network"]
-        whole, place = points.networks[name], met.get(name, 0)
+        whole = points.networks[name]
+        place = met.get(name, 0)
         met[name] = place + 1
         found.append(
             mark(
@@ -164,7 +168,8 @@ def mark(points: Points, row: Row, most: int) -> Mark:
     """The points of a match that may have this number of hundredths."""
     if not is_solved(row):
         return Mark(row, 0, most, list(row[FAULTS]))
-    moves, bound = int(row["moves"]), points.most_moves(int(row["nodes"]))
+    moves = int(row["moves"])
+    bound = points.most_moves(int(row["nodes"]))
     over = min(1.0, max(0.0, moves / bound - 1))
     extra = max(0, int(row["lost"]) - len(row["hole"].split()) - points.dark)
     for_moves = round(most * points.moves * over)

@@ -1,5 +1,5 @@
-"""Plays matches of all teams of a course by one pool of processes, within the time and the space on disk that each team
-has."""
+"""Plays matches of all teams of a course by one pool of processes, within the time and
+the space on disk that each team has."""
 import concurrent.futures
 import math
 import multiprocessing
@@ -12,7 +12,8 @@ from arena_lab.play.parallel import KILLED, Job, Result, begin, result_of
 
 
 class TimedResult(NamedTuple):
-    """What came of a match, how many seconds it took, and how many bytes were written of it."""
+    """What came of a match, how many seconds it took, and how many bytes were written
+    of it."""
 
     found: Any
     seconds: float
@@ -20,8 +21,8 @@ class TimedResult(NamedTuple):
 
 
 class Budget(NamedTuple):
-    """How many seconds all matches of a team may take, how many those of each team have taken, and the same of the MB
-    that are written of them."""
+    """How many seconds all matches of a team may take, how many those of each team have
+    taken, and the same of the MB that are written of them."""
 
     limit: int
     spent: Dict[str, float]
@@ -34,7 +35,8 @@ class Budget(NamedTuple):
         self.wrote[team] = self.wrote.get(team, 0.0) + it.size / (1 << 20)
 
     def says(self, team: str) -> str:
-        """What is said of what there was no time or no space for, or nothing if there is."""
+        """What is said of what there was no time or no space for, or nothing if there
+        is."""
         if self.spent[team] > self.limit:
             return f"the matches of the team have taken the {self.limit} s that it has"
         if self.wrote.get(team, 0.0) > self.space:
@@ -43,7 +45,8 @@ class Budget(NamedTuple):
 
 
 class Limited(NamedTuple):
-    """The time of the teams, whose a match is, and what comes instead of a result once the time of its team is up."""
+    """The time of the teams, whose a match is, and what comes instead of a result once
+    the time of its team is up."""
 
     budget: Budget
     team_of: Callable[[Any], str]
@@ -56,8 +59,8 @@ class Limited(NamedTuple):
 def in_time(
     job: Job, left: Sequence[Any], workers: int, limited: Limited
 ) -> Iterator[Result]:
-    """The results of matches, or of repetitions, in order, by this number of processes. Once a team's time is up,
-    others come instead of its results."""
+    """The results of matches, or of repetitions, in order, by this number of processes.
+    Once a team's time is up, others come instead of its results."""
     over = multiprocessing.Event()
     pool = concurrent.futures.ProcessPoolExecutor(
         workers, initializer=begin, initargs=(over, os.getpid())
@@ -72,10 +75,13 @@ def in_time(
 
 
 class MatchQueue:
-    """Matches that wait for a process, those that are played, and results that wait for earlier ones."""
+    """Matches that wait for a process, those that are played, and results that wait for
+    earlier ones."""
 
     def __init__(self, job: Job, left: Sequence[Any], limited: Limited) -> None:
-        self._job, self._left, self._limited = job, left, limited
+        self._job = job
+        self._left = left
+        self._limited = limited
         self._begun = 0
         self._running: "Dict[Future[Result], int]" = {}
         self._done: Dict[int, Result] = {}
@@ -94,10 +100,12 @@ class MatchQueue:
                 return
 
     def _begin(self, pool: concurrent.futures.Executor, workers: int) -> None:
-        """Begins as many matches as there are processes. A team whose time is up plays no more."""
+        """Begins as many matches as there are processes. A team whose time is up plays
+        no more."""
         budget, team_of, instead, job_of, _ = self._limited
         while len(self._running) < workers and self._begun < len(self._left):
-            match, number = self._left[self._begun], self._begun
+            match = self._left[self._begun]
+            number = self._begun
             self._begun += 1
             if budget.says(team_of(match)):
                 self._done[number] = Result(instead(match), "")
@@ -109,7 +117,8 @@ class MatchQueue:
         """Waits until a match is over, if one is played."""
         ended, _ = concurrent.futures.wait(self._running, return_when=FIRST_COMPLETED)
         for future in ended:
-            number, result = self._running.pop(future), future.result()
+            number = self._running.pop(future)
+            result = future.result()
             if not result.fault:
                 self._limited.budget.take(
                     self._limited.team_of(self._left[number]), result.found

@@ -1,8 +1,9 @@
-"""Reads what a team hands in, in a process of its own that has bounds of memory and time: whatever is in it stops
-nothing else.
+"""Reads what a team hands in, in a process of its own that has bounds of memory and
+time: whatever is in it stops nothing else.
 
-Standard input has the archive to write, the course's folder, the words that start the team's program, and the files, as
-a list in JSON. Standard output gets the digest, why the hand-in is refused, and the digests of its program's files.
+Standard input has the archive to write, the course's folder, the words that start the
+team's program, and the files, as a list in JSON. Standard output gets the digest, why
+the hand-in is refused, and the digests of its program's files.
 """
 import json
 import pathlib
@@ -13,7 +14,8 @@ from arena_lab.course import hand_in
 from arena_lab.course.hand_in import HandIn
 
 # bytes of memory and seconds that it may take
-MEMORY, SECONDS = 1 << 30, 60
+MEMORY = 1 << 30
+SECONDS = 60
 CANNOT = f"it cannot be read within {SECONDS} s and {MEMORY >> 30} GB of memory"
 
 
@@ -31,10 +33,8 @@ def main() -> None:
         files = found.digests(words)
         archive.write_bytes(found.archive())
     except (OSError, MemoryError, RecursionError, ValueError) as fault:
-        found, files = (
-            HandIn({}, f"its files cannot be read: {type(fault).__name__}"),
-            {},
-        )
+        found = HandIn({}, f"its files cannot be read: {type(fault).__name__}")
+        files = {}
         archive.write_bytes(found.archive())
     print(json.dumps([found.digest(), found.refusal, files]))
 

@@ -4,16 +4,20 @@ from django.utils.translation import gettext_lazy as _
 
 
 class Teams(AppConfig):
-    name, verbose_name = "arena_lab.hall.teams", _("Teams")
+    name = "arena_lab.hall.teams"
+    verbose_name = _("Teams")
 
 
 class Attempts(AppConfig):
-    name, verbose_name = "arena_lab.hall.attempts", _("Matches")
+    name = "arena_lab.hall.attempts"
+    verbose_name = _("Matches")
 
 
 class HandIns(AppConfig):
-    name, verbose_name = "arena_lab.hall.handins", _("Hand-ins")
+    name = "arena_lab.hall.handins"
+    verbose_name = _("Hand-ins")
 
 
 class Standings(AppConfig):
-    name, verbose_name = "arena_lab.hall.standings", _("Standings")
+    name = "arena_lab.hall.standings"
+    verbose_name = _("Standings")

@@ -1,6 +1,7 @@
-"""An archive of a hall, written while it is served: its database as it stood at one moment, its secrets, and the files
-of attempts and hand-ins. Files that come or go meanwhile are those of attempts that are not over. A hall is restored of
-it as a whole: what was there before is put aside."""
+"""An archive of a hall, written while it is served: its database as it stood at one
+moment, its secrets, and the files of attempts and hand-ins. Files that come or go
+meanwhile are those of attempts that are not over. A hall is restored of it as a whole:
+what was there before is put aside."""
 import contextlib
 import os
 import pathlib
@@ -15,7 +16,8 @@ from typing import IO, List, Optional, cast
 from arena_lab.hall.course import NoHall
 from arena_lab.hall.place import HallFolder, at
 
-DATABASE, DUMP = "hall.sqlite3", "hall.sql"
+DATABASE = "hall.sqlite3"
+DUMP = "hall.sql"
 # made anew at each start, or of this start alone
 LEFT_OUT = ("lock",)
 
@@ -95,8 +97,9 @@ def postgres(program: str, *words: str) -> None:
 
 
 def restore(place: HallFolder, archive: pathlib.Path) -> Optional[pathlib.Path]:
-    """Puts the hall of an archive in the place of the one that is there; gives where that one is now. An archive that
-    cannot be read, or whose database is broken, leaves everything as it was."""
+    """Puts the hall of an archive in the place of the one that is there; gives where
+    that one is now. An archive that cannot be read, or whose database is broken, leaves
+    everything as it was."""
     new = place.folder.with_name(f".{place.folder.name}.new")
     shutil.rmtree(new, ignore_errors=True)
     try:
@@ -137,7 +140,8 @@ def unpack(archive: pathlib.Path, folder: pathlib.Path) -> None:
 
 
 def take_course(archive: pathlib.Path, course: pathlib.Path) -> None:
-    """Writes the file of the course that an archive has, where there is none, as on another machine."""
+    """Writes the file of the course that an archive has, where there is none, as on
+    another machine."""
     if course.exists():
         return
     try:
@@ -165,8 +169,9 @@ def check_database(folder: pathlib.Path) -> None:
 
 
 def load(place: HallFolder, aside: Optional[pathlib.Path]) -> None:
-    """Puts the rows of an archive into PostgreSQL, in the place of those that are there, which are kept as a file in
-    the folder that was put aside. Django has begun."""
+    """Puts the rows of an archive into PostgreSQL, in the place of those that are
+    there, which are kept as a file in the folder that was put aside. Django has
+    begun."""
     dump = place.folder / DUMP
     if not dump.exists():
         return

@@ -1,4 +1,5 @@
-"""Key sheets, the teacher's password, and teams of the course's file. Django has begun."""
+"""Key sheets, the teacher's password, and teams of the course's file. Django has
+begun."""
 import csv
 import pathlib
 import secrets
@@ -17,7 +18,8 @@ Sheet = List[Tuple[str, ...]]
 
 
 def sync(hall: Hall) -> None:
-    """Makes the teams and networks of the course's file that the database does not have yet."""
+    """Makes the teams and networks of the course's file that the database does not have
+    yet."""
     for member in hall.teams:
         Team.objects.get_or_create(
             name=member.name, defaults={"display": member.display}
@@ -37,8 +39,8 @@ def new_tokens(teams: Iterable[Team], who: str) -> Sheet:
 
 
 def draw_missing(path: pathlib.Path) -> int:
-    """Draws tokens for the teams that have none, and writes them into a file of key sheets, both or neither; gives how
-    many."""
+    """Draws tokens for the teams that have none, and writes them into a file of key
+    sheets, both or neither; gives how many."""
     with transaction.atomic():
         sheet = new_tokens(list(Team.objects.filter(digest="")), "hall")
         if sheet:

@@ -1,5 +1,6 @@
-"""Serves a hall: a web server and workers, each of which is started again when it ends. All of them end with this
-process, and servers of matches with their worker. What they say of faults goes where this process says it."""
+"""Serves a hall: a web server and workers, each of which is started again when it ends.
+All of them end with this process, and servers of matches with their worker. What they
+say of faults goes where this process says it."""
 import contextlib
 import fcntl
 import os
@@ -15,14 +16,17 @@ from arena_lab.hall.place import VARIABLE, HallFolder, tell
 from arena_lab.support.built import TOP
 
 LOCK = "lock"
-# seconds between two looks, before a process that has ended is started again, and that all may take to end
-LOOK, AGAIN, PATIENCE = 0.3, 1.0, 8.0
+# seconds between two looks, before a process that has ended is started again, and that
+# all may take to end
+LOOK = 0.3
+AGAIN = 1.0
+PATIENCE = 8.0
 Children = Dict[str, "subprocess.Popen[bytes]"]
 
 
 class Options(NamedTuple):
-    """How a hall is served: where its pages are, or None if it only works for another machine's, and how many workers
-    it has."""
+    """How a hall is served: where its pages are, or None if it only works for another
+    machine's, and how many workers it has."""
 
     pages: Optional[List[object]]
     workers: int
@@ -48,7 +52,8 @@ def commands(options: Options) -> Dict[str, List[object]]:
 
 
 def started(place: HallFolder, words: List[object]) -> "subprocess.Popen[bytes]":
-    # strangers choose the keys of forms: sets and dictionaries have an order of their own in each process
+    # strangers choose the keys of forms: sets and dictionaries have an order of their
+    # own in each process
     variables = {
         **os.environ,
         VARIABLE: str(place.folder),
@@ -94,7 +99,8 @@ def serve(place: HallFolder, options: Options, seconds: Optional[float] = None) 
                     tell(
                         f"{name} has ended with status {child.returncode} and is started again"
                     )
-                children[name], begun[name] = started(place, words), time.monotonic()
+                children[name] = started(place, words)
+                begun[name] = time.monotonic()
             time.sleep(LOOK)
     finally:
         signal.signal(signal.SIGTERM, signal.SIG_IGN)

@@ -1,4 +1,5 @@
-"""Django's settings for a hall, made of its course's file. ARENA_HALL names the hall's folder."""
+"""Django's settings for a hall, made of its course's file. ARENA_HALL names the hall's
+folder."""
 import pathlib
 import socket
 import urllib.parse
@@ -120,7 +121,8 @@ CACHES = {
 LANGUAGE_CODE = HALL.language
 LANGUAGES = [("en", "English"), ("de", "Deutsch"), ("fr", "Français")]
 LOCALE_PATHS = [HERE / "locale"]
-USE_I18N, USE_TZ = True, True
+USE_I18N = True
+USE_TZ = True
 if django.VERSION < (4,):
     # later versions do so anyhow
     USE_L10N = True
@@ -128,10 +130,12 @@ TIME_ZONE = HALL.zone
 
 STATIC_URL = "/static/"
 STATICFILES_DIRS = [HERE / "static"]
-WHITENOISE_USE_FINDERS, WHITENOISE_MAX_AGE = True, 3600
+WHITENOISE_USE_FINDERS = True
+WHITENOISE_MAX_AGE = 3600
 LOGIN_URL = "/login"
 
-# cookies: not for scripts, not for other sites, and encrypted alone if a server that encrypts stands before the hall
+# cookies: not for scripts, not for other sites, and encrypted alone if a server that
+# encrypts stands before the hall
 SESSION_COOKIE_HTTPONLY = CSRF_COOKIE_HTTPONLY = True
 SESSION_COOKIE_SAMESITE = CSRF_COOKIE_SAMESITE = "Lax"
 SESSION_COOKIE_SECURE = CSRF_COOKIE_SECURE = HALL.https
@@ -146,7 +150,8 @@ if HALL.https:
         for name in (HALL.host, *HALL.names)
     ]
 
-# a form of the teacher has some fields for each team; strangers send 64 KB at most, and files go to the disk
+# a form of the teacher has some fields for each team; strangers send 64 KB at most, and
+# files go to the disk
 DATA_UPLOAD_MAX_MEMORY_SIZE = 256 << 10
 DATA_UPLOAD_MAX_NUMBER_FIELDS = 5_000
 FILE_UPLOAD_MAX_MEMORY_SIZE = 64 << 10
@@ -166,7 +171,8 @@ REST_FRAMEWORK = {
     "UNAUTHENTICATED_USER": None,
 }
 
-# what went wrong stands in the log of the hall without what was sent: tokens and passwords are in no line
+# what went wrong stands in the log of the hall without what was sent: tokens and
+# passwords are in no line
 LOGGING = {
     "version": 1,
     "disable_existing_loggers": False,

@@ -46,8 +46,9 @@ def no_icon(request: Any) -> HttpResponse:
 
 
 def health(request: Any) -> JsonResponse:
-    """For whoever watches the hall: how much waits, and how many matches run. How long a program is graded is nobody's
-    business, as those that fail take long. Without its database it answers 503."""
+    """For whoever watches the hall: how much waits, and how many matches run. How long
+    a program is graded is nobody's business, as those that fail take long. Without its
+    database it answers 503."""
     waiting = sum(
         kind.objects.filter(state=WAITING).count() for kind in (Attempt, Grading)
     )
@@ -60,8 +61,8 @@ def health(request: Any) -> JsonResponse:
 
 
 def fault(request: Any) -> HttpResponse:
-    """What is answered if something ends a request. On a full disk nothing can be written, and the hall goes on once
-    there is room."""
+    """What is answered if something ends a request. On a full disk nothing can be
+    written, and the hall goes on once there is room."""
     found = sys.exc_info()[1]
     if (
         isinstance(found, OperationalError)

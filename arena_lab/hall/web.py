@@ -1,4 +1,5 @@
-"""Serves the pages of a hall by waitress, which waits for slow clients without a thread of their own."""
+"""Serves the pages of a hall by waitress, which waits for slow clients without a thread
+of their own."""
 import resource
 from typing import Any, Dict
 
@@ -6,14 +7,18 @@ import waitress
 from django.conf import settings
 from django.core.wsgi import get_wsgi_application
 
-# threads that answer, connections at a time, and seconds after which one that says nothing is ended
-THREADS, CONNECTIONS, SILENT = 16, 2_000, 20
+# threads that answer, connections at a time, and seconds after which one that says
+# nothing is ended
+THREADS = 16
+CONNECTIONS = 2_000
+SILENT = 20
 LOOPBACK = ("127.0.0.1", "::1", "localhost")
 FORWARDED = {"x-forwarded-for", "x-forwarded-proto"}
 
 
 def options(address: str, is_behind: bool) -> Dict[str, Any]:
-    """How waitress serves. Who asks is said by the server before the hall, if there is one, and by nobody else."""
+    """How waitress serves. Who asks is said by the server before the hall, if there is
+    one, and by nobody else."""
     found: Dict[str, Any] = {
         "threads": THREADS,
         "connection_limit": CONNECTIONS,

@@ -1,11 +1,13 @@
-"""Wrong: where it meets `going` on the other side it accuses that link, as if the other had been lost there."""
+"""Wrong: where it meets `going` on the other side it accuses that link, as if the other
+had been lost there."""
 from client import Agent, Spent
 from ring import Search, Walker, field
 
 
 class Hasty(Search):
     def divide(self) -> bool:
-        walker, other = self.walker, 1 - self.side
+        walker = self.walker
+        other = 1 - self.side
         walker.walk(other, self.mine)
         while field(walker.board, other) == "safe":
             walker.walk(other)

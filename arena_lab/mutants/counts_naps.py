@@ -1,5 +1,5 @@
-"""Wrong: it takes agents for lost that are away for longer than three naps, and accuses a port that they have claimed.
-An agent on a slow link is away for as long."""
+"""Wrong: it takes agents for lost that are away for longer than three naps, and accuses
+a port that they have claimed. An agent on a slow link is away for as long."""
 from typing import Callable
 
 from client import Agent, Here, Spent

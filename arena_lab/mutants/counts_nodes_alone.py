@@ -1,5 +1,5 @@
-"""Wrong: when all nodes but one are on the map it accuses what leads nowhere there, and does not count links. Two of
-these ports may be the ends of one slow link."""
+"""Wrong: when all nodes but one are on the map it accuses what leads nowhere there, and
+does not count links. Two of these ports may be the ends of one slow link."""
 from typing import Callable
 
 from client import Agent, Spent

@@ -1,5 +1,5 @@
-"""Wrong: it crosses its first link without having written `going` on the whiteboard of the home base, so the other may
-choose the same side and follow it."""
+"""Wrong: it crosses its first link without having written `going` on the whiteboard of
+the home base, so the other may choose the same side and follow it."""
 from client import Agent, Spent
 from ring import LEFT, RIGHT, Search, Walker
 

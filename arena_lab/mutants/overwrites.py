@@ -1,4 +1,5 @@
-"""Wrong: it writes its copy of the map over that of another, in place of adding what it found to what stands there."""
+"""Wrong: it writes its copy of the map over that of another, in place of adding what it
+found to what stands there."""
 from typing import Callable
 
 from client import Agent, Spent

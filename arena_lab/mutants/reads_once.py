@@ -1,4 +1,5 @@
-"""Wrong: it reads a whiteboard once. Where the other writes there before it does, it does not look again."""
+"""Wrong: it reads a whiteboard once. Where the other writes there before it does, it
+does not look again."""
 from client import Agent, Spent
 from ring import Search, Walker, field, with_field
 

@@ -1,5 +1,6 @@
-"""Wrong: it trusts that agents come home in the order in which they were at a node, first in first out. So where
-another was at a node before it, it takes the node to be on the map when it comes home, and does not look."""
+"""Wrong: it trusts that agents come home in the order in which they were at a node,
+first in first out. So where another was at a node before it, it takes the node to be on
+the map when it comes home, and does not look."""
 from typing import Callable
 
 from client import Agent, Here, Spent

@@ -12,9 +12,11 @@ from arena_lab.rules.model import RANKS, Verdict, rank
 from arena_lab.rules.networks import NoNetwork
 
 # which of a match's tries counts
-BETTER, LAST = "better", "last"
+BETTER = "better"
+LAST = "last"
 # the file of another try, and the one beside it that says of which match it is one
-TOURNAMENT, AGAIN = "tournament.toml", "again.toml"
+TOURNAMENT = "tournament.toml"
+AGAIN = "again.toml"
 
 
 class Shown(NamedTuple):
@@ -100,7 +102,8 @@ def has_entered(replay: pathlib.Path) -> bool:
 
 
 class Tries(NamedTuple):
-    """Other tries of matches, each in the folder in which it was served, and which of a match's tries counts."""
+    """Other tries of matches, each in the folder in which it was served, and which of a
+    match's tries counts."""
 
     folders: Sequence[pathlib.Path] = ()
     take: str = BETTER
@@ -140,7 +143,9 @@ def write_pages(
     tries: Tries = Tries(),
 ) -> pathlib.Path:
     """Writes the pages of a contest; gives the page that lists the others."""
-    all_matches, matches, others = matches_of(tournament), [], tries.replays()
+    all_matches = matches_of(tournament)
+    matches = []
+    others = tries.replays()
     replays = [pathlib.Path(f"{prefix}{shown.number}.jsonl") for shown in all_matches]
     if not any(it.exists() for it in replays):
         raise NoNetwork(

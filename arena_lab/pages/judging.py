@@ -1,5 +1,5 @@
-"""What is said of a replay: the verdict on it, and the causal past of each agent. The program says it, or else the
-Python model, of which nothing is proved."""
+"""What is said of a replay: the verdict on it, and the causal past of each agent. The
+program says it, or else the Python model, of which nothing is proved."""
 import pathlib
 import subprocess
 import tempfile
@@ -14,8 +14,8 @@ REFUSED = 3
 
 
 class Footprint(NamedTuple):
-    """What an event has to do with others: whose it is, the node that is seen, the node that is written, also by a
-    write that fails."""
+    """What an event has to do with others: whose it is, the node that is seen, the node
+    that is written, also by a write that fails."""
 
     who: Optional[int]
     seen: Optional[int]
@@ -100,8 +100,8 @@ def footprint(match: Match, event: Object) -> Footprint:
 
 
 def cut(agent: int, events: List[Footprint]) -> List[int]:
-    """The places of an agent's causal past: its own, and with each place each earlier one of the same agent, or one
-    that wrote the node which is seen there."""
+    """The places of an agent's causal past: its own, and with each place each earlier
+    one of the same agent, or one that wrote the node which is seen there."""
     agents: Set[Optional[int]] = {agent}
     nodes: Set[Optional[int]] = set()
     found = []

@@ -5,12 +5,15 @@ from arena_lab.pages.page import SCALE, layout
 from arena_lab.pages.parts import filled
 from arena_lab.rules.networks import Network
 
-# how far from its node the number of a port stands, and how large a node is drawn, in thousandths of the picture
-NEAR, RADIUS = 48, 22
+# how far from its node the number of a port stands, and how large a node is drawn, in
+# thousandths of the picture
+NEAR = 48
+RADIUS = 22
 
 
 def page_of(network: Network, title: str) -> str:
-    """The page: each node with its number, and the number of each port where it leaves its node."""
+    """The page: each node with its number, and the number of each port where it leaves
+    its node."""
     spots = layout({"nodes": network.nodes, "links": network.links})
     degrees = network.degrees()
     about = (
@@ -32,7 +35,8 @@ def page_of(network: Network, title: str) -> str:
 def drawn(spots: List[List[int]], link: Any) -> Dict[str, Any]:
     """A link as it is drawn: its two ends, and the number of its port at each."""
     v, p, w, q = link
-    one, two = spots[v], spots[w]
+    one = spots[v]
+    two = spots[w]
     return {
         "one": one,
         "two": two,

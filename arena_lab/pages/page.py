@@ -1,7 +1,8 @@
 """The page of a match.
 
-It keeps of an event its kind, its agent and its port, and each text once; replies are worked out on the page by the
-rules of docs/MODEL.md, as `arena` has found them to be those of the replay.
+It keeps of an event its kind, its agent and its port, and each text once; replies are
+worked out on the page by the rules of docs/MODEL.md, as `arena` has found them to be
+those of the replay.
 """
 import functools
 import json
@@ -17,7 +18,8 @@ from arena_lab.support.missing import needed
 
 SCRIPTS = ("match.js", "met.js", "texts.js", "drawing.js", "page.js")
 SCALE = 1000
-# larger networks are laid out by springs alone, since distances take the cube of their nodes
+# larger networks are laid out by springs alone, since distances take the cube of their
+# nodes
 MOST_BY_DISTANCES = 256
 SEED = 4
 LETTERS = {
@@ -59,7 +61,8 @@ def read(lines: Iterable[str]) -> Dict[str, Any]:
     if "hole" in head:
         hole = head.pop("hole")
         head.update({"replay": 2, "holes": [] if hole is None else [hole], "dark": []})
-    texts, codes = Texts(), []
+    texts = Texts()
+    codes = []
     for row in rows:
         event = json.loads(row)
         if "do" in event:
@@ -74,7 +77,8 @@ def read(lines: Iterable[str]) -> Dict[str, Any]:
 
 
 def runs(places: Iterable[int]) -> List[List[int]]:
-    """Ascending places as runs: how many are left out before each run, and how many it has."""
+    """Ascending places as runs: how many are left out before each run, and how many it
+    has."""
     found: List[List[int]] = []
     past = 0
     for place in places:
@@ -110,7 +114,8 @@ def fitted(spots: List[Tuple[float, float]]) -> List[List[int]]:
     columns = []
     for axis in (0, 1):
         values = [spot[axis] for spot in spots]
-        low, width = min(values), (max(values) - min(values)) or 1
+        low = min(values)
+        width = (max(values) - min(values)) or 1
         columns.append([round((value - low) / width * SCALE) for value in values])
     return [list(spot) for spot in zip(*columns)]
 
@@ -155,8 +160,8 @@ def with_twin(
 def shown_of(
     name: str, verdict: str, match: Dict[str, Any], pasts: Mapping[int, Iterable[int]]
 ) -> Dict[str, Any]:
-    """What the page of a match shows that has no twin: its events as `read` gives them, and the places of the causal
-    past of each agent."""
+    """What the page of a match shows that has no twin: its events as `read` gives them,
+    and the places of the causal past of each agent."""
     return {
         "name": name,
         "verdict": verdict,
@@ -215,7 +220,8 @@ def write_page(
     title: str = "",
     refused: Sequence[str] = (),
 ) -> None:
-    """Writes the page of a replay, with what is said of lines that were refused: a replay does not have these."""
+    """Writes the page of a replay, with what is said of lines that were refused: a
+    replay does not have these."""
     page.write_text(
         page_of(data_of(program, replay, twin, title), refused), encoding="utf-8"
     )

@@ -1,5 +1,5 @@
-"""Pages are made of files in `templates`, by jinja2 (Debian's python3-jinja2). What is put into a page is escaped, so
-that no text of a stranger is more than text."""
+"""Pages are made of files in `templates`, by jinja2 (Debian's python3-jinja2). What is
+put into a page is escaped, so that no text of a stranger is more than text."""
 import functools
 import json
 import pathlib
@@ -17,7 +17,8 @@ def part(name: str) -> str:
 
 @functools.lru_cache(maxsize=None)
 def environment() -> Any:
-    """What makes pages of templates. A template that asks for what it is not given is a fault."""
+    """What makes pages of templates. A template that asks for what it is not given is a
+    fault."""
     jinja2 = needed("jinja2")
     made = jinja2.Environment(
         loader=jinja2.FileSystemLoader(TEMPLATES),
@@ -32,12 +33,14 @@ def environment() -> Any:
 
 
 def as_is(text: str) -> Any:
-    """A text that is put into a page as it stands: a style, a script or data, which no stranger has written."""
+    """A text that is put into a page as it stands: a style, a script or data, which no
+    stranger has written."""
     return needed("markupsafe").Markup(text)
 
 
 def as_data(value: Any) -> Any:
-    """A value as JSON in a script element, which no text in it can end: `<` is written as its number."""
+    """A value as JSON in a script element, which no text in it can end: `<` is written
+    as its number."""
     return as_is(json.dumps(value, separators=(",", ":")).replace("<", "\\u003c"))
 
 

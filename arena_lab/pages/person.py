@@ -1,5 +1,5 @@
-"""A web server for one person, who plays the agents of a match on a page. Until the match is over it tells what the
-agents have seen, and nothing else."""
+"""A web server for one person, who plays the agents of a match on a page. Until the
+match is over it tells what the agents have seen, and nothing else."""
 import contextlib
 import json
 from typing import Any, Dict, List, Protocol
@@ -53,7 +53,8 @@ class PersonHandlers(Handlers):
         self._match = match
 
     def routes(self) -> List[Any]:
-        get, post = self.web.get, self.web.post
+        get = self.web.get
+        post = self.web.post
         return [
             *super().routes(),
             get("/seen", self.seen),
@@ -81,7 +82,8 @@ class PersonHandlers(Handlers):
 
     async def say(self, request: Any) -> Any:
         found = await self._asked(request)
-        agent, command = found.get("agent"), found.get("command")
+        agent = found.get("agent")
+        command = found.get("command")
         if (
             not isinstance(agent, int)
             or isinstance(agent, bool)
@@ -108,7 +110,8 @@ class PersonHandlers(Handlers):
         return self._shown()
 
     async def _asked(self, request: Any) -> Dict[str, Any]:
-        """The object of a request. A form of another page cannot send one of this kind."""
+        """The object of a request. A form of another page cannot send one of this
+        kind."""
         found = None
         if request.content_type == JSON and (request.content_length or 0) <= MOST_BYTES:
             with contextlib.suppress(ValueError):

@@ -1,11 +1,13 @@
 """The teams of a contest, ranked: one row a team, however many matches it has.
 
-Who solved more matches stands before, then whom fewer traps have deceived, then who made fewer moves, then who lost
-fewer agents; moves and lost agents are those of solved matches. Equal teams share a place. A team of which no agent has
-entered is absent, and stands behind all that came. What is told of a match that goes on is only that it does.
+Who solved more matches stands before, then whom fewer traps have deceived, then who
+made fewer moves, then who lost fewer agents; moves and lost agents are those of solved
+matches. Equal teams share a place. A team of which no agent has entered is absent, and
+stands behind all that came. What is told of a match that goes on is only that it does.
 
-A trap is a match without a black hole, in which links let nobody arrive. A team that takes a long silence for a black
-hole accuses there, and is deceived; there is nothing to solve.
+A trap is a match without a black hole, in which links let nobody arrive. A team that
+takes a long silence for a black hole accuses there, and is deceived; there is nothing
+to solve.
 """
 from typing import Dict, List, NamedTuple, Optional, Sequence, Tuple
 
@@ -13,8 +15,8 @@ from arena_lab.rules.model import WRONG, Verdict
 
 
 class Came(NamedTuple):
-    """What came of a match: whose it is, its network, the verdict if it is closed, whether an agent has entered, and
-    whether it is known to be a trap."""
+    """What came of a match: whose it is, its network, the verdict if it is closed,
+    whether an agent has entered, and whether it is known to be a trap."""
 
     team: str
     network: str
@@ -24,8 +26,9 @@ class Came(NamedTuple):
 
 
 class Ranked(NamedTuple):
-    """A team in the standings. By the network's name stands how many of its matches it solved, and how many it has;
-    traps are counted apart, and how many of them deceived it."""
+    """A team in the standings. By the network's name stands how many of its matches it
+    solved, and how many it has; traps are counted apart, and how many of them deceived
+    it."""
 
     place: int
     team: str

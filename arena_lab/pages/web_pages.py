@@ -1,5 +1,5 @@
-"""What the web servers of a contest and of a person who plays share: their answers, the files of their own page, and
-whom they answer."""
+"""What the web servers of a contest and of a person who plays share: their answers, the
+files of their own page, and whom they answer."""
 import contextlib
 import ipaddress
 import re
@@ -22,11 +22,13 @@ JSON = "application/json"
 
 
 class Handlers:
-    """The handlers of a web server whose own page is NAME.html, with the script NAME.js and the style NAME.css."""
+    """The handlers of a web server whose own page is NAME.html, with the script NAME.js
+    and the style NAME.css."""
 
     def __init__(self, name: str, title: str) -> None:
         self.web = needed("aiohttp.web")
-        self._name, self._title = name, title
+        self._name = name
+        self._title = title
 
     def routes(self) -> List[Any]:
         get = self.web.get
@@ -61,8 +63,9 @@ def headers(policy: str) -> Dict[str, str]:
 
 
 def is_own_name(host: str, names: Collection[str]) -> bool:
-    """Whether a host that is asked for is this machine by its address or by one of these names. Another name may be one
-    that a page elsewhere has led here, to read what this machine alone may see."""
+    """Whether a host that is asked for is this machine by its address or by one of
+    these names. Another name may be one that a page elsewhere has led here, to read
+    what this machine alone may see."""
     name = host.rpartition(":")[0] if re.search(r":\d+$", host) else host
     with contextlib.suppress(ValueError):
         ipaddress.ip_address(name.strip("[]"))
@@ -71,8 +74,8 @@ def is_own_name(host: str, names: Collection[str]) -> bool:
 
 
 def refusal(asked: Mapping[str, str], names: Collection[str]) -> str:
-    """Why a request is refused, by its headers, or nothing. A page elsewhere may lead to these pages, and not read
-    them."""
+    """Why a request is refused, by its headers, or nothing. A page elsewhere may lead
+    to these pages, and not read them."""
     host, origin, site = (
         asked.get(name, "") for name in ("Host", "Origin", "Sec-Fetch-Site")
     )
@@ -89,7 +92,8 @@ def refusal(asked: Mapping[str, str], names: Collection[str]) -> str:
 
 
 def answering(handlers: Handlers, names: Collection[str] = (), **more: Any) -> Any:
-    """The web server's application, which answers for this machine and for hosts of these names."""
+    """The web server's application, which answers for this machine and for hosts of
+    these names."""
     web = handlers.web
 
     async def for_own_pages(request: Any, handler: Any) -> Any:
@@ -104,7 +108,8 @@ def answering(handlers: Handlers, names: Collection[str] = (), **more: Any) -> A
 
 
 def run(made: Any, address: str, port: int, said: str) -> None:
-    """Serves an application until it is interrupted, and prints its address once it serves."""
+    """Serves an application until it is interrupted, and prints its address once it
+    serves."""
     needed("aiohttp.web").run_app(
         made,
         host=address,

@@ -2,15 +2,17 @@
 
     FILE.py[:FUNCTION] [WORD ..]
 
-The function is `search` unless another is named, or `step` if there is no `search`. It takes an agent, its key, and the
-words, which are whole numbers; `{nodes}` and `{links}` stand for the network's numbers and `{home}` for the home base.
-A function whose first parameters are `memory` and `reply` is a step (arena_lab/play/steps.py). A parameter `sleep`
-behind the words gets a function to wait by. For agents that have a map, parameters `network` and `home` get the
-network's links as (node, port, node, port) and the home base.
+The function is `search` unless another is named, or `step` if there is no `search`. It
+takes an agent, its key, and the words, which are whole numbers; `{nodes}` and `{links}`
+stand for the network's numbers and `{home}` for the home base. A function whose first
+parameters are `memory` and `reply` is a step (arena_lab/play/steps.py). A parameter
+`sleep` behind the words gets a function to wait by. For agents that have a map,
+parameters `network` and `home` get the network's links as (node, port, node, port) and
+the home base.
 
-Each agent of each match has modules of its own, as a program outside has: its file, what it imports from beside it, and
-`random`, which begins with the agent's number as its seed. So agents share no variable with each other, nor with an
-earlier match.
+Each agent of each match has modules of its own, as a program outside has: its file,
+what it imports from beside it, and `random`, which begins with the agent's number as
+its seed. So agents share no variable with each other, nor with an earlier match.
 """
 import contextlib
 import functools
@@ -43,13 +45,15 @@ AGENTS = next(
     TOP / "examples" / "agents",
 )
 
-# the names that stand for numbers in words, and the parameters that get what is no number
+# the names that stand for numbers in words, and the parameters that get what is no
+# number
 FACTS = ("nodes", "links", "home")
 GIVEN = ("sleep", "network", "home")
 PLAIN = (inspect.Parameter.POSITIONAL_ONLY, inspect.Parameter.POSITIONAL_OR_KEYWORD)
 
 Sleep = Callable[[float], None]
-# plays one agent. It gets an object that sends and receives lines, the agent's key, and a function to wait
+# plays one agent. It gets an object that sends and receives lines, the agent's key, and
+# a function to wait
 Script = Callable[[Any, str, Sleep], None]
 
 
@@ -58,8 +62,9 @@ class NoAgent(Fault):
 
 
 def file_of(name: str) -> pathlib.Path:
-    """The file that a word names. One that is not here is looked for where the lab was installed, so that the sample
-    agents have the same names everywhere, such as examples/agents/ring.py."""
+    """The file that a word names. One that is not here is looked for where the lab was
+    installed, so that the sample agents have the same names everywhere, such as
+    examples/agents/ring.py."""
     path = pathlib.Path(name)
     places = [AGENTS.parents[1] / path, TOP / path]
     is_sample = path.parts[:1] in (("examples",), ("arena_lab",))
@@ -72,7 +77,8 @@ def file_of(name: str) -> pathlib.Path:
 
 @functools.lru_cache(maxsize=None)
 def loaded(path: pathlib.Path) -> ModuleType:
-    """The module in a file, which may import what stands beside it, and the client of the sample agents."""
+    """The module in a file, which may import what stands beside it, and the client of
+    the sample agents."""
     if not path.is_file():
         raise NoAgent(f"{path}: there is no such file")
     with OwnModules(0) as modules, foreign_files.loading():
@@ -81,7 +87,8 @@ def loaded(path: pathlib.Path) -> ModuleType:
 
 @functools.lru_cache(maxsize=64)
 def compiled(path: str, text: bytes) -> CodeType:
-    """What a file of this text is compiled to. Each agent executes it anew, as often as a search tries it."""
+    """What a file of this text is compiled to. Each agent executes it anew, as often as
+    a search tries it."""
     made: CodeType = compile(text, path, "exec", dont_inherit=True)
     return made
 
@@ -101,7 +108,8 @@ def executed(path: pathlib.Path) -> ModuleType:
 
 
 def member(word: str, *usual: str) -> Any:
-    """What a word `FILE.py:NAME` names, or `FILE.py` with the first of the usual names that there is."""
+    """What a word `FILE.py:NAME` names, or `FILE.py` with the first of the usual names
+    that there is."""
     path, _, name = word.partition(":")
     module = loaded(file_of(path))
     for one in [name] if name else usual:
@@ -133,16 +141,19 @@ CLIENT = str(AGENTS / "client.py")
 
 @functools.lru_cache(maxsize=64)
 def folder_of(path: pathlib.Path, _here: str) -> str:
-    """The folder that a file stands in, by its path from here. It is asked each time that an agent begins."""
+    """The folder that a file stands in, by its path from here. It is asked each time
+    that an agent begins."""
     return str(path.parent.resolve())
 
 
 def loaded_anew(
     path: pathlib.Path, modules: OwnModules
 ) -> Tuple[ModuleType, ModuleType]:
-    """The module in a file, and the client that it imports, among the modules of one agent."""
+    """The module in a file, and the client that it imports, among the modules of one
+    agent."""
     modules.begin([folder_of(path, os.getcwd()), str(AGENTS)], [CLIENT])
-    module, client = executed(path), importlib.import_module("client")
+    module = executed(path)
+    client = importlib.import_module("client")
     return module, client
 
 
@@ -153,12 +164,13 @@ def function_of(words: str) -> Callable[..., Any]:
 
 
 class Loader:
-    """Loads the function that the words of an agent name, and gives it what it takes in a match behind its first two
-    parameters."""
+    """Loads the function that the words of an agent name, and gives it what it takes in
+    a match behind its first two parameters."""
 
     def __init__(self, words: str, setup: Setup) -> None:
         file, *rest = words.split()
-        self._path, function = file_of(file.partition(":")[0]), function_of(words)
+        self._path = file_of(file.partition(":")[0])
+        function = function_of(words)
         self._name = file.partition(":")[2] or (
             "step" if steps.is_step(function) else "search"
         )
@@ -174,17 +186,20 @@ class Loader:
     def load(
         self, modules: OwnModules, **more: Any
     ) -> Tuple[Callable[[Any, Any], Any], ModuleType]:
-        """The function among the modules of one agent, and the client that its file imports."""
+        """The function among the modules of one agent, and the client that its file
+        imports."""
         values = {**more, **self._facts}
         given = {word: values[word] for word in self._asked if word in values}
         module, client = loaded_anew(self._path, modules)
-        function, numbers = getattr(module, self._name), self._numbers
+        function = getattr(module, self._name)
+        numbers = self._numbers
         return lambda first, second: function(first, second, *numbers, **given), client
 
 
 def script_of(words: str, setup: Setup) -> Script:
     """The agent that these words name, as it plays this match."""
-    loader, is_step = Loader(words, setup), steps.is_step(function_of(words))
+    loader = Loader(words, setup)
+    is_step = steps.is_step(function_of(words))
 
     def play(lines: Any, key: str, sleep: Sleep) -> None:
         function, client = loader.load(lines.modules, sleep=sleep)
@@ -219,7 +234,8 @@ def step_of(words: str, setup: Setup, modules: OwnModules) -> steps.Step:
 
 
 def asked_behind(words: str, signature: inspect.Signature, count: int) -> List[str]:
-    """The parameters behind the agent, its key and this many numbers, if the function takes these words."""
+    """The parameters behind the agent, its key and this many numbers, if the function
+    takes these words."""
     parameters = list(signature.parameters.values())[2:]
     plain = [it.name for it in parameters if it.kind in PLAIN and it.name not in GIVEN]
     needed = [
@@ -244,9 +260,9 @@ MAY_ASK = (*FACTS, "network", "sleep")
 
 
 def script_of_function(function: Callable[..., None], setup: Setup) -> Script:
-    """An agent that is a function of this process, as it plays this match. Parameters behind the agent and its key get
-    by their names what FILE.py gets as words: `nodes`, `links`, `home`, `network`, and `sleep`.
-    """
+    """An agent that is a function of this process, as it plays this match. Parameters
+    behind the agent and its key get by their names what FILE.py gets as words: `nodes`,
+    `links`, `home`, `network`, and `sleep`."""
     asked = list(inspect.signature(function).parameters.values())[2:]
     for it in asked:
         if (
@@ -269,14 +285,13 @@ def script_of_function(function: Callable[..., None], setup: Setup) -> Script:
 def loaded_function(
     function: Callable[..., Any], setup: Setup, modules: OwnModules, **more: Any
 ) -> Callable[[Any, Any], Any]:
-    """A function of this process with variables of its own, which is given by their names what its parameters ask for
-    behind the first two."""
+    """A function of this process with variables of its own, which is given by their
+    names what its parameters ask for behind the first two."""
     values: Dict[str, Any] = {**more, **facts_of(setup), "network": tuple(setup.links)}
     asked = list(inspect.signature(function).parameters)[2:]
     modules.begin([])
-    own, given = with_own_variables(function, modules.random), {
-        name: values[name] for name in asked if name in values
-    }
+    own = with_own_variables(function, modules.random)
+    given = {name: values[name] for name in asked if name in values}
     return lambda first, second: own(first, second, **given)
 
 
@@ -290,9 +305,10 @@ def client_module() -> ModuleType:
 def with_own_variables(
     function: Callable[..., None], drawing: ModuleType
 ) -> Callable[..., None]:
-    """The function with copies of its variables: globals of its notebook or file, variables of functions around it, and
-    those of the functions there that it calls. Nobody else sees what it assigns to them, but an object such as a list
-    is shared. It draws by this module `random`."""
+    """The function with copies of its variables: globals of its notebook or file,
+    variables of functions around it, and those of the functions there that it calls.
+    Nobody else sees what it assigns to them, but an object such as a list is shared. It
+    draws by this module `random`."""
     if not isinstance(function, FunctionType):
         return function
     own = Own(function.__globals__)
@@ -307,7 +323,8 @@ def with_own_variables(
 
 
 class Own:
-    """Functions of a notebook or a file over variables of their own. Functions that share one go on sharing it."""
+    """Functions of a notebook or a file over variables of their own. Functions that
+    share one go on sharing it."""
 
     def __init__(self, shared: Dict[str, Any]) -> None:
         self.variables: Dict[str, Any] = {}
@@ -339,7 +356,8 @@ class Own:
         return found
 
     def _fill(self, function: FunctionType) -> None:
-        """Gives the variables of functions around one what they have, which may be that function itself."""
+        """Gives the variables of functions around one what they have, which may be that
+        function itself."""
         for cell in function.__closure__ or ():
             if id(cell) not in self._filled:
                 self._filled.add(id(cell))
@@ -349,7 +367,8 @@ class Own:
 
 
 def source_digest(function: Callable[..., None]) -> str:
-    """The SHA-256 of a function's text, or of what it was compiled to if there is no text."""
+    """The SHA-256 of a function's text, or of what it was compiled to if there is no
+    text."""
     try:
         text = inspect.getsource(function).encode()
     except (OSError, TypeError):
@@ -360,9 +379,10 @@ def source_digest(function: Callable[..., None]) -> str:
 def digests(
     words: Sequence[str], is_inside: bool = True, more: Sequence[str] = ()
 ) -> Dict[str, str]:
-    """The SHA-256 of each file that the words name, and of all that these import, so that a schedule says for which
-    agents it was made. An agent inside the lab may import what the lab can, and a program outside what lies beside it.
-    `more` are names of modules that are imported too."""
+    """The SHA-256 of each file that the words name, and of all that these import, so
+    that a schedule says for which agents it was made. An agent inside the lab may
+    import what the lab can, and a program outside what lies beside it. `more` are names
+    of modules that are imported too."""
     folders = [str(AGENTS)] if is_inside else []
     named = [word.partition(":")[0] for line in words for word in line.split()]
     files = map(file_of, named)

@@ -1,19 +1,20 @@
-"""What the programs of a match may take of the lab: how long it waits for them, and how much they send and are told."""
+"""What the programs of a match may take of the lab: how long it waits for them, and how
+much they send and are told."""
 import time
 from typing import Optional, Sized
 
 # seconds that an agent may take to send or to wait, if nothing else is asked for
 LIMIT = 5
-# what is said of programs that let the lab wait: how their matches go on depends on the machine
-SENT_NOTHING, READ_NOTHING = (
-    "has sent no line for",
-    "has not read what it was told within",
-)
+# what is said of programs that let the lab wait: how their matches go on depends on the
+# machine
+SENT_NOTHING = "has sent no line for"
+READ_NOTHING = "has not read what it was told within"
 USED_UP = "has used up the time of its match,"
 
 
 class Room:
-    """How many bytes of lines the programs of a match may send and be told in all. The lab keeps and writes them."""
+    """How many bytes of lines the programs of a match may send and be told in all. The
+    lab keeps and writes them."""
 
     def __init__(self, most: float) -> None:
         self._most = self._left = most
@@ -28,8 +29,8 @@ class Room:
 
 
 class TimeBound:
-    """How long programs may let the lab wait: for a line, and in all their match. Used by `with`, it gives until when
-    the lab waits, and counts how long it has waited."""
+    """How long programs may let the lab wait: for a line, and in all their match. Used
+    by `with`, it gives until when the lab waits, and counts how long it has waited."""
 
     def __init__(self, line: float, match: float) -> None:
         self.waited = 0.0

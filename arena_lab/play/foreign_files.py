@@ -1,6 +1,7 @@
-"""Notes what programs inside the lab reach outside of them, such as files that they write, the environment, threads and
-other programs; whether they read chance, a clock or the number of their process; and which files they read. An audit
-hook of Python's reports most of this, and functions of the library are wrapped for the rest.
+"""Notes what programs inside the lab reach outside of them, such as files that they
+write, the environment, threads and other programs; whether they read chance, a clock or
+the number of their process; and which files they read. An audit hook of Python's
+reports most of this, and functions of the library are wrapped for the rest.
 """
 import contextlib
 import functools
@@ -60,12 +61,10 @@ CLOCKS = [
     )
     for unit in ("", "_ns")
 ]
-CHANCE, CLOCK, PROCESS, IDENTITY = (
-    "draw by chance",
-    "read a clock",
-    "know their process",
-    "know where objects lie",
-)
+CHANCE = "draw by chance"
+CLOCK = "read a clock"
+PROCESS = "know their process"
+IDENTITY = "know where objects lie"
 READS: Dict[str, List[Tuple[ModuleType, str]]] = {
     CHANCE: [(os, "urandom"), (os, "getrandom"), (random, "_urandom")],
     PROCESS: [
@@ -99,8 +98,8 @@ IS_WATCHED: List[bool] = []
 
 
 class Notes:
-    """What a program has reached outside, or None, and what it has read: files, modules, and what differs from one time
-    to the next, such as clocks."""
+    """What a program has reached outside, or None, and what it has read: files,
+    modules, and what differs from one time to the next, such as clocks."""
 
     def __init__(self) -> None:
         self.reaches: Optional[str] = None
@@ -124,7 +123,8 @@ LOADED = Notes()
 
 @contextlib.contextmanager
 def loading() -> Iterator[None]:
-    """Notes what agents' files reach and read while they are loaded for the first time."""
+    """Notes what agents' files reach and read while they are loaded for the first
+    time."""
     LOADING.append(LOADED)
     try:
         yield
@@ -140,9 +140,8 @@ def watch() -> None:
     for what, places in READS.items():
         for module, name in places:
             setattr(module, name, reading(getattr(module, name), what))
-    current, noted = needed("greenlet").getcurrent, frozenset(
-        ("open", "import", "builtins.id", *REACHES)
-    )
+    current = needed("greenlet").getcurrent
+    noted = frozenset(("open", "import", "builtins.id", *REACHES))
 
     def note(event: str, given: Any) -> None:
         if event not in noted:
@@ -158,7 +157,8 @@ def watch() -> None:
 
 
 def note_read(what: str) -> None:
-    """Notes that the running program reads this, which differs from one time to the next."""
+    """Notes that the running program reads this, which differs from one time to the
+    next."""
     if not IS_WATCHED:
         return
     thread = needed("greenlet").getcurrent()
@@ -198,8 +198,8 @@ def note_of(notes: Notes, event: str, given: Any) -> None:
 
 
 def read_by(of_program: Notes) -> Dict[str, str]:
-    """The SHA-256 of each file that a program with these notes has read, also while its file was loaded first, and of
-    each installed package, by their names."""
+    """The SHA-256 of each file that a program with these notes has read, also while its
+    file was loaded first, and of each installed package, by their names."""
     found: Set[str] = set()
     for notes in (of_program, LOADED) if IS_WATCHED else ():
         files = (source_of(os.path.abspath(file)) for file in notes.files)
@@ -213,7 +213,8 @@ def read_by(of_program: Notes) -> Dict[str, str]:
 
 
 def is_installed(name: str) -> bool:
-    """Whether a module belongs to an installed package. One that stands beside an agent is a file that it has read."""
+    """Whether a module belongs to an installed package. One that stands beside an agent
+    is a file that it has read."""
     spec = PathFinder.find_spec(name) if package_digest(name) else None
     return spec is not None and any(
         place.startswith(NOT_READ)

@@ -1,4 +1,5 @@
-"""Games: what is played, as far as a seed does not choose it, and what came of a match, as a row or as a page.
+"""Games: what is played, as far as a seed does not choose it, and what came of a match,
+as a row or as a page.
 
 The commands `run` and `hunt` and the functions of arena_lab/api.py play games.
 """
@@ -74,8 +75,9 @@ def play_again(schedule: Schedule, program: Optional[str]) -> "Record":
 
 
 class Record(NamedTuple):
-    """A match that was played: its schedule, what happened, and the program that played, or None for the Python model.
-    In a notebook it shows itself as a page to watch."""
+    """A match that was played: its schedule, what happened, and the program that
+    played, or None for the Python model. In a notebook it shows itself as a page to
+    watch."""
 
     schedule: Schedule
     played: PlayedMatch
@@ -101,7 +103,8 @@ class Record(NamedTuple):
         )
 
     def keep(self, folder: Union[str, pathlib.Path]) -> List[str]:
-        """Writes all that shows it to a folder, as `--keep` does; gives what is to be said of it."""
+        """Writes all that shows it to a folder, as `--keep` does; gives what is to be
+        said of it."""
         return kept_matches.write_find(
             pathlib.Path(folder), self.schedule, self.played, self.program
         )
@@ -116,7 +119,8 @@ class Record(NamedTuple):
         ]
 
     def faults(self) -> List[str]:
-        """What is said of agents that have a fault, or have used all of their commands."""
+        """What is said of agents that have a fault, or have used all of their
+        commands."""
         quota = self.schedule.fixture.setup.quota
         return [
             *self.played.faults,
@@ -131,7 +135,8 @@ class Record(NamedTuple):
         return referee.told(self.played.match, self.played.faults)
 
     def repeated(self, seconds: float) -> "Record":
-        """The match with what its agents say otherwise when each is repeated alone, unless one of them has a fault."""
+        """The match with what its agents say otherwise when each is repeated alone,
+        unless one of them has a fault."""
         return self._replace(
             played=with_repeats(
                 self.played, self.schedule.agents, self.schedule.fixture, seconds
@@ -143,7 +148,8 @@ class Record(NamedTuple):
         return verdict_by(self.program, self.played)
 
     def summary(self) -> Summary:
-        """What came of it, with what is said of agents that have used all of their commands."""
+        """What came of it, with what is said of agents that have used all of their
+        commands."""
         return dataclasses.replace(
             summary_of(self.played, self.program), faults=self.faults()
         )
@@ -158,10 +164,12 @@ def framed(page: str) -> str:
 
 
 class Row(Dict[str, Any]):
-    """A row of a table: what was played and what came of it. pandas.DataFrame takes a list of them."""
+    """A row of a table: what was played and what came of it. pandas.DataFrame takes a
+    list of them."""
 
     def __init__(self, asked: "Asked", record: Record) -> None:
-        setup, summary = record.schedule.fixture.setup, record.summary()
+        setup = record.schedule.fixture.setup
+        summary = record.summary()
         super().__init__(
             network=asked.game.name,
             nodes=setup.nodes,
@@ -205,7 +213,8 @@ class Row(Dict[str, Any]):
 
 
 class Asked(NamedTuple):
-    """A match that is asked for: a game, a scheduler, a seed, who plays, and whether its agents are repeated alone."""
+    """A match that is asked for: a game, a scheduler, a seed, who plays, and whether
+    its agents are repeated alone."""
 
     game: Game
     scheduler: SchedulerName

@@ -1,4 +1,5 @@
-"""A match whose agents are played by a person, who sees what each agent sees and no more until the match is over."""
+"""A match whose agents are played by a person, who sees what each agent sees and no
+more until the match is over."""
 import json
 import random
 from typing import Any, Dict, List, NamedTuple, Optional, Tuple
@@ -7,13 +8,11 @@ from arena_lab.rules.fixtures import Fixture
 from arena_lab.rules.model import OVER, Match, Object, Verdict, judge, spelled
 from arena_lab.rules.rehearsal import Rehearsal, Said
 
-OUTSIDE, AT_A_NODE, ON_A_LINK, ENDED, MATCH_OVER = (
-    "outside",
-    "at a node",
-    "on a link",
-    "ended",
-    "the match is over",
-)
+OUTSIDE = "outside"
+AT_A_NODE = "at a node"
+ON_A_LINK = "on a link"
+ENDED = "ended"
+MATCH_OVER = "the match is over"
 # answers after which an agent can do nothing more
 LAST = ("noted", "bye")
 
@@ -26,7 +25,8 @@ class ConversationLine(NamedTuple):
 
 
 class Seen:
-    """What one agent has seen: where it stands, the node that it saw last, and its conversation."""
+    """What one agent has seen: where it stands, the node that it saw last, and its
+    conversation."""
 
     def __init__(self) -> None:
         self.standing = OUTSIDE
@@ -45,11 +45,9 @@ class Seen:
         if answer == OVER:
             self.standing = MATCH_OVER
         elif found == "here":
-            self.standing, self.ports, self.came = (
-                AT_A_NODE,
-                answer["ports"],
-                answer["from"],
-            )
+            self.standing = AT_A_NODE
+            self.ports = answer["ports"]
+            self.came = answer["from"]
             self.board = answer["board"]
         elif found == "gone":
             self.standing = ON_A_LINK
@@ -62,7 +60,8 @@ class Seen:
 
 
 class HumanMatch:
-    """A match of the Python model. Whoever plays it says what agents do, and when time passes."""
+    """A match of the Python model. Whoever plays it says what agents do, and when time
+    passes."""
 
     def __init__(self, fixture: Fixture, chance: random.Random) -> None:
         self._engine = Rehearsal(fixture)
@@ -79,7 +78,8 @@ class HumanMatch:
         return self.match.closed
 
     def may_say(self, agent: int) -> bool:
-        """Whether an agent can do something: one on a link cannot, nor one that has ended."""
+        """Whether an agent can do something: one on a link cannot, nor one that has
+        ended."""
         return not self.is_over and self.seen[agent].standing in (OUTSIDE, AT_A_NODE)
 
     def say(self, agent: int, command: Object) -> None:
@@ -90,7 +90,8 @@ class HumanMatch:
         self._take(self._engine.feed(agent, spelled(command).encode()), command)
 
     def wait(self) -> None:
-        """Lets time pass: one of the agents on links is chosen by chance, and arrives if it can."""
+        """Lets time pass: one of the agents on links is chosen by chance, and arrives
+        if it can."""
         pool = self.match.pool
         if pool and not self.is_over:
             self._take(self._engine.draw(self._chance.randrange(len(pool))))
@@ -136,7 +137,8 @@ class HumanMatch:
 
 
 def trails(match: Match) -> List[Tuple[List[int], bool]]:
-    """The nodes that each agent was at, in order, and whether it was lost: for when the match is over."""
+    """The nodes that each agent was at, in order, and whether it was lost: for when the
+    match is over."""
     found: List[List[int]] = [[] for _ in match.agents]
     at = [match.setup.home] * len(match.agents)
     for event in match.log:

@@ -1,4 +1,5 @@
-"""Which files a Python program is made of: its own and those that it imports. They are found by reading.
+"""Which files a Python program is made of: its own and those that it imports. They are
+found by reading.
 """
 import ast
 import functools
@@ -20,14 +21,16 @@ MOST_BYTES = 1 << 18
 
 
 class Module(NamedTuple):
-    """A module: its file, unless it is a folder alone, and the package from which its own imports are relative."""
+    """A module: its file, unless it is a folder alone, and the package from which its
+    own imports are relative."""
 
     file: Optional[pathlib.Path]
     package: str
 
 
 class Reader:
-    """Reads a program's files, each once, and follows imports that lead to these folders."""
+    """Reads a program's files, each once, and follows imports that lead to these
+    folders."""
 
     def __init__(self, folders: Sequence[str]) -> None:
         self.files: Dict[pathlib.Path, pathlib.Path] = {}
@@ -58,7 +61,8 @@ class Reader:
             self.read(file, inside)
 
     def _files_of(self, name: str, package: str) -> List[Tuple[pathlib.Path, str]]:
-        """The files of a module's name, each with the package from which its own imports are relative."""
+        """The files of a module's name, each with the package from which its own
+        imports are relative."""
         found = modules_of(name, package, self._folders)
         if not found and not name.startswith("."):
             self.elsewhere.add(name.partition(".")[0])
@@ -67,8 +71,8 @@ class Reader:
 
 @functools.lru_cache(maxsize=256)
 def names_in(text: bytes) -> Tuple[str, ...]:
-    """The names of modules that a program's text imports anywhere, and of what it takes out of them, which may be
-    modules too."""
+    """The names of modules that a program's text imports anywhere, and of what it takes
+    out of them, which may be modules too."""
     try:
         nodes = list(ast.walk(ast.parse(text))) if len(text) <= MOST_BYTES else []
     except (MemoryError, RecursionError, SyntaxError, SystemError, ValueError):
@@ -85,7 +89,8 @@ def names_in(text: bytes) -> Tuple[str, ...]:
                 *(f"{base}{between}{it.name}" for it in node.names if it.name != "*"),
             ]
         elif isinstance(node, ast.Call) and node.args:
-            called, first = node.func, node.args[0]
+            called = node.func
+            first = node.args[0]
             name = (
                 called.attr
                 if isinstance(called, ast.Attribute)
@@ -101,7 +106,8 @@ def names_in(text: bytes) -> Tuple[str, ...]:
 
 
 def modules_of(name: str, package: str, folders: Sequence[str]) -> List[Module]:
-    """The modules that an import of this name executes, as far as they are found in the folders."""
+    """The modules that an import of this name executes, as far as they are found in the
+    folders."""
     try:
         full = (
             importlib.util.resolve_name(name, package) if name.startswith(".") else name
@@ -109,10 +115,12 @@ def modules_of(name: str, package: str, folders: Sequence[str]) -> List[Module]:
     except ImportError:
         return []
     found: List[Module] = []
-    where, path = list(folders), ""
+    where = list(folders)
+    path = ""
     for part in filter(None, full.split(".")):
         path = f"{path}.{part}" if path else part
-        # by its last part: a folder without __init__.py would look its parent up among loaded modules
+        # by its last part: a folder without __init__.py would look its parent up among
+        # loaded modules
         spec = PathFinder.find_spec(part, where)
         if spec is None:
             break
@@ -134,9 +142,10 @@ def modules_of(name: str, package: str, folders: Sequence[str]) -> List[Module]:
 def files_behind(
     path: pathlib.Path, folders: Sequence[str] = (), more: Iterable[str] = ()
 ) -> Dict[str, str]:
-    """The SHA-256 of a file, of each file that it imports from beside it or from these folders, and of each installed
-    package that they import. `more` are names of modules that are imported too. Names of files are paths from the
-    working folder. Without folders, what stands beside the file is looked at alone."""
+    """The SHA-256 of a file, of each file that it imports from beside it or from these
+    folders, and of each installed package that they import. `more` are names of modules
+    that are imported too. Names of files are paths from the working folder. Without
+    folders, what stands beside the file is looked at alone."""
     reader = Reader([str(path.parent.resolve()), *folders])
     reader.read(path)
     for name in more:
@@ -164,7 +173,8 @@ def digest_of(path: pathlib.Path) -> str:
 
 
 def digest_named(name: str) -> str:
-    """The SHA-256 of the file or of the installed package that a name in `files_behind` means."""
+    """The SHA-256 of the file or of the installed package that a name in `files_behind`
+    means."""
     return (
         package_digest(name[len(PACKAGE) :])
         if name.startswith(PACKAGE)
@@ -186,7 +196,8 @@ def digest_of_all(paths: Iterable[pathlib.Path], folder: pathlib.Path) -> str:
 
 @functools.lru_cache(maxsize=None)
 def package_digest(name: str) -> str:
-    """The SHA-256 of all files of an installed package; nothing for what belongs to Python or is not found."""
+    """The SHA-256 of all files of an installed package; nothing for what belongs to
+    Python or is not found."""
     spec = None if name in sys.stdlib_module_names else PathFinder.find_spec(name)
     if spec is None:
         return ""

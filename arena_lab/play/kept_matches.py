@@ -1,4 +1,5 @@
-"""Finds: a schedule worth keeping, played by the program and written with all that shows it."""
+"""Finds: a schedule worth keeping, played by the program and written with all that
+shows it."""
 import contextlib
 import pathlib
 import tempfile
@@ -18,13 +19,12 @@ from arena_lab.support.missing import Missing
 
 # where a find is written if nothing else is said
 FOLDER = pathlib.Path("out/find")
-SCHEDULE, SCRIPT, REPLAY, PAGE = (
-    "schedule.txt",
-    "script.txt",
-    "match0.jsonl",
-    "match0.html",
-)
-# of each program what it wrote to standard error, which is no part of the match and may be another each time
+SCHEDULE = "schedule.txt"
+SCRIPT = "script.txt"
+REPLAY = "match0.jsonl"
+PAGE = "match0.html"
+# of each program what it wrote to standard error, which is no part of the match and may
+# be another each time
 ERRORS = "errors"
 # the lines that were refused, if there are any
 REFUSED = "refused.txt"
@@ -40,8 +40,8 @@ def engine_of(schedule: Schedule, program: Optional[str]) -> Engine:
 def played_under(
     scheduler: Scheduler, schedule: Schedule, program: Optional[str]
 ) -> Tuple[Schedule, PlayedMatch]:
-    """The match of a schedule under this scheduler, whatever the schedule's choices are, and the schedule with the
-    choices that were made."""
+    """The match of a schedule under this scheduler, whatever the schedule's choices
+    are, and the schedule with the choices that were made."""
     team = Together(schedule.agents, schedule.fixture, schedule.limit)
     played = play(engine_of(schedule, program), team, scheduler, schedule.fixture)
     return schedule._replace(choices=played.choices), played
@@ -62,7 +62,8 @@ def played_again(schedule: Schedule, program: Optional[str]) -> PlayedMatch:
 def followed_again(
     schedule: Schedule, program: Optional[str]
 ) -> Tuple[Schedule, PlayedMatch, ScheduleFollower]:
-    """The match, in which the schedule is followed as far as the agents go along, and what comes then is fair."""
+    """The match, in which the schedule is followed as far as the agents go along, and
+    what comes then is fair."""
     following = ScheduleFollower(schedule.choices)
     anew = schedule_of(
         schedule.fixture,
@@ -80,8 +81,8 @@ def write_find(
     played: PlayedMatch,
     program: Optional[str],
 ) -> List[str]:
-    """Writes a match that was played: its schedule, the tournament and the script for `arena rehearse`, its replay, and
-    a page of it. Gives what is to be said of it."""
+    """Writes a match that was played: its schedule, the tournament and the script for
+    `arena rehearse`, its replay, and a page of it. Gives what is to be said of it."""
     folder.mkdir(parents=True, exist_ok=True)
     (folder / SCHEDULE).write_text(text_of(schedule), encoding="utf-8")
     write_tournament(schedule.fixture, folder)
@@ -120,8 +121,8 @@ def changed_in(
     played: PlayedMatch,
     program: Optional[str],
 ) -> List[str]:
-    """The files of a find that are not as they would be written now. A page and what is said of lines that were refused
-    may be missing."""
+    """The files of a find that are not as they would be written now. A page and what is
+    said of lines that were refused may be missing."""
     with tempfile.TemporaryDirectory() as name:
         fresh = pathlib.Path(name)
         write_find(fresh, schedule, played, program)

@@ -1,6 +1,8 @@
-"""Kits to begin an agent with, one for each language: a client, a sample agent that searches a ring, and a first test.
+"""Kits to begin an agent with, one for each language: a client, a sample agent that
+searches a ring, and a first test.
 
-A kit is a folder of examples/agents, and with it the files that it shares with the samples there.
+A kit is a folder of examples/agents, and with it the files that it shares with the
+samples there.
 """
 import pathlib
 import shutil
@@ -23,8 +25,9 @@ MADE = (
 
 
 class Kit(NamedTuple):
-    """A language: its name, how its kit is built, tested and played, and the packages of Debian that it needs. `play`
-    stands before the words of the sample agent, or is a WebAssembly module."""
+    """A language: its name, how its kit is built, tested and played, and the packages
+    of Debian that it needs. `play` stands before the words of the sample agent, or is a
+    WebAssembly module."""
 
     name: str
     build: str
@@ -85,13 +88,15 @@ KITS: Dict[str, Kit] = {
 
 
 def played(kit: Kit) -> str:
-    """The command by which `./arena-lab run` plays the sample agent of a kit, in its folder."""
+    """The command by which `./arena-lab run` plays the sample agent of a kit, in its
+    folder."""
     return kit.play + (":{nodes}" if kit.is_module else " {host} {port} {key} {nodes}")
 
 
 def write_kit(language: str, folder: pathlib.Path) -> Kit:
     """Copies the kit of a language to a folder that is not there yet, or is empty."""
-    kit, source = KITS[language], AGENTS / language
+    kit = KITS[language]
+    source = AGENTS / language
     if folder.exists() and (not folder.is_dir() or any(folder.iterdir())):
         raise Fault(f"{folder}: there is something already; name a new folder")
     shutil.copytree(

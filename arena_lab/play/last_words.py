@@ -1,7 +1,8 @@
 """What a program says when it crashes: the line that names the error.
 
-Each language ends what it prints otherwise: Node.js with its version, Java with the last frame, Rust with a note. Its
-marks tell the language, and where the error stands in what it prints.
+Each language ends what it prints otherwise: Node.js with its version, Java with the
+last frame, Rust with a note. Its marks tell the language, and where the error stands in
+what it prints.
 """
 import itertools
 import pathlib
@@ -19,7 +20,8 @@ LOOKS = re.compile(
 )
 
 
-# a frame of Python's traceback; how a program is called, behind "usage:"; and an argument in a line that shows a call
+# a frame of Python's traceback; how a program is called, behind "usage:"; and an
+# argument in a line that shows a call
 FRAME = re.compile(r'  File "(.*)", line (\d+)')
 USAGE = re.compile(r"\s*usage:\s*(\S.*)", re.IGNORECASE)
 ARGUMENT = re.compile(r"\[?[A-Z]{2,}\]?")
@@ -40,7 +42,8 @@ def asked_behind(error: str) -> str:
 
 
 def usage_in(text: str) -> str:
-    """How a program is called, if it says so and names no error: it was called otherwise."""
+    """How a program is called, if it says so and names no error: it was called
+    otherwise."""
     lines = [line[:WIDEST] for line in text.split("\n")]
     if any(of(lines) for of in LANGUAGES) or any(LOOKS.search(line) for line in lines):
         return ""
@@ -49,7 +52,8 @@ def usage_in(text: str) -> str:
 
 
 def is_call(line: str) -> bool:
-    """Whether an indented line shows a call: words, of which the last two or more are arguments in capitals."""
+    """Whether an indented line shows a call: words, of which the last two or more are
+    arguments in capitals."""
     words = line.split()
     arguments = list(itertools.takewhile(ARGUMENT.fullmatch, reversed(words)))
     return line[:1].isspace() and 2 <= len(arguments) < len(words)
@@ -68,8 +72,8 @@ def line_like(lines: Sequence[str], pattern: str) -> Optional[str]:
 
 
 def of_python(lines: Sequence[str]) -> Optional[str]:
-    """The line behind the frames of the last traceback, with the last frame of the agent's own file; or of a file that
-    cannot be read."""
+    """The line behind the frames of the last traceback, with the last frame of the
+    agent's own file; or of a file that cannot be read."""
     places = [
         place
         for place, line in enumerate(lines)
@@ -119,7 +123,8 @@ def of_rust(lines: Sequence[str]) -> Optional[str]:
 
 
 def of_cpp(lines: Sequence[str]) -> Optional[str]:
-    """An exception that nobody caught, with what it says; or what a sanitizer or an assertion tells."""
+    """An exception that nobody caught, with what it says; or what a sanitizer or an
+    assertion tells."""
     place = first(lines, "terminate called ")
     if place is not None:
         behind = [
@@ -137,15 +142,15 @@ def of_cpp(lines: Sequence[str]) -> Optional[str]:
 
 
 def of_javascript(lines: Sequence[str]) -> Optional[str]:
-    """The error, or what else was thrown, which stands behind the line that points to the source."""
+    """The error, or what else was thrown, which stands behind the line that points to
+    the source."""
     if (
         first(lines, r"Node\.js v\d") is None
         and first(lines, r"\s+at .*(?::\d+:\d+\)?|<anonymous>\)?)$") is None
     ):
         return None
-    found, pointer = line_like(lines, rf"(?:Uncaught )?\[?{NAMED}"), first(
-        lines, r"\s*\^+\s*$"
-    )
+    found = line_like(lines, rf"(?:Uncaught )?\[?{NAMED}")
+    pointer = first(lines, r"\s*\^+\s*$")
     if found is not None or pointer is None:
         return found
     return next((line for line in lines[pointer + 1 :] if line.strip()), None)
@@ -164,8 +169,8 @@ LANGUAGES: Tuple[Callable[[Sequence[str]], Optional[str]], ...] = (
 
 
 def error_in(text: str) -> str:
-    """The line of what a program wrote to standard error that names its error: by language, else the first that looks
-    like an error, else the last."""
+    """The line of what a program wrote to standard error that names its error: by
+    language, else the first that looks like an error, else the last."""
     lines: List[str] = [
         line[:WIDEST].rstrip() for line in text.split("\n") if line.strip()
     ]

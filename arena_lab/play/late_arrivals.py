@@ -1,7 +1,8 @@
-"""Arrivals that come late by the clock, as they may in a contest, to programs that must wait for them.
+"""Arrivals that come late by the clock, as they may in a contest, to programs that must
+wait for them.
 
-Elsewhere the lab tells an arrival as soon as a schedule has it come, so no program waits for long, and one that gives
-up after two seconds is never seen to.
+Elsewhere the lab tells an arrival as soon as a schedule has it come, so no program
+waits for long, and one that gives up after two seconds is never seen to.
 """
 import math
 import random
@@ -17,7 +18,8 @@ from arena_lab.play.schedules import schedule_of
 from arena_lab.play.teams import Game
 from arena_lab.rules.delays import PAUSE, SCALES
 
-# seconds that no link takes in a contest whose delays and pause are the usual ones, with some turns for the picks
+# seconds that no link takes in a contest whose delays and pause are the usual ones,
+# with some turns for the picks
 LATE = math.ceil(((1 << SCALES) + 64) * PAUSE)
 SLICE = 0.02
 UNTOLD = (
@@ -27,14 +29,16 @@ UNTOLD = (
 
 
 class LateArrivals:
-    """A scheduler that holds the first arrival of each agent for some seconds of the clock; all else is fair. An agent
-    that is destroyed is not held. A program that ends or says something while it is held fails, and the match ends.
-    """
+    """A scheduler that holds the first arrival of each agent for some seconds of the
+    clock; all else is fair. An agent that is destroyed is not held. A program that ends
+    or says something while it is held fails, and the match ends."""
 
     def __init__(self, players: Sequence[Player], seconds: float = LATE) -> None:
-        self._players, self._seconds = players, seconds
+        self._players = players
+        self._seconds = seconds
         self._chance = random.Random(0)
-        # of each agent that is held until when, and what had come of it before; and those that were held
+        # of each agent that is held until when, and what had come of it before; and
+        # those that were held
         self._until: Dict[int, float] = {}
         self._before: Dict[int, int] = {}
         self._held: Set[int] = set()
@@ -49,7 +53,8 @@ class LateArrivals:
 
     def _is_held(self, choice: Choice, state: MatchView) -> bool:
         """Whether this is an arrival that does not come yet."""
-        number, agent = choice.agent, state.match.agents[choice.agent]
+        number = choice.agent
+        agent = state.match.agents[choice.agent]
         if (
             choice.do != ARRIVE
             or number in self._held
@@ -76,8 +81,8 @@ class LateArrivals:
 
 
 def kept_waiting(game: Game, program: Optional[str]) -> Record:
-    """A match of programs that are kept waiting. The black hole is far from the home base, so that no agent of a ring
-    is destroyed on its first way."""
+    """A match of programs that are kept waiting. The black hole is far from the home
+    base, so that no agent of a ring is destroyed on its first way."""
     fixture = game.fixture(game.network.nodes // 2 - 1)
     team = Team(
         fixture,

@@ -28,7 +28,8 @@ from arena_lab.rules.model import (
 )
 from arena_lab.rules.rehearsal import Said
 
-# a session that was refused so often in a row is ended by the lab: no rule of the arena ends it
+# a session that was refused so often in a row is ended by the lab: no rule of the arena
+# ends it
 MOST_REFUSED = 1000
 REFUSED = '{"no":'
 IS_REFUSED = f"was refused {MOST_REFUSED} times in a row"
@@ -81,8 +82,8 @@ class Team(Protocol):
 
 
 class PlayedMatch(NamedTuple):
-    """A match that was played: the choices that were made, the match by the Python model, the script, the engine's
-    replay, and the players' faults."""
+    """A match that was played: the choices that were made, the match by the Python
+    model, the script, the engine's replay, and the players' faults."""
 
     choices: List[Choice]
     match: Match
@@ -100,12 +101,14 @@ class PlayedMatch(NamedTuple):
         return judge(self.match)
 
     def has_failed(self) -> bool:
-        """Whether the team has not solved its network, or one of its agents has a fault."""
+        """Whether the team has not solved its network, or one of its agents has a
+        fault."""
         return bool(self.faults) or not self.verdict().is_solved
 
 
 def changes_board(event: Object) -> bool:
-    """Whether an event of a log changes a whiteboard: a write of the text that stands there does not."""
+    """Whether an event of a log changes a whiteboard: a write of the text that stands
+    there does not."""
     return bool(
         event["do"] == "write"
         and event["reply"] == {"ok": "written"}
@@ -122,8 +125,8 @@ class MatchRun:
         self.choices: List[Choice] = []
         self._fixture = fixture
         self._held = set(fixture.held)
-        # of each agent the whiteboard's node, and how often it was written, when the agent woke last; and how often it
-        # has woken since
+        # of each agent the whiteboard's node, and how often it was written, when the
+        # agent woke last; and how often it has woken since
         self._woke: Dict[int, Tuple[Tuple[int, int], int]] = {}
         self._writes: Dict[int, int] = {}
         self._refused: Dict[int, int] = {}
@@ -143,7 +146,8 @@ class MatchRun:
         return None if line is None else command_of(text_of(line))
 
     def may_happen(self) -> List[Choice]:
-        """What may happen next, at most one thing for each agent, in the order of agents."""
+        """What may happen next, at most one thing for each agent, in the order of
+        agents."""
         found = (self._of(player) for player in self.team.players)
         return [choice for choice in found if choice]
 
@@ -166,7 +170,8 @@ class MatchRun:
 
     def _answer(self, player: Player) -> None:
         """Takes a player's line, or the end of its input."""
-        line, player.line = player.line, None
+        line = player.line
+        player.line = None
         if line is not None and enters_as_another(self._fixture, player.number, line):
             player.stop("enters with the key of another agent")
             line = None
@@ -185,7 +190,8 @@ class MatchRun:
                 player.state = TRAVELS
 
     def close(self) -> None:
-        """Ends the match. Players that sleep are stuck; those on links are told that the match is over."""
+        """Ends the match. Players that sleep are stuck; those on links are told that
+        the match is over."""
         for player in self.team.players:
             if player.state == SLEEPS:
                 player.fault = player.fault or STUCK
@@ -211,14 +217,15 @@ class MatchRun:
         )
 
     def _wakings(self, number: int) -> int:
-        """How often an agent has woken since the whiteboard in front of it changed. It can see nothing else, so it
-        wakes once after each change, and again as often as it may nap."""
+        """How often an agent has woken since the whiteboard in front of it changed. It
+        can see nothing else, so it wakes once after each change, and again as often as
+        it may nap."""
         seen, times = self._woke.get(number, (None, 0))
         return times if seen == self._seen(number) else 0
 
     def _seen(self, number: int) -> Tuple[int, int]:
-        """The whiteboard in front of an agent, and how often it was written. On a link, and once it has ended, it sees
-        none."""
+        """The whiteboard in front of an agent, and how often it was written. On a link,
+        and once it has ended, it sees none."""
         agent = self.engine.match.agents[number]
         if agent.standing in (AWAY, ENDED):
             return BLIND
@@ -237,7 +244,8 @@ class MatchRun:
         """Notes a line that is refused: the last one of its agent."""
         if reply.startswith(REFUSED):
             agent = self.match.agents[player.number]
-            ports, board = len(self.match.far[agent.node]), self.match.setup.board
+            ports = len(self.match.far[agent.node])
+            board = self.match.setup.board
             why = str(json.loads(reply)["no"])
             fact = (
                 f"the node has the ports 0 to {ports - 1}"
@@ -276,7 +284,8 @@ class MatchRun:
 def play(
     engine: Engine, team: Team, scheduler: Scheduler, fixture: Fixture
 ) -> PlayedMatch:
-    """Plays until nothing can happen any more, or a recorded schedule ends, and closes the match."""
+    """Plays until nothing can happen any more, or a recorded schedule ends, and closes
+    the match."""
     run = MatchRun(engine, team, fixture)
     try:
         team.start()

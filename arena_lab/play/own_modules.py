@@ -1,6 +1,7 @@
-"""Modules that one agent inside the lab has for itself, as a program outside has: its file, what it imports that is
-neither Python's nor installed, wherever it lies, and `random` and `datetime`. They are in `sys.modules` while the agent
-runs, and the lab's modules at other times.
+"""Modules that one agent inside the lab has for itself, as a program outside has: its
+file, what it imports that is neither Python's nor installed, wherever it lies, and
+`random` and `datetime`. They are in `sys.modules` while the agent runs, and the lab's
+modules at other times.
 """
 import datetime
 import operator
@@ -18,21 +19,25 @@ from arena_lab.play.foreign_files import CHANCE, CLOCK, NOT_READ, note_read
 LOADING = threading.RLock()
 # all folders out of which agents were loaded
 FOLDERS: Set[str] = set()
-RANDOM, DATETIME = "random", "datetime"
+RANDOM = "random"
+DATETIME = "datetime"
 # what of the module `random` belongs to one generator
 OF_ONE = [
     name
     for name, value in vars(random).items()
     if getattr(value, "__self__", None) is random._inst
 ]
-# an object's identity as a number. Python tells the audit hook of each `id`, which costs more than to ask for this
+# an object's identity as a number. Python tells the audit hook of each `id`, which
+# costs more than to ask for this
 IDENTITY = object.__hash__
-# for each set of files that all agents share: the modules that no agent owns, by their identities
+# for each set of files that all agents share: the modules that no agent owns, by their
+# identities
 FOREIGN: Dict[Tuple[str, ...], Dict[int, ModuleType]] = {}
 FOREIGN_TO: Set[str] = set()
 # for each set of such files: all modules, when none of them was an agent's last
 ALL_FOREIGN: Dict[Tuple[str, ...], Sequence[object]] = {}
-# of each module the folders that it stands in, as long as there is the module: it is asked at each turn of an agent
+# of each module the folders that it stands in, as long as there is the module: it is
+# asked at each turn of an agent
 STANDS_IN: "weakref.WeakKeyDictionary[ModuleType, FrozenSet[str]]" = (
     weakref.WeakKeyDictionary()
 )
@@ -59,7 +64,8 @@ def is_beside(module: ModuleType, folders: Collection[str]) -> bool:
 
 
 def is_elsewhere(module: ModuleType) -> bool:
-    """Whether a module is a file that is neither Python's, nor installed, nor the lab's."""
+    """Whether a module is a file that is neither Python's, nor installed, nor the
+    lab's."""
     return any(
         folder and not f"{folder}{os.sep}".startswith(NOT_READ)
         for folder in folders_of(module)
@@ -67,14 +73,15 @@ def is_elsewhere(module: ModuleType) -> bool:
 
 
 def own_names(folders: Collection[str], shared: Collection[str]) -> List[str]:
-    """The names of the loaded modules that stand in these folders, and of what is in them if they are packages; none of
-    the lab's, and none of the shared files."""
+    """The names of the loaded modules that stand in these folders, and of what is in
+    them if they are packages; none of the lab's, and none of the shared files."""
     if folders is FOLDERS and len(FOREIGN_TO) != len(FOLDERS):
         # what stands in none of the folders so far may stand in a new one
         FOREIGN.clear()
         ALL_FOREIGN.clear()
         FOREIGN_TO.update(FOLDERS)
-    loaded, before = list(sys.modules.values()), ALL_FOREIGN.get(tuple(shared), ())
+    loaded = list(sys.modules.values())
+    before = ALL_FOREIGN.get(tuple(shared), ())
     if len(loaded) == len(before) and all(map(operator.is_, loaded, before)):
         return []
     foreign = FOREIGN.setdefault(tuple(shared), {})
@@ -82,7 +89,8 @@ def own_names(folders: Collection[str], shared: Collection[str]) -> List[str]:
     if not unknown:
         ALL_FOREIGN[tuple(shared)] = loaded
         return []
-    tops, others = set(), {}
+    tops = set()
+    others = {}
     for name, module in [
         (name, it) for name, it in list(sys.modules.items()) if IDENTITY(it) in unknown
     ]:
@@ -160,9 +168,11 @@ def datetime_of_its_own() -> ModuleType:
 
 
 def random_from(seed: int) -> ModuleType:
-    """A module `random` of its own that begins with this seed. It is not loaded anew, since each `random` that is
-    loaded stays in memory until the process ends, to be seeded again when it forks."""
-    own, made = NotedRandom(seed), ModuleType(RANDOM, random.__doc__)
+    """A module `random` of its own that begins with this seed. It is not loaded anew,
+    since each `random` that is loaded stays in memory until the process ends, to be
+    seeded again when it forks."""
+    own = NotedRandom(seed)
+    made = ModuleType(RANDOM, random.__doc__)
     own._is_seeded = False
     vars(made).update(vars(random))
     vars(made).update({name: getattr(own, name) for name in OF_ONE})
@@ -171,7 +181,8 @@ def random_from(seed: int) -> ModuleType:
 
 
 class OwnModules:
-    """The modules of one agent. Used by `with` around each of its turns, or around many; it begins in its first."""
+    """The modules of one agent. Used by `with` around each of its turns, or around
+    many; it begins in its first."""
 
     def __init__(self, seed: int) -> None:
         self.random = random_from(seed)
@@ -181,15 +192,19 @@ class OwnModules:
         self._files: Collection[str] = ()
         self._shared: Dict[str, ModuleType] = {}
         self._path: List[str] = []
-        # where imports look while the agent runs, and what that was made of: where they look else, of how many folders
+        # where imports look while the agent runs, and what that was made of: where they
+        # look else, of how many folders
         self._ahead: List[str] = []
         self._seen: Tuple[List[str], int] = ([], -1)
         self._count = 0
         self._depth = 0
 
     def begin(self, folders: Sequence[str], files: Collection[str] = ()) -> None:
-        """From now on modules in these folders are the agent's own, but for these files, which all agents share."""
-        self._folders, self._files, self._seen = list(folders), files, ([], -1)
+        """From now on modules in these folders are the agent's own, but for these
+        files, which all agents share."""
+        self._folders = list(folders)
+        self._files = files
+        self._seen = ([], -1)
         FOLDERS.update(folders)
         self._shared.update(
             {name: sys.modules.pop(name) for name in own_names(FOLDERS, files)}
@@ -202,7 +217,8 @@ class OwnModules:
         self._depth += 1
         if self._depth > 1:
             return self
-        self._path, self._shared = sys.path[:], {}
+        self._path = sys.path[:]
+        self._shared = {}
         if self._own:
             self._put(self._own)
         return self
@@ -230,7 +246,8 @@ class OwnModules:
             loaded[name] = module
         seen = sys.path[:], len(FOLDERS)
         if seen != self._seen:
-            self._seen, self._ahead = seen, [
+            self._seen = seen
+            self._ahead = [
                 *self._folders,
                 *(it for it in sys.path if it not in FOLDERS),
             ]

@@ -1,7 +1,9 @@
-"""Players that run inside the lab: agents in Python. Each is a greenlet, and one runs at a time.
+"""Players that run inside the lab: agents in Python. Each is a greenlet, and one runs
+at a time.
 
-A player runs until it waits for the answer to its line, for its arrival, or to be woken. `state` says which, and `line`
-is the line that it sent, or None if its input has ended.
+A player runs until it waits for the answer to its line, for its arrival, or to be
+woken. `state` says which, and `line` is the line that it sent, or None if its input has
+ended.
 """
 import operator
 import pathlib
@@ -20,12 +22,17 @@ from arena_lab.rules.model import GONE, LAST, spelled
 from arena_lab.support.missing import needed
 
 # an answer is due; an arrival is due; it sleeps; nothing more comes
-WAITS, TRAVELS, SLEEPS, DONE = "waits", "travels", "sleeps", "done"
+WAITS = "waits"
+TRAVELS = "travels"
+SLEEPS = "sleeps"
+DONE = "done"
 # what a client is told last
 DENIALS = {spelled({"no": why}) for why in ("enter", "key", "taken")}
 LAST_LINES = DENIALS | {spelled(reply) for reply in LAST}
-# behind this the next line is the arrival; and what stands in the place of a line for who sleeps
-DEPARTED, WAKES = spelled(GONE), "wakes"
+# behind this the next line is the arrival; and what stands in the place of a line for
+# who sleeps
+DEPARTED = spelled(GONE)
+WAKES = "wakes"
 # what is never taken from lines ahead
 NEVER_AHEAD = LAST_LINES | {WAKES}
 # the parts of a player by which the lab plays its program: the program may not set them
@@ -35,7 +42,8 @@ CHANGED = "has changed {} of its lines, by which the lab plays it"
 # the folders of the lab's own lines and of Python's modules
 NOT_OWN = (pathlib.Path(__file__).parent, pathlib.Path(operator.__file__).parent)
 
-# how many times longer an agent may sleep than compute: a machine with other work lets it wait too
+# how many times longer an agent may sleep than compute: a machine with other work lets
+# it wait too
 LONGER = 20
 
 
@@ -44,10 +52,13 @@ class TooSlow(Exception):
 
 
 class Player:
-    """One agent's program. It has `send` and `receive`, by which the client asks, and `sleep`."""
+    """One agent's program. It has `send` and `receive`, by which the client asks, and
+    `sleep`."""
 
     # the lab finds these values if a program deletes such a part
-    state, errors, latest = WAITS, "", ""
+    state = WAITS
+    errors = ""
+    latest = ""
     line: Optional[bytes] = None
     fault: Optional[str] = None
     ahead: Optional[Deque[str]] = None
@@ -58,7 +69,8 @@ class Player:
         self.state = WAITS
         self.line = self.fault = None
         self.errors = ""
-        # the line that it was told last, and those ahead of it on a way that it goes once more
+        # the line that it was told last, and those ahead of it on a way that it goes
+        # once more
         self.latest = ""
         self.ahead = None
         # those that the script loads for this agent alone
@@ -70,7 +82,8 @@ class Player:
         self._thread = needed("greenlet").greenlet(lambda: self._run(script, key))
 
     def read(self) -> Dict[str, str]:
-        """The SHA-256 of each file that the program has read, by their names, if that is noted."""
+        """The SHA-256 of each file that the program has read, by their names, if that
+        is noted."""
         return read_by(notes_of(self._thread))
 
     def told(self, text: str) -> str:
@@ -83,7 +96,8 @@ class Player:
 
     def hear(self, line: str) -> None:
         """Tells the agent a line, and lets it go on."""
-        self.line, self.latest = None, line
+        self.line = None
+        self.latest = line
         self._heard.append(line)
         self._is_over = self._is_over or line in LAST_LINES
         self.go_on()
@@ -104,9 +118,10 @@ class Player:
         self._turn(self._thread.throw)
 
     def _turn(self, begins: Callable[[], Any]) -> Optional[str]:
-        """Lets the program run until it waits or ends. If it has set a part that it may not set, puts the part back and
-        answers which."""
-        parts, kind = vars(self), type(self)
+        """Lets the program run until it waits or ends. If it has set a part that it may
+        not set, puts the part back and answers which."""
+        parts = vars(self)
+        kind = type(self)
         before = [*map(parts.get, STAYS)]
         with self.modules:
             begins()
@@ -133,16 +148,20 @@ class Player:
 
     def receive(self) -> str:
         if not self._heard:
-            ahead, state = self.ahead, WAITS if self.line is not None else TRAVELS
+            ahead = self.ahead
+            state = WAITS if self.line is not None else TRAVELS
             if (
                 ahead
                 and ahead[0] not in NEVER_AHEAD
                 and (self.latest == DEPARTED) == (state == TRAVELS)
             ):
-                # it is for an agent that waits as this one does: a way that was gone before is gone again in one turn.
-                # All that the program can read is as if it had waited
+                # it is for an agent that waits as this one does: a way that was gone
+                # before is gone again in one turn. All that the program can read is as
+                # if it had waited
                 self._team.turns += 1
-                self.state, self.line, self.latest = state, None, ahead.popleft()
+                self.state = state
+                self.line = None
+                self.latest = ahead.popleft()
                 return self.latest
             self._wait(state)
         return self._heard.popleft()
@@ -164,12 +183,13 @@ class Player:
                 f"raises {type(fault).__name__}: {fault}{place_in(fault.__traceback__)}"
             )
         # its connection is closed, as that of a program that ends
-        self.line, self.state = None, DONE if self._is_over else WAITS
+        self.line = None
+        self.state = DONE if self._is_over else WAITS
 
 
 def place_in(trace: Optional[TracebackType]) -> str:
-    """The last line of the agent's own file through which an exception came, in parentheses: not one of the lab, of the
-    client, or of Python."""
+    """The last line of the agent's own file through which an exception came, in
+    parentheses: not one of the lab, of the client, or of Python."""
     found = ""
     for frame, line in traceback.walk_tb(trace):
         path = pathlib.PurePath(frame.f_code.co_filename)
@@ -188,18 +208,17 @@ class Clock:
     def __init__(
         self, team: "Team", signals: int, timer: int, seconds: float, does: str
     ) -> None:
-        self._team, self._signal, self._timer, self._seconds = (
-            team,
-            signals,
-            timer,
-            seconds,
-        )
+        self._team = team
+        self._signal = signals
+        self._timer = timer
+        self._seconds = seconds
         self._fault = f"has {does} for {seconds:g} s, and neither sends nor waits"
         self._seen = 0
         self._before: Any = None
 
     def start(self) -> None:
-        # signals reach the main thread alone: in another one nobody ends a program that computes without end
+        # signals reach the main thread alone: in another one nobody ends a program that
+        # computes without end
         if threading.current_thread() is threading.main_thread():
             self._before = signal.signal(self._signal, self._look)
             signal.setitimer(self._timer, self._seconds, self._seconds)
@@ -221,9 +240,9 @@ class Clock:
 
 
 class Team:
-    """The players of a match. A player that computes longer than its limit is ended. That is time of the processor, as
-    one that is busy with other work must not end an agent; an agent that sleeps has a longer limit.
-    """
+    """The players of a match. A player that computes longer than its limit is ended.
+    That is time of the processor, as one that is busy with other work must not end an
+    agent; an agent that sleeps has a longer limit."""
 
     def __init__(
         self, keys: Sequence[str], scripts: Mapping[int, Script], seconds: float = LIMIT

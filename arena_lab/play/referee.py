@@ -1,4 +1,5 @@
-"""What came of a match that was not solved, as a referee who sees the network tells it: one fact a sentence."""
+"""What came of a match that was not solved, as a referee who sees the network tells it:
+one fact a sentence."""
 import re
 from typing import Collection, Dict, Iterator, List, Sequence
 
@@ -28,8 +29,8 @@ def link(match: Match, agent: AgentState) -> str:
 
 
 def told(match: Match, faults: Sequence[str] = ()) -> List[str]:
-    """Sentences on a match that has ended, and nothing if it is solved. What is said of agents that have a fault tells
-    who slept in the end."""
+    """Sentences on a match that has ended, and nothing if it is solved. What is said of
+    agents that have a fault tells who slept in the end."""
     outcome = outcome_of(match)
     if outcome == "solved":
         return []
@@ -101,7 +102,8 @@ def ends(match: Match, asleep: Collection[int]) -> Iterator[str]:
 
 
 def missed(match: Match, outcome: str) -> Iterator[str]:
-    """What a right accusation leaves open: black holes that nobody named, and a node that nobody visited."""
+    """What a right accusation leaves open: black holes that nobody named, and a node
+    that nobody visited."""
     named = {match.far[node][port][0] for node, port in match.accused}
     if match.accused and outcome == "silent":
         yield from (

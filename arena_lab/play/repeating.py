@@ -1,15 +1,19 @@
-"""Repeats an agent of a match alone, to see whether it says the same when it is told the same again.
+"""Repeats an agent of a match alone, to see whether it says the same when it is told
+the same again.
 
-An agent's past decides what it says, if its program uses what it is told and the number in ARENA_SEED, and nothing
-else. That is tested for the match at hand. The program is started anew, by a key that nobody has used before; no other
-agent of its match runs, and each line is told at once. So what another agent signals past the whiteboards only while it
-runs is not there to be heard. What it has left in the kernel may be. No pauses are made either, as a program that
-listens for pauses would hear them as signals. If all agents of a match repeat, then each of them said what it says when
-it hears no such signals.
+An agent's past decides what it says, if its program uses what it is told and the number
+in ARENA_SEED, and nothing else. That is tested for the match at hand. The program is
+started anew, by a key that nobody has used before; no other agent of its match runs,
+and each line is told at once. So what another agent signals past the whiteboards only
+while it runs is not there to be heard. What it has left in the kernel may be. No pauses
+are made either, as a program that listens for pauses would hear them as signals. If all
+agents of a match repeat, then each of them said what it says when it hears no such
+signals.
 
-The past is taken from the replay alone. It has no lines that changed nothing and were not heard (entering twice, and
-commands beyond the quota): these are answered as the rules say. It does not say either how often an agent inside the
-lab has slept, so one that is repeated wakes until it says something.
+The past is taken from the replay alone. It has no lines that changed nothing and were
+not heard (entering twice, and commands beyond the quota): these are answered as the
+rules say. It does not say either how often an agent inside the lab has slept, so one
+that is repeated wakes until it says something.
 """
 import json
 import secrets
@@ -49,8 +53,9 @@ class Said(NamedTuple):
 
 
 class Otherwise(NamedTuple):
-    """The first command of an agent that is another one when the agent is told the same again. Commands are counted
-    from 1. The program's own fault, if it has one, may be the reason."""
+    """The first command of an agent that is another one when the agent is told the same
+    again. Commands are counted from 1. The program's own fault, if it has one, may be
+    the reason."""
 
     agent: int
     number: int
@@ -67,7 +72,8 @@ class Otherwise(NamedTuple):
 
 
 def in_words(command: Object) -> str:
-    """A command as a reader has it, such as `depart port 1`, and of a long one the beginning."""
+    """A command as a reader has it, such as `depart port 1`, and of a long one the
+    beginning."""
     words = [
         f"{name} {json.dumps(value, ensure_ascii=False)}"
         for name, value in command.items()
@@ -137,7 +143,8 @@ class Alone:
         return True
 
     def _said(self) -> Object:
-        """The agent's next command that a replay has. What a replay does not have is answered."""
+        """The agent's next command that a replay has. What a replay does not have is
+        answered."""
         for _ in range(MOST_REFUSED):
             self._wake()
             if self._player.line is None:
@@ -168,12 +175,14 @@ class Alone:
 
 
 def with_new_keys(fixture: Fixture) -> Fixture:
-    """A match with keys that nobody has seen, so that no program finds by its key what it has left somewhere."""
+    """A match with keys that nobody has seen, so that no program finds by its key what
+    it has left somewhere."""
     return fixture._replace(keys=[secrets.token_hex(10) for _ in fixture.keys])
 
 
 def repeated(team: Team, fixture: Fixture, past: Sequence[Said]) -> Optional[Otherwise]:
-    """Repeats the only agent of a team, which is told this past; gives the first difference, if there is one."""
+    """Repeats the only agent of a team, which is told this past; gives the first
+    difference, if there is one."""
     player = team.players[0]
     try:
         team.start()
@@ -187,11 +196,12 @@ def repeated(team: Team, fixture: Fixture, past: Sequence[Said]) -> Optional[Oth
 def with_repeats(
     played: PlayedMatch, agents: Sequence[AgentWords], fixture: Fixture, seconds: float
 ) -> PlayedMatch:
-    """The match with what its agents say otherwise when each is repeated alone, one after the other, where they have
-    played; as it is if one of them has a fault."""
+    """The match with what its agents say otherwise when each is repeated alone, one
+    after the other, where they have played; as it is if one of them has a fault."""
     if played.faults:
         return played
-    again, replay = with_new_keys(fixture), played.replay.decode()
+    again = with_new_keys(fixture)
+    replay = played.replay.decode()
     found = [
         repeated(
             alone(number, agents[number], again, fixture, seconds),

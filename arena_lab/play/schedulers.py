@@ -1,7 +1,8 @@
 """Schedulers choose what happens next.
 
-A scheduler is a function of the choices and of how the match stands; it gives one of the choices. A maker is a function
-of a whole number that gives a scheduler. The command line names makers: `fair`, or `FILE.py:NAME` for one of your own.
+A scheduler is a function of the choices and of how the match stands; it gives one of
+the choices. A maker is a function of a whole number that gives a scheduler. The command
+line names makers: `fair`, or `FILE.py:NAME` for one of your own.
 
     def laggard(seed):
         def choose(choices, state):
@@ -26,26 +27,31 @@ from arena_lab.rules.delays import ODDS, SCALES, Delays, Turns
 from arena_lab.rules.model import Match, Object, Place
 from arena_lab.support.faults import Fault
 
-ANSWER, ARRIVE, WAKE = "answer", "arrive", "wake"
+ANSWER = "answer"
+ARRIVE = "arrive"
+WAKE = "wake"
 
 
 class Choice(NamedTuple):
-    """What may happen next: an agent's line, or the end of its input, is taken and answered; an agent on a link
-    arrives, or is destroyed; an agent that sleeps wakes."""
+    """What may happen next: an agent's line, or the end of its input, is taken and
+    answered; an agent on a link arrives, or is destroyed; an agent that sleeps
+    wakes."""
 
     do: str
     agent: int
 
 
 class MatchView(Protocol):
-    """How a match stands: where its agents are, what its whiteboards say, and what agents wait to be answered."""
+    """How a match stands: where its agents are, what its whiteboards say, and what
+    agents wait to be answered."""
 
     @property
     def match(self) -> Match:
         ...
 
     def said(self, agent: int) -> Optional[Object]:
-        """The command of an agent that waits for an answer, as docs/FORMATS.md has it, or None."""
+        """The command of an agent that waits for an answer, as docs/FORMATS.md has it,
+        or None."""
 
 
 Scheduler = Callable[[Sequence[Choice], MatchView], Choice]
@@ -70,7 +76,8 @@ def weighted(
 
 
 def slow_agents(seed: int) -> Scheduler:
-    """Some agents are slow to be answered, and some to arrive, for the whole match; sleepers wake seldom."""
+    """Some agents are slow to be answered, and some to arrive, for the whole match;
+    sleepers wake seldom."""
     chance = random.Random(seed)
     waking = chance.choice(WAKINGS)
     paces: Dict[Tuple[str, int], float] = {}
@@ -100,8 +107,8 @@ def slow_links(seed: int) -> Scheduler:
 
 
 def last_departed(seed: int) -> Scheduler:
-    """Agents go as far as they can, and of those on links the one arrives that departed last. A seed chooses among
-    agents that are to be answered."""
+    """Agents go as far as they can, and of those on links the one arrives that departed
+    last. A seed chooses among agents that are to be answered."""
     chance = random.Random(seed)
 
     def choose(choices: Sequence[Choice], state: MatchView) -> Choice:
@@ -114,8 +121,8 @@ def last_departed(seed: int) -> Scheduler:
 
 
 def starved(seed: int) -> Scheduler:
-    """Nothing happens to one agent as long as anything else can happen; the others go on by chance. It is the agent
-    whose number is the seed, counted round the team."""
+    """Nothing happens to one agent as long as anything else can happen; the others go
+    on by chance. It is the agent whose number is the seed, counted round the team."""
     chance = random.Random(seed)
 
     def choose(choices: Sequence[Choice], state: MatchView) -> Choice:
@@ -127,9 +134,10 @@ def starved(seed: int) -> Scheduler:
 
 
 class Oblivious:
-    """The oblivious schedule of a contest's first match, for agents that answer within their turn: between two turns
-    all are answered, by their numbers, and each that sleeps wakes once if it may. The contest's seed is this number, in
-    64 hexadecimal digits."""
+    """The oblivious schedule of a contest's first match, for agents that answer within
+    their turn: between two turns all are answered, by their numbers, and each that
+    sleeps wakes once if it may. The contest's seed is this number, in 64 hexadecimal
+    digits."""
 
     def __init__(self, seed: int, delays: Delays = Delays(SCALES, ODDS)) -> None:
         self._turns = Turns(delays, f"{seed:064x}", 0)
@@ -170,13 +178,14 @@ class Oblivious:
 
 
 def oblivious(seed: int) -> Scheduler:
-    """The oblivious schedule of a contest, with the delays that `./arena-lab tournament` gives it."""
+    """The oblivious schedule of a contest, with the delays that `./arena-lab
+    tournament` gives it."""
     return Oblivious(seed)
 
 
 def in_runs(runs: Sequence[Tuple[int, int]]) -> Scheduler:
-    """A scheduler of (which of the choices, how often in a row); if only one thing can happen, nothing is used up,
-    and behind the last run it is always the first."""
+    """A scheduler of (which of the choices, how often in a row); if only one thing can
+    happen, nothing is used up, and behind the last run it is always the first."""
     numbers = itertools.chain.from_iterable(
         itertools.repeat(which, times) for which, times in runs
     )
@@ -217,14 +226,15 @@ def recorded(schedule: Sequence[Choice]) -> Scheduler:
 
 
 class ScheduleFollower:
-    """The choices of a schedule, in order, up to the first that cannot happen; from there on, and behind the last one,
-    every choice is as likely as any other. So a program that was mended is tried against what it failed under.
-    """
+    """The choices of a schedule, in order, up to the first that cannot happen; from
+    there on, and behind the last one, every choice is as likely as any other. So a
+    program that was mended is tried against what it failed under."""
 
     def __init__(self, schedule: Sequence[Choice]) -> None:
         self._schedule = schedule
         self._fair = fair(0)
-        # how many choices were followed, and what might happen where the schedule was left
+        # how many choices were followed, and what might happen where the schedule was
+        # left
         self.count = 0
         self.left: Sequence[Choice] = ()
         self.went_on = 0
@@ -243,9 +253,8 @@ class ScheduleFollower:
         if self.count == whole:
             said = f"followed all {whole} choices of the schedule"
         elif self.left:
-            choice, possible = self._schedule[self.count], ", ".join(
-                f"{it.do} {it.agent}" for it in self.left
-            )
+            choice = self._schedule[self.count]
+            possible = ", ".join(f"{it.do} {it.agent}" for it in self.left)
             said = (
                 f"followed {self.count} of {whole} choices: the next is `{choice.do} {choice.agent}`, and what may "
                 f"happen there is: {possible}"

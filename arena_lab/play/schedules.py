@@ -5,10 +5,11 @@
     answer 1
     arrive 0
 
-The head names the match, the agents with the SHA-256 of their files, how many seconds each may take, and how the
-schedule was found. `answer I` takes a
-line of agent I, or the end of its input; `arrive I` lets it arrive, or be destroyed; `wake I` wakes it. Empty lines and
-lines that begin with `#` are skipped. The match is closed at the end of the file.
+The head names the match, the agents with the SHA-256 of their files, how many seconds
+each may take, and how the schedule was found. `answer I` takes a line of agent I, or
+the end of its input; `arrive I` lets it arrive, or be destroyed; `wake I` wakes it.
+Empty lines and lines that begin with `#` are skipped. The match is closed at the end of
+the file.
 """
 import json
 import pathlib
@@ -32,7 +33,8 @@ class NoSchedule(Fault):
 
 
 class Schedule(NamedTuple):
-    """Which match, by which agents, how it was found, what happens, and how many seconds an agent may take."""
+    """Which match, by which agents, how it was found, what happens, and how many
+    seconds an agent may take."""
 
     fixture: Fixture
     agents: List[AgentWords]

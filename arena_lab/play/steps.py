@@ -1,6 +1,6 @@
-"""Agents that are written as a step, `step(memory, reply, ..) -> (memory, command)`: see `take_steps` of
-examples/agents/client.py. Inside the lab a step gets a fresh memory each time, made of what names it, so it can keep
-nothing else in there."""
+"""Agents that are written as a step, `step(memory, reply, ..) -> (memory, command)`:
+see `take_steps` of examples/agents/client.py. Inside the lab a step gets a fresh memory
+each time, made of what names it, so it can keep nothing else in there."""
 import inspect
 import marshal
 from typing import Any, Callable, Dict, Tuple

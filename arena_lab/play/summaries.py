@@ -1,4 +1,5 @@
-"""What came of a match that was played, as one record: rows of notebooks, cells of tables and lines are made of it."""
+"""What came of a match that was played, as one record: rows of notebooks, cells of
+tables and lines are made of it."""
 import dataclasses
 import hashlib
 import pathlib
@@ -12,8 +13,8 @@ from arena_lab.rules.model import Verdict
 
 @dataclasses.dataclass(frozen=True)
 class Summary:
-    """The verdict, how many commands were used, the length of the log, the SHA-256 of the replay, and what is said of
-    agents that have a fault."""
+    """The verdict, how many commands were used, the length of the log, the SHA-256 of
+    the replay, and what is said of agents that have a fault."""
 
     verdict: Verdict
     commands: int = 0

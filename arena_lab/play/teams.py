@@ -27,15 +27,18 @@ from arena_lab.rules.limits import MOST_AGENTS, SMALL_BOARD, SMALL_QUOTA
 from arena_lab.rules.model import Place, Setup
 from arena_lab.rules.networks import Network
 
-INSIDE, OUTSIDE = "agent", "command"
+INSIDE = "agent"
+OUTSIDE = "command"
 # what a match has if nothing else is asked for
-QUOTA, BOARD = SMALL_QUOTA, SMALL_BOARD
+QUOTA = SMALL_QUOTA
+BOARD = SMALL_BOARD
 NETWORK = "ring:8"
 NAPS = 2
 
 
 class AgentWords(NamedTuple):
-    """How one agent is played: inside the lab or by a program of its own, and the words that name it."""
+    """How one agent is played: inside the lab or by a program of its own, and the words
+    that name it."""
 
     kind: str
     words: str
@@ -97,14 +100,14 @@ class AgentWords(NamedTuple):
 
 
 def agent_named(kind: str, words: str) -> AgentWords:
-    """The agent of these words, which an option or a key of this kind names. A module is played by a program of its
-    own, whichever names it."""
+    """The agent of these words, which an option or a key of this kind names. A module
+    is played by a program of its own, whichever names it."""
     return AgentWords(OUTSIDE if is_module(words) else kind, words)
 
 
 def modules_of(agents: Sequence[AgentWords]) -> List[str]:
-    """The words of the modules that the agents of a team run: one if all run the same, or else one for each agent. None
-    if an agent runs no module."""
+    """The words of the modules that the agents of a team run: one if all run the same,
+    or else one for each agent. None if an agent runs no module."""
     if not all(agent.is_module() for agent in agents):
         return []
     words = [agent.words for agent in agents]
@@ -123,7 +126,8 @@ def digests_of(agents: Sequence[AgentWords]) -> Dict[str, str]:
 def filled(
     named: Sequence[AgentWords], wanted: Optional[int] = None
 ) -> List[AgentWords]:
-    """The agents of a team: one that is named stands for all. They are two if it is not said how many."""
+    """The agents of a team: one that is named stands for all. They are two if it is not
+    said how many."""
     wanted = (2 if len(named) == 1 else len(named)) if wanted is None else wanted
     if not 1 <= wanted <= MOST_AGENTS:
         raise NoMatch(f"a match has 1 to {MOST_AGENTS} agents, and not {wanted}")
@@ -167,14 +171,16 @@ class Together:
 def alone(
     number: int, agent: AgentWords, again: Fixture, fixture: Fixture, seconds: float
 ) -> Team:
-    """A team of one agent of a match, which plays with the keys of `again`, and has the chance that it had before."""
+    """A team of one agent of a match, which plays with the keys of `again`, and has the
+    chance that it had before."""
     if agent.kind == INSIDE:
         return Inside(again.keys, {number: agent.script(again.setup)}, seconds)
     return Outside(again, {number: agent.words}, seconds, seeds=seeds_of(fixture))
 
 
 class Matches(NamedTuple):
-    """The matches of one team: its agents, the matches, and how many seconds an agent may compute."""
+    """The matches of one team: its agents, the matches, and how many seconds an agent
+    may compute."""
 
     agents: List[AgentWords]
     fixtures: List[Fixture]
@@ -182,8 +188,9 @@ class Matches(NamedTuple):
 
 
 class Game(NamedTuple):
-    """What is played, as far as a seed does not choose it: a network by its name, a team, and what destroys; if nothing
-    does, each seed has a black hole of its own. Or else the match of a tournament."""
+    """What is played, as far as a seed does not choose it: a network by its name, a
+    team, and what destroys; if nothing does, each seed has a black hole of its own. Or
+    else the match of a tournament."""
 
     name: str
     network: Network
@@ -224,7 +231,8 @@ class Game(NamedTuple):
         return self.origin if self.match else f" on {self.name}"
 
     def fixtures(self) -> List[Fixture]:
-        """Its matches: one, or one for each node but the home base as the black hole."""
+        """Its matches: one, or one for each node but the home base as the black
+        hole."""
         return [
             self.fixture(seed)
             for seed in range(1 if self.is_fixed() else self.network.nodes - 1)

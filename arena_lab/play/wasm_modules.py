@@ -1,9 +1,10 @@
-"""Agents that run a WebAssembly module. In a match the program `bhs_player` plays each as a client, and `arena explore
---module` tries every schedule of a team of them.
+"""Agents that run a WebAssembly module. In a match the program `bhs_player` plays each
+as a client, and `arena explore --module` tries every schedule of a team of them.
 
     FILE.wasm[:N,..]
 
-The whole numbers behind the colon are the module's arguments. {nodes}, {links} and {home} may stand for some.
+The whole numbers behind the colon are the module's arguments. {nodes}, {links} and
+{home} may stand for some.
 """
 import shlex
 
@@ -28,13 +29,12 @@ def file_in(words: str) -> str:
 
 
 def command_of(words: str) -> str:
-    """The command that plays an agent: of a module its player, of another agent the words themselves."""
+    """The command that plays an agent: of a module its player, of another agent the
+    words themselves."""
     if not is_module(words):
         return words
-    player, word = (
-        str(built.player()),
-        f"{file_of(file_in(words))}{arguments_in(words)}",
-    )
+    player = str(built.player())
+    word = f"{file_of(file_in(words))}{arguments_in(words)}"
     return shlex.join(
         [
             player.replace("{", "{{").replace("}", "}}"),
@@ -53,7 +53,8 @@ def arguments_in(words: str) -> str:
 
 
 def word_of(words: str, setup: Setup) -> str:
-    """A module's word as it is said of a match, which names the file from any folder."""
+    """A module's word as it is said of a match, which names the file from any
+    folder."""
     try:
         numbers = arguments_in(words).format(**facts_of(setup))
     except (KeyError, IndexError, ValueError):

@@ -1,6 +1,8 @@
-"""The words of a tournament: those of ChaCha8, by its definition and apart from the arena's code.
+"""The words of a tournament: those of ChaCha8, by its definition and apart from the
+arena's code.
 
-A key of 32 bytes, a 64-bit block counter in words 12 and 13 of the state, a 64-bit stream in words 14 and 15, 8 rounds.
+A key of 32 bytes, a 64-bit block counter in words 12 and 13 of the state, a 64-bit
+stream in words 14 and 15, 8 rounds.
 
     python3 -m arena_lab.rules.chacha8
 
@@ -59,7 +61,8 @@ def turn_word(seed: bytes, match: int, turn: int) -> int:
 
 
 def delay_word(seed: bytes, match: int, agent: int, turn: int) -> int:
-    """The word for the delay of an agent of a match that departs after this many turns."""
+    """The word for the delay of an agent of a match that departs after this many
+    turns."""
     return word(seed, (match + ((agent + 1) << MATCH_BITS)) % STREAMS, turn)
 
 
@@ -70,7 +73,8 @@ def show(seed: bytes, stream: int, places: Sequence[int]) -> None:
 
 
 if __name__ == "__main__":
-    # The key stream of ChaCha8 at a key and a nonce of zeros, as remembered and not looked up.
+    # The key stream of ChaCha8 at a key and a nonce of zeros, as remembered and not
+    # looked up.
     assert (
         struct.pack("<3I", *block(bytes(32), 0, 0)[:3]).hex()
         == "3e00ef2f895f40d67f5bb8e8"

@@ -1,17 +1,21 @@
-"""The schedules of contests, as docs/MODEL.md has them: whom each turn picks, and how long agents are on links. They
-use the words of the arena, so a seed gives the same picks and delays here and there."""
+"""The schedules of contests, as docs/MODEL.md has them: whom each turn picks, and how
+long agents are on links. They use the words of the arena, so a seed gives the same
+picks and delays here and there."""
 from typing import Dict, NamedTuple, Optional, Sequence
 
 from arena_lab.rules.chacha8 import delay_word, turn_word
 
-ADAPTIVE, OBLIVIOUS = "adaptive", "oblivious"
-SCALES, ODDS = 10, 32
+ADAPTIVE = "adaptive"
+OBLIVIOUS = "oblivious"
+SCALES = 10
+ODDS = 32
 # seconds before each turn of a contest, if nothing else is said
 PAUSE = 0.005
 
 
 class Delays(NamedTuple):
-    """Of `odds` words, one for each of the `scales` gives a delay of 2 to the scale turns, or up to twice as many."""
+    """Of `odds` words, one for each of the `scales` gives a delay of 2 to the scale
+    turns, or up to twice as many."""
 
     scales: int
     odds: int
@@ -27,9 +31,9 @@ class Delays(NamedTuple):
 
 
 class Turns:
-    """The turns of a match. Under the adaptive schedule, which has no delays, each turn picks one of the agents on
-    links. Under the oblivious one it picks any agent, which may arrive if it is on a link and has been there for its
-    delay."""
+    """The turns of a match. Under the adaptive schedule, which has no delays, each turn
+    picks one of the agents on links. Under the oblivious one it picks any agent, which
+    may arrive if it is on a link and has been there for its delay."""
 
     def __init__(self, delays: Optional[Delays], seed: str, match: int) -> None:
         self.turn = 0
@@ -45,9 +49,11 @@ class Turns:
             self._due[agent] = self.turn + self._delays.by_word(word)
 
     def take(self, agents: int, pool: Sequence[int]) -> Optional[int]:
-        """Takes a turn of a match with this number of agents, of which these are on links in the order of their
-        departures: gives the agent that may arrive now, if there is one."""
-        word, turn = turn_word(self._seed, self._match, self.turn), self.turn
+        """Takes a turn of a match with this number of agents, of which these are on
+        links in the order of their departures: gives the agent that may arrive now, if
+        there is one."""
+        word = turn_word(self._seed, self._match, self.turn)
+        turn = self.turn
         self.turn += 1
         if self._delays is None:
             return pool[word % len(pool)] if pool else None

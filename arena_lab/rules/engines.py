@@ -1,5 +1,5 @@
-"""Engines: what plays a match, line by line. The proved program is one, the Python model (arena_lab/rules/rehearsal.py)
-another."""
+"""Engines: what plays a match, line by line. The proved program is one, the Python
+model (arena_lab/rules/rehearsal.py) another."""
 import os
 import pathlib
 import subprocess
@@ -17,13 +17,15 @@ TOP = built.TOP
 HOW_TO_BUILD = (
     "name another by --program; by default the lab takes the one that `./arena` runs"
 )
-PROGRAM, MODEL = "program", "model"
+PROGRAM = "program"
+MODEL = "model"
 
 
 class Engine(Protocol):
-    """Plays one match. Lines are fed to connections, deliveries are drawn by a word, and the match is closed; each call
-    gives what came out, by connection. `match` is how the match stands by the Python model, `script` has the lines of
-    the script that was played."""
+    """Plays one match. Lines are fed to connections, deliveries are drawn by a word,
+    and the match is closed; each call gives what came out, by connection. `match` is
+    how the match stands by the Python model, `script` has the lines of the script that
+    was played."""
 
     match: Match
     script: List[bytes]
@@ -48,7 +50,8 @@ class Engine(Protocol):
 
 
 def text_of_fault(errors: bytes) -> str:
-    """What the program says of a fault. One without a proof says that before, which is left out."""
+    """What the program says of a fault. One without a proof says that before, which is
+    left out."""
     return built.without_warning(errors.decode(errors="replace")).strip()
 
 
@@ -67,9 +70,9 @@ class EngineRefused(Fault):
 
 
 def program_at(path: Optional[str], modules: Iterable[str] = ()) -> str:
-    """The program that is named, or else the proved one if it is built, or else one without a proof, which is compiled
-    first, unless modules that are needed are missing. One that is not proved is told on standard error.
-    """
+    """The program that is named, or else the proved one if it is built, or else one
+    without a proof, which is compiled first, unless modules that are needed are
+    missing. One that is not proved is told on standard error."""
     found = pathlib.Path(path or built.any_program(modules))
     if not found.is_file() or not os.access(found, os.X_OK):
         raise NoProgram(f"{found}: there is no such program: {HOW_TO_BUILD}")
@@ -98,20 +101,23 @@ def asked(program: str, *words: str) -> str:
 
 
 def judged(program: str, replay: pathlib.Path) -> Verdict:
-    """The program's verdict on a replay, which it prints as `guess 1 moves 0 lost 0`."""
+    """The program's verdict on a replay, which it prints as `guess 1 moves 0 lost
+    0`."""
     return Verdict.printed(asked(program, "judge", str(replay)))
 
 
 class Program:
-    """The proved program as an engine: `arena rehearse --interactive` at the other end of two pipes.
+    """The proved program as an engine: `arena rehearse --interactive` at the other end
+    of two pipes.
 
-    The Python model plays the same beside it and says how the match stands; what comes out of both is compared, line by
-    line, and so are their replays.
+    The Python model plays the same beside it and says how the match stands; what comes
+    out of both is compared, line by line, and so are their replays.
     """
 
     def __init__(self, fixture: Fixture, program: str) -> None:
         self._beside = Rehearsal(fixture)
-        self.match, self.script = self._beside.match, self._beside.script
+        self.match = self._beside.match
+        self.script = self._beside.script
         self._folder = tempfile.TemporaryDirectory(prefix="lab-")
         self._left = b""
         folder = pathlib.Path(self._folder.name)
@@ -163,7 +169,8 @@ class Program:
         self._folder.cleanup()
 
     def _play(self, expected: List[Said]) -> List[Said]:
-        """Gives the last line of the script to the program, whose answer is to be what the model's is."""
+        """Gives the last line of the script to the program, whose answer is to be what
+        the model's is."""
         line = self.script[-1]
         answer = self._answer(line)
         wanted = "".join(f"{number} {text}\n" for number, text in expected).encode()
@@ -176,11 +183,9 @@ class Program:
 
     def _answer(self, line: bytes) -> bytes:
         """What the program prints for a line, up to the empty line behind it."""
-        answer, given, taken = (
-            self._left,
-            cast(IO[bytes], self._child.stdin),
-            cast(IO[bytes], self._child.stdout),
-        )
+        answer = self._left
+        given = cast(IO[bytes], self._child.stdin)
+        taken = cast(IO[bytes], self._child.stdout)
         try:
             given.write(line + b"\n")
             given.flush()

@@ -34,8 +34,9 @@ OWN_TEAM = "lab"
 
 
 class Fixture(NamedTuple):
-    """A match to be played. `held` are the links over which nobody arrives, each as (node, port) of the departure. An
-    agent may wake `naps` times more though nothing has changed in front of it."""
+    """A match to be played. `held` are the links over which nobody arrives, each as
+    (node, port) of the departure. An agent may wake `naps` times more though nothing
+    has changed in front of it."""
 
     team: str
     setup: Setup
@@ -54,7 +55,8 @@ def twice(found: Sequence[Any]) -> List[Any]:
 
 
 def checked(setup: Setup) -> Setup:
-    """A setup, if the program takes it. Whether its links make a network is not asked here."""
+    """A setup, if the program takes it. Whether its links make a network is not asked
+    here."""
     ports = {(v, p): (w, q) for v, p, w, q in setup.links} | {
         (w, q): (v, p) for v, p, w, q in setup.links
     }
@@ -110,7 +112,8 @@ def enters_as_another(fixture: Fixture, number: int, line: bytes) -> bool:
 
 
 class Tournament(NamedTuple):
-    """A tournament's file: its seed, its fixtures, and its delays if its schedule is the oblivious one."""
+    """A tournament's file: its seed, its fixtures, and its delays if its schedule is
+    the oblivious one."""
 
     seed: str
     fixtures: List[Fixture]
@@ -190,7 +193,8 @@ def fixture_in(row: Dict[str, Any], folder: pathlib.Path) -> Fixture:
 
 
 def network_path(name: str, folder: pathlib.Path) -> str:
-    """The file of a network: from the working directory or, if nothing is there, from the tournament's folder."""
+    """The file of a network: from the working directory or, if nothing is there, from
+    the tournament's folder."""
     near = folder / name
     return str(near) if near.exists() and not pathlib.Path(name).exists() else name
 
@@ -215,16 +219,16 @@ def match_text(fixture: Fixture, network: str) -> str:
 
 
 def toml_of(value: Any) -> str:
-    """A text, a number or a list of these in TOML. It is what JSON spells, but for escapes of half a character, and for
-    a control character that TOML has escaped."""
+    """A text, a number or a list of these in TOML. It is what JSON spells, but for
+    escapes of half a character, and for a control character that TOML has escaped."""
     return json.dumps(value, ensure_ascii=False).replace("\x7f", "\\u007f")
 
 
 def tournament_text(
     seed: str, matches: Iterable[Tuple[Fixture, str]], delays: Optional[Delays] = None
 ) -> str:
-    """The file of a tournament: its seed, the delays of the oblivious schedule if it has that one, and its matches with
-    the files of their networks."""
+    """The file of a tournament: its seed, the delays of the oblivious schedule if it
+    has that one, and its matches with the files of their networks."""
     rows = list(matches)
     is_old = (
         all(
@@ -240,8 +244,8 @@ def tournament_text(
 
 
 def write_tournament(fixture: Fixture, folder: pathlib.Path) -> pathlib.Path:
-    """Writes a tournament of this one match, tournament.toml with network.toml beside it. The program is to be run in
-    that folder."""
+    """Writes a tournament of this one match, tournament.toml with network.toml beside
+    it. The program is to be run in that folder."""
     network = networks.Network(fixture.setup.nodes, fixture.setup.links)
     (folder / "network.toml").write_text(networks.text_of(network), encoding="utf-8")
     path = folder / "tournament.toml"

@@ -41,14 +41,15 @@ NAMES = (
 )
 GRAPHML = ".graphml"
 # bytes of a file of GraphML, and characters of a fault that are shown
-MOST_GRAPHML, MOST_SHOWN = 16 << 20, 100
+MOST_GRAPHML = 16 << 20
+MOST_SHOWN = 100
 LARGEST = 24
 LARGEST_DEGREE = 6
 
 
 def places_into(links: Sequence[Link], nodes: Collection[int]) -> List[Place]:
-    """The places, each a node and a port, from which a link leads to one of these nodes. If all of them are held,
-    nobody arrives there."""
+    """The places, each a node and a port, from which a link leads to one of these
+    nodes. If all of them are held, nobody arrives there."""
     return sorted(
         [(v, p) for v, p, w, _ in links if w in nodes]
         + [(w, q) for v, _, w, q in links if v in nodes]
@@ -83,7 +84,8 @@ def ring(nodes: int) -> Network:
 
 
 def flipped_ring(nodes: int, chance: random.Random) -> Network:
-    """A ring at whose nodes, the home base aside, the two ports may stand the other way round."""
+    """A ring at whose nodes, the home base aside, the two ports may stand the other way
+    round."""
     flips = [0] + [chance.randrange(2) for _ in range(1, nodes)]
     return Network(
         nodes,
@@ -147,7 +149,8 @@ def wheel(rim: int) -> Network:
 
 
 def petersen(nodes: int, step: int) -> Network:
-    """The generalized Petersen graph: two rings, by places of one and of another step, whose nodes are joined."""
+    """The generalized Petersen graph: two rings, by places of one and of another step,
+    whose nodes are joined."""
     if not 1 <= step < nodes / 2:
         raise ValueError("no such network")
     return of_neighbours(
@@ -160,7 +163,8 @@ def petersen(nodes: int, step: int) -> Network:
 
 
 def of_neighbours(near: Sequence[Sequence[int]]) -> Network:
-    """The network in which port P of node V leads to the node at place P of V's list."""
+    """The network in which port P of node V leads to the node at place P of V's
+    list."""
     return Network(
         len(near),
         [
@@ -184,7 +188,8 @@ def cube_connected_cycles(dimension: int) -> Network:
 
 
 def regular(nodes: int, degree: int, seed: int) -> Network:
-    """A network drawn among those whose nodes all have this degree. It may have a cut node: ask `cut_of`."""
+    """A network drawn among those whose nodes all have this degree. It may have a cut
+    node: ask `cut_of`."""
     if nodes > MOST_NODES:
         raise NoNetwork(f"a network has 3 to {MOST_NODES} nodes, and not {nodes}")
     if nodes * degree % 2 or not 2 <= degree < nodes:
@@ -230,7 +235,8 @@ def cut_of(network: Network) -> str:
 
 
 def drawn(chance: random.Random, largest: int = LARGEST) -> Network:
-    """A network made of a ring by adding ears, which makes every biconnected one, and then some links by chance."""
+    """A network made of a ring by adding ears, which makes every biconnected one, and
+    then some links by chance."""
     nodes = chance.randint(3, largest)
     size = chance.randint(3, nodes)
     pairs = [(v, (v + 1) % size) for v in range(size)]
@@ -307,8 +313,8 @@ def in_graphml(path: str) -> Network:
 
 
 def check_xml(raw: bytes) -> None:
-    """Refuses a file that takes long to read, or of which a few lines would become many: its entities stand for
-    texts, which have entities again."""
+    """Refuses a file that takes long to read, or of which a few lines would become
+    many: its entities stand for texts, which have entities again."""
     if len(raw) > MOST_GRAPHML:
         raise ValueError(f"it has more than {MOST_GRAPHML >> 20} MB")
     nodes = 0
@@ -323,7 +329,8 @@ def check_xml(raw: bytes) -> None:
             raise ValueError(f"it has more than {MOST_NODES} nodes")
 
     parser = expat.ParserCreate()
-    parser.EntityDeclHandler, parser.StartElementHandler = declared, begun
+    parser.EntityDeclHandler = declared
+    parser.StartElementHandler = begun
     parser.Parse(raw, True)
 
 
@@ -333,8 +340,8 @@ def fault_text(fault: Exception) -> str:
 
 
 def of_graph(graph: Any) -> Network:
-    """The network of a networkx graph. Nodes are numbered in the graph's order, and the ports of each node in the order
-    of its neighbours."""
+    """The network of a networkx graph. Nodes are numbered in the graph's order, and the
+    ports of each node in the order of its neighbours."""
     if (
         graph.is_directed()
         or graph.is_multigraph()
@@ -369,7 +376,8 @@ def named(name: str) -> Network:
             )
         return in_graphml(name) if name.endswith(GRAPHML) else in_file(name)
     try:
-        sizes, made = sizes_of(kind, size), MADE[kind]
+        sizes = sizes_of(kind, size)
+        made = MADE[kind]
         if not SMALLEST.get(kind, 0) <= min(sizes) or sizes[0] > LARGEST_SIZE.get(
             kind, sizes[0]
         ):
@@ -394,7 +402,8 @@ def in_range(name: str) -> List[str]:
     found = re.fullmatch(r"(\w+):(\d+)\.\.(\d+)", name)
     if not found:
         return [name]
-    first, last = int(found[2]), int(found[3])
+    first = int(found[2])
+    last = int(found[3])
     if first > last:
         raise NoNetwork(
             f"{name}: the first size is the smaller one, as in {found[1]}:{last}..{first}"
@@ -442,7 +451,8 @@ def biconnected(name: str) -> Network:
 
 
 def checked(network: Network, name: str) -> Network:
-    """The network, or else a line that says which rule it breaks, and where it can be cut."""
+    """The network, or else a line that says which rule it breaks, and where it can be
+    cut."""
     ends = [end for v, p, w, q in network.links for end in ((v, p), (w, q))]
     pairs = [frozenset((v, w)) for v, _, w, _ in network.links]
     if not 3 <= network.nodes <= MOST_NODES:

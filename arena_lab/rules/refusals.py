@@ -1,7 +1,9 @@
-"""What the program's lines about faults mean, in the words of the lab. docs/FORMATS.md has all lines."""
+"""What the program's lines about faults mean, in the words of the lab. docs/FORMATS.md
+has all lines."""
 import re
 
-# of what is behind the name of a file and the number of a match: each with what it means, in which {0} is its number
+# of what is behind the name of a file and the number of a match: each with what it
+# means, in which {0} is its number
 MEANINGS = (
     (r"head", "its first line is not the head of a replay"),
     (r"line (\d+)", "line {0} is not spelled as in a replay"),

@@ -1,1 +1,2 @@
-"""The sandbox: what keeps programs of strangers apart from each other and from the machine."""
+"""The sandbox: what keeps programs of strangers apart from each other and from the
+machine."""

@@ -1,10 +1,11 @@
-"""Which calls of the system programs behind walls may make, by their language: `calls.toml` beside this file has them.
+"""Which calls of the system programs behind walls may make, by their language:
+`calls.toml` beside this file has them.
 
     strace -f -X raw -o TRACE PROGRAM ..
     python3 -m arena_lab.sandbox.calls LANGUAGE TRACE ..
 
-The command says which calls of a program that was traced are refused to its language, and what allows them. A new
-language begins as a list of what `every` lacks.
+The command says which calls of a program that was traced are refused to its language,
+and what allows them. A new language begins as a list of what `every` lacks.
 """
 import collections
 import functools
@@ -28,18 +29,21 @@ from typing import (
 )
 
 TABLE = pathlib.Path(__file__).resolve().parent / "calls.toml"
-# the file in which one sets what programs in cells may do, as messages name it
+# the file in which one sets what programs in sandboxes may do, as messages name it
 SETTINGS = "course.toml"
-# all lists together, for a program whose language is not known; the list that each language has too; and a program that
-# the machine starts without an interpreter
-ANY, EVERY, NATIVE = "any", "every", "native"
+# all lists together, for a program whose language is not known; the list that each
+# language has too; and a program that the machine starts without an interpreter
+ANY = "any"
+EVERY = "every"
+NATIVE = "native"
 ELF = b"\x7fELF"
 # the bits of an argument that is an int
 INT = 0xFFFFFFFF
 # a line of a trace: the process, the call, and its arguments
 LINE = re.compile(r"(?:\d+ +)?(\w+)\((.*)")
 # in a trace, numbers that are joined, and what stands before those of `clone`
-NUMBERS, FLAGS = re.compile(r"[\dxa-fA-F]+(?:\|[\dxa-fA-F]+)*"), "flags="
+NUMBERS = re.compile(r"[\dxa-fA-F]+(?:\|[\dxa-fA-F]+)*")
+FLAGS = "flags="
 
 
 @functools.lru_cache(maxsize=1)
@@ -54,7 +58,8 @@ def languages() -> List[str]:
 
 
 def allowed(language: str) -> Set[str]:
-    """The calls that a language may make whatever their arguments, and those that do nothing."""
+    """The calls that a language may make whatever their arguments, and those that do
+    nothing."""
     lists = (
         [table()[EVERY]]
         if language == EVERY
@@ -84,7 +89,8 @@ def never(call: str) -> str:
 
 
 def language_of(words: str, content_of: Callable[[str], Optional[bytes]]) -> str:
-    """The language of the program that these words of a command start, as far as they and its file show it."""
+    """The language of the program that these words of a command start, as far as they
+    and its file show it."""
     first = shlex.split(words)[0]
     content = content_of(first) if "/" in first else None
     if content is not None:
@@ -109,8 +115,8 @@ def language_of(words: str, content_of: Callable[[str], Optional[bytes]]) -> str
 
 
 def refused(lines: Iterable[str], language: str) -> Tuple[Counter[str], Counter[str]]:
-    """How often a program that was traced has made each call, and each that is refused to its language, with the
-    arguments for which it is."""
+    """How often a program that was traced has made each call, and each that is refused
+    to its language, with the arguments for which it is."""
     made: Counter[str] = collections.Counter()
     found: Counter[str] = collections.Counter()
     known = allowed(language)
@@ -118,9 +124,8 @@ def refused(lines: Iterable[str], language: str) -> Tuple[Counter[str], Counter[
         matched = LINE.match(line)
         if matched is None:
             continue
-        call, rows = matched[1], [
-            row for row in table()["arguments"] if row["call"] == matched[1]
-        ]
+        call = matched[1]
+        rows = [row for row in table()["arguments"] if row["call"] == matched[1]]
         made[call] += 1
         numbers = numbers_in(call, matched[2])
         if rows and not any(is_allowed(row, numbers) for row in rows):

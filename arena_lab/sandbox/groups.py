@@ -1,9 +1,12 @@
-"""Control groups of Linux, version 2, for programs of strangers: the kernel bounds what a program takes of memory and
-of processes with all that it starts, also memory that belongs to no process.
+"""Control groups of Linux, version 2, for programs of strangers: the kernel bounds what
+a program takes of memory and of processes with all that it starts, also memory that
+belongs to no process.
 
-The lab makes a group for each program, if it may divide the group in which it was started: it may write there, and no
-other process is in it. So it is in a scope of systemd, by `systemd-run --user --scope -p Delegate=yes` before the
-command, and for root by the same without `--user`; and for root in the first group of a machine or of a container.
+The lab makes a group for each program, if it may divide the group in which it was
+started: it may write there, and no other process is in it. So it is in a scope of
+systemd, by `systemd-run --user --scope -p Delegate=yes` before the command, and for
+root by the same without `--user`; and for root in the first group of a machine or of a
+container.
 """
 import contextlib
 import itertools
@@ -15,23 +18,24 @@ from typing import Iterator, List, Optional
 from arena_lab.sandbox import processes, watch
 
 # where groups are, and which is that of this process
-MOUNTS, OWN = ("/sys/fs/cgroup", "/sys/fs/cgroup/unified"), pathlib.Path(
-    "/proc/self/cgroup"
-)
-CONTROLLERS, SUBTREE, PROCESSES, KIND = (
-    "cgroup.controllers",
-    "cgroup.subtree_control",
-    "cgroup.procs",
-    "cgroup.type",
-)
+MOUNTS = ("/sys/fs/cgroup", "/sys/fs/cgroup/unified")
+OWN = pathlib.Path("/proc/self/cgroup")
+CONTROLLERS = "cgroup.controllers"
+SUBTREE = "cgroup.subtree_control"
+PROCESSES = "cgroup.procs"
+KIND = "cgroup.type"
 NEEDED = {"memory", "pids"}
-# the names of groups: of the lab itself, and of programs; behind it stands the lab's process
-OF_LAB, OF_PROGRAM = "arena-lab-", "arena-program-"
-# processes and threads of a program: its own bound holds before, and its cell has some too
+# the names of groups: of the lab itself, and of programs; behind it stands the lab's
+# process
+OF_LAB = "arena-lab-"
+OF_PROGRAM = "arena-program-"
+# processes and threads of a program: its own bound holds before, and its sandbox has
+# some too
 MOST_PROCESSES = 288
 # a shell joins a group, and becomes the program
 JOIN = 'echo 0 > "$0" && exec "$@"'
-SECONDS_TO_END, BETWEEN = 10.0, 0.005
+SECONDS_TO_END = 10.0
+BETWEEN = 0.005
 NUMBERS = itertools.count()
 
 
@@ -42,7 +46,8 @@ class ControlGroup:
         self._folder = folder
 
     def bound(self) -> None:
-        """Writes the bounds. Not every system has swap, and older ones end one process where all should end."""
+        """Writes the bounds. Not every system has swap, and older ones end one process
+        where all should end."""
         write(self._folder / "memory.max", str(watch.MOST))
         with contextlib.suppress(OSError):
             write(self._folder / "memory.swap.max", "0")
@@ -51,7 +56,8 @@ class ControlGroup:
         write(self._folder / "pids.max", str(MOST_PROCESSES))
 
     def words(self) -> List[str]:
-        """What stands before the words of a program so that it is in the group from its start."""
+        """What stands before the words of a program so that it is in the group from its
+        start."""
         return ["sh", "-c", JOIN, str(self._folder / PROCESSES)]
 
     def has_met_its_bound(self) -> bool:
@@ -74,9 +80,9 @@ class ControlGroup:
 
 @contextlib.contextmanager
 def divided() -> Iterator[str]:
-    """The folder of the group that has those of programs, as long as it is open, or nothing if there can be none. The
-    lab's own processes are in a group beside those of programs, as the kernel wants it.
-    """
+    """The folder of the group that has those of programs, as long as it is open, or
+    nothing if there can be none. The lab's own processes are in a group beside those of
+    programs, as the kernel wants it."""
     own = own_group()
     if own is None:
         yield ""
@@ -105,8 +111,8 @@ def divided() -> Iterator[str]:
 
 @contextlib.contextmanager
 def group_in(folder: str) -> Iterator[Optional[ControlGroup]]:
-    """A new group for a program in this folder, or none if the folder has no name. All in it is ended, and it is
-    removed."""
+    """A new group for a program in this folder, or none if the folder has no name. All
+    in it is ended, and it is removed."""
     if not folder:
         yield None
         return

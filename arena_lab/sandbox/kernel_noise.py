@@ -1,5 +1,6 @@
-"""Has the numbers that the kernel gives on one processor go on by numbers that nobody knows: those of pipes, of
-sockets, and of memory that processes share. Each processor counts for itself.
+"""Has the numbers that the kernel gives on one processor go on by numbers that nobody
+knows: those of pipes, of sockets, and of memory that processes share. Each processor
+counts for itself.
 
     python3 kernel_noise.py PROCESSOR
 """

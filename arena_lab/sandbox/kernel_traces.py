@@ -16,8 +16,8 @@ class CannotForget(Fault):
 
 
 def stir() -> None:
-    """Has the numbers of pipes and sockets, and those of memory that processes share, go on by numbers that nobody
-    knows, on all processors at a time."""
+    """Has the numbers of pipes and sockets, and those of memory that processes share,
+    go on by numbers that nobody knows, on all processors at a time."""
     children = [
         subprocess.Popen([sys.executable, "-I", "-S", str(STIRRING), str(processor)])
         for processor in os.sched_getaffinity(0)
@@ -27,7 +27,8 @@ def stir() -> None:
 
 
 def forget() -> None:
-    """Has the machine forget which names of files there are not, and what it has read of files."""
+    """Has the machine forget which names of files there are not, and what it has read
+    of files."""
     os.sync()
     try:
         CACHES.write_text("3\n")

@@ -1,10 +1,11 @@
 """A copy of the system in memory, which is what programs behind walls see of it.
 
-The kernel keeps names of files that do not exist, and what it has read of a disk: so a program can leave a note for a
-later one by looking for names, and it sees how much of the disk is free. A file system in memory keeps no such names,
-and nobody writes there. The copy has the files of Debian's packages that own the programs which commands name, of those
-on which these depend, and of the `packages` that are named besides. The folders that are named as `tools` are copied
-too, if there is room.
+The kernel keeps names of files that do not exist, and what it has read of a disk: so a
+program can leave a note for a later one by looking for names, and it sees how much of
+the disk is free. A file system in memory keeps no such names, and nobody writes there.
+The copy has the files of Debian's packages that own the programs which commands name,
+of those on which these depend, and of the `packages` that are named besides. The
+folders that are named as `tools` are copied too, if there is room.
 """
 import contextlib
 import functools
@@ -20,9 +21,11 @@ from typing import Dict, Iterable, Iterator, List, NamedTuple, Sequence, Set
 from arena_lab.sandbox.isolation import PATH, SETTINGS, TOOLS
 
 # where file systems in memory are, and how many bytes of them a copy may take
-PLACES, MOST = ("/dev/shm", os.environ.get("XDG_RUNTIME_DIR", "/dev/shm")), 1 << 30
+PLACES = ("/dev/shm", os.environ.get("XDG_RUNTIME_DIR", "/dev/shm"))
+MOST = 1 << 30
 PREFIX = "lab-root-"
-# what each program may need: its cell is begun by Python and tar, and scripts by a shell
+# what each program may need: its sandbox is begun by Python and tar, and scripts by a
+# shell
 ALWAYS = (
     "python3",
     "tar",
@@ -43,7 +46,8 @@ LEFT_OUT = (
     "/usr/share/lintian/",
 )
 MOST_LINKS = 40
-CACHE, CHOSEN = "__pycache__", "/etc/alternatives/"
+CACHE = "__pycache__"
+CHOSEN = "/etc/alternatives/"
 
 
 class NoCopy(Exception):
@@ -51,8 +55,8 @@ class NoCopy(Exception):
 
 
 class Package(NamedTuple):
-    """A package that is installed: the file that lists its files, and what it needs, each as names of which one will
-    do."""
+    """A package that is installed: the file that lists its files, and what it needs,
+    each as names of which one will do."""
 
     listed: pathlib.Path
     needs: List[List[str]]
@@ -62,7 +66,8 @@ class Package(NamedTuple):
 def copied(
     commands: Iterable[str], packages: Sequence[str], tools: Sequence[str] = ()
 ) -> Iterator[str]:
-    """The folder of a copy for these commands, and these packages and tools besides, as long as it is open."""
+    """The folder of a copy for these commands, and these packages and tools besides, as
+    long as it is open."""
     remove_left()
     paths = files_of(closure([*ALWAYS, *packages, *owners(commands, tools)]))
     size = sum(os.lstat(path).st_size for path in paths)
@@ -99,7 +104,8 @@ def copied(
 
 
 def copy(source: str, target: str, chosen: Sequence[str], names: bytes = b"") -> None:
-    """Copies files from a folder to another, as `tar` chooses them by these words and names."""
+    """Copies files from a folder to another, as `tar` chooses them by these words and
+    names."""
     made = subprocess.run(
         ["tar", "-C", source, "-cf", "-", *chosen], input=names, capture_output=True
     )
@@ -136,7 +142,8 @@ def remove_left() -> None:
 
 
 def owners(commands: Iterable[str], tools: Sequence[str] = ()) -> List[str]:
-    """The packages that own the programs and other files of the system which commands name, but for those of tools."""
+    """The packages that own the programs and other files of the system which commands
+    name, but for those of tools."""
     words = {word for command in commands for word in re.findall(r"[\w.+/-]+", command)}
     files = [
         word for word in words if word.startswith("/usr/") and os.path.isfile(word)
@@ -188,7 +195,8 @@ def way_of(path: str) -> List[str]:
 
 @functools.lru_cache(maxsize=1)
 def installed() -> Dict[str, Package]:
-    """The packages that are installed by their names, and by those of what they provide."""
+    """The packages that are installed by their names, and by those of what they
+    provide."""
     form = "${db:Status-Abbrev}\t${Package}\t${Architecture}\t${Provides}\t${Pre-Depends}, ${Depends}\n"
     try:
         ran = subprocess.run(
@@ -224,7 +232,9 @@ def alternatives(text: str) -> List[List[str]]:
 
 def closure(names: Iterable[str]) -> List[Package]:
     """The packages of these names, and all that they need."""
-    known, waiting, found = installed(), list(names), {}
+    known = installed()
+    waiting = list(names)
+    found = {}
     for name in waiting:
         if name not in known:
             raise NoCopy(
@@ -243,7 +253,8 @@ def closure(names: Iterable[str]) -> List[Package]:
 
 
 def files_of(packages: Iterable[Package]) -> List[str]:
-    """What programs see of these packages, a folder before what is in it, and the settings of the system."""
+    """What programs see of these packages, a folder before what is in it, and the
+    settings of the system."""
     found: Set[str] = set()
     for package in packages:
         for line in package.listed.read_text(
@@ -254,7 +265,8 @@ def files_of(packages: Iterable[Package]) -> List[str]:
             )
             if path.startswith("/usr/") and not path.startswith(LEFT_OUT):
                 found.add(path)
-    # what Python has compiled is listed nowhere, and neither is which of several programs has a common name
+    # what Python has compiled is listed nowhere, and neither is which of several
+    # programs has a common name
     found |= {
         it.path
         for it in os.scandir("/usr/bin")

@@ -1,5 +1,5 @@
-"""Users without a name, for programs of strangers: each is claimed by a lock, so that no two programs on a machine are
-the same user, whichever commands start them."""
+"""Users without a name, for programs of strangers: each is claimed by a lock, so that
+no two programs on a machine are the same user, whichever commands start them."""
 import contextlib
 import fcntl
 import functools
@@ -61,7 +61,8 @@ def end_all_of(user: int) -> None:
     while found := processes_of(user):
         if time.monotonic() > until:
             raise NoUser(f"processes of user {user} do not end: {found[:5]}")
-        # as that user, so that all of them are told in one call, also those that begin meanwhile
+        # as that user, so that all of them are told in one call, also those that begin
+        # meanwhile
         subprocess.run(
             [
                 "setpriv",
@@ -81,7 +82,8 @@ def end_all_of(user: int) -> None:
 
 
 def end_and_remove(user: int) -> None:
-    """Ends all processes of a user, and removes what it has left in the folders where all may write."""
+    """Ends all processes of a user, and removes what it has left in the folders where
+    all may write."""
     end_all_of(user)
     subprocess.run(
         ["find", *SHARED, "-xdev", "-user", str(user), "-delete"],
@@ -94,7 +96,8 @@ def processes_of(user: int) -> List[int]:
     found = []
     for process in processes.listed():
         with contextlib.suppress(OSError):
-            # a process can choose its name, which stands in the first line, and whose its files are
+            # a process can choose its name, which stands in the first line, and whose
+            # its files are
             lines = (
                 (processes.PROC / str(process) / "status").read_bytes().split(b"\n")[1:]
             )

@@ -1,7 +1,9 @@
-"""Watches how much memory the programs of a match take, each with all that it has started. The system bounds the memory
-of one process; a program has many. What is counted is seen a few times a second, so a quick program may take somewhat
-more before it is ended. Pages of its processes, their tables, and shared memory by its size are counted. Memory that
-belongs to no process, such as what waits in pipes and sockets, is bounded by the number of files and processes alone.
+"""Watches how much memory the programs of a match take, each with all that it has
+started. The system bounds the memory of one process; a program has many. What is
+counted is seen a few times a second, so a quick program may take somewhat more before
+it is ended. Pages of its processes, their tables, and shared memory by its size are
+counted. Memory that belongs to no process, such as what waits in pipes and sockets, is
+bounded by the number of files and processes alone.
 """
 import contextlib
 import os
@@ -9,24 +11,26 @@ import pathlib
 import threading
 from typing import Any, Callable, Dict, Sequence
 
-# bytes of memory of a program with all that it has started, and how often it is looked at, in seconds
-MOST, EVERY = 2 << 30, 0.05
+# bytes of memory of a program with all that it has started, and how often it is looked
+# at, in seconds
+MOST = 2 << 30
+EVERY = 0.05
 TOO_MUCH = f"has taken more than {MOST >> 30} GB of memory with all that it has started"
 PAGE = os.sysconf("SC_PAGE_SIZE")
 # what the system holds for each file in memory, besides its bytes
 BYTES_OF_A_FILE = 1024
-# lines of /proc/PROCESS/status: pages of its own and of files, and what tables of pages take; of smaps_rollup the
-# shares of the first; and how maps end that are of shared memory without a name
-OWN, TABLES, SHARES = (
-    ("RssAnon:", "RssFile:", "VmSwap:"),
-    ("VmPTE:",),
-    ("Pss_Anon:", "Pss_File:", "SwapPss:"),
-)
+# lines of /proc/PROCESS/status: pages of its own and of files, and what tables of pages
+# take; of smaps_rollup the shares of the first; and how maps end that are of shared
+# memory without a name
+OWN = ("RssAnon:", "RssFile:", "VmSwap:")
+TABLES = ("VmPTE:",)
+SHARES = ("Pss_Anon:", "Pss_File:", "SwapPss:")
 SHARED = "/dev/zero (deleted)"
 
 
 class MemoryWatch:
-    """While it is open, looks at all programs, and ends one that takes too much by its own call."""
+    """While it is open, looks at all programs, and ends one that takes too much by its
+    own call."""
 
     def __init__(
         self, looks: Sequence[Callable[[], bool]], ends: Sequence[Callable[[str], None]]
@@ -54,9 +58,10 @@ class MemoryWatch:
 
 
 def memory_of(processes: Sequence[int]) -> int:
-    """The bytes of memory that these processes take. Who has few addresses takes little; else tables of pages count
-    too, and memory that processes share by its size, as what they have given back of it is taken all the same. Pages of
-    their own that several have count once, if it may matter."""
+    """The bytes of memory that these processes take. Who has few addresses takes
+    little; else tables of pages count too, and memory that processes share by its size,
+    as what they have given back of it is taken all the same. Pages of their own that
+    several have count once, if it may matter."""
     addresses, resident = (
         sum(
             counted(process, "statm", lambda text: int(text.split()[column]) * PAGE)
@@ -97,7 +102,8 @@ def bytes_in(text: str, names: Sequence[str]) -> int:
 
 
 def sizes_of_shared(processes: Sequence[int]) -> Dict[str, int]:
-    """The bytes of each piece of memory without a name that processes share, by its number."""
+    """The bytes of each piece of memory without a name that processes share, by its
+    number."""
     found: Dict[str, int] = {}
     for process in processes:
         with contextlib.suppress(OSError, ValueError):

@@ -1,4 +1,5 @@
-"""The programs of agents, each by itself: how they begin, and their next step after a reply or a wake-up."""
+"""The programs of agents, each by itself: how they begin, and their next step after a
+reply or a wake-up."""
 import collections
 from typing import Any, Deque, Dict, List, NamedTuple, Optional, Sequence, Tuple
 
@@ -19,12 +20,17 @@ from arena_lab.rules.model import (
 )
 from arena_lab.search.history_tree import EARLY, NoFunction
 
-SAYS, SLEEP, STOP, FAIL, LEAVE = "says", "sleeps", "stops", "fails", b'{"do":"leave"}'
+SAYS = "says"
+SLEEP = "sleeps"
+STOP = "stops"
+FAIL = "fails"
+LEAVE = b'{"do":"leave"}'
 # the last replies to an agent, and the replies after which it sees nothing
 ENDS = {spelled(reply) for reply in LAST}
 OVER = spelled(TOLD_OVER)
 BLIND = ENDS | {DEPARTED}
-# how a memory was met first: from which memory, or from the start of which agent, and by what
+# how a memory was met first: from which memory, or from the start of which agent, and
+# by what
 Way = Tuple[int, str]
 
 
@@ -66,7 +72,8 @@ class AgentProcess:
 
     def step(self) -> AgentStep:
         """What the program does next."""
-        player, is_over = self.player, self.is_denied or self.has_ended
+        player = self.player
+        is_over = self.is_denied or self.has_ended
         if player.fault is not None:
             return AgentStep(FAIL)
         if player.state == SLEEPS and not is_over:
@@ -92,22 +99,24 @@ class AgentProcesses:
     def __init__(
         self, fixture: Fixture, agents: List[AgentWords], seconds: float
     ) -> None:
-        self._fixture, self._agents = fixture, agents
+        self._fixture = fixture
+        self._agents = agents
         inside = [agent for agent in agents if agent.kind == INSIDE]
         self._scripts: Dict[str, Script] = {
             agent.words: agent.script(fixture.setup) for agent in inside
         }
         # the team inside the lab, whose clocks end programs that compute without end
-        self.team, self._outside = Team(fixture.keys, {}, seconds), programs.Team(
-            fixture, {}, seconds
-        )
-        self.start, self.stop = self.team.start, self.team.stop
+        self.team = Team(fixture.keys, {}, seconds)
+        self._outside = programs.Team(fixture, {}, seconds)
+        self.start = self.team.start
+        self.stop = self.team.stop
         # what the programs of all agents inside the lab read and reach
         self.notes = Notes()
 
     def begun(self, agent: int) -> AgentProcess:
         """The program of an agent, which has begun."""
-        words, key = self._agents[agent].words, self._fixture.keys[agent]
+        words = self._agents[agent].words
+        key = self._fixture.keys[agent]
         if self._agents[agent].kind == INSIDE:
             player: Any = Player(self.team, agent, key, self._scripts[words])
             vars(player._thread)["notes"] = self.notes
@@ -125,7 +134,8 @@ class AgentProcesses:
         return one
 
     def tell_all(self, one: AgentProcess, all_news: Sequence[str]) -> None:
-        """Takes a program along noted news. One inside the lab takes most of them in one turn: see `Player.receive`."""
+        """Takes a program along noted news. One inside the lab takes most of them in
+        one turn: see `Player.receive`."""
         ahead = collections.deque(all_news)
         while ahead:
             self.tell(one, ahead.popleft(), ahead)
@@ -151,9 +161,11 @@ class AgentProcesses:
 
     def _heard(self, one: AgentProcess, news: str, ahead: Optional[Deque[str]]) -> str:
         """Has a program hear a line or wake; gives the last news that it took."""
-        player, before = one.player, tuple(ahead or ())
+        player = one.player
+        before = tuple(ahead or ())
         if isinstance(player, Player):
-            player.latest, player.ahead = news, ahead
+            player.latest = news
+            player.ahead = ahead
         if news == WAKES:
             player.go_on()
         else:
@@ -165,8 +177,8 @@ class AgentProcesses:
         return before[taken - 1] if taken > 0 else news
 
     def _wake(self, player: Any) -> None:
-        """Wakes an agent that sees nothing: what it does then depends on nothing that happens. It wakes as often as it
-        may, and is stuck if it still sleeps."""
+        """Wakes an agent that sees nothing: what it does then depends on nothing that
+        happens. It wakes as often as it may, and is stuck if it still sleeps."""
         for _ in range(self._fixture.naps + 1):
             if player.state == SLEEPS:
                 player.go_on()
@@ -174,14 +186,13 @@ class AgentProcesses:
             player.fault = player.fault or STUCK
 
     def _deny(self, one: AgentProcess) -> None:
-        """Denies what a server denies: a first line that does not enter by the agent's key."""
+        """Denies what a server denies: a first line that does not enter by the agent's
+        key."""
         player = one.player
         if one.has_entered or player.state != WAITS or player.line is None:
             return
-        command, own = (
-            command_of(text_of(player.line)),
-            self._fixture.keys[player.number],
-        )
+        command = command_of(text_of(player.line))
+        own = self._fixture.keys[player.number]
         key = command.get("key")
         if key in self._fixture.keys and key != own:
             player.stop("enters with the key of another agent")

@@ -2,14 +2,17 @@
 from arena_lab.search.explore import MOST_STATES
 from arena_lab.support.memory import available
 
-# bytes of a state, with room for more than was measured: in the program's search, and in the Python model's
-OF_PROGRAM, OF_MODEL = 120, 1_000
+# bytes of a state, with room for more than was measured: in the program's search, and
+# in the Python model's
+OF_PROGRAM = 120
+OF_MODEL = 1_000
 # the most that the program takes as a number of states
 MOST = 2**32 - 1
 
 
 def fitting(bytes_each: int, at_a_time: int = 1) -> int:
-    """How many states of a match fit in half of the memory that is left, if this number of matches share it."""
+    """How many states of a match fit in half of the memory that is left, if this number
+    of matches share it."""
     left = available()
     return (
         MOST_STATES

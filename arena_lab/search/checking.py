@@ -1,6 +1,6 @@
-"""How `explore` checks that agents are machines, which always answer a history alike. The agents play drawn schedules,
-other processes play histories again, the Python model searches small matches too, and merges of declared memories are
-followed."""
+"""How `explore` checks that agents are machines, which always answer a history alike.
+The agents play drawn schedules, other processes play histories again, the Python model
+searches small matches too, and merges of declared memories are followed."""
 from typing import Any, FrozenSet, NamedTuple, Optional
 
 from arena_lab.play.teams import INSIDE, Matches
@@ -13,8 +13,10 @@ from arena_lab.search.machines import Machines
 from arena_lab.search.history_tree import NoFunction
 from arena_lab.search.played_apart import PROCESSES, histories_of, play_apart
 
-# for how many seconds of a processor the Python model searches a match beside the program, and how many states
-SECONDS, STATES = 1.0, 20_000
+# for how many seconds of a processor the Python model searches a match beside the
+# program, and how many states
+SECONDS = 1.0
+STATES = 20_000
 
 
 class Counted(NamedTuple):
@@ -93,17 +95,16 @@ class Checks:
 
     def __init__(self, machines: Machines, matches: Matches, schedules: int) -> None:
         """Of this many schedules each match gets its part."""
-        self._machines, self._matches, self._count = (
-            machines,
-            matches,
-            len(matches.fixtures),
-        )
+        self._machines = machines
+        self._matches = matches
+        self._count = len(matches.fixtures)
         # of modules nothing is taken for granted that could be checked
         self._wanted = 0 if machines.modules else schedules
         self._seen = self._schedules = self._searched = self._apart = 0
         # the memories before this number were told in other processes
         self._told = 0
-        # whether the Python model's search of each match has come to an end in time so far
+        # whether the Python model's search of each match has come to an end in time so
+        # far
         self._is_small = all(agent.kind == INSIDE for agent in matches.agents)
 
     def check(
@@ -142,7 +143,8 @@ class Checks:
             )
 
     def _is_searched(self, fixture: Fixture, found: Finding, shown: Any) -> bool:
-        """Whether the Python model's search comes to an end in time; then it must come to the same."""
+        """Whether the Python model's search comes to an end in time; then it must come
+        to the same."""
         try:
             beside = explored(
                 fixture,
@@ -153,7 +155,8 @@ class Checks:
                 SECONDS,
             )
         except NoFunction:
-            # it refuses agents that enter as another one, of which the program says that they fail
+            # it refuses agents that enter as another one, of which the program says
+            # that they fail
             if isinstance(found, Solves):
                 raise
             return False
@@ -178,11 +181,11 @@ class Checks:
 
 
 def compared(fixture: Fixture, found: Finding, beside: Explored) -> bool:
-    """Whether the Python model's search was as far as to be compared with what the program found; they must agree."""
+    """Whether the Python model's search was as far as to be compared with what the
+    program found; they must agree."""
     worst = beside.explorer.worst
-    has_failed, fails = worst is not None and worst.has_failed, isinstance(
-        found, FAILED
-    )
+    has_failed = worst is not None and worst.has_failed
+    fails = isinstance(found, FAILED)
     if not beside.is_whole and not has_failed:
         return False
     if has_failed != fails:

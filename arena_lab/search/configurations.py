@@ -1,9 +1,9 @@
-"""Pictures of a match: what agents and the referee can tell of it, as crates/bhs_protocols/specs/Configurations.antt
-has
-them. A candidate invariant is a test of pictures, and its file imports what it needs from here.
+"""Pictures of a match: what agents and the referee can tell of it, as
+crates/bhs_protocols/specs/Configurations.antt has them. A candidate invariant is a test
+of pictures, and its file imports what it needs from here.
 
-Positions, histories, what is used, accusations and wakings stand by the number of the agent, whiteboards by the number
-of the node.
+Positions, histories, what is used, accusations and wakings stand by the number of the
+agent, whiteboards by the number of the node.
 """
 import functools
 import json
@@ -36,7 +36,8 @@ class Before:
 
 @dataclass(frozen=True)
 class At:
-    """An agent at a node, and the port by which it came, or None if it entered there."""
+    """An agent at a node, and the port by which it came, or None if it entered
+    there."""
 
     node: int
     came: Optional[int]
@@ -78,8 +79,8 @@ class Configuration(NamedTuple):
 
 
 class Bounds(NamedTuple):
-    """The most moves that are made, agents that are lost, commands of an agent, and turns that move. Commands may be
-    one number for each agent; None bounds nothing."""
+    """The most moves that are made, agents that are lost, commands of an agent, and
+    turns that move. Commands may be one number for each agent; None bounds nothing."""
 
     moves: Optional[int] = None
     lost: Optional[int] = None
@@ -92,13 +93,13 @@ class World:
 
     def __init__(self, match: Match) -> None:
         setup = match.setup
-        self.nodes, self.home, self.holes, self.dark = (
-            setup.nodes,
-            setup.home,
-            tuple(setup.holes),
-            tuple(setup.dark),
-        )
-        self.agents, self.quota, self.board = setup.agents, setup.quota, setup.board
+        self.nodes = setup.nodes
+        self.home = setup.home
+        self.holes = tuple(setup.holes)
+        self.dark = tuple(setup.dark)
+        self.agents = setup.agents
+        self.quota = setup.quota
+        self.board = setup.board
         self._match = match
 
     def degree(self, node: int) -> int:
@@ -106,7 +107,8 @@ class World:
         return len(self._match.far[node])
 
     def far(self, node: int, port: int) -> Place:
-        """Where the link of a port leads: the node at its far end, and the label that it has there."""
+        """Where the link of a port leads: the node at its far end, and the label that
+        it has there."""
         return self._match.far[node][port]
 
     def doomed(self, node: int, port: int) -> bool:
@@ -117,7 +119,8 @@ class World:
 def held_after(
     start: Memory, after: Callable[[Memory, Item], Memory], history: History
 ) -> Memory:
-    """What an agent holds after a history, by what it holds at the start and after one thing more has happened."""
+    """What an agent holds after a history, by what it holds at the start and after one
+    thing more has happened."""
     return functools.reduce(after, reversed(history), start)
 
 

@@ -1,6 +1,7 @@
-"""The one driver of `arena explore`: the matches of a game, whose schedules the program tries or draws, up to the first
-match that fails or is not tried as a whole. This process tries them, or several, or the workers of a Dask scheduler.
-Each process has machines of its own, which its matches share."""
+"""The one driver of `arena explore`: the matches of a game, whose schedules the program
+tries or draws, up to the first match that fails or is not tried as a whole. This
+process tries them, or several, or the workers of a Dask scheduler. Each process has
+machines of its own, which its matches share."""
 import contextlib
 import multiprocessing.util
 import pickle
@@ -33,7 +34,8 @@ from arena_lab.support.progress import NO_PROGRESS
 
 # how many drawn schedules of a search are played by the agents
 CHECKED = 20
-# what is made of a match that the program has tried, such as one that the Python model searches too
+# what is made of a match that the program has tried, such as one that the Python model
+# searches too
 After = Callable[[MatchResult, Any], MatchResult]
 
 
@@ -74,7 +76,8 @@ class LocalMatches:
     """The matches of a game that this process tries."""
 
     def __init__(self, job: ExploreJob) -> None:
-        self._job, matches = job, job.matches
+        self._job = job
+        matches = job.matches
         self._machines = Machines(
             matches.fixtures[0],
             matches.agents,
@@ -83,11 +86,13 @@ class LocalMatches:
         )
         self._checks = Checks(self._machines, matches, job.check)
         self._machines.start()
-        self.stop, self.read = self._machines.stop, self._machines.read
+        self.stop = self._machines.stop
+        self.read = self._machines.read
 
     def done(self, number: int, shown: Any = NO_PROGRESS) -> ExploreJobResult:
         """Tries the match of a number, and checks it."""
-        fixture, counted = self._job.matches.fixtures[number], self._checks.counted()
+        fixture = self._job.matches.fixtures[number]
+        counted = self._checks.counted()
         tried = MatchResult(
             fixture,
             asked(
@@ -110,7 +115,8 @@ HERE: Dict[bytes, LocalMatches] = {}
 
 
 def here(job: ExploreJob) -> LocalMatches:
-    """The matches of a job in this process. Asked to end, it ends the program that searches first."""
+    """The matches of a job in this process. Asked to end, it ends the program that
+    searches first."""
     sent = pickle.dumps(job)
     if sent not in HERE:
         HERE.clear()
@@ -121,7 +127,8 @@ def here(job: ExploreJob) -> LocalMatches:
 
 
 class Search:
-    """The matches of a game that were tried so far, what was checked of them, and the seconds that it took."""
+    """The matches of a game that were tried so far, what was checked of them, and the
+    seconds that it took."""
 
     def __init__(
         self,
@@ -130,10 +137,14 @@ class Search:
         before: Sequence[MatchResult] = (),
         after: After = lambda tried, _: tried,
     ) -> None:
-        """This process tries them if no way is named. Those of earlier runs come first, and are not tried again."""
+        """This process tries them if no way is named. Those of earlier runs come first,
+        and are not tried again."""
         self.tries: List[MatchResult] = list(before)
-        self.checks, self.seconds = Counted(), 0.0
-        self._job, self._way, self._after = job, way, after
+        self.checks = Counted()
+        self.seconds = 0.0
+        self._job = job
+        self._way = way
+        self._after = after
 
     def tried(self, shown: Any) -> Iterator[MatchResult]:
         """Tries the matches; they come in their order, each once it was checked."""

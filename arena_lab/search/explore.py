@@ -1,8 +1,9 @@
 """Tries every schedule of a match: the states of the Python model, each visited once.
 
-Two matches go on alike once each agent has met the same, each whiteboard says the same, and each sleeper has woken
-equally often: an agent's answers are a function of its past, which is the arena's own theorem. A step that neither
-reads nor writes a whiteboard, such as a departure, changes nothing for anybody else, now or later, so it is taken at
+Two matches go on alike once each agent has met the same, each whiteboard says the same,
+and each sleeper has woken equally often: an agent's answers are a function of its past,
+which is the arena's own theorem. A step that neither reads nor writes a whiteboard,
+such as a departure, changes nothing for anybody else, now or later, so it is taken at
 once and no other order is tried.
 """
 import math
@@ -29,7 +30,8 @@ class TooMany(Exception):
 
 
 class End(NamedTuple):
-    """A way in which the match ends: whether it is a failure, its verdict, and the number of its state."""
+    """A way in which the match ends: whether it is a failure, its verdict, and the
+    number of its state."""
 
     has_failed: bool
     verdict: Verdict
@@ -40,7 +42,8 @@ class End(NamedTuple):
 
 
 class Explorer:
-    """All states of one match. Of each state it keeps the state before it, and the agent that moved."""
+    """All states of one match. Of each state it keeps the state before it, and the
+    agent that moved."""
 
     def __init__(
         self, fixture: Fixture, team: Team, scripts: List[Any], most: int
@@ -56,24 +59,28 @@ class Explorer:
             for number, script in enumerate(scripts)
         ]
         self._seen: Set[Tuple[int, ...]] = set()
-        self._before, self._moved = array("q"), array("b")
+        self._before = array("q")
+        self._moved = array("b")
         self._texts: Dict[str, int] = {}
 
     def states(self) -> int:
         return len(self._before)
 
     def explore(self) -> Iterator[int]:
-        """Visits all states, up to the first failure; gives now and then how many were visited since."""
+        """Visits all states, up to the first failure; gives now and then how many were
+        visited since."""
         start = self._start()
         self._new(start, -1, -1)
-        left, counted = [(start, 0)], 0
+        left = [(start, 0)]
+        counted = 0
         while left:
             state, number = left.pop()
             movers = self._movers(state)
             if not movers and self._end(state, number):
                 return
             for agent in movers:
-                after, count = self._after(state, agent), self.states()
+                after = self._after(state, agent)
+                count = self.states()
                 if self._new(after, number, agent):
                     left.append((after, count))
             if self.states() - counted >= 1000:
@@ -90,7 +97,8 @@ class Explorer:
         while self._before[number] >= 0:
             agents.append(self._moved[number])
             number = self._before[number]
-        state, choices = self._start(), []
+        state = self._start()
+        choices = []
         for agent in reversed(agents):
             choices.append(Choice(DOES[state.pasts[agent].state], agent))
             state = self._after(state, agent)
@@ -122,7 +130,8 @@ class Explorer:
         return True
 
     def _movers(self, state: HistoryState) -> List[int]:
-        """The agents whose next steps are to be tried: one that meets nobody by itself."""
+        """The agents whose next steps are to be tried: one that meets nobody by
+        itself."""
         movers = [
             agent
             for agent, past in enumerate(state.pasts)
@@ -230,7 +239,8 @@ def check_inside(game: Game) -> None:
 
 
 def tried(game: Game, states: int, shown: Any) -> Iterator[Explored]:
-    """Tries the schedules of each match of a game, up to one that fails or has too many states."""
+    """Tries the schedules of each match of a game, up to one that fails or has too many
+    states."""
     check_inside(game)
     for fixture in game.fixtures():
         found = explored(fixture, game.agents, shown, states, game.limit)
@@ -248,11 +258,9 @@ def explored(
     seconds: float = math.inf,
 ) -> Explored:
     """Tries the schedules of one match, for this many seconds of a processor."""
-    team, started, until = (
-        Team(fixture.keys, {}, limit),
-        time.monotonic(),
-        time.process_time() + seconds,
-    )
+    team = Team(fixture.keys, {}, limit)
+    started = time.monotonic()
+    until = time.process_time() + seconds
     team.start()
     try:
         scripts = [agent.script(fixture.setup) for agent in agents]
@@ -264,8 +272,9 @@ def explored(
 
 
 def is_visited(explorer: Explorer, shown: Any, until: float = math.inf) -> bool:
-    """Visits all states, and shows how many; gives whether it came to the end: before these seconds of a processor,
-    with no more states than are allowed, and not interrupted."""
+    """Visits all states, and shows how many; gives whether it came to the end: before
+    these seconds of a processor, with no more states than are allowed, and not
+    interrupted."""
     try:
         for count in explorer.explore():
             shown.update(count)

@@ -1,4 +1,5 @@
-"""What the program finds of the schedules of a match (`arena explore`), each kind as a type of its own."""
+"""What the program finds of the schedules of a match (`arena explore`), each kind as a
+type of its own."""
 import dataclasses
 from typing import (
     Any,
@@ -50,7 +51,8 @@ class Fails:
 
 @dataclasses.dataclass(frozen=True)
 class Breaks:
-    """Under this schedule an agent fails: its program does, at the close or before, or it sleeps for ever."""
+    """Under this schedule an agent fails: its program does, at the close or before, or
+    it sleeps for ever."""
 
     agent: int
     failure: str
@@ -59,8 +61,8 @@ class Breaks:
 
 @dataclasses.dataclass(frozen=True)
 class Endless:
-    """Behind this schedule a round of turns may be repeated for ever; if it is fair, each agent that can move
-    throughout it has a turn in it."""
+    """Behind this schedule a round of turns may be repeated for ever; if it is fair,
+    each agent that can move throughout it has a turn in it."""
 
     schedule: Turns
     round: Turns
@@ -69,7 +71,8 @@ class Endless:
 
 @dataclasses.dataclass(frozen=True)
 class Exceeds:
-    """An agent may use this many commands, which are more than its quota. Of the match nothing is said."""
+    """An agent may use this many commands, which are more than its quota. Of the match
+    nothing is said."""
 
     agent: int
     commands: int
@@ -77,7 +80,8 @@ class Exceeds:
 
 Failed = Union[Fails, Breaks, Endless]
 Finding = Union[Solves, Comes, Failed, Exceeds]
-SOLVED, FAILED = (Solves, Comes), (Fails, Breaks, Endless)
+SOLVED = (Solves, Comes)
+FAILED = (Fails, Breaks, Endless)
 
 
 def name_of(kind: Type[Any]) -> str:
@@ -91,8 +95,8 @@ KINDS: Dict[str, Type[Any]] = {
 
 
 class SampleCounts(NamedTuple):
-    """How many drawn schedules solve a match and fail, their turns, and how many come to each number of moves and of
-    lost agents."""
+    """How many drawn schedules solve a match and fail, their turns, and how many come
+    to each number of moves and of lost agents."""
 
     solved: int
     failed: int
@@ -102,8 +106,8 @@ class SampleCounts(NamedTuple):
 
 
 class ModuleRun(NamedTuple):
-    """The module that an agent of a match runs, or all run, by its SHA-256, and how the first one failed, in which
-    function."""
+    """The module that an agent of a match runs, or all run, by its SHA-256, and how the
+    first one failed, in which function."""
 
     module: str
     failure: Optional[str] = None
@@ -111,10 +115,11 @@ class ModuleRun(NamedTuple):
 
 
 class ExploreAnswer(NamedTuple):
-    """What the program found in one match, in how many seconds, and how much it visited or drew. If `found` is None, it
-    was stopped before all was visited, and `why` says why. `unwoken` counts the memories that sleep and go on to
-    something that was never asked, if they wake once more and see the same: agents that hold them have napped as often
-    as they may."""
+    """What the program found in one match, in how many seconds, and how much it visited
+    or drew. If `found` is None, it was stopped before all was visited, and `why` says
+    why. `unwoken` counts the memories that sleep and go on to something that was never
+    asked, if they wake once more and see the same: agents that hold them have napped as
+    often as they may."""
 
     found: Optional[Finding]
     seconds: float

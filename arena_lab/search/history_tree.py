@@ -1,7 +1,9 @@
-"""The pasts of an agent as a tree. Each past stands there once, with what the agent's program does next.
+"""The pasts of an agent as a tree. Each past stands there once, with what the agent's
+program does next.
 
-An agent's program is a function of what it is told. So its past says where it is, what it has used and which line it
-sends next. To continue a past after which no program waits, its program is run again from the start.
+An agent's program is a function of what it is told. So its past says where it is, what
+it has used and which line it sends next. To continue a past after which no program
+waits, its program is run again from the start.
 """
 import collections
 import copy
@@ -33,7 +35,8 @@ EARLY = "agent {} sends a line before it has arrived: explore needs agents that 
 
 
 class NoFunction(Fault):
-    """An agent's program cannot be explored: it does something else when it is told the same, or is another's."""
+    """An agent's program cannot be explored: it does something else when it is told the
+    same, or is another's."""
 
 
 class Past:
@@ -60,7 +63,8 @@ class Past:
         self.is_local = False
         self.number = 0
         self.later: Dict[Tuple[str, ...], "Past"] = {}
-        # what comes of the agent's next step, by the text of the whiteboard that it meets: its past, and the text then
+        # what comes of the agent's next step, by the text of the whiteboard that it
+        # meets: its past, and the text then
         self.steps: Dict[str, Tuple["Past", str]] = {}
 
 
@@ -99,7 +103,8 @@ class Pasts:
         )
 
     def step(self, past: Past, board: str) -> Tuple[Past, str]:
-        """What comes of the agent's next step: it is answered, it arrives, or it wakes."""
+        """What comes of the agent's next step: it is answered, it arrives, or it
+        wakes."""
         found = past.steps.get(board)
         if found is None:
             found = past.steps[board] = self._taken(past, board)
@@ -108,7 +113,8 @@ class Pasts:
     def _taken(self, past: Past, board: str) -> Tuple[Past, str]:
         if past.state == SLEEPS or is_unanswered(past):
             return self._next(past, (), past.agent, past.is_seated), board
-        alone, number = self._alone, self._number
+        alone = self._alone
+        number = self._number
         ahead = self.node_ahead(past)
         alone.set_alone(number, copy.copy(past.agent), past.is_seated, board)
         alone.match.boards[ahead] = board
@@ -140,7 +146,8 @@ class Pasts:
     def _next(
         self, past: Past, heard: Tuple[str, ...], agent: AgentState, is_seated: bool
     ) -> Past:
-        """The past after this one in which the agent has heard these lines, or has woken."""
+        """The past after this one in which the agent has heard these lines, or has
+        woken."""
         found = past.later.get(heard)
         if found is None:
             found = past.later[heard] = Past(past, heard, agent, is_seated)
@@ -167,16 +174,21 @@ class Pasts:
             move(player, before, past.heard)
             if past.refused >= MOST_REFUSED:
                 player.stop(IS_REFUSED)
-        past.number, self.count = self.count, self.count + 1
-        past.state, past.line, past.fault = player.state, player.line, player.fault
+        past.number = self.count
+        self.count = self.count + 1
+        past.state = player.state
+        past.line = player.line
+        past.fault = player.fault
         past.is_local = self._is_local(past)
         self._left[past] = player
         if len(self._left) > MOST_LEFT:
             self._left.popitem(last=False)[1].stop()
 
     def _is_local(self, past: Past) -> bool:
-        """Whether the agent's next step neither reads nor writes a whiteboard, so that it meets nobody."""
-        match, agent = self._alone.match, past.agent
+        """Whether the agent's next step neither reads nor writes a whiteboard, so that
+        it meets nobody."""
+        match = self._alone.match
+        agent = past.agent
         if past.state == TRAVELS:
             return agent.standing == AWAY and match.doomed(agent.node, agent.port)
         if past.state == WAITS:
@@ -193,7 +205,8 @@ class Pasts:
         return player
 
     def _player_at(self, past: Past) -> Player:
-        """A program that has met this past: one that was left there, or one that is played anew."""
+        """A program that has met this past: one that was left there, or one that is
+        played anew."""
         player = self._left.pop(past, None)
         if player is not None:
             return player
@@ -233,8 +246,8 @@ def move(player: Player, before: Past, heard: Tuple[str, ...]) -> None:
 
 
 class HistoryState(NamedTuple):
-    """How a match stands: the past of each agent, each whiteboard's text, and how often each agent has woken since the
-    whiteboard in front of it changed."""
+    """How a match stands: the past of each agent, each whiteboard's text, and how often
+    each agent has woken since the whiteboard in front of it changed."""
 
     pasts: Tuple[Past, ...]
     boards: Tuple[str, ...]

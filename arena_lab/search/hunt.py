@@ -1,9 +1,9 @@
-"""Looks for schedules: fair draws first, then Hypothesis, which changes the most promising ones and makes its find
-small.
+"""Looks for schedules: fair draws first, then Hypothesis, which changes the most
+promising ones and makes its find small.
 
-Whether a team fails has no degrees that a search could climb, and some mistakes show in one of ten fair draws and in
-one of four hundred of Hypothesis's; of others it is the other way round. So a hunt for a failure begins with the
-schedules that `run` plays.
+Whether a team fails has no degrees that a search could climb, and some mistakes show in
+one of ten fair draws and in one of four hundred of Hypothesis's; of others it is the
+other way round. So a hunt for a failure begins with the schedules that `run` plays.
 """
 import functools
 import pathlib
@@ -21,17 +21,23 @@ from arena_lab.rules.rehearsal import Rehearsal
 from arena_lab.search.minimising import Cut, Runs, noted, runs_of
 from arena_lab.support.missing import needed
 
-FAILURE, MOVES, LOST = "failure", "moves", "lost"
+FAILURE = "failure"
+MOVES = "moves"
+LOST = "lost"
 RUNS = 3000
-MOST_BLOCKS, LONGEST_BLOCK = 60, 40
-# how many schedules a hunt draws before it changes some, and how many it tries to make a drawn one small
-DRAWS, SMALLER = 300, 500
+MOST_BLOCKS = 60
+LONGEST_BLOCK = 40
+# how many schedules a hunt draws before it changes some, and how many it tries to make
+# a drawn one small
+DRAWS = 300
+SMALLER = 500
 
 Blocks = Sequence[Tuple[int, int]]
 
 
 class Hunt(NamedTuple):
-    """What a hunt looks for, in which game: a failure, the most moves or the most lost agents."""
+    """What a hunt looks for, in which game: a failure, the most moves or the most lost
+    agents."""
 
     game: Game
     looked_for: str = FAILURE
@@ -39,7 +45,8 @@ class Hunt(NamedTuple):
     runs: int = RUNS
     seed: int = 0
     database: Optional[pathlib.Path] = None
-    # whether a team fails if one of its agents does not say the same when it is repeated alone
+    # whether a team fails if one of its agents does not say the same when it is
+    # repeated alone
     repeats: bool = False
 
     def origin(self) -> str:
@@ -94,7 +101,8 @@ class Hunter:
 
     def play(self, home: int, hole: int, scheduler: Scheduler) -> Trial:
         """Plays a schedule, and keeps it if it is the best."""
-        fixture, game = self._fixture(hole, home), self.asked.game
+        fixture = self._fixture(hole, home)
+        game = self.asked.game
         played = play(
             Rehearsal(fixture),
             teams.Together(game.agents, fixture, game.limit),
@@ -121,13 +129,13 @@ class Hunter:
         return trial
 
     def draw(self) -> None:
-        """Plays the schedules that `run` draws, at most half of those that are left, until the team fails under one."""
-        first, left = self.asked.seed * DRAWS, self.asked.runs - self.tried
+        """Plays the schedules that `run` draws, at most half of those that are left,
+        until the team fails under one."""
+        first = self.asked.seed * DRAWS
+        left = self.asked.runs - self.tried
         for number in range(first, first + min(DRAWS, (left + 1) // 2)):
-            home, hole = (
-                self._homes[number // self._holes % len(self._homes)],
-                number % self._holes,
-            )
+            home = self._homes[number // self._holes % len(self._homes)]
+            hole = number % self._holes
             numbers: List[int] = []
             if self.play(home, hole, noted(fair(number), numbers)).has_failed:
                 self._make_small(home, hole, runs_of(numbers))
@@ -145,7 +153,8 @@ class Hunter:
         Cut(runs, fails, SMALLER)
 
     def search(self, phases: Sequence[str]) -> None:
-        """One search by Hypothesis; it ends early once it has what it looks for, made small."""
+        """One search by Hypothesis; it ends early once it has what it looks for, made
+        small."""
         test = self._test(phases)
         try:
             test()
@@ -153,7 +162,8 @@ class Hunter:
             # Hypothesis has no earlier find, and was told to try nothing else
             pass
         except (Stop, needed("hypothesis").errors.Flaky):
-            # flaky is what does not fail again under the same schedule, as a program that does not repeat
+            # flaky is what does not fail again under the same schedule, as a program
+            # that does not repeat
             if self.best is None or not self.best.has_failed and self.wanted is None:
                 raise
 
@@ -171,9 +181,11 @@ class Hunter:
         )
 
     def _database(self) -> Any:
-        """Where Hypothesis keeps its examples: in a folder, or as long as the hunt goes on."""
+        """Where Hypothesis keeps its examples: in a folder, or as long as the hunt goes
+        on."""
         if self._kept is None:
-            stores, folder = needed("hypothesis.database"), self.asked.database
+            stores = needed("hypothesis.database")
+            folder = self.asked.database
             self._kept = (
                 stores.DirectoryBasedExampleDatabase(folder)
                 if folder
@@ -182,7 +194,8 @@ class Hunter:
         return self._kept
 
     def _test(self, phases: Sequence[str]) -> Callable[[], None]:
-        hypothesis, asked = needed("hypothesis"), self.asked
+        hypothesis = needed("hypothesis")
+        asked = self.asked
         given = needed("hypothesis.strategies")
         settings = hypothesis.settings(
             max_examples=max(1, asked.runs - self.tried),
@@ -222,7 +235,8 @@ class Hunter:
 
 
 def hunted(hunter: Hunter) -> None:
-    """Searches, and makes what was found small. An interrupt ends the search, and leaves what was found."""
+    """Searches, and makes what was found small. An interrupt ends the search, and
+    leaves what was found."""
     try:
         if hunter.asked.looked_for == FAILURE:
             look_for_failure(hunter)
@@ -242,7 +256,8 @@ def hunted(hunter: Hunter) -> None:
 
 
 def look_for_failure(hunter: Hunter) -> None:
-    """Tries earlier finds, then draws, then lets Hypothesis search, until the team fails."""
+    """Tries earlier finds, then draws, then lets Hypothesis search, until the team
+    fails."""
     hunter.search(["reuse", "shrink"])
     if hunter.failed_at is None:
         hunter.draw()

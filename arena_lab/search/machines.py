@@ -1,11 +1,15 @@
-"""Agents as machines: what each does next is a function of its memory, and each memory has a number.
+"""Agents as machines: what each does next is a function of its memory, and each memory
+has a number.
 
-`Machines` answers which memory an agent has at the start, and which one after something has happened to it. An agent
-that is written as a step is asked (arena_lab/search/step_machines.py), and its memory is the value that it gives.
-Another one is played up to there, and its memory is its history: the agent's number and all that has happened to it. A
-program that has ended or failed does nothing more, so all its histories are one memory then. A program of its own may
-declare its memory, by a member `memory` of the line that it sends. When two of its histories lead to one memory,
-`MergeChecks` plays the second on beside the first for some steps, and reports a difference.
+`Machines` answers which memory an agent has at the start, and which one after something
+has happened to it. An agent that is written as a step is asked
+(arena_lab/search/step_machines.py), and its memory is the value that it gives. Another
+one is played up to there, and its memory is its history: the agent's number and all
+that has happened to it. A program that has ended or failed does nothing more, so all
+its histories are one memory then. A program of its own may declare its memory, by a
+member `memory` of the line that it sends. When two of its histories lead to one memory,
+`MergeChecks` plays the second on beside the first for some steps, and reports a
+difference.
 """
 import collections
 import hashlib
@@ -31,17 +35,21 @@ from arena_lab.search.history_tree import NoFunction
 from arena_lab.search.merge_checks import MERGES, MergeChecks
 from arena_lab.search.step_machines import StepMachine, StepMemory
 
-# how many programs are left where they wait, to go on from there: inside the lab, and of their own
-MOST_LEFT, MOST_PROCESSES = 4096, 200
+# how many programs are left where they wait, to go on from there: inside the lab, and
+# of their own
+MOST_LEFT = 4096
+MOST_PROCESSES = 200
 # of this many programs that are played again one is played from its start
 FROM_START = 16
 
 
 class Left:
-    """Programs that are left where they wait, by their memories; of too many the oldest end."""
+    """Programs that are left where they wait, by their memories; of too many the oldest
+    end."""
 
     def __init__(self, most: int) -> None:
-        self._most, self._count = most, 0
+        self._most = most
+        self._count = 0
         self.programs: OrderedDict[int, List[AgentProcess]] = collections.OrderedDict()
 
     def stop(self) -> None:
@@ -80,21 +88,25 @@ class Machines:
         seconds: float,
         merges: int = MERGES,
     ) -> None:
-        """Of this many merges of declared memories at least all are checked; of more, a sample."""
+        """Of this many merges of declared memories at least all are checked; of more, a
+        sample."""
         self.steps: List[AgentStep] = []
         self.asked = 0
         self.names: List[bytes] = []
         self.ways: List[Way] = []
-        # of each memory the way by which programs have come there last on the shortest one, and how long that is
+        # of each memory the way by which programs have come there last on the shortest
+        # one, and how long that is
         self._short: List[Way] = []
         self._length: List[int] = []
         # before the agents' files are loaded, which may take functions out of modules
         watch()
-        self._agents, self._processes = agents, AgentProcesses(fixture, agents, seconds)
+        self._agents = agents
+        self._processes = AgentProcesses(fixture, agents, seconds)
         self._fixture = fixture
         # modules are run by the program that searches, which then asks nothing
         self.modules = modules_of(agents)
-        # the machines of agents that are written as steps, and what stands behind the numbers of their memories
+        # the machines of agents that are written as steps, and what stands behind the
+        # numbers of their memories
         self._steps: Dict[AgentWords, StepMachine] = {}
         self._held: Dict[int, Tuple[StepMachine, StepMemory]] = {}
         self._numbers: Dict[bytes, int] = {}
@@ -124,7 +136,8 @@ class Machines:
     def begin(self, agent: int) -> int:
         """The memory of an agent at the start."""
         if agent not in self._starts:
-            words, way = self._agents[agent], (-1 - agent, "")
+            words = self._agents[agent]
+            way = (-1 - agent, "")
             if words.is_step():
                 machine = self._steps.setdefault(
                     words,
@@ -143,7 +156,8 @@ class Machines:
         return self._starts[agent]
 
     def next(self, before: int, news: str) -> int:
-        """The memory of an agent that had this one before, and that wakes now or hears this reply."""
+        """The memory of an agent that had this one before, and that wakes now or hears
+        this reply."""
         found = self._after.get((before, news))
         if found is not None:
             return found
@@ -161,7 +175,8 @@ class Machines:
         return found
 
     def news_in(self, told: bytes) -> str:
-        """What a question of the program tells an agent, as the program spells it behind the memory that it asks of."""
+        """What a question of the program tells an agent, as the program spells it
+        behind the memory that it asks of."""
         found = self._news.get(told)
         if found is None:
             question = json.loads(b"{" + told)
@@ -171,19 +186,21 @@ class Machines:
         return found
 
     def way_to(self, memory: int) -> Tuple[int, List[str]]:
-        """The agent that was played to a memory first, and what has happened to it, in order."""
+        """The agent that was played to a memory first, and what has happened to it, in
+        order."""
         return along(self.ways, memory)
 
     def steps_to(self, memory: int) -> List[AgentStep]:
-        """What the agent did that was played to a memory first: at the start, and after each thing that happened."""
+        """What the agent did that was played to a memory first: at the start, and after
+        each thing that happened."""
         return [
             *(self.steps[before] for before, _ in all_ways(self.ways, memory)[1:]),
             self.steps[memory],
         ]
 
     def seen_by(self, memory: int) -> Optional[str]:
-        """What an agent that was played to a memory is told if it looks and nothing has changed since it saw its node
-        last; None if it has seen none."""
+        """What an agent that was played to a memory is told if it looks and nothing has
+        changed since it saw its node last; None if it has seen none."""
         here: Object = {}
         for before, news in all_ways(self.ways, memory)[1:]:
             reply: Object = {} if news == WAKES else json.loads(news)
@@ -199,8 +216,10 @@ class Machines:
         return spelled(here) if here else None
 
     def seen(self) -> FrozenSet[str]:
-        """What the programs inside the lab read or reach besides replies: each ends a sentence about them."""
-        found, notes = set(self._processes.notes.reads), self._processes.notes
+        """What the programs inside the lab read or reach besides replies: each ends a
+        sentence about them."""
+        found = set(self._processes.notes.reads)
+        notes = self._processes.notes
         inside = [agent for agent in self._agents if agent.kind == INSIDE]
         packages = sorted(
             name[len(PACKAGE) :]
@@ -214,7 +233,8 @@ class Machines:
         return frozenset(found)
 
     def read(self) -> Dict[str, str]:
-        """The SHA-256 of each file that programs inside the lab have read, by their names."""
+        """The SHA-256 of each file that programs inside the lab have read, by their
+        names."""
         return read_by(self._processes.notes)
 
     def looks(self, memory: int) -> bool:
@@ -237,7 +257,8 @@ class Machines:
 
     def name_of(self, one: AgentProcess, way: Way) -> bytes:
         """A name of a program's memory, and of what it does next."""
-        step, player = one.step(), one.player
+        step = one.step()
+        player = one.player
         is_over = (
             step.does == FAIL
             or player.line is None
@@ -262,8 +283,8 @@ class Machines:
             self._left.put(memory, one)
 
     def _played(self, memory: int) -> AgentProcess:
-        """A program that is played up to a memory, from the nearest one before it at which a program is left, or from
-        its start."""
+        """A program that is played up to a memory, from the nearest one before it at
+        which a program is left, or from its start."""
         one, all_news = self._nearest(memory)
         self._processes.tell_all(one, all_news)
         if one.step() != self.steps[memory]:
@@ -274,8 +295,8 @@ class Machines:
         return one
 
     def _nearest(self, memory: int) -> Tuple[AgentProcess, List[str]]:
-        """A program before a memory, and the news that lead it there. The program was left on the way, or begins; as a
-        check one of many begins."""
+        """A program before a memory, and the news that lead it there. The program was
+        left on the way, or begins; as a check one of many begins."""
         self._replayed += 1
         if self._replayed % FROM_START:
             found = self._left_before(memory)
@@ -285,9 +306,11 @@ class Machines:
         return self._processes.begun(agent), all_news
 
     def _left_before(self, memory: int) -> Optional[Tuple[AgentProcess, List[str]]]:
-        """The nearest program that is left on the shortest way to a memory, and what it is to be told to come there.
-        Others may be nearer, but to look for them takes longer than to play on."""
-        left, short = self._left.programs, self._short
+        """The nearest program that is left on the shortest way to a memory, and what it
+        is to be told to come there. Others may be nearer, but to look for them takes
+        longer than to play on."""
+        left = self._left.programs
+        short = self._short
         all_news: List[str] = []
         while memory >= 0:
             if memory in left:
@@ -298,8 +321,8 @@ class Machines:
         return None
 
     def _number(self, one: AgentProcess, way: Way) -> int:
-        """The number of a program's memory. The program is left there, or goes on beside the one that was there
-        first."""
+        """The number of a program's memory. The program is left there, or goes on
+        beside the one that was there first."""
         name = self.name_of(one, way)
         number, is_new = self._named(name, way, one.step())
         if not is_new:
@@ -337,7 +360,8 @@ class Machines:
         return self._length[way[0]] + 1 if way[0] >= 0 else 0
 
     def _shorten(self, number: int, way: Way) -> None:
-        """Takes a way to a memory if it is shorter than those known. What is played again then takes it."""
+        """Takes a way to a memory if it is shorter than those known. What is played
+        again then takes it."""
         if self._length_of(way) < self._length[number]:
             self._short[number], self._length[number] = way, self._length_of(way)
 
@@ -351,7 +375,8 @@ def all_ways(ways: List[Way], memory: int) -> List[Way]:
 
 
 def along(ways: List[Way], memory: int) -> Tuple[int, List[str]]:
-    """The agent that comes to a memory on these ways, and what happens to it, in order."""
+    """The agent that comes to a memory on these ways, and what happens to it, in
+    order."""
     (start, _), *others = all_ways(ways, memory)
     return -1 - start, [news for _, news in others]
 

@@ -1,5 +1,6 @@
-"""A match whose schedules the program tried or drew (arena_lab/search/program_search.py), and the schedule that it
-tells, as the agents play it."""
+"""A match whose schedules the program tried or drew
+(arena_lab/search/program_search.py), and the schedule that it tells, as the agents play
+it."""
 from typing import Dict, List, NamedTuple, Optional, Sequence, Tuple, Union
 
 from arena_lab.play.matches import MatchRun
@@ -24,9 +25,9 @@ from arena_lab.search.history_tree import NoFunction
 
 
 class MatchResult(NamedTuple):
-    """A match whose schedules the program tried. `beside` is the Python model's search, where the program could not.
-    `read` has the SHA-256 of each file that its agents read; it is empty unless rows are written.
-    """
+    """A match whose schedules the program tried. `beside` is the Python model's search,
+    where the program could not. `read` has the SHA-256 of each file that its agents
+    read; it is empty unless rows are written."""
 
     fixture: Fixture
     answered: ExploreAnswer
@@ -97,9 +98,9 @@ def choices_of(
     breaks: Optional[int],
     seconds: float,
 ) -> List[Choice]:
-    """What the agents do that have these turns, one after the other. Who sleeps and sees nothing is woken at once, and
-    an agent that breaks and has not entered is denied. In the end the lost arrive where they are lost.
-    """
+    """What the agents do that have these turns, one after the other. Who sleeps and
+    sees nothing is woken at once, and an agent that breaks and has not entered is
+    denied. In the end the lost arrive where they are lost."""
     team = Together(agents, fixture, seconds)
     run = MatchRun(Rehearsal(fixture), team, fixture)
     team.start()
@@ -125,7 +126,8 @@ def choices_of(
 
 
 def wake(run: MatchRun, agent: int) -> None:
-    """Wakes an agent that sleeps on a link, or once it has ended, as often as it may."""
+    """Wakes an agent that sleeps on a link, or once it has ended, as often as it
+    may."""
     while (
         run.match.agents[agent].standing in (AWAY, ENDED)
         and Choice(WAKE, agent) in run.may_happen()

@@ -1,18 +1,21 @@
-"""Checks merges of declared memories. When a second program reaches a memory, the search takes both programs for one.
-`MergeChecks` keeps the second, gives it the same news as the first, and compares their next steps."""
+"""Checks merges of declared memories. When a second program reaches a memory, the
+search takes both programs for one. `MergeChecks` keeps the second, gives it the same
+news as the first, and compares their next steps."""
 from typing import Any, Dict, List, NamedTuple
 
 from arena_lab.search.history_tree import NoFunction
 from arena_lab.search.agent_processes import AgentProcess, Way
 
-# how many merges are all checked, and which one of those that follow is; for how many steps a program goes on beside
-# another
-MERGES, ONE_OF, STEPS = 1000, 16, 4
+# how many merges are all checked, and which one of those that follow is; for how many
+# steps a program goes on beside another
+MERGES = 1000
+ONE_OF = 16
+STEPS = 4
 
 
 class MergedProgram(NamedTuple):
-    """A program that came to a memory second, that memory, how it came there, and for how many steps it still goes
-    on."""
+    """A program that came to a memory second, that memory, how it came there, and for
+    how many steps it still goes on."""
 
     one: AgentProcess
     memory: int
@@ -24,12 +27,11 @@ class MergeChecks:
     """The programs that go on beside those that came to their memories first."""
 
     def __init__(self, machines: Any, merges: int, most_waiting: int) -> None:
-        """Of this many merges at least all are checked, unless too many programs wait beside others."""
-        self._machines, self._merges, self._most_waiting = (
-            machines,
-            merges,
-            most_waiting,
-        )
+        """Of this many merges at least all are checked, unless too many programs wait
+        beside others."""
+        self._machines = machines
+        self._merges = merges
+        self._most_waiting = most_waiting
         self.merged = self.checked = self.compared = 0
         self._waiting: Dict[int, List[MergedProgram]] = {}
         self._count = 0
@@ -41,7 +43,8 @@ class MergeChecks:
         self._waiting = {}
 
     def takes(self, memory: int, one: AgentProcess, way: Way) -> bool:
-        """Whether this program, which has come to a memory second, goes on beside the first."""
+        """Whether this program, which has come to a memory second, goes on beside the
+        first."""
         if way == self._machines.ways[memory] or one.is_over():
             return False
         self.merged += 1
@@ -58,7 +61,8 @@ class MergeChecks:
         return self.checked < self._merges or self.merged % ONE_OF == 0
 
     def answered(self, memory: int, news: str, after: int) -> None:
-        """Gives the programs that wait at a memory the news that the first one had there."""
+        """Gives the programs that wait at a memory the news that the first one had
+        there."""
         waiting = self._waiting.pop(memory, None)
         if waiting:
             self._count -= len(waiting)
@@ -78,9 +82,10 @@ class MergeChecks:
             self._step(memory, second, *told)
 
     def _step(self, memory: int, second: MergedProgram, news: str, after: int) -> None:
-        """Gives the second program the news that the first had at a memory, and compares the next steps, and after the
-        last step the memories."""
-        machines, one = self._machines, second.one
+        """Gives the second program the news that the first had at a memory, and
+        compares the next steps, and after the last step the memories."""
+        machines = self._machines
+        one = second.one
         machines.tell(one, news)
         self.compared += 1
         is_last = second.steps == 1 or one.is_over()
@@ -93,10 +98,13 @@ class MergeChecks:
         self._go_on(after, second._replace(steps=second.steps - 1))
 
     def _difference(self, second: MergedProgram, after: int) -> str:
-        """What is said of two programs that came to one memory and go on in two ways."""
-        machines, came = self._machines, second.way
+        """What is said of two programs that came to one memory and go on in two
+        ways."""
+        machines = self._machines
+        came = second.way
         agent, first = machines.way_to(after)
-        step, wanted = second.one.step(), machines.steps[after]
+        step = second.one.step()
+        wanted = machines.steps[after]
         does = (
             f"both {step}, and come to different memories"
             if step == wanted

@@ -1,7 +1,8 @@
 """Makes a schedule after which a team fails small.
 
-A schedule is taken as `hunt` takes it: as runs, each of which says which of the possible choices, and how often in a
-row; behind the last run it is always the first choice. Runs are left out and shortened as long as the team still fails.
+A schedule is taken as `hunt` takes it: as runs, each of which says which of the
+possible choices, and how often in a row; behind the last run it is always the first
+choice. Runs are left out and shortened as long as the team still fails.
 """
 import itertools
 from typing import Callable, Iterator, List, Optional, Sequence, Tuple
@@ -12,7 +13,8 @@ Runs = List[Tuple[int, int]]
 
 
 def noted(scheduler: Scheduler, numbers: List[int]) -> Scheduler:
-    """The scheduler, which notes the number of each choice that it makes among several."""
+    """The scheduler, which notes the number of each choice that it makes among
+    several."""
 
     def choose(choices: Sequence[Choice], state: MatchView) -> Choice:
         choice = scheduler(choices, state)
@@ -44,12 +46,14 @@ def tidy(runs: Runs) -> Runs:
 
 
 def size(runs: Runs) -> Tuple[int, int, int]:
-    """How large a schedule is: fewer runs are smaller, then shorter ones, then lower numbers."""
+    """How large a schedule is: fewer runs are smaller, then shorter ones, then lower
+    numbers."""
     return len(runs), sum(times for _, times in runs), sum(which for which, _ in runs)
 
 
 def smaller(runs: Runs) -> Iterator[Runs]:
-    """Smaller schedules, the smallest first: without some runs, with shorter runs, with lower numbers."""
+    """Smaller schedules, the smallest first: without some runs, with shorter runs, with
+    lower numbers."""
     yield []
     length = len(runs)
     while length := length // 2:
@@ -82,7 +86,8 @@ def in_words(runs: Runs) -> str:
 
 
 class Cut:
-    """A schedule that is made small: the runs that are left, and how many were tried."""
+    """A schedule that is made small: the runs that are left, and how many were
+    tried."""
 
     def __init__(
         self,

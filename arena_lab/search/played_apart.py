@@ -1,5 +1,6 @@
-"""Plays histories again in other processes, for each agent alone. There the order of sets and the places in memory
-differ, and no other agent has kept anything. So an agent that depends on an accident of one process differs there."""
+"""Plays histories again in other processes, for each agent alone. There the order of
+sets and the places in memory differ, and no other agent has kept anything. So an agent
+that depends on an accident of one process differs there."""
 import contextlib
 import itertools
 import os
@@ -43,8 +44,8 @@ class Told(NamedTuple):
 def histories_of(
     machines: Machines, agents: Sequence[AgentWords], first: int
 ) -> List[History]:
-    """Histories of agents inside the lab, evenly among the memories from this number on. Functions of this process are
-    in no other."""
+    """Histories of agents inside the lab, evenly among the memories from this number
+    on. Functions of this process are in no other."""
     numbers = range(first, len(machines.ways))
     found = []
     for number in numbers[:: max(1, len(numbers) // HISTORIES)]:
@@ -61,8 +62,8 @@ def play_apart(
     histories: List[History],
     seed: int,
 ) -> int:
-    """Has another process tell the agents these histories, with the order of sets of this seed; gives how many it told
-    them."""
+    """Has another process tell the agents these histories, with the order of sets of
+    this seed; gives how many it told them."""
     if not histories:
         return 0
     is_there = {history.agent for history in histories}

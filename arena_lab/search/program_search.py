@@ -1,5 +1,5 @@
-"""The program's own search through all schedules: `arena explore` asks what agents do, and the lab answers. Modules it
-runs itself, and asks nothing."""
+"""The program's own search through all schedules: `arena explore` asks what agents do,
+and the lab answers. Modules it runs itself, and asks nothing."""
 import json
 import pathlib
 import re
@@ -21,16 +21,19 @@ from arena_lab.support.progress import NO_PROGRESS
 
 TOO_MANY = "states"
 # how the program's questions begin
-BEGIN, ASK = b'{"begin":', b'{"ask":'
+BEGIN = b'{"begin":'
+ASK = b'{"ask":'
 QUESTIONS = BEGIN, ASK
-STOPPED, MORE = "stopped", "more states than were to be visited"
+STOPPED = "stopped"
+MORE = "more states than were to be visited"
 LONGER = "a drawn schedule has more turns than --max-states allows"
 # seconds between two looks at the program while it works
 PAUSE = 1.0
 
 
 class SampleRequest(NamedTuple):
-    """How many schedules are drawn of each match, from which seed, whose turn it is in them, and what is hunted for."""
+    """How many schedules are drawn of each match, from which seed, whose turn it is in
+    them, and what is hunted for."""
 
     schedules: int
     seed: int
@@ -60,7 +63,8 @@ class ProgramRun:
         self._after: Dict[Tuple[int, str], int] = {}
 
     def unwoken(self) -> int:
-        """How many memories sleep and go on to something that was never asked, if they wake and see the same."""
+        """How many memories sleep and go on to something that was never asked, if they
+        wake and see the same."""
         return sum(self._is_unwoken(memory) for memory in self.back)
 
     def _is_unwoken(self, memory: int) -> bool:
@@ -77,7 +81,8 @@ class ProgramRun:
         machines = self._machines
         if line.startswith(ASK):
             number, _, told = line[len(ASK) :].partition(b",")
-            before, news = self.back[int(number)], machines.news_in(told)
+            before = self.back[int(number)]
+            news = machines.news_in(told)
             memory = self._after[before, news] = machines.next(before, news)
         else:
             memory = machines.begin(json.loads(line)["begin"])
@@ -95,13 +100,15 @@ class ProgramRun:
 
 
 class ProgressWatch:
-    """Says now and then how long the program works, how much memory it takes and how far it is, also while it asks
-    nothing."""
+    """Says now and then how long the program works, how much memory it takes and how
+    far it is, also while it asks nothing."""
 
     def __init__(
         self, child: "subprocess.Popen[bytes]", said: Callable[[str], None]
     ) -> None:
-        self._child, self._said, self._started = child, said, time.monotonic()
+        self._child = child
+        self._said = said
+        self._started = time.monotonic()
         self._far = ""
         self._ended = threading.Event()
         self._thread = threading.Thread(target=self._watch, daemon=True)
@@ -116,9 +123,8 @@ class ProgressWatch:
 
     def visited(self, told: Object) -> None:
         """Takes what the program tells of how far it is."""
-        states, speed = told["visited"], told["visited"] / max(
-            time.monotonic() - self._started, 1e-9
-        )
+        states = told["visited"]
+        speed = told["visited"] / max(time.monotonic() - self._started, 1e-9)
         self._far = f": {states:,} states, {speed:,.0f} a second, {told['depth']} turns on the path"
 
     def _watch(self) -> None:
@@ -146,8 +152,8 @@ def megabytes_of(pid: int) -> int:
 
 
 def program_words(program: str, fixture: Fixture, most: int) -> List[str]:
-    """The command by which a program tries the schedules of a match, and visits at most `most` states. It is run in the
-    folder of the match's tournament."""
+    """The command by which a program tries the schedules of a match, and visits at most
+    `most` states. It is run in the folder of the match's tournament."""
     return [
         program,
         "explore",
@@ -168,8 +174,11 @@ def asked(
     shown: Any = NO_PROGRESS,
     draws: Optional[SampleRequest] = None,
 ) -> ExploreAnswer:
-    """Lets the program try all schedules of a match, or draw some, and answers its questions. Ctrl-C stops it."""
-    started, run, last = time.monotonic(), ProgramRun(machines), []
+    """Lets the program try all schedules of a match, or draw some, and answers its
+    questions. Ctrl-C stops it."""
+    started = time.monotonic()
+    run = ProgramRun(machines)
+    last = []
     # of modules the program says there how far it is, which nobody reads meanwhile
     with tempfile.TemporaryDirectory(
         prefix="lab-"

@@ -1,5 +1,6 @@
-"""Plays drawn schedules with the agents' programs, and compares each step with the noted answers. So it checks that an
-agent is a function of its history, or of the memory that it declares."""
+"""Plays drawn schedules with the agents' programs, and compares each step with the
+noted answers. So it checks that an agent is a function of its history, or of the memory
+that it declares."""
 import random
 from typing import List
 
@@ -18,7 +19,8 @@ class SampledProgram:
     """An agent's program that plays, and its memory by the noted answers."""
 
     def __init__(self, machines: Machines, player: Player) -> None:
-        self._machines, self.player = machines, player
+        self._machines = machines
+        self.player = player
         self.memory = machines.begin(player.number)
         self.hear = player.hear
         setattr(player, "hear", self._hear)
@@ -28,14 +30,17 @@ class SampledProgram:
         self.go_on(line)
 
     def go_on(self, news: str) -> None:
-        """Moves to the next noted memory, or asks for it. An agent that sees nothing was woken at once."""
+        """Moves to the next noted memory, or asks for it. An agent that sees nothing
+        was woken at once."""
         if news == WAKES and self._machines.steps[self.memory].does != SLEEP:
             return
         self.memory = self._machines.next(self.memory, news)
 
     def compare(self, step_number: int, is_blind: bool, has_ended: bool) -> None:
-        """Compares the program's next step with the noted one. An agent that sees nothing may still sleep."""
-        player, step = self.player, self._machines.steps[self.memory]
+        """Compares the program's next step with the noted one. An agent that sees
+        nothing may still sleep."""
+        player = self.player
+        step = self._machines.steps[self.memory]
         if has_ended and step.does == STOP:
             # nobody answers what it still says
             return
@@ -62,7 +67,8 @@ def follow(
     seconds: float,
 ) -> int:
     """Plays a drawn schedule, and compares each step; gives how many there were."""
-    chance, team = random.Random(seed), Together(agents, fixture, seconds)
+    chance = random.Random(seed)
+    team = Together(agents, fixture, seconds)
     run = MatchRun(Rehearsal(fixture), team, fixture)
     team.start()
     try:

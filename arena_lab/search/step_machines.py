@@ -1,5 +1,6 @@
-"""Agents that are written as a step, as machines: what one does next is asked by its memory and a reply, and nothing is
-played again. The memory is named by its value alone."""
+"""Agents that are written as a step, as machines: what one does next is asked by its
+memory and a reply, and nothing is played again. The memory is named by its value
+alone."""
 import json
 from typing import Any, Dict, NamedTuple, Optional
 
@@ -13,7 +14,10 @@ from arena_lab.rules.model import Object, Setup
 from arena_lab.search.agent_processes import ENDS, FAIL, SAYS, SLEEP, STOP, AgentStep
 from arena_lab.support.missing import needed
 
-OUTSIDE, WAITS, AWAY, OVER = "outside", "waits", "away", "over"
+OUTSIDE = "outside"
+WAITS = "waits"
+AWAY = "away"
+OVER = "over"
 
 
 class StepMemory(NamedTuple):
@@ -24,11 +28,9 @@ class StepMemory(NamedTuple):
     step: AgentStep
 
 
-START, ENDED, FAILED = (
-    name_of(None),
-    StepMemory(OVER, b"", AgentStep(STOP)),
-    StepMemory(OVER, b"", AgentStep(FAIL)),
-)
+START = name_of(None)
+ENDED = StepMemory(OVER, b"", AgentStep(STOP))
+FAILED = StepMemory(OVER, b"", AgentStep(FAIL))
 
 
 class StepMachine:
@@ -39,12 +41,10 @@ class StepMachine:
     ) -> None:
         """What the step reads and reaches is noted in these notes."""
         self.words = agent.words
-        self._agent, self._setup, self._team, self._notes = (
-            agent,
-            setup,
-            team,
-            notes or Notes(),
-        )
+        self._agent = agent
+        self._setup = setup
+        self._team = team
+        self._notes = notes or Notes()
         self._modules = OwnModules(0)
         self._loaded: Dict[str, Step] = {}
 
@@ -77,7 +77,8 @@ class StepMachine:
         client: Any = client_module()
         try:
             after, command = self._step()(memory_of(memory), reply)
-            name, is_sleeping = name_of(after), command["do"] == "sleep"
+            name = name_of(after)
+            is_sleeping = command["do"] == "sleep"
             line = (
                 b"" if is_sleeping else client.line_of(command).encode(errors="replace")
             )

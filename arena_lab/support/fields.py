@@ -1,4 +1,5 @@
-"""Tables of files in TOML: which keys a table may have, and what each may hold. A fault says what to write."""
+"""Tables of files in TOML: which keys a table may have, and what each may hold. A fault
+says what to write."""
 import tomllib
 from typing import Any, Callable, Dict, List, Mapping, NamedTuple, Sequence
 
@@ -12,7 +13,8 @@ class WrongFile(Fault):
 
 
 class Field(NamedTuple):
-    """What a key may hold: which values are right, how that is said, and what counts if the key is absent."""
+    """What a key may hold: which values are right, how that is said, and what counts if
+    the key is absent."""
 
     is_right: Callable[[Any], bool]
     wanted: str
@@ -30,7 +32,8 @@ def table_of(text: str) -> Dict[str, Any]:
 def values_of(
     table: Mapping[str, Any], fields: Mapping[str, Field], name: str
 ) -> Dict[str, Any]:
-    """What a table of this name says under each key. One that has another key is refused."""
+    """What a table of this name says under each key. One that has another key is
+    refused."""
     unknown = sorted(set(table) - set(fields))
     if unknown:
         raise WrongFile(
@@ -75,7 +78,8 @@ def is_count(value: Any) -> bool:
     return is_number(value) and value > 0
 
 
-TEXT, NAMES = Field(is_text, "a text"), Field(is_texts, "a list of names")
+TEXT = Field(is_text, "a text")
+NAMES = Field(is_texts, "a list of names")
 # a list that may have none, and what is false if it is not said
 MAYBE_NAMES = NAMES._replace(is_right=lambda it: it == [] or is_texts(it), usual=[])
 FLAG = Field(lambda it: isinstance(it, bool), "true or false", False)

@@ -1,4 +1,5 @@
-"""Debian's packages that parts of the lab need, and a clear line if some are missing."""
+"""Debian's packages that parts of the lab need, and a clear line if some are
+missing."""
 import importlib
 import importlib.util
 import pathlib
@@ -46,7 +47,8 @@ class Missing(Fault):
 
 
 def in_environment() -> bool:
-    """Whether this Python is that of a virtual environment, which does not see Debian's packages."""
+    """Whether this Python is that of a virtual environment, which does not see Debian's
+    packages."""
     return sys.prefix != sys.base_prefix
 
 

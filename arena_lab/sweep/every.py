@@ -1,5 +1,6 @@
-"""The matches of a sweep under every schedule: the program tries the schedules (`arena explore`) of each network, team
-and choice of black holes, and each such match has a row."""
+"""The matches of a sweep under every schedule: the program tries the schedules (`arena
+explore`) of each network, team and choice of black holes, and each such match has a
+row."""
 import contextlib
 import pathlib
 from typing import Dict, List, NamedTuple, Sequence, Tuple
@@ -20,8 +21,9 @@ from arena_lab.sweep.report import Row, is_solved
 from arena_lab.sweep.tables import cells_in, check_asked, checked, line_of
 
 EVERY = "every.csv"
-# of a match: which it is; what was found, and in how many states; if every schedule solves it, the most moves, lost
-# agents and turns of all, and how many memories sleep and were never woken once more
+# of a match: which it is; what was found, and in how many states; if every schedule
+# solves it, the most moves, lost agents and turns of all, and how many memories sleep
+# and were never woken once more
 COLUMNS = (
     "match",
     "network",
@@ -42,12 +44,13 @@ COLUMNS = (
 )
 # what is found where there are more states than were to be visited
 LIMIT = "limit"
-SOLVES, HAS_FAILED = kind_of(Solves), list(map(kind_of, FAILED))
+SOLVES = kind_of(Solves)
+HAS_FAILED = list(map(kind_of, FAILED))
 
 
 class SweepMatch(NamedTuple):
-    """A match of a sweep: its number, the runs by which the matches of its team on its network are known, and which of
-    them is its own."""
+    """A match of a sweep: its number, the runs by which the matches of its team on its
+    network are known, and which of them is its own."""
 
     number: int
     cases: Tuple[Case, ...]
@@ -59,8 +62,8 @@ class SweepMatch(NamedTuple):
 
 
 class SweepExploreJob(NamedTuple):
-    """What a process needs to try the matches of a sweep: its text, the program, how many states of a match may be
-    visited, and how many seconds an agent may compute."""
+    """What a process needs to try the matches of a sweep: its text, the program, how
+    many states of a match may be visited, and how many seconds an agent may compute."""
 
     text: str
     program: str
@@ -102,7 +105,8 @@ def matches_of(spec: Grid) -> List[SweepMatch]:
 
 def asked_of(match: SweepMatch, fixture: Fixture) -> List[str]:
     """The cells that say which match a row is of."""
-    setup, case = fixture.setup, match.case
+    setup = fixture.setup
+    case = match.case
     return list(
         map(
             str,
@@ -143,7 +147,8 @@ class SweepRows:
     """The rows of a folder, one for each match that was tried so far."""
 
     def __init__(self, folder: pathlib.Path, spec: Grid) -> None:
-        self.path, self.matches = folder / EVERY, matches_of(spec)
+        self.path = folder / EVERY
+        self.matches = matches_of(spec)
         self._rows = cells_in(self.path, COLUMNS) if self.path.exists() else []
         check_asked(
             self.path,
@@ -157,7 +162,8 @@ class SweepRows:
         return [dict(zip(COLUMNS, row)) for row in self._rows]
 
     def left(self, states: int) -> List[SweepMatch]:
-        """The matches without a row, and those that were left at fewer states than this."""
+        """The matches without a row, and those that were left at fewer states than
+        this."""
 
         def is_left(row: Row) -> bool:
             return bool(row["found"] == LIMIT and int(row["states"]) < states)
@@ -166,7 +172,8 @@ class SweepRows:
         return again + self.matches[len(self._rows) :]
 
     def put(self, number: int, row: List[str]) -> None:
-        """Writes the row of a match: the next one, or one that is there. The file is written whole or not at all."""
+        """Writes the row of a match: the next one, or one that is there. The file is
+        written whole or not at all."""
         self._rows[number : number + 1] = [row]
         part = self.path.with_name(f".{EVERY}")
         part.write_text("".join(map(line_of, [COLUMNS, *self._rows])), encoding="utf-8")
@@ -180,9 +187,8 @@ def try_all(work: SweepExploreJob, rows: SweepRows, way: Parallelism) -> None:
         # the results first, so that they come to their end and all processes have ended
         for result, match in zip(along(results, len(matches), "match"), matches):
             if result.fault:
-                case, why = match.case, result.fault.removeprefix(
-                    f"run {match.number}: "
-                )
+                case = match.case
+                why = result.fault.removeprefix(f"run {match.number}: ")
                 raise WrongFile(
                     f"{case.team.name} on {case.network} with black hole {case.hole}: {why}; the report is "
                     "written without --explore"
@@ -213,7 +219,8 @@ def check_runs(every: Sequence[Row], runs: Sequence[Row]) -> None:
 def report_status(rows: SweepRows, program: str) -> int:
     """Says what was found; gives the exit status."""
     kinds = [row["found"] for row in rows.rows()]
-    solved, failed = kinds.count(SOLVES), sum(kind in HAS_FAILED for kind in kinds)
+    solved = kinds.count(SOLVES)
+    failed = sum(kind in HAS_FAILED for kind in kinds)
     print(
         f"every schedule of {len(kinds)} matches on {name_of(program)}: solved {solved}; failed {failed}; not tried "
         f"as a whole {len(kinds) - solved - failed}; the rows are in {rows.path}"

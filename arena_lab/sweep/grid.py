@@ -1,4 +1,5 @@
-"""A sweep's file: which teams are played on which networks, with which black holes, under which schedules.
+"""A sweep's file: which teams are played on which networks, with which black holes,
+under which schedules.
 
     title = "Two agents on rings"
     networks = ["ring:8", "ring:16", "ring:32"]
@@ -29,8 +30,9 @@
     quota, board  commands of an agent, and bytes of a whiteboard (1000, 4096)
     bound         moves that the plots show beside: "2 n log2 n", "n log2 n" or "n^2"; may be absent
 
-Each [[team]] has a `name`, `agents`, a number or "degree" for one more than the network's greatest degree (2), and
-either `agent` or `command`, the words that --agent or --command takes; of a WebAssembly module either.
+Each [[team]] has a `name`, `agents`, a number or "degree" for one more than the
+network's greatest degree (2), and either `agent` or `command`, the words that --agent
+or --command takes; of a WebAssembly module either.
 """
 import functools
 import math
@@ -73,7 +75,10 @@ from arena_lab.support.fields import (
     is_texts,
 )
 
-BY_SEED, DRAWN, ALL, DEGREE = "by seed", "drawn", "all", "degree"
+BY_SEED = "by seed"
+DRAWN = "drawn"
+ALL = "all"
+DEGREE = "degree"
 BOUNDS: Dict[str, Callable[[float], float]] = {
     "2 n log2 n": lambda nodes: 2 * nodes * math.log2(nodes),
     "n log2 n": lambda nodes: nodes * math.log2(nodes),
@@ -140,8 +145,8 @@ class TeamRow(NamedTuple):
 
 
 class Case(NamedTuple):
-    """A run of the sweep: its number, and what is played. It may have a home base of its own, and a seed by which the
-    ports of each node are numbered anew."""
+    """A run of the sweep: its number, and what is played. It may have a home base of
+    its own, and a seed by which the ports of each node are numbered anew."""
 
     number: int
     network: str
@@ -175,7 +180,8 @@ class Grid(NamedTuple):
     teams: List[TeamRow]
 
     def cases(self, secret: str = "") -> Iterator[Case]:
-        """All runs, in the order of their numbers. Black holes are drawn from a secret, if there is one."""
+        """All runs, in the order of their numbers. Black holes are drawn from a secret,
+        if there is one."""
         number = 0
         for name in self.names:
             for holes in self._holes(name, secret):
@@ -194,7 +200,8 @@ class Grid(NamedTuple):
 
     def fixture(self, case: Case) -> Fixture:
         """The match of a run."""
-        network, agents = self.networks[case.network], case.team.agents
+        network = self.networks[case.network]
+        agents = case.team.agents
         network = (
             network if case.ports is None else networks.shuffled(network, case.ports)
         )
@@ -275,7 +282,8 @@ def grid_of(text: str) -> Grid:
 def grid_in(
     said: Dict[str, Any], teams: List[TeamRow], folder: pathlib.Path = pathlib.Path()
 ) -> Grid:
-    """The grid of these values and teams. Files of networks are looked for in the folder."""
+    """The grid of these values and teams. Files of networks are looked for in the
+    folder."""
     ports = ports_in(said["ports"])
     grid = Grid(
         names=said["networks"],
@@ -302,7 +310,8 @@ def ports_in(said: Optional[str]) -> Optional[int]:
 
 
 def numbered(name: str, ports: Optional[int], folder: pathlib.Path) -> Network:
-    """The network of a name or a file, with its ports numbered anew if there is a seed."""
+    """The network of a name or a file, with its ports numbered anew if there is a
+    seed."""
     try:
         network = networks.named(name if ":" in name else str(folder / name))
     except (KeyError, TypeError, ValueError):

@@ -1,4 +1,5 @@
-"""The folder of `explore --out`: a row for each match all of whose schedules solve it, and a plot of the most moves."""
+"""The folder of `explore --out`: a row for each match all of whose schedules solve it,
+and a plot of the most moves."""
 import hashlib
 import pathlib
 from typing import Any, Dict, Iterable, List, NamedTuple, Sequence, Tuple
@@ -28,8 +29,10 @@ from arena_lab.sweep.tables import (
     prepared,
 )
 
-MATCHES, PLOT = "matches.csv", "moves.svg"
-# of a match: where it stands, what was found of it, and how many memories sleep and were never woken once more
+MATCHES = "matches.csv"
+PLOT = "moves.svg"
+# of a match: where it stands, what was found of it, and how many memories sleep and
+# were never woken once more
 COLUMNS = (
     "match",
     "network",
@@ -50,7 +53,8 @@ FOUND = COLUMNS[COLUMNS.index("states") : -1]
 
 
 class MostMoves(NamedTuple):
-    """The most moves and lost agents of all matches on a network, under every schedule."""
+    """The most moves and lost agents of all matches on a network, under every
+    schedule."""
 
     network: str
     nodes: int
@@ -79,7 +83,8 @@ def asked_of(number: int, game: Game, fixture: Fixture) -> List[str]:
 
 
 class Folder:
-    """The rows of matches of some games, in order. What is there already is not tried again."""
+    """The rows of matches of some games, in order. What is there already is not tried
+    again."""
 
     def __init__(self, path: pathlib.Path, games: Sequence[Game], program: str) -> None:
         self._path = path
@@ -109,7 +114,8 @@ class Folder:
                 "an agent may use more commands than its quota, of which the program finds nothing, and "
                 "--out writes what it finds alone: give a larger --quota"
             )
-        answered, found = tried.answered, tried.answered.found
+        answered = tried.answered
+        found = tried.answered.found
         assert isinstance(
             found, Solves
         ), "a row is written of a match that every schedule solves"
@@ -147,7 +153,8 @@ def tried_of(fixture: Fixture, row: Sequence[str]) -> MatchResult:
 
 
 def made_of(games: Sequence[Game], program: str) -> Dict[str, Any]:
-    """What the rows depend on. How many states may be visited is no part of it: more may be allowed to go on."""
+    """What the rows depend on. How many states may be visited is no part of it: more
+    may be allowed to go on."""
     files = {
         **digests([game.name for game in games]),
         **digests_of([it for game in games for it in game.agents]),
@@ -174,7 +181,8 @@ def most_in(rows: Iterable[Dict[str, str]]) -> List[MostMoves]:
 
 
 def plot(found: Sequence[MostMoves], bounds: Sequence[str]) -> str:
-    """The plot of the most moves over the nodes, as an SVG element, with the bounds that are named."""
+    """The plot of the most moves over the nodes, as an SVG element, with the bounds
+    that are named."""
     figure = new_figure()
     axes = figure.add_subplot()
     nodes = [one.nodes for one in found]

@@ -36,7 +36,8 @@ HEAD = (
     "most lost",
     "bound",
 )
-# what the summary has beside it where the program has tried every schedule, and what the report has of each match
+# what the summary has beside it where the program has tried every schedule, and what
+# the report has of each match
 EVERY = ("every schedule", "its most moves", "its most lost")
 MATCHES = (
     "network",
@@ -63,7 +64,8 @@ SIZE = (7.6, 4.8)
 COLOURS = ("#0b6e99", "#c2410c", "#4d7c0f", "#7e22ce", "#a16207", "#be123c")
 
 # of a row: its faults, and those behind the first
-FAULTS, MORE = "faults", "more"
+FAULTS = "faults"
+MORE = "more"
 Row = Dict[str, Any]
 Name = Tuple[str, str, str]
 Match = Tuple[str, str, str]
@@ -84,7 +86,8 @@ class KeptRun(NamedTuple):
 
 
 class RunGroup(NamedTuple):
-    """The runs of one team on one network under one scheduler, and how many different matches they are."""
+    """The runs of one team on one network under one scheduler, and how many different
+    matches they are."""
 
     name: Name
     nodes: int
@@ -169,7 +172,8 @@ def is_solved(row: Row) -> bool:
 def groups_of(
     rows: Sequence[Row], spec: Grid, every: Sequence[Row] = ()
 ) -> List[RunGroup]:
-    """The groups of a sweep, in the order of its file, with what was found of every schedule of their matches."""
+    """The groups of a sweep, in the order of its file, with what was found of every
+    schedule of their matches."""
     found: Dict[Name, List[Row]] = {}
     for row in rows:
         found.setdefault((row["network"], row["team"], row["scheduler"]), []).append(
@@ -190,12 +194,14 @@ def match_of(row: Row) -> Match:
 
 
 def every_of(rows: Sequence[Row], every: Dict[Match, Row]) -> List[Row]:
-    """What was found of every schedule of the matches of these rows, each once; nothing of one that was not tried."""
+    """What was found of every schedule of the matches of these rows, each once; nothing
+    of one that was not tried."""
     return [every.get(match, {}) for match in dict.fromkeys(map(match_of, rows))]
 
 
 def matches(rows: Sequence[Row], every: Sequence[Row]) -> List[Sequence[str]]:
-    """What was found of each match, beside the most moves and lost agents of its runs."""
+    """What was found of each match, beside the most moves and lost agents of its
+    runs."""
     found: Dict[Match, List[Row]] = {}
     for row in rows:
         found.setdefault(match_of(row), []).append(row)
@@ -242,8 +248,8 @@ def summary(groups: Sequence[RunGroup]) -> List[Sequence[str]]:
 
 
 def worst_runs(rows: Sequence[Row]) -> List[Row]:
-    """The runs that are kept: of each team on each network the one that failed first, or else the one with the most
-    moves."""
+    """The runs that are kept: of each team on each network the one that failed first,
+    or else the one with the most moves."""
     best: Dict[Tuple[str, str], Row] = {}
     for row in rows:
         key = row["network"], row["team"]
@@ -258,7 +264,8 @@ def rank(row: Row) -> Tuple[bool, int]:
 
 
 def is_one_family(spec: Grid) -> bool:
-    """Whether the networks are of one kind and differ in size, so that moves can be drawn over nodes."""
+    """Whether the networks are of one kind and differ in size, so that moves can be
+    drawn over nodes."""
     kinds = {name.partition(":")[0] for name in spec.names}
     return (
         len(kinds) == 1
@@ -276,7 +283,8 @@ def places(spec: Grid) -> Dict[str, float]:
 
 
 def plot(spec: Grid, groups: Sequence[RunGroup]) -> str:
-    """The plot of moves, as an SVG element: means with their confidence, the most moves, and the bound."""
+    """The plot of moves, as an SVG element: means with their confidence, the most
+    moves, and the bound."""
     figure = new_figure()
     axes = figure.add_subplot()
     spots = places(spec)
@@ -307,7 +315,8 @@ def new_figure() -> Any:
 
 
 def svg_of(figure: Any) -> str:
-    """A figure as an SVG element. A page has the element alone, without the head of an XML file."""
+    """A figure as an SVG element. A page has the element alone, without the head of an
+    XML file."""
     text = io.StringIO()
     figure.savefig(text, format="svg", metadata={"Date": None, "Creator": None})
     return "".join(text.getvalue().partition("<svg")[1:])
@@ -324,7 +333,8 @@ def draw_line(
     _, team, scheduler = groups[0].name
     apart = 0 if is_one_family(spec) else (number - (count - 1) / 2) * 0.5 / count
     across = [spots[group.name[0]] + apart for group in groups]
-    colour, joined = COLOURS[number % len(COLOURS)], "-" if is_one_family(spec) else ""
+    colour = COLOURS[number % len(COLOURS)]
+    joined = "-" if is_one_family(spec) else ""
     name = scheduler if len(spec.teams) == 1 else f"{team}, {scheduler}"
     axes.errorbar(
         across,
@@ -352,7 +362,8 @@ def draw_line(
 def draw_bound(axes: Any, spec: Grid, spots: Dict[str, float]) -> None:
     if spec.bound is None:
         return
-    bound, style = BOUNDS[spec.bound], {"color": "#555555", "label": spec.bound}
+    bound = BOUNDS[spec.bound]
+    style = {"color": "#555555", "label": spec.bound}
     if is_one_family(spec):
         # a curve, and not a line from network to network
         draw_curve(axes, bound, spots.values(), **style)
@@ -372,8 +383,10 @@ def draw_bound(axes: Any, spec: Grid, spots: Dict[str, float]) -> None:
 def draw_curve(
     axes: Any, bound: Callable[[float], float], nodes: Collection[float], **style: Any
 ) -> None:
-    """Draws a bound over the numbers of nodes between the least and the greatest of these."""
-    first, last = min(nodes), max(nodes)
+    """Draws a bound over the numbers of nodes between the least and the greatest of
+    these."""
+    first = min(nodes)
+    last = max(nodes)
     across = [first + (last - first) * point / POINTS for point in range(POINTS + 1)]
     axes.plot(
         across, [bound(it) for it in across], linestyle="--", linewidth=1, **style
@@ -415,8 +428,8 @@ def page(
     engine: str,
     every: Sequence[Sequence[str]] = (),
 ) -> str:
-    """The report as one HTML file. Runs that were kept are linked. It has what was found of every schedule of matches,
-    if they were tried."""
+    """The report as one HTML file. Runs that were kept are linked. It has what was
+    found of every schedule of matches, if they were tried."""
     runs, solved = (
         sum(getattr(group, name) for group in groups) for name in ("runs", "solved")
     )

@@ -1,4 +1,5 @@
-"""What is said of numbers that were drawn: their mean with its confidence, and their quartiles."""
+"""What is said of numbers that were drawn: their mean with its confidence, and their
+quartiles."""
 import math
 import statistics
 from typing import NamedTuple, Sequence
@@ -10,7 +11,8 @@ SURE = 0.95
 
 
 class Confidence(NamedTuple):
-    """The mean of some numbers, how far from it that of all may be, their median, and the quartiles around it."""
+    """The mean of some numbers, how far from it that of all may be, their median, and
+    the quartiles around it."""
 
     mean: float
     confidence: float
@@ -20,12 +22,14 @@ class Confidence(NamedTuple):
 
 
 def student(freedom: int, sure: float = SURE) -> float:
-    """How many standard errors to either side of a mean one goes to be so sure, by Student's distribution."""
+    """How many standard errors to either side of a mean one goes to be so sure, by
+    Student's distribution."""
     return float(needed("scipy.special").stdtrit(freedom, (1 + sure) / 2))
 
 
 def spread_of(numbers: Sequence[int]) -> Confidence:
-    """What is said of numbers. Of one alone nothing is known of how far the mean may be off, which is said as 0."""
+    """What is said of numbers. Of one alone nothing is known of how far the mean may be
+    off, which is said as 0."""
     count = len(numbers)
     if count == 1:
         return Confidence(float(numbers[0]), 0.0, *[float(numbers[0])] * 3)

@@ -1,7 +1,9 @@
-"""The folder of a table: what its rows depend on, and its rows, which are written one by one.
+"""The folder of a table: what its rows depend on, and its rows, which are written one
+by one.
 
-Each row has the first digits of the SHA-256 of what stands in it, so that a row that was edited is told. Its replay is
-not kept; the row has the replay's SHA-256, and who plays the run again gets the same.
+Each row has the first digits of the SHA-256 of what stands in it, so that a row that
+was edited is told. Its replay is not kept; the row has the replay's SHA-256, and who
+plays the run again gets the same.
 """
 import contextlib
 import csv
@@ -40,7 +42,8 @@ COLUMNS = (
     "fault",
 )
 CHECK = COLUMNS.index("check")
-RUNS, MADE = "runs.csv", "made.json"
+RUNS = "runs.csv"
+MADE = "made.json"
 # in the record: what agents have read while they played
 READ = "read"
 DIGITS = 16
@@ -96,8 +99,8 @@ def check_asked(
     asked: Iterable[List[str]],
     other: str,
 ) -> None:
-    """Refuses rows of other matches than these. The first cells of a row say of which match it is; `other` ends the
-    sentence on a row of another one."""
+    """Refuses rows of other matches than these. The first cells of a row say of which
+    match it is; `other` ends the sentence on a row of another one."""
     wanted = iter(asked)
     for number, row in enumerate(rows, 2):
         cells = next(wanted, None)
@@ -106,7 +109,8 @@ def check_asked(
 
 
 def rows_in(path: pathlib.Path) -> List[Row]:
-    """The rows of a file by their columns. A row ends with a field for each fault, and `faults` has them all."""
+    """The rows of a file by their columns. A row ends with a field for each fault, and
+    `faults` has them all."""
     return [row_of(cells) for cells in cells_in(path)]
 
 
@@ -184,7 +188,8 @@ def prepared(
     name: str = RUNS,
     columns: Sequence[str] = COLUMNS,
 ) -> int:
-    """Makes the folder of a table, or takes up one that was interrupted; gives how many rows are done."""
+    """Makes the folder of a table, or takes up one that was interrupted; gives how many
+    rows are done."""
     folder.mkdir(parents=True, exist_ok=True)
     path = folder / MADE
     if path.exists() or (folder / name).exists():
@@ -201,7 +206,8 @@ def prepared(
 
 
 def note_read(folder: pathlib.Path, read: Mapping[str, str]) -> None:
-    """Writes down what agents have read, before their row is written; what they have read before must be the same."""
+    """Writes down what agents have read, before their row is written; what they have
+    read before must be the same."""
     record = record_in(folder)
     known = {
         **{name: digest for name, digest in record.get("files", {}).items()},
@@ -227,7 +233,8 @@ def write_record(folder: pathlib.Path, record: Mapping[str, Any]) -> None:
 
 @contextlib.contextmanager
 def alone_in(folder: pathlib.Path, is_there: bool = False) -> Iterator[None]:
-    """Refuses a folder into which another command writes now. It is made unless it must be there."""
+    """Refuses a folder into which another command writes now. It is made unless it must
+    be there."""
     if not is_there:
         folder.mkdir(parents=True, exist_ok=True)
     lock = os.open(folder, os.O_RDONLY | os.O_DIRECTORY)

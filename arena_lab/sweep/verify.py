@@ -18,7 +18,8 @@ class Differing(NamedTuple):
 
 
 def chosen(count: int, wanted: int) -> List[int]:
-    """The numbers of rows to play again: all, or the wanted number of them, drawn anew each time."""
+    """The numbers of rows to play again: all, or the wanted number of them, drawn anew
+    each time."""
     if wanted == ALL or wanted >= count:
         return list(range(count))
     return sorted(random.SystemRandom().sample(range(count), wanted))

@@ -1,10 +1,12 @@
 #!/usr/bin/env python3
-"""Searches a ring with two agents that know its number of nodes and divide what is left into halves.
+"""Searches a ring with two agents that know its number of nodes and divide what is left
+into halves.
 
     python3 halves.py HOST PORT KEY NODES SIDE
 
-Start it twice, with the sides 0 and 1. It does what the machine of crates/bhs_protocols/specs/Halves.antt does, step by
-step: `does` says what an agent does that holds this, and `after` what it holds after a reply.
+Start it twice, with the sides 0 and 1. It does what the machine of
+crates/bhs_protocols/specs/Halves.antt does, step by step: `does` says what an agent
+does that holds this, and `after` what it holds after a reply.
 """
 from typing import NamedTuple, Tuple
 
@@ -21,9 +23,10 @@ ON_LINK = {
 
 
 class Memory(NamedTuple):
-    """The side of an agent, how many nodes of it are safe, how many of the other side were when they divided, how far
-    the agent is to explore, what the whiteboard said of both sides that it read last, and what it is about, with how
-    many steps it is from the home base, and the port by which it goes on."""
+    """The side of an agent, how many nodes of it are safe, how many of the other side
+    were when they divided, how far the agent is to explore, what the whiteboard said of
+    both sides that it read last, and what it is about, with how many steps it is from
+    the home base, and the port by which it goes on."""
 
     side: int
     mine: int
@@ -50,7 +53,8 @@ def text_by(side: int, own: int, other: int) -> str:
 
 def marks_in(side: int, board: str) -> Tuple[int, int]:
     digits = [ord(it) - 32 for it in board] or [0, 0, 0, 0]
-    right, left = digits[0] * 64 + digits[1], digits[2] * 64 + digits[3]
+    right = digits[0] * 64 + digits[1]
+    left = digits[2] * 64 + digits[3]
     return (right, left) if side == 0 else (left, right)
 
 

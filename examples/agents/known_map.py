@@ -1,28 +1,37 @@
 #!/usr/bin/env python3
-"""Searches any network with two agents that have its map: its links with the labels of their ports, and the home base.
+"""Searches any network with two agents that have its map: its links with the labels of
+their ports, and the home base.
 
     python3 known_map.py HOST PORT KEY NETWORK HOME
 
-NETWORK is the file of the network, which does not say where the black hole is, and HOME the number of the home base.
-Start it twice, with the keys of both agents. The network has one black hole.
+NETWORK is the file of the network, which does not say where the black hole is, and HOME
+the number of the home base. Start it twice, with the keys of both agents. The network
+has one black hole.
 
-The agents explore disjoint parts of what is left, as in the search of a ring by S. Dobrev, P. Flocchini, G. Prencipe
-and N. Santoro, "Mobile search for a black hole in an anonymous ring" (Algorithmica 48, 2007). In "Searching for a black
-hole in arbitrary networks: optimal mobile agents protocols" (Distributed Computing 19, 2006) they show that two agents
-that have the map suffice, and that they need moves of the order of n log n. The division below is our own.
+The agents explore disjoint parts of what is left, as in the search of a ring by S.
+Dobrev, P. Flocchini, G. Prencipe and N. Santoro, "Mobile search for a black hole in an
+anonymous ring" (Algorithmica 48, 2007). In "Searching for a black hole in arbitrary
+networks: optimal mobile agents protocols" (Distributed Computing 19, 2006) they show
+that two agents that have the map suffice, and that they need moves of the order of n
+log n. The division below is our own.
 
-A network stays connected without any one node. So the nodes that are left can be put in an order such that each front
-of the order, and each rest behind a front, hangs together with what is explored (`order_of`). One agent takes the front
-half, the other the rest. Both know each list of crossings, by which node each node of a part is entered, in what order.
+A network stays connected without any one node. So the nodes that are left can be put in
+an order such that each front of the order, and each rest behind a front, hangs together
+with what is explored (`order_of`). One agent takes the front half, the other the rest.
+Both know each list of crossings, by which node each node of a part is entered, in what
+order.
 
-An agent crosses a link, comes back, and writes `safe` of its port. Once its part is explored, it follows the crossings
-of the other up to the first that is not safe. There it writes `told` and all nodes that are explored, and what is left
-is divided anew. The node that the other is about to enter is the first of the new order, and is again the other's. So
-no two agents ever enter nodes that the other may enter, and one agent is lost at most. The other reads what was told
-when it comes to that port, or comes back. When one node is left, that is the black hole. No agent waits for the other,
-and nothing is decided by time.
+An agent crosses a link, comes back, and writes `safe` of its port. Once its part is
+explored, it follows the crossings of the other up to the first that is not safe. There
+it writes `told` and all nodes that are explored, and what is left is divided anew. The
+node that the other is about to enter is the first of the new order, and is again the
+other's. So no two agents ever enter nodes that the other may enter, and one agent is
+lost at most. The other reads what was told when it comes to that port, or comes back.
+When one node is left, that is the black hole. No agent waits for the other, and nothing
+is decided by time.
 
-Each division leaves at most half of what was left, and costs at most a few walks around a tree of the network.
+Each division leaves at most half of what was left, and costs at most a few walks around
+a tree of the network.
 """
 import functools
 import tomllib
@@ -31,7 +40,8 @@ from typing import Dict, FrozenSet, List, NamedTuple, Optional, Sequence, Tuple
 
 from client import Agent, Here, Spent, TooLong, play_words
 
-TOLD, TELLER = 0, 1
+TOLD = 0
+TELLER = 1
 FRONT = "front"
 
 Nodes = FrozenSet[int]
@@ -47,7 +57,8 @@ class Crossing(NamedTuple):
 
 
 class Plan(NamedTuple):
-    """A division: what was explored before, and the crossings of the agent that is told and of the one that tells."""
+    """A division: what was explored before, and the crossings of the agent that is told
+    and of the one that tells."""
 
     explored: Nodes
     crossings: Tuple[Tuple[Crossing, ...], Tuple[Crossing, ...]]
@@ -86,9 +97,9 @@ class Map:
         return way[::-1]
 
     def order_of(self, explored: Nodes, first: int) -> List[int]:
-        """The nodes that are left, in an order such that each front and each rest hangs together with what is explored.
-        The first is a neighbour of an explored node. A part that only explored nodes join to the others stands in one
-        piece."""
+        """The nodes that are left, in an order such that each front and each rest hangs
+        together with what is explored. The first is a neighbour of an explored node. A
+        part that only explored nodes join to the others stands in one piece."""
         order: List[int] = []
         left = self.nodes - explored
         while left:
@@ -101,8 +112,9 @@ class Map:
         return order
 
     def _part_order(self, explored: Nodes, left: Nodes, first: int) -> List[int]:
-        """The order of the part of the first node. It grows by paths between two that stand in it already, which are
-        put between them; what is explored counts as one node, and stands last."""
+        """The order of the part of the first node. It grows by paths between two that
+        stand in it already, which are put between them; what is explored counts as one
+        node, and stands last."""
         last = -1
         order = [first, last]
         while True:
@@ -111,14 +123,16 @@ class Map:
                 return order[:-1]
             start, *inner, end = path
             if order.index(start) > order.index(end):
-                start, inner = end, inner[::-1]
+                start = end
+                inner = inner[::-1]
             spot = order.index(start) + 1
             order[spot:spot] = inner
 
     def _path(
         self, explored: Nodes, left: Nodes, order: List[int]
     ) -> Optional[List[int]]:
-        """A path from a node of the order over new ones to another node of it; None if no new one is a neighbour."""
+        """A path from a node of the order over new ones to another node of it; None if
+        no new one is a neighbour."""
 
         def near(node: int) -> List[int]:
             return sorted(
@@ -150,11 +164,13 @@ class Map:
     def crossings(
         self, explored: Nodes, part: Sequence[int], start: int
     ) -> List[Crossing]:
-        """How the nodes of a part are entered: as in a walk around a tree, in depth first, which begins with the start
-        and prefers nodes of the part in their order."""
+        """How the nodes of a part are entered: as in a walk around a tree, in depth
+        first, which begins with the start and prefers nodes of the part in their
+        order."""
         rank = {node: number for number, node in enumerate(part)}
         inside = explored | set(part)
-        seen, found = {start}, []
+        seen = {start}
+        found = []
         stack = [(start, iter(self._ahead(start, inside, rank)))]
         while stack:
             node, ahead = stack[-1]
@@ -175,8 +191,9 @@ class Map:
 
     @functools.lru_cache(maxsize=1024)
     def plan(self, explored: Nodes, start: int, first: int) -> Plan:
-        """The division of what is left. The agent that is told enters `first` from `start`, and then more of its part;
-        the one that tells begins at the start too."""
+        """The division of what is left. The agent that is told enters `first` from
+        `start`, and then more of its part; the one that tells begins at the start
+        too."""
         order = self.order_of(explored, first)
         half = (len(order) + 1) // 2
         told, teller = (
@@ -201,7 +218,8 @@ def path_to(before: Dict[int, int], node: int, start: int) -> List[int]:
 
 
 def fields(board: str) -> Dict[str, str]:
-    """What a whiteboard says, by what it says it of: a port, or `front`, which an agent has taken."""
+    """What a whiteboard says, by what it says it of: a port, or `front`, which an agent
+    has taken."""
     return dict(part.split(" ", 1) for part in board.split(", ")) if board else {}
 
 
@@ -220,7 +238,8 @@ def nodes_of(mask: str) -> Nodes:
 
 
 class Searcher:
-    """One agent: where it is, the plan that it follows and as whom, and which nodes it knows to be safe."""
+    """One agent: where it is, the plan that it follows and as whom, and which nodes it
+    knows to be safe."""
 
     def __init__(self, agent: Agent, here: Here, network: Map, home: int) -> None:
         self.agent = agent
@@ -263,7 +282,8 @@ class Searcher:
         return True
 
     def mark(self, crossing: Crossing) -> bool:
-        """Writes that a crossing is safe; answers whether the other has told something there before."""
+        """Writes that a crossing is safe; answers whether the other has told something
+        there before."""
         has_heard = self.hear(crossing)
         while not self.say(str(crossing.port), "safe"):
             has_heard = self.hear(crossing) or has_heard
@@ -276,18 +296,18 @@ class Searcher:
         if kind != "told" or nodes_of(mask) == self.plan.explored:
             return False
         self.safe |= nodes_of(mask)
-        self.plan, self.role = (
-            self.map.plan(self.safe, crossing.start, crossing.end),
-            TOLD,
-        )
+        self.plan = self.map.plan(self.safe, crossing.start, crossing.end)
+        self.role = TOLD
         return True
 
     def divide(self) -> bool:
-        """Follows the other over nodes that are safe, and divides what is left there; answers whether there is more
-        than one node. Else that is the black hole, and the agent accuses it."""
+        """Follows the other over nodes that are safe, and divides what is left there;
+        answers whether there is more than one node. Else that is the black hole, and
+        the agent accuses it."""
         for crossing in self.plan.crossings[1 - self.role]:
             self.walk(crossing.start)
-            port, told = str(crossing.port), f"told {mask_of(self.safe)}"
+            port = str(crossing.port)
+            told = f"told {mask_of(self.safe)}"
             while fields(self.board).get(port) != "safe":
                 if self.say(port, told):
                     return self.follow(crossing)
@@ -296,21 +316,21 @@ class Searcher:
         return False
 
     def follow(self, crossing: Crossing) -> bool:
-        """Takes the plan that the agent has told; answers whether it is still searching."""
+        """Takes the plan that the agent has told; answers whether it is still
+        searching."""
         if self.left() == {crossing.end}:
             self.accuse(crossing.end)
             return False
-        self.plan, self.role = (
-            self.map.plan(self.safe, crossing.start, crossing.end),
-            TELLER,
-        )
+        self.plan = self.map.plan(self.safe, crossing.start, crossing.end)
+        self.role = TELLER
         return True
 
     def left(self) -> Nodes:
         return self.map.nodes - self.safe
 
     def say(self, key: str, value: str) -> bool:
-        """Writes this on the whiteboard, unless the other wrote there since it was read; then reads it again."""
+        """Writes this on the whiteboard, unless the other wrote there since it was
+        read; then reads it again."""
         swap = self.agent.write(self.board, text_of({**fields(self.board), key: value}))
         self.board = swap.board
         return swap.written

@@ -1,26 +1,33 @@
 #!/usr/bin/env python3
-"""Searches any network of which the numbers of nodes and links are known, with more agents than its greatest degree.
+"""Searches any network of which the numbers of nodes and links are known, with more
+agents than its greatest degree.
 
     python3 map.py HOST PORT KEY NODES LINKS
 
-Start it once for each key. The network has one black hole. The search is a cautious exploration with a map at the home
-base, after S. Dobrev, P. Flocchini, G. Prencipe and N. Santoro, "Searching for a black hole in arbitrary networks:
-optimal mobile agents protocols" (Distributed Computing 19, 2006), who show that this many agents are needed and suffice
-where the network is not known.
+Start it once for each key. The network has one black hole. The search is a cautious
+exploration with a map at the home base, after S. Dobrev, P. Flocchini, G. Prencipe and
+N. Santoro, "Searching for a black hole in arbitrary networks: optimal mobile agents
+protocols" (Distributed Computing 19, 2006), who show that this many agents are needed
+and suffice where the network is not known.
 
-The whiteboard of the home base holds the map: each node that was reached, and of each of its ports what it leads to. An
-agent claims a port there that nobody has tried, walks to it over links that are known, crosses it, comes home and adds
-what it found. A node that has no name gets one from its first visitor, who writes it on the whiteboard there. No port
-is tried twice, so at each link of the black hole one agent is lost at most, and one is left in the end.
+The whiteboard of the home base holds the map: each node that was reached, and of each
+of its ports what it leads to. An agent claims a port there that nobody has tried, walks
+to it over links that are known, crosses it, comes home and adds what it found. A node
+that has no name gets one from its first visitor, who writes it on the whiteboard there.
+No port is tried twice, so at each link of the black hole one agent is lost at most, and
+one is left in the end.
 
-When all nodes but one are in the map, each link that is not in it leads to the black hole, or joins two nodes of the
-map. As the number of links is known, so is how many of these join two nodes. Once there are none, each port that leads
-nowhere on the map leads to the black hole: the agents that are left accuse one each, and those for whom none is left,
-leave. The number of nodes alone does not suffice: if four agents are on four links, nobody can tell whether all four
-lead to the black hole, or two of the ports are the ends of one slow link.
+When all nodes but one are in the map, each link that is not in it leads to the black
+hole, or joins two nodes of the map. As the number of links is known, so is how many of
+these join two nodes. Once there are none, each port that leads nowhere on the map leads
+to the black hole: the agents that are left accuse one each, and those for whom none is
+left, leave. The number of nodes alone does not suffice: if four agents are on four
+links, nobody can tell whether all four lead to the black hole, or two of the ports are
+the ends of one slow link.
 
-An agent that finds no port to claim waits: then another agent is on a link that is safe, and will be back. It looks at
-the map from time to time, which uses its quota; nothing is decided by how long it waits.
+An agent that finds no port to claim waits: then another agent is on a link that is
+safe, and will be back. It looks at the map from time to time, which uses its quota;
+nothing is decided by how long it waits.
 """
 import time
 from collections import deque
@@ -28,16 +35,19 @@ from typing import Callable, Dict, List, NamedTuple, Optional, Tuple
 
 from client import Agent, Here, Spent, TooLong, play
 
-UNTRIED, CLAIMED, ACCUSED = "?", "!", "x"
+UNTRIED = "?"
+CLAIMED = "!"
+ACCUSED = "x"
 HOME = "home"
-FIRST_PAUSE, LONGEST_PAUSE = 0.005, 0.25
+FIRST_PAUSE = 0.005
+LONGEST_PAUSE = 0.25
 
 Place = Tuple[int, int]
 
 
 class Node:
-    """A node of the map: the name on its whiteboard, and of each port what it leads to: another node's port, written
-    `W.Q`, or whether it is untried, claimed or accused."""
+    """A node of the map: the name on its whiteboard, and of each port what it leads to:
+    another node's port, written `W.Q`, or whether it is untried, claimed or accused."""
 
     def __init__(self, name: str, ports: List[str]) -> None:
         self.name = name
@@ -107,7 +117,8 @@ class Map:
         return next((v for v, node in enumerate(self.nodes) if node.name == name), None)
 
     def join(self, place: Place, name: str, here: Here) -> None:
-        """Adds the link from this place to the node with this name, where an agent saw what `here` says."""
+        """Adds the link from this place to the node with this name, where an agent saw
+        what `here` says."""
         far = self.number(name)
         if far is None:
             far = len(self.nodes)
@@ -117,7 +128,8 @@ class Map:
 
 
 class Find(NamedTuple):
-    """What an agent found behind a port: the name of the node, and what it saw there."""
+    """What an agent found behind a port: the name of the node, and what it saw
+    there."""
 
     name: str
     here: Here
@@ -149,14 +161,16 @@ class Searcher:
 
     def wait(self) -> None:
         """Waits until the map is another one."""
-        pause, before = FIRST_PAUSE, self.text
+        pause = FIRST_PAUSE
+        before = self.text
         while self.text == before:
             self.sleep(pause)
             pause = min(2 * pause, LONGEST_PAUSE)
             self.text = self.agent.look().board
 
     def name_of(self, here: Here, claim: Place) -> str:
-        """The name on the whiteboard of the node where the agent is. A node that has none is named after the claim."""
+        """The name on the whiteboard of the node where the agent is. A node that has
+        none is named after the claim."""
         if here.board.startswith(HOME):
             return HOME
         if here.board:
@@ -164,7 +178,8 @@ class Searcher:
         return self.agent.write("", f"{claim[0]}.{claim[1]}").board
 
     def try_port(self, claim: Place) -> None:
-        """Crosses the port that the agent has claimed, and adds what it found to the map."""
+        """Crosses the port that the agent has claimed, and adds what it found to the
+        map."""
         known = self.map()
         way_back = known.way(claim[0], 0)
         self.walk(known.way(0, claim[0]))
@@ -188,7 +203,8 @@ class Searcher:
         self.agent.accuse(place[1])
 
     def run(self, nodes: int, links: int) -> None:
-        """Searches until the agent has accused, or has left as there was nothing more to accuse."""
+        """Searches until the agent has accused, or has left as there was nothing more
+        to accuse."""
         while True:
             now = self.map()
             decided = now.is_decided(nodes, links)

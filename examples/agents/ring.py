@@ -3,34 +3,41 @@
 
     python3 ring.py HOST PORT KEY NODES
 
-Start it twice, with the keys of both agents. The search is the one by cautious walk and division of what is left of
-S. Dobrev, P. Flocchini, G. Prencipe and N. Santoro, "Mobile search for a black hole in an anonymous ring"
-(Algorithmica 48, 2007).
+Start it twice, with the keys of both agents. The search is the one by cautious walk and
+division of what is left of S. Dobrev, P. Flocchini, G. Prencipe and N. Santoro, "Mobile
+search for a black hole in an anonymous ring" (Algorithmica 48, 2007).
 
-One agent explores to the right of the home base, which is by its port 0, the other to the left, and each is to explore
-half of what is left. It goes on cautiously: it writes `going` on the whiteboard, goes on to the next node, comes back,
-and writes `safe`. So the other agent can follow it over links that are safe, to its last safe node. An agent that has
-explored its half does so, divides what is left anew, and writes there how far it has come: `told 5`, to the fifth node
-of its side. The other reads that when it comes back; if it does not come back, the next division has a smaller half for
-it. When one node is left, that is the black hole. No agent waits for the other, and nothing is decided by time.
+One agent explores to the right of the home base, which is by its port 0, the other to
+the left, and each is to explore half of what is left. It goes on cautiously: it writes
+`going` on the whiteboard, goes on to the next node, comes back, and writes `safe`. So
+the other agent can follow it over links that are safe, to its last safe node. An agent
+that has explored its half does so, divides what is left anew, and writes there how far
+it has come: `told 5`, to the fifth node of its side. The other reads that when it comes
+back; if it does not come back, the next division has a smaller half for it. When one
+node is left, that is the black hole. No agent waits for the other, and nothing is
+decided by time.
 
-A whiteboard holds what is known of the links to its right and left, as `right safe, left told 5`; 32 bytes suffice.
+A whiteboard holds what is known of the links to its right and left, as `right safe,
+left told 5`; 32 bytes suffice.
 """
 from typing import Optional
 
 from client import Agent, Here, Spent, Swap, play
 
-RIGHT, LEFT = 0, 1
+RIGHT = 0
+LEFT = 1
 SIDES = ("right", "left")
 
 
 def field(board: str, side: int) -> str:
-    """What a whiteboard says of the link on this side: `new`, `going`, `safe`, `told N` or `hole`."""
+    """What a whiteboard says of the link on this side: `new`, `going`, `safe`, `told N`
+    or `hole`."""
     return board.split(", ")[side].partition(" ")[2] if board else "new"
 
 
 def with_field(board: str, side: int, value: str) -> str:
-    """The text of a whiteboard that says this of the link on this side, and of the other what it said."""
+    """The text of a whiteboard that says this of the link on this side, and of the
+    other what it said."""
     return ", ".join(
         f"{SIDES[it]} {value if it == side else field(board, it)}"
         for it in (RIGHT, LEFT)
@@ -40,7 +47,8 @@ def with_field(board: str, side: int, value: str) -> str:
 class Walker:
     """An agent on a ring, who knows which of the two ports of its node is to the right.
 
-    It takes that from the way that it came, so the labels need not agree around the ring.
+    It takes that from the way that it came, so the labels need not agree around the
+    ring.
     """
 
     def __init__(self, agent: Agent, here: Here) -> None:
@@ -61,7 +69,8 @@ class Walker:
             self.board = self._here.board
 
     def swap(self, put: str) -> bool:
-        """Writes on the whiteboard, unless somebody wrote there since it was read; then reads it again."""
+        """Writes on the whiteboard, unless somebody wrote there since it was read; then
+        reads it again."""
         swap: Swap = self._agent.write(self.board, put)
         self.board = swap.board
         return swap.written
@@ -71,8 +80,9 @@ class Walker:
 
 
 class Search:
-    """The search by one agent: how many nodes of its side and of the other it knows to be safe, and how far it is to
-    explore. Both halves are counted from the home base."""
+    """The search by one agent: how many nodes of its side and of the other it knows to
+    be safe, and how far it is to explore. Both halves are counted from the home
+    base."""
 
     def __init__(self, walker: Walker, nodes: int) -> None:
         self.walker = walker
@@ -105,7 +115,8 @@ class Search:
         return self.nodes - 1 - self.mine - self.theirs
 
     def mark(self, value: str) -> bool:
-        """Writes this of the link ahead, and takes what the other wrote there; answers whether it is not the hole."""
+        """Writes this of the link ahead, and takes what the other wrote there; answers
+        whether it is not the hole."""
         walker = self.walker
         while True:
             found = field(walker.board, self.side)
@@ -120,8 +131,10 @@ class Search:
                 return True
 
     def explore(self) -> bool:
-        """Explores the agent's half from its last safe node on; answers whether it is still searching."""
-        walker, side = self.walker, self.side
+        """Explores the agent's half from its last safe node on; answers whether it is
+        still searching."""
+        walker = self.walker
+        side = self.side
         while self.mine < self.target:
             if not self.mark("going"):
                 walker.accuse(side)
@@ -134,9 +147,11 @@ class Search:
         return True
 
     def divide(self) -> bool:
-        """Goes to the last safe node of the other side, and divides what is left; answers whether there is more than
-        one node. Else that is the black hole, and the agent accuses the link to it."""
-        walker, other = self.walker, 1 - self.side
+        """Goes to the last safe node of the other side, and divides what is left;
+        answers whether there is more than one node. Else that is the black hole, and
+        the agent accuses the link to it."""
+        walker = self.walker
+        other = 1 - self.side
         walker.walk(other, self.mine)
         self.theirs = 0
         while True:

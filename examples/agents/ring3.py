@@ -3,43 +3,51 @@
 
     python3 ring3.py HOST PORT KEY NODES
 
-Start it twice, with the keys of both agents. Like `ring.py` it explores cautiously and divides what is left, but into
-three parts. B. Balamohan, P. Flocchini, A. Miri and N. Santoro, "Improving the optimal bounds for black hole search in
-rings" (SIROCCO 2011), state that 3 n log3 n + O(n) moves suffice. We know their abstract alone, so this need not be
-their algorithm. docs/RINGS.md explains why three parts are better than two, and what is known of the worst case.
+Start it twice, with the keys of both agents. Like `ring.py` it explores cautiously and
+divides what is left, but into three parts. B. Balamohan, P. Flocchini, A. Miri and N.
+Santoro, "Improving the optimal bounds for black hole search in rings" (SIROCCO 2011),
+state that 3 n log3 n + O(n) moves suffice. We know their abstract alone, so this need
+not be their algorithm. docs/RINGS.md explains why three parts are better than two, and
+what is known of the worst case.
 
-One agent explores to the right of the home base, which is by its port 0, the other to the left. Each has the part of
-what is left that is next to it. The middle part belongs to the agent that claims it first, on the whiteboard half way
-between the two agents, the box. An agent that has explored its part walks to the box and claims the middle. If the
-other has claimed it, or once the agent has explored the middle too, it follows the other over safe links to the
-other's last safe node. There it divides what is left anew, and writes how far it has come itself: `told 5` means to the
-fifth node of its side. The other reads that when it comes back to this node, or when it first comes there. Then both
-know the same parts and the same box. A small rest is divided into halves, without a box. When one node is left, that is
-the black hole. No agent waits for the other, and nothing is decided by time.
+One agent explores to the right of the home base, which is by its port 0, the other to
+the left. Each has the part of what is left that is next to it. The middle part belongs
+to the agent that claims it first, on the whiteboard half way between the two agents,
+the box. An agent that has explored its part walks to the box and claims the middle. If
+the other has claimed it, or once the agent has explored the middle too, it follows the
+other over safe links to the other's last safe node. There it divides what is left anew,
+and writes how far it has come itself: `told 5` means to the fifth node of its side. The
+other reads that when it comes back to this node, or when it first comes there. Then
+both know the same parts and the same box. A small rest is divided into halves, without
+a box. When one node is left, that is the black hole. No agent waits for the other, and
+nothing is decided by time.
 
-A whiteboard holds what is known of the links to its right and left, and how much was left when the middle was claimed
-there, as `left told 5, middle 27, right safe`; 48 bytes suffice.
+A whiteboard holds what is known of the links to its right and left, and how much was
+left when the middle was claimed there, as `left told 5, middle 27, right safe`; 48
+bytes suffice.
 """
 from functools import lru_cache
 from typing import Dict, Tuple
 
 from client import Agent, Here, Spent, play
 
-RIGHT, LEFT = 0, 1
+RIGHT = 0
+LEFT = 1
 SIDES = ("right", "left")
 BOX = "middle"
 
 
 def fields(board: str) -> Dict[str, str]:
-    """What a whiteboard says: of a link `going`, `safe`, `told N` or `hole`; of the middle, how much was left."""
+    """What a whiteboard says: of a link `going`, `safe`, `told N` or `hole`; of the
+    middle, how much was left."""
     return dict(it.split(" ", 1) for it in board.split(", ")) if board else {}
 
 
 @lru_cache(None)
 def walks(left: int) -> int:
-    """How often the safe nodes are crossed in the worst case, from a division of what is left until the end. A division
-    into halves costs a way back and a way to the other agent; one into thirds also costs a way to the box and back.
-    """
+    """How often the safe nodes are crossed in the worst case, from a division of what
+    is left until the end. A division into halves costs a way back and a way to the
+    other agent; one into thirds also costs a way to the box and back."""
     return (
         left - 1
         if left < 3
@@ -48,16 +56,19 @@ def walks(left: int) -> int:
 
 
 def parts(left: int) -> Tuple[int, int]:
-    """How much the right agent is to explore, and how large the middle is. The rest is for the left agent."""
+    """How much the right agent is to explore, and how large the middle is. The rest is
+    for the left agent."""
     if left < 3 or 2 + walks((left + 1) // 2) <= 3 + walks((left + 2) // 3):
         return (left + 1) // 2, 0
     return (left + 1) // 3, left - 2 * ((left + 1) // 3)
 
 
 class Walker:
-    """An agent on a ring that knows which of the two ports of its node is to the right, and how far it is from home.
+    """An agent on a ring that knows which of the two ports of its node is to the right,
+    and how far it is from home.
 
-    It infers the ports from the way it came, so the labels need not agree around the ring.
+    It infers the ports from the way it came, so the labels need not agree around the
+    ring.
     """
 
     def __init__(self, agent: Agent, here: Here) -> None:
@@ -67,7 +78,8 @@ class Walker:
         self.board = here.board
 
     def go(self, to: int) -> None:
-        """Goes to the node that is as many steps to the right of the home base, or to the left if negative."""
+        """Goes to the node that is as many steps to the right of the home base, or to
+        the left if negative."""
         while self._at != to:
             side = RIGHT if to > self._at else LEFT
             here = self._agent.depart(self._port(side))
@@ -77,7 +89,8 @@ class Walker:
             self.board = here.board
 
     def write(self, field: str, value: str) -> bool:
-        """Writes a field on the whiteboard, unless somebody wrote there since it was read; then reads it again."""
+        """Writes a field on the whiteboard, unless somebody wrote there since it was
+        read; then reads it again."""
         said = {**fields(self.board), field: value}
         swap = self._agent.write(
             self.board, ", ".join(f"{it} {said[it]}" for it in sorted(said))
@@ -93,8 +106,8 @@ class Walker:
 
 
 class Search:
-    """The search by one agent. It counts from the home base how many nodes of its side it knows to be safe, how many of
-    the other, and how far it is to explore."""
+    """The search by one agent. It counts from the home base how many nodes of its side
+    it knows to be safe, how many of the other, and how far it is to explore."""
 
     def __init__(self, walker: Walker, nodes: int) -> None:
         self.walker = walker
@@ -130,12 +143,15 @@ class Search:
         return self.nodes - 1 - self.mine - self.theirs
 
     def go(self, steps: int) -> None:
-        """Goes to the node that is as many steps from the home base to the agent's side."""
+        """Goes to the node that is as many steps from the home base to the agent's
+        side."""
         self.walker.go(steps if self.side == RIGHT else -steps)
 
     def divide(self) -> None:
-        """Divides what is left. Both agents know the same, and so find the same parts and the same box."""
-        left, is_right = self.left(), self.side == RIGHT
+        """Divides what is left. Both agents know the same, and so find the same parts
+        and the same box."""
+        left = self.left()
+        is_right = self.side == RIGHT
         first, self.middle = parts(left)
         self.target = self.mine + (first if is_right else left - first - self.middle)
         right = (self.mine - self.theirs if is_right else self.theirs - self.mine) // 2
@@ -143,8 +159,10 @@ class Search:
         self.label = str(left)
 
     def mark(self, value: str) -> bool:
-        """Writes this of the link ahead, and takes what the other wrote there; answers whether it is not the hole."""
-        walker, ahead = self.walker, SIDES[self.side]
+        """Writes this of the link ahead, and takes what the other wrote there; answers
+        whether it is not the hole."""
+        walker = self.walker
+        ahead = SIDES[self.side]
         while True:
             found = fields(walker.board).get(ahead, "")
             if found == "hole":
@@ -156,7 +174,8 @@ class Search:
                 return True
 
     def explore(self) -> bool:
-        """Explores the agent's part from its last safe node on; answers whether it is still searching."""
+        """Explores the agent's part from its last safe node on; answers whether it is
+        still searching."""
         while self.mine < self.target:
             self.go(self.mine)
             if not self.mark("going"):
@@ -169,8 +188,8 @@ class Search:
         return True
 
     def claim(self) -> None:
-        """Goes to the box and claims the middle; or finds that the other has claimed it, and so has explored its
-        part."""
+        """Goes to the box and claims the middle; or finds that the other has claimed
+        it, and so has explored its part."""
         self.go(self.box)
         while fields(self.walker.board).get(BOX) != self.label:
             if self.walker.write(BOX, self.label):
@@ -181,9 +200,11 @@ class Search:
         self.middle = 0
 
     def follow(self) -> bool:
-        """Goes to the last safe node of the other side, and divides what is left; answers whether there is more than
-        one node. Else that is the black hole, and the agent accuses the link to it."""
-        walker, other = self.walker, 1 - self.side
+        """Goes to the last safe node of the other side, and divides what is left;
+        answers whether there is more than one node. Else that is the black hole, and
+        the agent accuses the link to it."""
+        walker = self.walker
+        other = 1 - self.side
         self.go(-self.theirs)
         while True:
             if fields(walker.board).get(SIDES[other]) == "safe":

@@ -1,11 +1,13 @@
 #!/usr/bin/env python3
-"""Searches a ring as ring.py does, written as a step: what an agent knows is a plain value.
+"""Searches a ring as ring.py does, written as a step: what an agent knows is a plain
+value.
 
     python3 ring_step.py HOST PORT KEY NODES
 
-`step` is given the agent's memory and the server's reply to its last command, and gives its new memory and its next
-command. An agent that keeps nothing else is explored by its memory, so `./arena-lab explore` tries larger rings with
-this file than with ring.py, whose agents it tells apart by all that they have met. Command for command both do the
+`step` is given the agent's memory and the server's reply to its last command, and gives
+its new memory and its next command. An agent that keeps nothing else is explored by its
+memory, so `./arena-lab explore` tries larger rings with this file than with ring.py,
+whose agents it tells apart by all that they have met. Command for command both do the
 same; ring.py says how the search goes.
 """
 from typing import Any, Callable, Dict, NamedTuple, Optional, Tuple
@@ -57,7 +59,8 @@ def step(
 
 
 def seen(at: Memory, reply: Dict[str, Any]) -> Memory:
-    """The memory of an agent that knows, once it has arrived, by which port it goes to the right."""
+    """The memory of an agent that knows, once it has arrived, by which port it goes to
+    the right."""
     if reply["ok"] != "here":
         return at
     heading = at.side if at.doing in ("goes out", "goes on", "returns") else 1 - at.side
@@ -105,7 +108,8 @@ def sets_out(at: Memory, nodes: int) -> Next:
 
 
 def explores(at: Memory, nodes: int) -> Next:
-    """Explores the agent's half from its last safe node on, and then goes to the last safe node of the other side."""
+    """Explores the agent's half from its last safe node on, and then goes to the last
+    safe node of the other side."""
     if at.mine < at.target:
         return marks(at, "going", nodes)
     if at.left(nodes) == 1:
@@ -144,7 +148,8 @@ def marks_if(value: str) -> Callable[[Memory, Dict[str, Any], int], Next]:
 
 
 def crosses(at: Memory, _reply: Dict[str, Any], nodes: int) -> Next:
-    """Goes over the safe nodes of the other side, and writes behind them how far its own side is safe."""
+    """Goes over the safe nodes of the other side, and writes behind them how far its
+    own side is safe."""
     other = 1 - at.side
     if at.steps:
         return walk(at._replace(steps=at.steps - 1), other, "crosses")

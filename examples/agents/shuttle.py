@@ -1,10 +1,12 @@
 #!/usr/bin/env python3
-"""Searches a ring with two agents that know its number of nodes, each going out and back from the home base.
+"""Searches a ring with two agents that know its number of nodes, each going out and
+back from the home base.
 
     python3 shuttle.py HOST PORT KEY NODES SIDE
 
-Start it twice, with the sides 0 and 1. It does what the machine of crates/bhs_protocols/specs/Shuttle.antt does,
-whose proof holds for rings of all sizes; that this program does so is not proved.
+Start it twice, with the sides 0 and 1. It does what the machine of
+crates/bhs_protocols/specs/Shuttle.antt does, whose proof holds for rings of all sizes;
+that this program does so is not proved.
 """
 from client import Agent, Here, play
 
@@ -26,7 +28,8 @@ def numbers_in(board: str) -> "tuple[int, int]":
 
 def search(agent: Agent, key: str, nodes: int, side: int) -> None:
     here: Here = agent.enter(key)
-    mine, theirs = 0, numbers_in(here.board)[1 - side]
+    mine = 0
+    theirs = numbers_in(here.board)[1 - side]
     while True:
         # out, as far as the next node or the last safe one
         port = side
@@ -42,7 +45,8 @@ def search(agent: Agent, key: str, nodes: int, side: int) -> None:
             port = 1 - here.came
         theirs = numbers_in(here.board)[1 - side]
         while True:
-            old, new = (mine, theirs), (mine + 1, theirs)
+            old = (mine, theirs)
+            new = (mine + 1, theirs)
             swap = agent.write(
                 text_of(*old[:: 1 - 2 * side]), text_of(*new[:: 1 - 2 * side])
             )

@@ -3,8 +3,8 @@
 
     python3 triangle.py HOST PORT KEY SIDE
 
-Start it twice, with the sides 0 and 1. Each agent goes to the next node on its side and comes back; the black hole is
-on the other side then, and it accuses the link there.
+Start it twice, with the sides 0 and 1. Each agent goes to the next node on its side and
+comes back; the black hole is on the other side then, and it accuses the link there.
 """
 from client import Agent, play
 

@@ -1,17 +1,19 @@
 #!/usr/bin/env python3
-"""Practises in a hall: asks for a match, starts the team's programs, and says what came of it.
+"""Practises in a hall: asks for a match, starts the team's programs, and says what came
+of it.
 
     ARENA_TOKEN=TOKEN python3 practise.py [--times N] HALL NETWORK COMMAND ..
 
-HALL is the hall's address, such as http://127.0.0.1:8000, and NETWORK the name of a network as the hall shows it. The
-command starts one agent. In it {host}, {port} and {key} stand for where the agent connects and by which key it enters,
-{agent} for its number, {nodes} and {links} for what is known of the network, and of a network with a map {network} for
-a file of its links and {home} for the home base:
+HALL is the hall's address, such as http://127.0.0.1:8000, and NETWORK the name of a
+network as the hall shows it. The command starts one agent. In it {host}, {port} and
+{key} stand for where the agent connects and by which key it enters, {agent} for its
+number, {nodes} and {links} for what is known of the network, and of a network with a
+map {network} for a file of its links and {home} for the home base:
 
     python3 practise.py http://127.0.0.1:8000 "ring of 8" python3 examples/agents/ring.py {host} {port} {key} {nodes}
 
-The token stands on the team's key sheet. It is taken from the variable ARENA_TOKEN, as everybody on a machine may see
-the words of commands. It needs nothing but Python.
+The token stands on the team's key sheet. It is taken from the variable ARENA_TOKEN, as
+everybody on a machine may see the words of commands. It needs nothing but Python.
 """
 import argparse
 import http.client
@@ -27,8 +29,10 @@ import urllib.error
 import urllib.request
 from typing import Any, Dict, List
 
-# seconds between two requests, and for which a hall that has answered may be silent, as when it is started again
-EVERY, PATIENCE = 1.5, 300.0
+# seconds between two requests, and for which a hall that has answered may be silent, as
+# when it is started again
+EVERY = 1.5
+PATIENCE = 300.0
 GOES_ON = ("waiting", "held", "running")
 
 
@@ -96,8 +100,10 @@ def words_of(
 
 
 def played(hall: Hall, words: argparse.Namespace) -> Dict[str, Any]:
-    """Plays a match to its end. If the hall begins it anew, it has other keys, and the agents are started anew."""
-    attempt, keys = hall.ask("/matches", {"network": words.network}), None
+    """Plays a match to its end. If the hall begins it anew, it has other keys, and the
+    agents are started anew."""
+    attempt = hall.ask("/matches", {"network": words.network})
+    keys = None
     agents: "List[subprocess.Popen[bytes]]" = []
     with tempfile.TemporaryDirectory() as name:
         try:
@@ -105,7 +111,8 @@ def played(hall: Hall, words: argparse.Namespace) -> Dict[str, Any]:
                 now = [match["keys"] for match in attempt["matches"]]
                 if now and now != keys:
                     end(agents)
-                    keys, agents = now, [
+                    keys = now
+                    agents = [
                         subprocess.Popen(line)
                         for match in attempt["matches"]
                         for line in words_of(
@@ -152,7 +159,8 @@ def main() -> int:
         )
     # who is ended ends the agents too
     signal.signal(signal.SIGTERM, lambda *_: sys.exit(143))
-    hall, solved = Hall(words.hall, token), 0
+    hall = Hall(words.hall, token)
+    solved = 0
     for _ in range(words.times):
         attempt = played(hall, words)
         came = ", ".join(map(said_of, attempt["verdicts"]))

@@ -23,8 +23,9 @@ BEGINS, GOES_OUT, LEAVES, COMES_BACK, RETURNS, WRITES, ENDS = range(7)
 
 
 class Memory(NamedTuple):
-    """What an agent holds: how many nodes of its side it knows to be safe, and of the other, what it is about, and how
-    many steps it is from the home base, or was when it left the node."""
+    """What an agent holds: how many nodes of its side it knows to be safe, and of the
+    other, what it is about, and how many steps it is from the home base, or was when it
+    left the node."""
 
     side: int
     mine: int = 0
@@ -34,9 +35,11 @@ class Memory(NamedTuple):
 
 
 def after(memory: Memory, item: Item) -> Memory:
-    """What an agent holds after something has happened to it: `after_in` of specs/Shuttle.antt."""
+    """What an agent holds after something has happened to it: `after_in` of
+    specs/Shuttle.antt."""
     reply = item or {}
-    phase, steps = memory.phase, memory.steps
+    phase = memory.phase
+    steps = memory.steps
     if phase == BEGINS:
         return memory._replace(
             theirs=numbers_in(reply["board"])[1 - memory.side], phase=GOES_OUT
@@ -71,8 +74,10 @@ def memories(picture: Configuration) -> Tuple[Memory, Memory]:
 
 
 def end_of(world: World, side: int, steps: int) -> Tuple[int, int]:
-    """The node at this number of steps from the home base on a side, and the port by which one goes on there."""
-    node, port = world.home, side
+    """The node at this number of steps from the home base on a side, and the port by
+    which one goes on there."""
+    node = world.home
+    port = side
     for _ in range(steps):
         node, came = world.far(node, port)
         port = 1 - came
@@ -90,8 +95,12 @@ def distance(world: World, side: int) -> int:
 
 def is_placed(world: World, picture: Configuration, memory: Memory) -> bool:
     """Where an agent is and what it has accused, by what it is about."""
-    side, mine, phase, steps = memory.side, memory.mine, memory.phase, memory.steps
-    position, accused = picture.position[side], picture.accused[side]
+    side = memory.side
+    mine = memory.mine
+    phase = memory.phase
+    steps = memory.steps
+    position = picture.position[side]
+    accused = picture.accused[side]
     node, ahead = end_of(world, side, steps)
     if phase == ENDS:
         is_last = (
@@ -136,7 +145,8 @@ def is_fit(world: World, picture: Configuration, memory: Memory) -> bool:
 
 def trip(memory: Memory) -> int:
     """How many moves an agent has made since it has written last."""
-    steps, back = memory.steps, 2 * (memory.mine + 1) - memory.steps
+    steps = memory.steps
+    back = 2 * (memory.mine + 1) - memory.steps
     return {
         BEGINS: 0,
         GOES_OUT: steps,
@@ -167,8 +177,8 @@ def holds(world: World, picture: Configuration) -> bool:
 
 
 def progress(memory: Memory) -> int:
-    """How many turns an agent has had that moved: two a move but for the one that it is about, what it has written and
-    learned, its entering and its accusing."""
+    """How many turns an agent has had that moved: two a move but for the one that it is
+    about, what it has written and learned, its entering and its accusing."""
     paces = 2 * spent(memory) - (memory.phase in (LEAVES, RETURNS))
     return (
         paces

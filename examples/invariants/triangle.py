@@ -47,7 +47,8 @@ def is_fit(world: World, picture: Configuration, side: int) -> bool:
 
 
 def commands(turns: int) -> int:
-    """How many commands an agent has used after this number of its turns: entering and arriving cost none."""
+    """How many commands an agent has used after this number of its turns: entering and
+    arriving cost none."""
     return [0, 0, 1, 1, 2, 2, 3][turns]
 
 

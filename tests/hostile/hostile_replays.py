@@ -1,13 +1,16 @@
-"""Gives `arena judge` texts that are no replays, and looks at its fault, its time and its memory.
+"""Gives `arena judge` texts that are no replays, and looks at its fault, its time and
+its memory.
 
     python3 -m tests.hostile.hostile_replays [PROGRAM] [--size BYTES]
 
-PROGRAM is the built program, by default ./arena. Each text has BYTES bytes, by default 1 GiB, and comes through a pipe,
-so no file is written. A line for each has the fault and the status, the seconds, the peak memory, and both again for a
-text of a quarter of the size. The exit status is 1 if a fault is wrong, if time grows much faster than the text, or if
-memory is more than three times the longest line and 4 MiB.
+PROGRAM is the built program, by default ./arena. Each text has BYTES bytes, by default
+1 GiB, and comes through a pipe, so no file is written. A line for each has the fault
+and the status, the seconds, the peak memory, and both again for a text of a quarter of
+the size. The exit status is 1 if a fault is wrong, if time grows much faster than the
+text, or if memory is more than three times the longest line and 4 MiB.
 
-A replay's lines have no limit of length, so the program holds one line, and while that grows its first half once more.
+A replay's lines have no limit of length, so the program holds one line, and while that
+grows its first half once more.
 """
 import argparse
 import pathlib
@@ -32,7 +35,8 @@ BAD = b'{"agent":0,"do":"bad","reply":{"no":"line"}}\n'
 
 
 class Case(NamedTuple):
-    """A text: what it begins with, what is repeated behind that, the fault line, the status, whether it is one line."""
+    """A text: what it begins with, what is repeated behind that, the fault line, the
+    status, whether it is one line."""
 
     name: str
     begin: bytes
@@ -68,7 +72,8 @@ CASES = [
 
 
 class Run(NamedTuple):
-    """What came of a run: the fault, the status, the seconds, and the peak memory in MiB."""
+    """What came of a run: the fault, the status, the seconds, and the peak memory in
+    MiB."""
 
     fault: str
     status: int
@@ -145,7 +150,8 @@ def main() -> int:
     program, size = words()
     failed = 0
     for case in CASES:
-        part, whole = run(program, case, size // 4), run(program, case, size)
+        part = run(program, case, size // 4)
+        whole = run(program, case, size)
         found = faults_of(case, size, whole, part)
         failed += bool(found)
         wrong = "".join(f"; WRONG: {one}" for one in found)

@@ -1,11 +1,14 @@
-"""Serves a contest to agents on another network: the server in one network namespace, its agents in a second one.
+"""Serves a contest to agents on another network: the server in one network namespace,
+its agents in a second one.
 
     sudo python3 -m tests.hostile.two_networks PROGRAM
 
-PROGRAM is the built program. Two namespaces are joined by a virtual cable, `arena serve --address` listens on the
-address of the first, for IPv4 and then for IPv6, and the agents of the team red of examples/contest.toml connect from
-the second. They must solve their network; and while the server listens on 127.0.0.1 alone, they must not reach it. It
-needs `ip` of Debian's iproute2 and the right to make namespaces. The last line reads `N passed, M failed`.
+PROGRAM is the built program. Two namespaces are joined by a virtual cable, `arena serve
+--address` listens on the address of the first, for IPv4 and then for IPv6, and the
+agents of the team red of examples/contest.toml connect from the second. They must solve
+their network; and while the server listens on 127.0.0.1 alone, they must not reach it.
+It needs `ip` of Debian's iproute2 and the right to make namespaces. The last line reads
+`N passed, M failed`.
 """
 import contextlib
 import pathlib
@@ -18,7 +21,8 @@ from tests.support.counts import concluded
 from tests.support.servers import Server
 
 TOP = pathlib.Path(__file__).resolve().parents[2]
-HERE, THERE = "arena-server", "arena-agents"
+HERE = "arena-server"
+THERE = "arena-agents"
 PORT = 4000
 PATIENCE = 60
 # of each family: the server's address and the agents', with their network
@@ -78,7 +82,8 @@ def two_networks() -> Iterator[None]:
 
 
 def played(program: str, address: Optional[str], target: str) -> str:
-    """The line of the table that the team red gets if its agents connect to this address."""
+    """The line of the table that the team red gets if its agents connect to this
+    address."""
     with tempfile.TemporaryDirectory() as folder:
         words = [
             "serve",

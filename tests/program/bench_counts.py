@@ -6,7 +6,10 @@ import sys
 
 from arena_lab.rules.chacha8 import block
 
-SIDE, AGENTS, QUOTA, EVENTS_OF_A_MATCH = 16, 16, 1000, 28_000
+SIDE = 16
+AGENTS = 16
+QUOTA = 1000
+EVENTS_OF_A_MATCH = 28_000
 
 
 def words(seed):
@@ -30,7 +33,8 @@ class Match:
         self.pool = []
 
     def says(self, agent):
-        """Whether a command is heard, which then counts against the quota; Enter is not asked about."""
+        """Whether a command is heard, which then counts against the quota; Enter is not
+        asked about."""
         if self.left[agent] == 0:
             return False
         self.left[agent] -= 1
@@ -44,14 +48,16 @@ def counts(events, seed=bytes([7]) * 32):
     game = None
     for _ in range(events):
         if done == EVENTS_OF_A_MATCH:
-            game, done = Match(), 0
+            game = Match()
+            done = 0
             matches += 1
         done += 1
         if done <= AGENTS or done == EVENTS_OF_A_MATCH:
             kept += 1
             continue
         word = next(stream)
-        kind, agent = word % 16, word // 16 % AGENTS
+        kind = word % 16
+        agent = word // 16 % AGENTS
         if kind >= 10:
             if game.pool:
                 agent = game.pool[word // 16 % len(game.pool)]

@@ -1,5 +1,6 @@
-"""Cases of `bhs_player --module`: what an agent says that runs a module, line by line, of what a server says, and how
-it ends. They are skipped where the agents' program is not built."""
+"""Cases of `bhs_player --module`: what an agent says that runs a module, line by line,
+of what a server says, and how it ends. They are skipped where the agents' program is
+not built."""
 import unittest
 from typing import List, NamedTuple
 
@@ -9,10 +10,15 @@ from tests.support.program_rows import DONE, Stage, difference, expect
 from tests.support.wasm_encoding import I32, constant
 
 PLAYER = TOP / "crates" / "bhs_player" / "out" / "bhs_player"
-BROKEN, REFUSED_WORDS = 1, 2
-ENTER, LOOK, LEAVE = '{"do":"enter","key":"k"}', '{"do":"look"}', '{"do":"leave"}'
+BROKEN = 1
+REFUSED_WORDS = 2
+ENTER = '{"do":"enter","key":"k"}'
+LOOK = '{"do":"look"}'
+LEAVE = '{"do":"leave"}'
 HERE = '{"board":"ab","from":null,"ok":"here","ports":3}'
-GONE, NOTED, OVER = '{"ok":"gone"}', '{"ok":"noted"}', '{"ok":"over"}'
+GONE = '{"ok":"gone"}'
+NOTED = '{"ok":"noted"}'
+OVER = '{"ok":"over"}'
 ARRIVED = '{"board":"ab","from":1,"ok":"here","ports":2}'
 # functions that are imported, by their places
 IMPORTS = (
@@ -69,8 +75,8 @@ def plays(stage: Stage, file: bytes, talk: Talk, arguments: str = "") -> None:
     expect(ran, text_of(talk.says), told, talk.status)
 
 
-# It goes by the port before the last, puts one byte more behind what the whiteboard says, and accuses the sum of the
-# port by which it came and its second argument.
+# It goes by the port before the last, puts one byte more behind what the whiteboard
+# says, and accuses the sum of the port by which it came and its second argument.
 GOES = (
     call("enter")
     + DROP
@@ -108,10 +114,8 @@ ACCUSES = (
 def said(stage: Stage) -> None:
     departs = '{"do":"depart","port":1}'
     for text in ("ab", "é→", "\U0001d11e"):
-        arrived, write = (
-            ARRIVED.replace("ab", text),
-            f'{{"do":"write","expect":"{text}","put":"{text}\\u0000"}}',
-        )
+        arrived = ARRIVED.replace("ab", text)
+        write = f'{{"do":"write","expect":"{text}","put":"{text}\\u0000"}}'
         plays(
             stage,
             agent(GOES + WRITES + ACCUSES),

@@ -1,10 +1,12 @@
-"""Tries what a newcomer does first: README's commands in a clone in which nothing is built, and a release of it.
+"""Tries what a newcomer does first: README's commands in a clone in which nothing is
+built, and a release of it.
 
     python3 -m tests.release.first_look
 
-The clone is of the last commit. The first command compiles the program without a proof, which takes a minute or two; a
-line says how long it took, and how long the next start did. A line tells each case that fails; the last line reads
-`N passed, M failed`, and the exit status is 1 if one failed.
+The clone is of the last commit. The first command compiles the program without a proof,
+which takes a minute or two; a line says how long it took, and how long the next start
+did. A line tells each case that fails; the last line reads `N passed, M failed`, and
+the exit status is 1 if one failed.
 """
 import os
 import pathlib
@@ -20,11 +22,9 @@ from tests.support.counts import concluded
 from tools.prove import version
 
 TOP = pathlib.Path(__file__).resolve().parents[2]
-CONTEST, SCRIPT, PRINTED = (
-    "examples/contest.py",
-    "examples/triangle.script",
-    "examples/triangle.printed",
-)
+CONTEST = "examples/contest.py"
+SCRIPT = "examples/triangle.script"
+PRINTED = "examples/triangle.printed"
 TEAMS = 4
 Ran = subprocess.CompletedProcess
 
@@ -55,7 +55,8 @@ def wants(is_right: bool, found: "Ran[str]") -> None:
 
 
 def plays(folder: pathlib.Path) -> None:
-    """A contest in which all teams solve their networks, by a program that says once that it is not proved."""
+    """A contest in which all teams solve their networks, by a program that says once
+    that it is not proved."""
     found = ran([sys.executable, CONTEST], folder)
     solved = found.stdout.count(" solved its network\n")
     wants(
@@ -66,12 +67,11 @@ def plays(folder: pathlib.Path) -> None:
 
 
 def answers(clone: pathlib.Path) -> None:
-    """Two starts at once, and a third: each plays the script, and the program is compiled once."""
-    printed, words, begun = (
-        (clone / PRINTED).read_text(),
-        ["./arena", "rehearse"],
-        time.monotonic(),
-    )
+    """Two starts at once, and a third: each plays the script, and the program is
+    compiled once."""
+    printed = (clone / PRINTED).read_text()
+    words = ["./arena", "rehearse"]
+    begun = time.monotonic()
     pipes = {
         "stdout": subprocess.PIPE,
         "stderr": subprocess.PIPE,
@@ -83,7 +83,8 @@ def answers(clone: pathlib.Path) -> None:
             subprocess.Popen(words, stdin=script, **pipes) for script in (one, other)
         ]
         found = [Ran(words, 0, *start.communicate()) for start in starts]
-    seconds, begun = time.monotonic() - begun, time.monotonic()
+    seconds = time.monotonic() - begun
+    begun = time.monotonic()
     with open(clone / SCRIPT) as script:
         again = subprocess.run(words, stdin=script, **pipes)
     print(
@@ -100,7 +101,8 @@ def answers(clone: pathlib.Path) -> None:
 
 
 def is_released(clone: pathlib.Path) -> None:
-    """A release is unpacked; its checksums are right, it says that it is not proved, and it plays."""
+    """A release is unpacked; its checksums are right, it says that it is not proved,
+    and it plays."""
     folder = clone.parent
     found = ran([sys.executable, "tools/release", "--unproved", "--out", folder], clone)
     wants(found.returncode == 0, found)

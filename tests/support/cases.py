@@ -1,4 +1,5 @@
-"""The cases of a command that tests the program: each is a function with a title, and plays in a folder of its own."""
+"""The cases of a command that tests the program: each is a function with a title, and
+plays in a folder of its own."""
 import concurrent.futures
 import pathlib
 import resource
@@ -8,8 +9,8 @@ from typing import Callable, Dict, Sequence, Tuple
 from tests.support.counts import concluded
 
 Case = Callable[[str, pathlib.Path], None]
-# how many descriptors a command may have, if the system lets it: some cases have hundreds of sockets, and run beside
-# each other
+# how many descriptors a command may have, if the system lets it: some cases have
+# hundreds of sockets, and run beside each other
 DESCRIPTORS = 65_536
 
 
@@ -22,7 +23,8 @@ def raise_descriptors() -> None:
 
 
 class Cases:
-    """Cases by their titles, in the order in which they are written. At most `beside` of them run at a time."""
+    """Cases by their titles, in the order in which they are written. At most `beside`
+    of them run at a time."""
 
     def __init__(self, beside: int = 1) -> None:
         self._all: Dict[str, Case] = {}
@@ -48,7 +50,8 @@ class Cases:
         return title, ""
 
     def command(self, usage: str, given: Sequence[str]) -> int:
-        """Tries the cases whose titles have a text, if one is given, on a program. Gives the exit status."""
+        """Tries the cases whose titles have a text, if one is given, on a program.
+        Gives the exit status."""
         if len(given) not in (1, 2) or given[0] in ("-h", "--help"):
             print(usage.strip())
             return 2

@@ -1,4 +1,5 @@
-"""What the tests of graded courses share: the tables of a course's file, and the rows of its results by team."""
+"""What the tests of graded courses share: the tables of a course's file, and the rows
+of its results by team."""
 import pathlib
 from typing import Any, Dict, Sequence
 

@@ -1,4 +1,5 @@
-"""Scripts of rehearsals that are drawn from a seed, with what arena_lab/rules/rehearsal.py prints of them."""
+"""Scripts of rehearsals that are drawn from a seed, with what
+arena_lab/rules/rehearsal.py prints of them."""
 import collections
 import random
 from typing import Counter, Dict, List, NamedTuple, Sequence
@@ -11,7 +12,8 @@ from tests.support.tournaments import cup_files
 
 
 class Drawn(NamedTuple):
-    """A tournament's files by their names, a script, what each of its lines prints, and what was seen in it."""
+    """A tournament's files by their names, a script, what each of its lines prints, and
+    what was seen in it."""
 
     files: Dict[str, str]
     script: List[str]
@@ -86,7 +88,8 @@ class ScriptMaker:
                 )
 
     def draw(self, game: int) -> None:
-        word, (match, held, _) = self.chance.getrandbits(32), self.rehearsal.ready[game]
+        word = self.chance.getrandbits(32)
+        (match, held, _) = self.rehearsal.ready[game]
         self.seen[f"pool of {len(match.pool)}"] += 1
         if match.pool and not match.closed:
             agent = match.agents[match.pool[word % len(match.pool)]]
@@ -142,7 +145,8 @@ class ScriptMaker:
 
     def anything(self, last: int) -> None:
         """An instruction by chance; connections up to this one are used."""
-        games, number = len(self.rehearsal.ready), self.chance.random()
+        games = len(self.rehearsal.ready)
+        number = self.chance.random()
         if number < 0.4:
             self.draw(self.chance.randrange(games))
         elif number < 0.405:
@@ -154,7 +158,8 @@ class ScriptMaker:
 
 
 def drawn(agents: int) -> Drawn:
-    """A rehearsal of two matches, one of this number of agents and one of 65 less that."""
+    """A rehearsal of two matches, one of this number of agents and one of 65 less
+    that."""
     chance = random.Random(agents)
     ready = [
         ready_by_chance(0, agents, chance),

@@ -58,7 +58,8 @@ def crashes_when_it_is_over(agent, key, port):
 
 
 def program() -> str:
-    """The built program: ARENA_PROGRAM names it, as tests/runners/integration_tests.py does."""
+    """The built program: ARENA_PROGRAM names it, as tests/runners/integration_tests.py
+    does."""
     return program_at(os.environ.get("ARENA_PROGRAM"))
 
 

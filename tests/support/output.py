@@ -8,7 +8,8 @@ from typing import Any, Callable, NamedTuple
 
 
 class Ran(NamedTuple):
-    """What a call gave, mostly the exit status of a command, and what it printed and told."""
+    """What a call gave, mostly the exit status of a command, and what it printed and
+    told."""
 
     status: Any
     said: str
@@ -28,7 +29,8 @@ def ran(call: Callable[..., Any], *given: Any, **more: Any) -> Ran:
 
 
 def write(path: pathlib.Path, text: str, mode: int = 0o644) -> pathlib.Path:
-    """Writes a file, such as a script in the place of a program, with the folders above it."""
+    """Writes a file, such as a script in the place of a program, with the folders above
+    it."""
     path.parent.mkdir(parents=True, exist_ok=True)
     path.write_text(text)
     path.chmod(mode)

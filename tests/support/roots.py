@@ -8,7 +8,8 @@ from typing import Dict, Iterator, List, Sequence
 
 from arena_lab.sandbox.users import LOCKS
 
-# what a root shares with the machine; users for programs are claimed for both, since each sees the other's processes
+# what a root shares with the machine; users for programs are claimed for both, since
+# each sees the other's processes
 MOUNTS = ("proc", "dev", "sys", str(LOCKS.relative_to("/")))
 # makes a folder the root of its own mount namespace, as that of a machine is
 PIVOT = 'mount --rbind "$0" "$0" && cd "$0" && pivot_root . mnt && umount -l /mnt && exec "$@"'
@@ -16,7 +17,8 @@ PIVOT = 'mount --rbind "$0" "$0" && cd "$0" && pivot_root . mnt && umount -l /mn
 
 @contextlib.contextmanager
 def temporary() -> Iterator[pathlib.Path]:
-    """A folder for roots. It is left where something is still mounted in it, which would be emptied with it."""
+    """A folder for roots. It is left where something is still mounted in it, which
+    would be emptied with it."""
     folder = pathlib.Path(tempfile.mkdtemp(prefix="roots-"))
     try:
         yield folder
@@ -33,7 +35,8 @@ def temporary() -> Iterator[pathlib.Path]:
 
 
 def make(root: pathlib.Path, packages: Sequence[str] = ()) -> None:
-    """Makes a root by `debootstrap`, with these packages besides the fewest, if none is there."""
+    """Makes a root by `debootstrap`, with these packages besides the fewest, if none is
+    there."""
     if not (root / "etc" / "debian_version").exists():
         more = [f"--include={','.join(packages)}"] if packages else []
         subprocess.run(
@@ -45,8 +48,8 @@ def make(root: pathlib.Path, packages: Sequence[str] = ()) -> None:
 
 @contextlib.contextmanager
 def mounted(root: pathlib.Path, bound: Dict[pathlib.Path, str] = {}) -> Iterator[None]:
-    """What a root shares with the machine, and other folders, by where they are seen; nothing there may change
-    these."""
+    """What a root shares with the machine, and other folders, by where they are seen;
+    nothing there may change these."""
     places: List[pathlib.Path] = []
     LOCKS.mkdir(mode=0o700, exist_ok=True)
     try:
@@ -70,8 +73,9 @@ def mounted(root: pathlib.Path, bound: Dict[pathlib.Path, str] = {}) -> Iterator
 
 
 def inside(root: pathlib.Path, folder: str, is_machine: bool = True) -> List[str]:
-    """The words before a command that is run in a folder of a root, as a new machine would run it, or else as many a
-    container does, in which the kernel makes no namespaces for users."""
+    """The words before a command that is run in a folder of a root, as a new machine
+    would run it, or else as many a container does, in which the kernel makes no
+    namespaces for users."""
     enter = (
         ["unshare", "--mount", "--propagation", "private", "sh", "-c", PIVOT]
         if is_machine

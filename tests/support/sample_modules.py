@@ -1,4 +1,5 @@
-"""What tests of modules share: a stand-in for the player of modules, the sample module, and one that sleeps."""
+"""What tests of modules share: a stand-in for the player of modules, the sample module,
+and one that sleeps."""
 import pathlib
 import sys
 import unittest
@@ -19,7 +20,8 @@ SLEEPER = module(
     ],
     ["enter", "sleep", "accuse"],
 )
-# a module that leaves at once, and one that goes to a node that is safe and accuses the other link there
+# a module that leaves at once, and one that goes to a node that is safe and accuses the
+# other link there
 LEAVER = module([Function([], [], b"\x10\0\x1a\x10\1\x1a", "run")], ["enter", "leave"])
 WALKER = module(
     [
@@ -48,8 +50,8 @@ def search(agent, key):
 
 client.play("", search, 0)
 """
-# plays the search of the sample module in Python, or without an argument the one that sleeps. It says first that it is
-# not proved, as a build without a proof does
+# plays the search of the sample module in Python, or without an argument the one that
+# sleeps. It says first that it is not proved, as a build without a proof does
 STAND_IN = f"""#!{sys.executable}
 import os
 import sys

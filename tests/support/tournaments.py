@@ -15,8 +15,8 @@ TRIANGLE = Network(3, [(0, 0, 1, 0), (1, 1, 2, 0), (2, 1, 0, 1)])
 def match(
     team: str, network: Network, holes: Sequence[int], agents: int = 2, **more: Any
 ) -> Fixture:
-    """A match of a team whose agents have the keys TEAM-0, TEAM-1 and so on. `more` has values for fields
-    of its fixture or its setup, in place of the usual ones."""
+    """A match of a team whose agents have the keys TEAM-0, TEAM-1 and so on. `more` has
+    values for fields of its fixture or its setup, in place of the usual ones."""
     fixture = Fixture(
         team,
         Setup(network.nodes, network.links, 0, list(holes), agents, 1000, 64),
@@ -32,7 +32,8 @@ def cup_files(
     seed: str = SEED,
     name: str = "network",
 ) -> Dict[str, str]:
-    """The tournament of these matches, cup.toml, and the files of their networks: NAME.toml, NAME1.toml and so on."""
+    """The tournament of these matches, cup.toml, and the files of their networks:
+    NAME.toml, NAME1.toml and so on."""
     texts = [
         networks.text_of(Network(fixture.setup.nodes, fixture.setup.links))
         for fixture in fixtures

@@ -1,11 +1,13 @@
-"""WebAssembly modules, put together byte by byte: what agents run in the tests of `arena explore --module`, and one
-function for each instruction on integers, whose results node's own WebAssembly tells."""
+"""WebAssembly modules, put together byte by byte: what agents run in the tests of
+`arena explore --module`, and one function for each instruction on integers, whose
+results node's own WebAssembly tells."""
 import json
 import pathlib
 import subprocess
 from typing import Dict, Iterable, List, NamedTuple, Optional, Sequence, Tuple
 
-I32, I64 = 0x7F, 0x7E
+I32 = 0x7F
+I64 = 0x7E
 BITS = {I32: 32, I64: 64}
 CONST = {I32: b"\x41", I64: b"\x42"}
 NOT_EQUAL = {I32: b"\x47", I64: b"\x52"}
@@ -62,8 +64,8 @@ process.stdout.write(JSON.stringify(told));
 
 
 class Function(NamedTuple):
-    """A function of a module: the types of its parameters and results, its instructions, and a name if it is
-    exported."""
+    """A function of a module: the types of its parameters and results, its
+    instructions, and a name if it is exported."""
 
     parameters: Sequence[int]
     results: Sequence[int]
@@ -73,13 +75,15 @@ class Function(NamedTuple):
 
 def unsigned(number: int) -> bytes:
     """A number in LEB128."""
-    low, rest = number & 0x7F, number >> 7
+    low = number & 0x7F
+    rest = number >> 7
     return bytes([low | 0x80]) + unsigned(rest) if rest else bytes([low])
 
 
 def signed(number: int) -> bytes:
     """A number in signed LEB128."""
-    low, rest = number & 0x7F, number >> 7
+    low = number & 0x7F
+    rest = number >> 7
     is_last = rest in (0, -1) and (rest == -1) == bool(low & 0x40)
     return bytes([low]) if is_last else bytes([low | 0x80]) + signed(rest)
 
@@ -120,8 +124,8 @@ def module(
     source: str = "arena",
     data: bytes = b"",
 ) -> bytes:
-    """A module with a memory of one page that begins with this data, and with these functions of `arena`, which are
-    numbered before its own."""
+    """A module with a memory of one page that begins with this data, and with these
+    functions of `arena`, which are numbered before its own."""
     host = [type_of([I32] * HOST.get(it, 0), [I32]) for it in imports]
     own = [type_of(it.parameters, it.results) for it in functions]
     bodies = [
@@ -177,7 +181,8 @@ def sections_of(file: bytes) -> Dict[int, bytes]:
     data = file[8:]
     while data:
         length, behind = number_at(data[1:])
-        sections[data[0]], data = behind[:length], behind[length:]
+        sections[data[0]] = behind[:length]
+        data = behind[length:]
     return sections
 
 
@@ -189,7 +194,8 @@ def joined(sections: Dict[int, bytes]) -> bytes:
 
 
 def with_run(file: bytes) -> bytes:
-    """A module that imports nothing, with one function more, `run`, which does nothing."""
+    """A module that imports nothing, with one function more, `run`, which does
+    nothing."""
     sections = sections_of(file)
     types, functions = (number_at(sections.get(kind, b"\0"))[0] for kind in (1, 3))
     for kind, item in (
@@ -228,8 +234,8 @@ def numeric() -> Dict[str, Function]:
 
 
 def in_memory() -> Dict[str, Function]:
-    """A function for each load, and for each store one that then loads the eight bytes around, by the opcode. The
-    first operand is the address."""
+    """A function for each load, and for each store one that then loads the eight bytes
+    around, by the opcode. The first operand is the address."""
     found: Dict[str, Function] = {}
     for opcodes, value_type in (
         ((0x28, 0x2C, 0x2D, 0x2E, 0x2F), I32),
@@ -261,7 +267,8 @@ class Call(NamedTuple):
 
 
 def operands_of(function: Function, reaches: bool) -> List[Tuple[int, ...]]:
-    """With which operands a function is called; the first is an address if it reaches into the memory."""
+    """With which operands a function is called; the first is an address if it reaches
+    into the memory."""
     if reaches:
         addresses = (0, 5, 65_524, 65_528, 65_532, 65_533, 65_535, 65_536, 0xFFFFFFFF)
         rest = OPERANDS[::4] if len(function.parameters) == 2 else ()
@@ -276,7 +283,8 @@ def operands_of(function: Function, reaches: bool) -> List[Tuple[int, ...]]:
 def told_by_node(
     file: pathlib.Path, functions: Dict[str, Function], reaches: bool, data: bytes
 ) -> List[Call]:
-    """Calls each function with many operands, by node. Writes the module that it runs to a file."""
+    """Calls each function with many operands, by node. Writes the module that it runs
+    to a file."""
     exported = [it._replace(export=opcode) for opcode, it in functions.items()]
     file.write_bytes(module(exported, data=data))
     calls = [
@@ -308,9 +316,9 @@ def told_by_node(
 
 
 def checks(functions: Dict[str, Function], calls: Sequence[Call], data: bytes) -> bytes:
-    """A module that makes all these calls but those that trap, and traps if one has another result; then it ends. Each
-    instruction is checked by a function of its own, of the number that its place among the opcodes is, twice.
-    """
+    """A module that makes all these calls but those that trap, and traps if one has
+    another result; then it ends. Each instruction is checked by a function of its own,
+    of the number that its place among the opcodes is, twice."""
     parts: List[Function] = []
     for opcode, function in functions.items():
         part = b""

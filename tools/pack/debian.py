@@ -1,4 +1,5 @@
-"""A Debian package of the program and the lab, by dpkg-deb. The same files give the same bytes."""
+"""A Debian package of the program and the lab, by dpkg-deb. The same files give the
+same bytes."""
 import gzip
 import hashlib
 import os
@@ -9,7 +10,8 @@ from typing import Dict
 
 from tools.pack.wheel import READABLE, RUNNABLE, File, Files
 
-HOME, DOCUMENTS = "usr/lib/arena/", "usr/share/doc/arena/"
+HOME = "usr/lib/arena/"
+DOCUMENTS = "usr/share/doc/arena/"
 # what stands in the folder of documents, and not beside the program
 DOCUMENTED = ("README.md", "CHANGELOG.md", "docs/")
 # what leads elsewhere
@@ -50,10 +52,8 @@ CLAIMS = {
     False: "this build of it is not proved. Do not publish it.",
 }
 # the hall as a service, which the teacher enables once there is a course
-SERVICE, SYSTEM = (
-    "arena_lab/hall/arena-hall.service",
-    "usr/lib/systemd/system/arena-hall.service",
-)
+SERVICE = "arena_lab/hall/arena-hall.service"
+SYSTEM = "usr/lib/systemd/system/arena-hall.service"
 POSTINST = """#!/bin/sh
 set -e
 if [ -d /run/systemd/system ]; then

@@ -1,11 +1,13 @@
-"""Man pages and completions for bash, made of the help texts of the program and of the lab."""
+"""Man pages and completions for bash, made of the help texts of the program and of the
+lab."""
 import os
 import re
 import subprocess
 from typing import Dict, List, NamedTuple, Optional
 
 WIDTH = 90
-# a line that begins a part of a help text, such as `Options:`, and one that names an option
+# a line that begins a part of a help text, such as `Options:`, and one that names an
+# option
 HEADING = re.compile(r"^([A-Za-z][A-Za-z ]*):$", re.M)
 OPTION = re.compile(r"^ +(?:-\w(?: [A-Z.]+)?, )?(--[a-z][\w-]*)", re.M)
 COMMAND = re.compile(r"^ {2,4}([a-z]+)  ", re.M)
@@ -49,7 +51,8 @@ def of_program(program: str) -> List[Help]:
 
 
 def asked(program: str, *words: str) -> str:
-    """What the program says for these words, without what one that is not proved says of itself."""
+    """What the program says for these words, without what one that is not proved says
+    of itself."""
     ran = subprocess.run(
         [program, *words],
         stdin=subprocess.DEVNULL,
@@ -128,7 +131,8 @@ def page_of(help_text: Help, version: str, day: str, others: List[str]) -> str:
 
 
 def pages(helps: List[Help], version: str, day: str) -> Dict[str, str]:
-    """All man pages, by the names of their files. Each names its command's first page, and that one names all."""
+    """All man pages, by the names of their files. Each names its command's first page,
+    and that one names all."""
     found = {}
     for one in helps:
         first = one.words.split(" ")[0]
@@ -142,7 +146,8 @@ def pages(helps: List[Help], version: str, day: str) -> Dict[str, str]:
 
 
 def completion(helps: List[Help]) -> str:
-    """A script by which bash completes the commands, their options, and names of files."""
+    """A script by which bash completes the commands, their options, and names of
+    files."""
     tables = []
     for first in dict.fromkeys(it.words.split(" ")[0] for it in helps):
         own = [it for it in helps if it.words.split(" ")[0] == first]

@@ -1,4 +1,5 @@
-"""A wheel of the lab with the program in it, for pip. The same files give the same bytes."""
+"""A wheel of the lab with the program in it, for pip. The same files give the same
+bytes."""
 import base64
 import hashlib
 import io
@@ -8,10 +9,13 @@ import tomllib
 import zipfile
 from typing import Dict, List, NamedTuple, Tuple
 
-RUNNABLE, READABLE = 0o755, 0o644
+RUNNABLE = 0o755
+READABLE = 0o644
 NAME = "arena_lab"
-# the folder of the programs and of their records in the package, and the folders beside the lab
-PROGRAM, BESIDE = "arena_lab/program/", ("examples/", "experiments/", "docs/")
+# the folder of the programs and of their records in the package, and the folders beside
+# the lab
+PROGRAM = "arena_lab/program/"
+BESIDE = ("examples/", "experiments/", "docs/")
 
 
 class File(NamedTuple):
@@ -39,7 +43,8 @@ def tag_of(glibc: str) -> str:
 
 
 def files_of(released: Files, extra: Files) -> Files:
-    """The files of the package: those of the lab, the programs with what is said of them, examples and documents."""
+    """The files of the package: those of the lab, the programs with what is said of
+    them, examples and documents."""
     found = {
         path: file for path, file in released.items() if path.startswith("arena_lab/")
     }
@@ -107,11 +112,13 @@ def packed(
     listed.append(
         (record, File("\n".join([*rows, f"{record},,", ""]).encode(), READABLE))
     )
-    made, moment = io.BytesIO(), time.gmtime(max(seconds, 315_532_800))[:6]
+    made = io.BytesIO()
+    moment = time.gmtime(max(seconds, 315_532_800))[:6]
     with zipfile.ZipFile(made, "w", zipfile.ZIP_DEFLATED, compresslevel=9) as archive:
         for path, file in listed:
             entry = zipfile.ZipInfo(path, moment)
-            entry.compress_type, entry.create_system = zipfile.ZIP_DEFLATED, 3
+            entry.compress_type = zipfile.ZIP_DEFLATED
+            entry.create_system = 3
             entry.external_attr = (0o100000 | file.mode) << 16
             archive.writestr(entry, file.text)
     return made.getvalue()
@@ -123,5 +130,6 @@ def digest_of(text: bytes) -> str:
 
 
 def data(version: str, path: str) -> str:
-    """Where a file of the system stands in the wheel, such as `share/man/man1/arena.1`."""
+    """Where a file of the system stands in the wheel, such as
+    `share/man/man1/arena.1`."""
     return str(pathlib.PurePosixPath(f"{NAME}-{version}.data", "data", path))

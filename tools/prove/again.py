@@ -1,11 +1,13 @@
-"""Proves a commit with nothing kept, and compares the program with another that was made of the same commit.
+"""Proves a commit with nothing kept, and compares the program with another that was
+made of the same commit.
 
     sudo python3 -m tools.prove.again PROGRAM [--commit COMMIT] [--jobs N]
 
-PROGRAM is what the gate or tools/build has made of COMMIT (HEAD). The commit is proved and built in a clone of its own,
-in a mount namespace in which /opt/rattle-kept is empty, so no proof is taken over. Edits are left out, since no program
-is made of them. The last line says that the programs are the same, or names the sections in which they differ; then the
-exit status is 1. It takes as long as the proofs of the gate.
+PROGRAM is what the gate or tools/build has made of COMMIT (HEAD). The commit is proved
+and built in a clone of its own, in a mount namespace in which /opt/rattle-kept is
+empty, so no proof is taken over. Edits are left out, since no program is made of them.
+The last line says that the programs are the same, or names the sections in which they
+differ; then the exit status is 1. It takes as long as the proofs of the gate.
 """
 import argparse
 import hashlib
@@ -22,7 +24,8 @@ from tools.prove.prover import KIT, TOP, workers
 
 KEPT = pathlib.Path("/opt/rattle-kept")
 PROGRAM = "bhs_main"
-# a row of `readelf --sections --wide`: the name, and behind type and address the place in the file and the size
+# a row of `readelf --sections --wide`: the name, and behind type and address the place
+# in the file and the size
 SECTION = re.compile(
     r"^ +\[ *\d+\] (\S+) +(\S+) +[0-9a-f]+ ([0-9a-f]+) ([0-9a-f]+) ", re.M
 )
@@ -78,7 +81,8 @@ def sections(program: pathlib.Path) -> Dict[str, bytes]:
 
 def differing(one: pathlib.Path, other: pathlib.Path) -> List[str]:
     """The sections in which two programs differ."""
-    first, second = sections(one), sections(other)
+    first = sections(one)
+    second = sections(other)
     return [name for name in {**first, **second} if first.get(name) != second.get(name)]
 
 

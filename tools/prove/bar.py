@@ -1,5 +1,5 @@
-"""A bar on standard error for work whose time is known from earlier runs. It needs no package, as the first start of
-the program has none."""
+"""A bar on standard error for work whose time is known from earlier runs. It needs no
+package, as the first start of the program has none."""
 import math
 import shutil
 import sys
@@ -31,7 +31,8 @@ def picture(share: float) -> str:
 
 
 class Bar:
-    """Shows how far the work is: on a terminal in one line that changes, elsewhere by a line now and then."""
+    """Shows how far the work is: on a terminal in one line that changes, elsewhere by a
+    line now and then."""
 
     def __init__(self, stream: TextIO = sys.stderr, quiet: float = QUIET) -> None:
         self._stream = stream

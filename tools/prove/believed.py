@@ -1,13 +1,16 @@
-"""Counts what a reader must believe: the definitions that the headlines reach, and their lines.
+"""Counts what a reader must believe: the definitions that the headlines reach, and
+their lines.
 
     python3 -m tools.prove.believed [--names]
 
-A headline is a definition of some specs/ that the contract of a law states. The definitions that it uses, those that
-these use, and so on, are all that its statement means, beside the types of the code and the words of the prover's
-library. A variable with the name of a definition of its file counts as that definition, so the numbers are rather too
-large. For each headline a line of a table gives how many definitions it reaches, in how many files, and how many lines
-they have, comments and blank lines aside. With --names each file and its definitions are named too.
-docs/TRUST.md has the table, and a unit test compares them.
+A headline is a definition of some specs/ that the contract of a law states. The
+definitions that it uses, those that these use, and so on, are all that its statement
+means, beside the types of the code and the words of the prover's library. A variable
+with the name of a definition of its file counts as that definition, so the numbers are
+rather too large. For each headline a line of a table gives how many definitions it
+reaches, in how many files, and how many lines they have, comments and blank lines
+aside. With --names each file and its definitions are named too. docs/TRUST.md has the
+table, and a unit test compares them.
 """
 import functools
 import pathlib
@@ -80,7 +83,8 @@ def without_comment(line: str) -> str:
 
 
 def imports_in(text: str) -> Dict[str, Place]:
-    """Of each name that a module imports from a crate of this repository, where it stands."""
+    """Of each name that a module imports from a crate of this repository, where it
+    stands."""
     found = {}
     for crate, module, names in IMPORT.findall(text):
         for name in names.split(", "):
@@ -90,9 +94,11 @@ def imports_in(text: str) -> Dict[str, Place]:
 
 
 def blocks(lines: Iterable[str]) -> Iterator[Tuple[str, List[str]]]:
-    """The definitions, each with its lines; those inside `module _ ..` have its head in front."""
+    """The definitions, each with its lines; those inside `module _ ..` have its head in
+    front."""
     head: List[str] = []
-    name, block = "", []
+    name = ""
+    block = []
     for line in lines:
         begins = BEGINS.match(line)
         if (
@@ -106,7 +112,8 @@ def blocks(lines: Iterable[str]) -> Iterator[Tuple[str, List[str]]]:
             if not begins:
                 head = [line]
             elif not begins[1]:
-                head, block = [], [line]
+                head = []
+                block = [line]
         elif name:
             block.append(line)
         elif head:
@@ -126,7 +133,8 @@ def read(crate: str, module: str) -> Module:
         for line in map(without_comment, text.splitlines())
         if line and not line.startswith("use ")
     ]
-    definitions, owners = {}, {}
+    definitions = {}
+    owners = {}
     for name, block in blocks(lines):
         definitions[name] = Definition(block, set(WORD.findall("\n".join(block))))
         owners[name] = name

@@ -1,12 +1,15 @@
-"""Lists the functions of the crates that have no clause: any body of such a function is proved to meet its contract.
+"""Lists the functions of the crates that have no clause: any body of such a function is
+proved to meet its contract.
 
     python3 -m tools.prove.clauses [CRATE ..]
 
-A clause is an `ensures` of the function itself, or of the method of a trait of this repository that it implements.
-`From`, `Clone` and `PartialEq` have theirs in ghost members beside the method. A clause counts for nothing if all that
-it says is a ghost member that is always true there. Not listed are the benchmark and `main`. tools/prove/tested.toml
-says of each function in this list which test fails for a wrong body of it; tests/test_clauses.py compares the two, and
-tools/prove/contracts.py prints both.
+A clause is an `ensures` of the function itself, or of the method of a trait of this
+repository that it implements. `From`, `Clone` and `PartialEq` have theirs in ghost
+members beside the method. A clause counts for nothing if all that it says is a ghost
+member that is always true there. Not listed are the benchmark and `main`.
+tools/prove/tested.toml says of each function in this list which test fails for a wrong
+body of it; tests/test_clauses.py compares the two, and tools/prove/contracts.py prints
+both.
 """
 import pathlib
 import re
@@ -27,8 +30,8 @@ NAMES = re.compile(r"(?:(?P<trait>[\w:]+)(?:<.*>)? for )?&?(?P<type>\w+)")
 
 
 class Function(NamedTuple):
-    """A function: its crate, its file, its name behind its type's, its clauses, and the ghost members beside it that
-    are always true."""
+    """A function: its crate, its file, its name behind its type's, its clauses, and the
+    ghost members beside it that are always true."""
 
     crate: str
     file: str
@@ -77,7 +80,9 @@ def always_true(lines: List[str], at: int) -> FrozenSet[str]:
 
 def functions_in(crate: str, path: pathlib.Path) -> Iterator[Function]:
     """The functions of a file, in order."""
-    lines, trait, kind = path.read_text().split("\n"), None, ""
+    lines = path.read_text().split("\n")
+    trait = None
+    kind = ""
     empty: FrozenSet[str] = frozenset()
     for at, line in enumerate(lines):
         block = BLOCK.match(line)
@@ -94,7 +99,9 @@ def functions_in(crate: str, path: pathlib.Path) -> Iterator[Function]:
             kind = trait if is_trait else kind
             empty = always_true(lines, at)
         elif line.startswith("}"):
-            trait, kind, empty = None, "", frozenset()
+            trait = None
+            kind = ""
+            empty = frozenset()
         head = HEAD.match(line)
         if head:
             owner = kind if head[1] else ""
@@ -119,7 +126,8 @@ def all_functions(crates: List[str]) -> List[Function]:
 
 
 def says_something(one: Function, promised: Dict[str, List[str]]) -> bool:
-    """Whether a function has a clause, of its own or of a trait, that is not always true."""
+    """Whether a function has a clause, of its own or of a trait, that is not always
+    true."""
     if one.clauses:
         return True
     if one.trait in WITH_GHOSTS:
@@ -132,7 +140,8 @@ def says_something(one: Function, promised: Dict[str, List[str]]) -> bool:
 
 
 def without_clause(crates: List[str]) -> List[Function]:
-    """Those of the functions that have no clause, neither of their own nor of a trait of this repository."""
+    """Those of the functions that have no clause, neither of their own nor of a trait
+    of this repository."""
     everywhere = all_functions(
         sorted(path.name for path in CRATES.iterdir() if (path / "src").is_dir())
     )

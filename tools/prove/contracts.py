@@ -1,16 +1,20 @@
-"""Writes what each contract is called and says, and where contracts say nothing, as a page in Markdown.
+"""Writes what each contract is called and says, and where contracts say nothing, as a
+page in Markdown.
 
     python3 -m tools.prove.contracts [CRATE ..] > CONTRACTS.md
 
-- The contracts: each public function with the names of its clauses, and what its `///` lines say. `-` is a clause
-  without a name.
-- What want of memory leaves: each of these calls that can answer that memory ran out, takes an allocator, or may wait,
-  read off its signature. A command says by its exit status that memory ran out. What a call is lent by `&` stays as it
-  was, and what is moved in is dropped. What it is lent by `&mut` may have changed; the clauses that are named speak of
-  errors. tests/test_clauses.py finds each such call that another crate names in these rows.
-- Functions without a clause, of which any body is proved, and what fails for a wrong one; and wrong bodies that
-  contracts let through. These are kept by hand in tools/prove/tested.toml; tests/test_clauses.py compares the functions
-  with those that tools/prove/clauses.py finds.
+- The contracts: each public function with the names of its clauses, and what its `///`
+  lines say. `-` is a clause without a name.
+- What want of memory leaves: each of these calls that can answer that memory ran out,
+  takes an allocator, or may wait, read off its signature. A command says by its exit
+  status that memory ran out. What a call is lent by `&` stays as it was, and what is
+  moved in is dropped. What it is lent by `&mut` may have changed; the clauses that are
+  named speak of errors. tests/test_clauses.py finds each such call that another crate
+  names in these rows.
+- Functions without a clause, of which any body is proved, and what fails for a wrong
+  one; and wrong bodies that contracts let through. These are kept by hand in
+  tools/prove/tested.toml; tests/test_clauses.py compares the functions with those that
+  tools/prove/clauses.py finds.
 - Wrong bodies that the prover refuses: the edits that the gate tries, by name.
 
 docs/THEOREMS.md has the sentences that one reads first.
@@ -56,7 +60,8 @@ MEMORY = {"Memory", "AllocError"}
 
 
 class Contract(NamedTuple):
-    """A public function: its name with that of its type, its `///` lines, its signature, and its clauses by name."""
+    """A public function: its name with that of its type, its `///` lines, its
+    signature, and its clauses by name."""
 
     name: str
     words: str
@@ -77,7 +82,8 @@ def words_above(lines: List[str], at: int) -> str:
 
 
 def clauses_in(contract: str) -> Dict[str, str]:
-    """The clauses of a contract, each by its name; those without one are `-`, `-2`, .."""
+    """The clauses of a contract, each by its name; those without one are `-`, `-2`,
+    .."""
     found: Dict[str, str] = {}
     places = list(CLAUSE.finditer(contract))
     for place, after in zip(
@@ -89,8 +95,11 @@ def clauses_in(contract: str) -> Dict[str, str]:
 
 
 def contracts_in(path: pathlib.Path) -> Iterator[Contract]:
-    """The public functions of a file, and the functions of its public traits, in order."""
-    lines, kind, is_open = path.read_text(encoding="utf-8").split("\n"), "", False
+    """The public functions of a file, and the functions of its public traits, in
+    order."""
+    lines = path.read_text(encoding="utf-8").split("\n")
+    kind = ""
+    is_open = False
     for at, line in enumerate(lines):
         block = BLOCK.match(line)
         if block:
@@ -105,7 +114,8 @@ def contracts_in(path: pathlib.Path) -> Iterator[Contract]:
                 else ""
             )
         elif line.startswith("}"):
-            kind, is_open = "", False
+            kind = ""
+            is_open = False
         head_of = HEAD.match(line)
         if head_of and (
             line.lstrip().startswith("pub fn")
@@ -124,8 +134,8 @@ def contracts_in(path: pathlib.Path) -> Iterator[Contract]:
 
 
 def contracts_of(crate: str) -> List[Contract]:
-    """The functions that a crate passes on, of its own and of its types, file by file: those of its head, of its open
-    modules, and those that the head names."""
+    """The functions that a crate passes on, of its own and of its types, file by file:
+    those of its head, of its open modules, and those that the head names."""
     root = CRATES / crate / "src"
     head = "".join(
         path.read_text(encoding="utf-8")
@@ -151,8 +161,8 @@ def contracts_of(crate: str) -> List[Contract]:
 
 
 def memory_types() -> Set[str]:
-    """The types that can say that memory ran out: enums with such a variant, or with one that holds such a type, and
-    structs with an open field that does."""
+    """The types that can say that memory ran out: enums with such a variant, or with
+    one that holds such a type, and structs with an open field that does."""
     texts = [path.read_text(encoding="utf-8") for path in CRATES.glob("*/src/**/*.rt")]
     enums = [found for text in texts for found in ENUM.findall(text)]
     structs = [
@@ -160,7 +170,8 @@ def memory_types() -> Set[str]:
         for text in texts
         for name, body in STRUCT.findall(text)
     ]
-    found, grown = set(MEMORY), True
+    found = set(MEMORY)
+    grown = True
     while grown:
         more = {
             name
@@ -188,7 +199,8 @@ def answer_of(signature: str) -> str:
 
 
 def wants_memory(types: Set[str], signature: str) -> str:
-    """Whether a call can say that memory ran out: by its answer, by its exit status, or not."""
+    """Whether a call can say that memory ran out: by its answer, by its exit status, or
+    not."""
     words = set(re.findall(r"\w+", answer_of(signature)))
     is_command = "u8" in words and re.search(r"\berrors: &mut", signature)
     if types & words:
@@ -211,9 +223,8 @@ def memory_rows(crates: List[str]) -> Iterator[str]:
     types = memory_types()
     for crate in crates:
         for one in contracts_of(crate):
-            wants, waits = wants_memory(types, one.signature), bool(
-                WAITS.search(one.signature)
-            )
+            wants = wants_memory(types, one.signature)
+            waits = bool(WAITS.search(one.signature))
             if wants == "no" and not waits and not ALLOCATOR.search(one.signature):
                 continue
             changed = ", ".join(

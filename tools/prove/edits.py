@@ -2,15 +2,17 @@
 
     python3 -m tools.prove.edits [--all] [CRATE..]
 
-The gate tries crates/NAME/must-fail/*.edit. With --all those of crates/NAME/more-edits/ are tried too, which say the
-same of more functions: run it for each crate that you change. An edit has lines `file: PATH`, and then pairs of lines
-`old: TEXT` and `new: TEXT`, where TEXT stands once in that file.
+The gate tries crates/NAME/must-fail/*.edit. With --all those of crates/NAME/more-edits/
+are tried too, which say the same of more functions: run it for each crate that you
+change. An edit has lines `file: PATH`, and then pairs of lines `old: TEXT` and `new:
+TEXT`, where TEXT stands once in that file.
 
-Of an edited crate the function that is edited is checked, against its contract and those of what it calls, or what a
-line `only: PATH` names. Edits of different functions are tried in one check, and an edit that is not refused there by
-its own function is tried by itself. If that much is still proved, or no function is edited, the whole crate is
-checked. Each edit has a line, and the last line reads `N passed, M failed`. The libraries below a crate must be built,
-as tools/build and the gate leave them.
+Of an edited crate the function that is edited is checked, against its contract and
+those of what it calls, or what a line `only: PATH` names. Edits of different functions
+are tried in one check, and an edit that is not refused there by its own function is
+tried by itself. If that much is still proved, or no function is edited, the whole crate
+is checked. Each edit has a line, and the last line reads `N passed, M failed`. The
+libraries below a crate must be built, as tools/build and the gate leave them.
 """
 import concurrent.futures
 import pathlib
@@ -34,7 +36,8 @@ from tools.prove.prover import (
 )
 
 # what a check of a crate that is proved ends with, and one that is not
-PROVED, NOT_PROVED = "logic=proved", "logic=not-proved"
+PROVED = "logic=proved"
+NOT_PROVED = "logic=not-proved"
 SOME_PROVED = re.compile(r"only=(\d+) proved=(\d+)")
 # names that a text of the code or of a definition lacks: the edit was not tried
 UNREAD = re.compile(
@@ -51,15 +54,16 @@ class BadEdit(Exception):
 
 
 class Edit(NamedTuple):
-    """What an edit changes, as files, texts in them and other texts, and the function that it changes, if it changes
-    one."""
+    """What an edit changes, as files, texts in them and other texts, and the function
+    that it changes, if it changes one."""
 
     name: str
     changes: List[Tuple[str, str, str]]
     function: Optional[str]
 
     def change(self, folder: pathlib.Path, texts: Dict[str, str]) -> None:
-        """Makes the changes in these texts, which stand in place of files of a folder."""
+        """Makes the changes in these texts, which stand in place of files of a
+        folder."""
         for file, old, new in self.changes:
             text = texts.get(file) or (folder / file).read_text()
             if text.count(old) != 1:
@@ -79,8 +83,8 @@ def module_of(path: str) -> List[str]:
 
 
 def type_of(head: str) -> Optional[Tuple[str, str]]:
-    """The type of an `impl`, and how the prover names the `impl`: by its type, or by the type, the trait and the words
-    of the trait's type."""
+    """The type of an `impl`, and how the prover names the `impl`: by its type, or by
+    the type, the trait and the words of the trait's type."""
     found = HEAD.match(head)
     if not found:
         return None
@@ -98,8 +102,8 @@ def type_of(head: str) -> Optional[Tuple[str, str]]:
 
 
 def module_of_type(folder: pathlib.Path, name: str, path: str) -> List[str]:
-    """The module of a crate that declares a type, by which the prover names the type's methods wherever they stand. If
-    not just one does, it is that of a file."""
+    """The module of a crate that declares a type, by which the prover names the type's
+    methods wherever they stand. If not just one does, it is that of a file."""
     declared = re.compile(
         rf"^(?:pub(?:\(.*?\))? )?(?:struct|enum|union) {name}\b", re.M
     )
@@ -110,12 +114,15 @@ def module_of_type(folder: pathlib.Path, name: str, path: str) -> List[str]:
 
 
 def function_at(folder: pathlib.Path, path: str, place: int) -> Optional[str]:
-    """The function of a crate whose body has a place of a file, by the path that the prover knows."""
-    name, depth = None, 0
+    """The function of a crate whose body has a place of a file, by the path that the
+    prover knows."""
+    name = None
+    depth = 0
     for line in reversed((folder / path).read_text()[:place].split("\n")):
         found = FUNCTION.match(line)
         if found and name is None:
-            name, depth = found[5], len(found[1])
+            name = found[5]
+            depth = len(found[1])
         elif name is not None and line.startswith("impl") and depth:
             named = type_of(line)
             module = (
@@ -131,7 +138,10 @@ def function_at(folder: pathlib.Path, path: str, place: int) -> Optional[str]:
 
 def read_edit(path: pathlib.Path, folder: pathlib.Path) -> Edit:
     """An edit of a crate, which can be made there."""
-    file, old, only, changes = "", "", None, []
+    file = ""
+    old = ""
+    only = None
+    changes = []
     for line in path.read_text().split("\n"):
         word, _, text = line.partition(": ")
         if word == "file":
@@ -164,7 +174,8 @@ class Prover(NamedTuple):
     kept: str
 
     def lines(self, edits: Sequence[Edit], functions: Sequence[str]) -> List[str]:
-        """The lines of a check of these functions, or of all, in a copy of the crate with these edits."""
+        """The lines of a check of these functions, or of all, in a copy of the crate
+        with these edits."""
         texts: Dict[str, str] = {}
         for edit in edits:
             edit.change(CRATES / self.name, texts)
@@ -196,7 +207,8 @@ class Prover(NamedTuple):
 
 
 def first_told(lines: Sequence[str]) -> str:
-    """The first line on what is not proved, with its place if it has one. Remarks are no reason."""
+    """The first line on what is not proved, with its place if it has one. Remarks are
+    no reason."""
     begins = (
         r"(note: )?\S+:\d+:\d+: (?!note: |warning: )",
         r"fn \S+: (no proof|not proved)",
@@ -225,8 +237,8 @@ def together(
 
 
 def own_error(lines: Sequence[str], function: str) -> str:
-    """The first error in a function's own proof files, but for one that says no more than that another proof is not
-    admitted."""
+    """The first error in a function's own proof files, but for one that says no more
+    than that another proof is not admitted."""
     begin = re.compile(
         rf"(\./)?proofs/{function.replace('::', '/')}/\w+\.antt:\d+:\d+: error: (?!.*not admitted)"
     )
@@ -234,8 +246,9 @@ def own_error(lines: Sequence[str], function: str) -> str:
 
 
 def refused_together(prover: Prover, edits: Sequence[Edit]) -> Dict[str, str]:
-    """What the prover says against those edits that their own functions refuse, if all are made at once, or half of
-    them at a time where a check of all comes to nothing."""
+    """What the prover says against those edits that their own functions refuse, if all
+    are made at once, or half of them at a time where a check of all comes to
+    nothing."""
     if len(edits) < 2:
         return {}
     try:
@@ -280,7 +293,8 @@ def refusal(prover: Prover, edit: Edit) -> Optional[str]:
 def answers_of(
     prover: Prover, edits: Sequence[Edit]
 ) -> Iterator[Tuple[str, Optional[str], str]]:
-    """The name of each edit of a crate, what the prover says against it, and the line that is printed."""
+    """The name of each edit of a crate, what the prover says against it, and the line
+    that is printed."""
     left = list(edits)
     while left:
         chosen, left = together(left, CRATES / prover.name)
@@ -295,14 +309,16 @@ def answers_of(
                     else "NOT REFUSED: the crate is still proved"
                 )
             except (BadEdit, OSError) as fault:
-                told, text = None, f"BAD EDIT: {fault}"
+                told = None
+                text = f"BAD EDIT: {fault}"
             yield edit.name, told, text
 
 
 def tried(
     libraries: Libraries, name: str, paths: Sequence[pathlib.Path]
 ) -> Iterator[bool]:
-    """Tries the edits of a crate, each check over what earlier ones kept, and prints a line for each edit."""
+    """Tries the edits of a crate, each check over what earlier ones kept, and prints a
+    line for each edit."""
     edits = []
     for path in paths:
         try:

@@ -1,4 +1,5 @@
-"""What is left of a build of many crates, by what the proof of each took before. For the bar of tools/build."""
+"""What is left of a build of many crates, by what the proof of each took before. For
+the bar of tools/build."""
 import pathlib
 import statistics
 from typing import Dict, Set
@@ -8,7 +9,8 @@ from tools.prove.prover import Libraries, below
 SECONDS = pathlib.Path(__file__).resolve().parent / "proof_seconds"
 # a crate that takes longer than it should is still taken to need this part of its time
 LAST_PART = 0.1
-# how much of the pace is taken from earlier runs: as if this many of their seconds had taken as long here
+# how much of the pace is taken from earlier runs: as if this many of their seconds had
+# taken as long here
 TRUST = 60.0
 
 
@@ -40,7 +42,8 @@ class Forecast:
         seconds: Dict[str, float],
         workers: int,
     ) -> None:
-        """A build of these crates by `workers` workers. A crate without an earlier time gets the median."""
+        """A build of these crates by `workers` workers. A crate without an earlier time
+        gets the median."""
         other = statistics.median(seconds.values()) if seconds else 1.0
         self._seconds = {name: seconds.get(name, other) for name in crates}
         self._needs = {
@@ -58,13 +61,15 @@ class Forecast:
         self._took[name] = now - self._begun.pop(name)
 
     def _pace(self) -> float:
-        """How many seconds here are one of the earlier ones, by the crates that are done."""
+        """How many seconds here are one of the earlier ones, by the crates that are
+        done."""
         expected = sum(self._seconds[name] for name in self._took)
         return (sum(self._took.values()) + TRUST) / (expected + TRUST)
 
     def _left(self, now: float) -> Dict[str, float]:
         """What each crate still needs, in earlier seconds."""
-        pace, left = self._pace(), {}
+        pace = self._pace()
+        left = {}
         for name, seconds in self._seconds.items():
             past = (now - self._begun[name]) / pace if name in self._begun else 0.0
             left[name] = (
@@ -78,9 +83,10 @@ class Forecast:
         return 1 - sum(self._left(now).values()) / total if total else 1.0
 
     def seconds_left(self, now: float) -> float:
-        """How long it still takes: as long as its longest chain of crates that wait for each other, and as all of them
-        on that many workers."""
-        left, chain = self._left(now), {}
+        """How long it still takes: as long as its longest chain of crates that wait for
+        each other, and as all of them on that many workers."""
+        left = self._left(now)
+        chain = {}
         for name in sorted(left, key=lambda it: len(self._needs[it])):
             chain[name] = left[name] + max(
                 (chain[it] for it in self._needs[name]), default=0.0

@@ -1,9 +1,11 @@
-"""Records of what was built, by the SHA-256 of each file, in the form that sha256sum checks.
+"""Records of what was built, by the SHA-256 of each file, in the form that sha256sum
+checks.
 
-The record of a program names the program and the sources of all its crates, behind three lines that say which arena it
-is. A proved program has it beside it as proved.sha256. So has each crate that was proved: there it names the library,
-the sources, and the records of the crates that it stands on. `tools/prove/is_current RECORD` says whether all of that
-is as it was.
+The record of a program names the program and the sources of all its crates, behind
+three lines that say which arena it is. A proved program has it beside it as
+proved.sha256. So has each crate that was proved: there it names the library, the
+sources, and the records of the crates that it stands on. `tools/prove/is_current
+RECORD` says whether all of that is as it was.
 """
 import contextlib
 import hashlib
@@ -19,7 +21,8 @@ from tools.prove.prover import PARTS, Libraries, below, record_of
 PROGRAMS = (ARENA.crate, PLAYER.crate)
 # what a program depends on beside its crates
 LISTS = ("crates.txt", "HANDLES")
-# begins the lines of a crate's sources: behind it stand the folders, of which a record names each file
+# begins the lines of a crate's sources: behind it stand the folders, of which a record
+# names each file
 ALL_OF = "# all of "
 
 
@@ -59,10 +62,10 @@ def write(record: pathlib.Path, text: str) -> None:
 def record_crate(
     top: pathlib.Path, libraries: Libraries, name: str, proved: str
 ) -> None:
-    """Records that a crate was proved, of sources with these lines, and built, once those below it are recorded."""
-    made, records = record_of(top / "crates", name), [
-        record_of(top / "crates", it) for it in below(libraries, name)
-    ]
+    """Records that a crate was proved, of sources with these lines, and built, once
+    those below it are recorded."""
+    made = record_of(top / "crates", name)
+    records = [record_of(top / "crates", it) for it in below(libraries, name)]
     if name in PROGRAMS:
         record_program(
             top,
@@ -81,7 +84,8 @@ def record_crate(
 
 
 def record_program(top: pathlib.Path, name: str, proved: str) -> None:
-    """Records that a program was built of crates that were proved, of sources with these lines."""
+    """Records that a program was built of crates that were proved, of sources with
+    these lines."""
     made = record_of(top / "crates", name)
     built = digests(top, [made.with_name(name), *(top / it for it in LISTS)])
     write(made, head(True) + built + proved)
@@ -100,7 +104,8 @@ def below_programs(libraries: Libraries, programs: Iterable[str]) -> List[str]:
 def record_all(
     top: pathlib.Path, libraries: Libraries, programs: Sequence[str]
 ) -> None:
-    """Records that these programs and their crates, which stand there as they were proved, are proved and built."""
+    """Records that these programs and their crates, which stand there as they were
+    proved, are proved and built."""
     for name in programs:
         record_program(
             top,

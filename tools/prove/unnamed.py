@@ -1,18 +1,22 @@
-"""Lists what nothing names: lemmas and definitions, dependencies of crates, and functions in Python; and lemmas and
-definitions that stand in two crates.
+"""Lists what nothing names: lemmas and definitions, dependencies of crates, and
+functions in Python; and lemmas and definitions that stand in two crates.
 
     python3 -m tools.prove.unnamed
 
-- A lemma or a definition of `crates/*/specs` or `crates/*/proofs` is unnamed if neither another definition of its file
-  nor a file that imports it has its name. The prover names what is `pub` in the folder of a function, and a worked row
-  (`.._row`) is checked where it stands.
-- A library behind a crate in `crates.txt` is unnamed if no file of the crate has its name.
-- A lemma or a definition stands twice if one of another crate has the same text but for its own name, and it is not
-  short.
-- A function, method or class in Python is unnamed if its name stands nowhere else, in no file of the repository.
+- A lemma or a definition of `crates/*/specs` or `crates/*/proofs` is unnamed if neither
+  another definition of its file nor a file that imports it has its name. The prover
+  names what is `pub` in the folder of a function, and a worked row (`.._row`) is
+  checked where it stands.
+- A library behind a crate in `crates.txt` is unnamed if no file of the crate has its
+  name.
+- A lemma or a definition stands twice if one of another crate has the same text but for
+  its own name, and it is not short.
+- A function, method or class in Python is unnamed if its name stands nowhere else, in
+  no file of the repository.
 
-A row for each is printed. `tools/prove/known_unnamed` has the rows that are known: tests/test_unnamed.py fails for a
-row more, and for a row of the file that is no longer true. So delete what is unnamed, and its row.
+A row for each is printed. `tools/prove/known_unnamed` has the rows that are known:
+tests/test_unnamed.py fails for a row more, and for a row of the file that is no longer
+true. So delete what is unnamed, and its row.
 """
 import ast
 import collections
@@ -71,8 +75,10 @@ def module_of(path: pathlib.Path) -> str:
 
 
 def blocks(text: str) -> Iterator[Tuple[str, str]]:
-    """The definitions of a file: the first word of each, which is its name, and its lines."""
-    name, lines = "", []
+    """The definitions of a file: the first word of each, which is its name, and its
+    lines."""
+    name = ""
+    lines = []
     for line in text.splitlines():
         first = (
             MARKS.sub("", line, count=1).split(" ")[0]
@@ -81,13 +87,15 @@ def blocks(text: str) -> Iterator[Tuple[str, str]]:
         )
         if first != name:
             yield name, "\n".join(lines)
-            name, lines = first, []
+            name = first
+            lines = []
         lines.append(line)
     yield name, "\n".join(lines)
 
 
 def definitions(path: pathlib.Path) -> Iterator[str]:
-    """The names that a file defines, that none of its other definitions has, and that something has to name."""
+    """The names that a file defines, that none of its other definitions has, and that
+    something has to name."""
     found = list(blocks(text_of(path)))
     counts = collections.Counter(
         word for _, text in found for word in set(WORD.findall(text))
@@ -106,7 +114,8 @@ def definitions(path: pathlib.Path) -> Iterator[str]:
 
 
 def imported(text: str) -> Iterator[Tuple[str, str, str]]:
-    """What a file imports: modules, names of them or nothing for a whole module, and how they are called here."""
+    """What a file imports: modules, names of them or nothing for a whole module, and
+    how they are called here."""
     for module, names, alias in USE.findall(text):
         for name in filter(None, map(str.strip, names.split(","))):
             renamed = RENAMED.fullmatch(name)
@@ -119,7 +128,8 @@ def named_in(path: pathlib.Path) -> Iterator[Place]:
     """What a file imports and has in its text."""
     text = text_of(path)
     rest = USE.sub("", text)
-    words, dotted = set(WORD.findall(rest)), set(re.findall(r"(\w+)\.([\w'-]+)", rest))
+    words = set(WORD.findall(rest))
+    dotted = set(re.findall(r"(\w+)\.([\w'-]+)", rest))
     for module, name, here in imported(text):
         if not name:
             yield from ((module, part) for front, part in dotted if front == here)
@@ -198,7 +208,8 @@ def kept_files() -> List[pathlib.Path]:
 
 
 def is_called_by_name(node: ast.AST) -> bool:
-    """Whether a library finds a function, a method or a class by itself: by a decorator, or as a class of tests."""
+    """Whether a library finds a function, a method or a class by itself: by a
+    decorator, or as a class of tests."""
     return (
         bool(node.decorator_list)
         or isinstance(node, ast.ClassDef)

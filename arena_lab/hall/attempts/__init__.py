@@ -1,1 +1,2 @@
-"""Attempts: teams ask for matches, workers play them, and pages show what may be shown."""
+"""Attempts: teams ask for matches, workers play them, and pages show what may be
+shown."""

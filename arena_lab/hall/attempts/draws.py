@@ -1,6 +1,7 @@
-"""What is drawn for a match: its black hole, its home base, the labels of its ports and its keys. Each attempt has its
-own, by the operating system's source of secrets, so no attempt tells anything of another. Labels are shuffled by
-Python's generator, from a seed of 128 bits that is used for nothing else."""
+"""What is drawn for a match: its black hole, its home base, the labels of its ports and
+its keys. Each attempt has its own, by the operating system's source of secrets, so no
+attempt tells anything of another. Labels are shuffled by Python's generator, from a
+seed of 128 bits that is used for nothing else."""
 import pathlib
 import secrets
 from typing import Any, Dict, NamedTuple, Optional
@@ -12,11 +13,13 @@ from arena_lab.rules.delays import ODDS, SCALES, Delays
 from arena_lab.rules.fixtures import Fixture, tournament_text
 from arena_lab.rules.model import Setup
 
-TOURNAMENT, NETWORK = "tournament.toml", "network.toml"
+TOURNAMENT = "tournament.toml"
+NETWORK = "network.toml"
 
 
 class Draw(NamedTuple):
-    """A match that was drawn, and what its team is told of the network if it may have the map."""
+    """A match that was drawn, and what its team is told of the network if it may have
+    the map."""
 
     fixture: Fixture
     map: Optional[Dict[str, Any]]
@@ -46,7 +49,8 @@ def drawn(net: Net, team: str) -> Draw:
 
 
 def write(draw: Draw, folder: pathlib.Path) -> None:
-    """Writes the tournament of a match, which has its black holes, into a folder that nobody else may look into."""
+    """Writes the tournament of a match, which has its black holes, into a folder that
+    nobody else may look into."""
     folder.mkdir(mode=0o700, parents=True)
     setup = draw.fixture.setup
     write_whole(

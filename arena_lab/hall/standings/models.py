@@ -7,10 +7,11 @@ from arena_lab.hall.handins.models import Contest
 
 
 class Reveal(models.Model):
-    """The teacher shows something of the table of the course or of a contest: what its freeze hides, or what came of
-    the secret draw."""
+    """The teacher shows something of the table of the course or of a contest: what its
+    freeze hides, or what came of the secret draw."""
 
-    FREEZE, SECRET = "freeze", "secret"
+    FREEZE = "freeze"
+    SECRET = "secret"
     contest = models.ForeignKey(
         Contest,
         models.CASCADE,
@@ -31,7 +32,8 @@ class Reveal(models.Model):
     at = models.DateTimeField(default=timezone.now, editable=False)
 
     class Meta:
-        verbose_name, verbose_name_plural = _("unveiling"), _("unveilings")
+        verbose_name = _("unveiling")
+        verbose_name_plural = _("unveilings")
 
     def __str__(self) -> str:
         return f"{self.get_what_display()}: {self.contest or _('the course')}"

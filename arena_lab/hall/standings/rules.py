@@ -1,11 +1,12 @@
-"""The rules by which teams are ranked, as in the league of a course: who solved more matches stands before, then who
-made fewer moves, then who lost fewer agents. Teams that are equal in all of these share a place. Nothing here asks the
-database."""
+"""The rules by which teams are ranked, as in the league of a course: who solved more
+matches stands before, then who made fewer moves, then who lost fewer agents. Teams that
+are equal in all of these share a place. Nothing here asks the database."""
 from typing import Dict, List, NamedTuple, Sequence, Tuple
 
 
 class GradedTeam(NamedTuple):
-    """What came of a team's program: on all networks, and of each network how many matches of how many it solved."""
+    """What came of a team's program: on all networks, and of each network how many
+    matches of how many it solved."""
 
     team: str
     solved: int

@@ -8,7 +8,8 @@ from rest_framework.views import exception_handler
 
 
 def error_response(fault: Exception, context: Dict[str, Any]) -> Optional[Response]:
-    """What the REST answers are if something is refused: an object with `error`, a line that says what to change."""
+    """What the REST answers are if something is refused: an object with `error`, a line
+    that says what to change."""
     if isinstance(fault, RecursionError):
         # lists in lists in lists
         fault = exceptions.ParseError()

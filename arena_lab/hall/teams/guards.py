@@ -1,7 +1,9 @@
-"""What stands before each page: how often one may ask, what a browser may do with an answer, and what errors say.
+"""What stands before each page: how often one may ask, what a browser may do with an
+answer, and what errors say.
 
-A team that asks too often is told so (429) before anything else is done for it, and others are not slower for it. Who
-is not known is counted by address, so what strangers try costs no team its requests.
+A team that asks too often is told so (429) before anything else is done for it, and
+others are not slower for it. Who is not known is counted by address, so what strangers
+try costs no team its requests.
 """
 import collections
 import hashlib
@@ -20,7 +22,8 @@ STRICT = (
     "default-src 'none'; style-src 'self'; script-src 'self'; img-src 'self' data:; font-src 'self'; "
     "connect-src 'self'; form-action 'self'; base-uri 'none'; frame-ancestors 'none'"
 )
-# pages that are made of what strangers said have their scripts in them, and may reach nothing, not even cookies
+# pages that are made of what strangers said have their scripts in them, and may reach
+# nothing, not even cookies
 BOXED = (
     "sandbox allow-scripts; default-src 'none'; style-src 'unsafe-inline'; script-src 'unsafe-inline'; "
     "base-uri 'none'; form-action 'none'; frame-ancestors 'none'"
@@ -33,23 +36,28 @@ HEADERS = {
     "Referrer-Policy": "same-origin",
     "Cross-Origin-Resource-Policy": "same-origin",
 }
-# requests a minute of an address that nobody has logged in from, or of a teacher; and wrong tries of a team's token or
-# of a teacher's password in ten minutes, from one address: others of a class behind it are not kept out
-STRANGERS, TRIES = 600, 10
+# requests a minute of an address that nobody has logged in from, or of a teacher; and
+# wrong tries of a team's token or of a teacher's password in ten minutes, from one
+# address: others of a class behind it are not kept out
+STRANGERS = 600
+TRIES = 10
 # what begins the names of teachers here, and of no team
 STAFF = "@"
 # bytes that are sent with a request: a hand-in, or of who has not logged in a form
-MOST_SENT, MOST_OF_STRANGERS = (8 << 20) + (64 << 10), 64 << 10
+MOST_SENT = (8 << 20) + (64 << 10)
+MOST_OF_STRANGERS = 64 << 10
 # what is kept in mind at most
 MOST = 20_000
 # where programs ask, and how they send their token
-REST, BEARER = "/api/", "bearer "
+REST = "/api/"
+BEARER = "bearer "
 # the bits of an address of IPv6 that say whose it is
 OF_ONE = 64
 
 
 class Buckets:
-    """How often each key may be used: each has a bucket of tries, which fills evenly within these seconds."""
+    """How often each key may be used: each has a bucket of tries, which fills evenly
+    within these seconds."""
 
     def __init__(self, seconds: float) -> None:
         self._seconds = seconds
@@ -59,7 +67,8 @@ class Buckets:
         self._lock = threading.Lock()
 
     def wait(self, key: str, most: int) -> float:
-        """Takes one of what is left, and gives 0; if nothing is left, gives the seconds to wait."""
+        """Takes one of what is left, and gives 0; if nothing is left, gives the seconds
+        to wait."""
         with self._lock:
             left = self._refilled(key, most)
             is_enough = left >= 1
@@ -87,14 +96,17 @@ class Buckets:
             self._left.clear()
 
 
-asked, tried = Buckets(60), Buckets(600)
-# whose credentials are known to be right: of the digest of a token or a session the team's name
+asked = Buckets(60)
+tried = Buckets(600)
+# whose credentials are known to be right: of the digest of a token or a session the
+# team's name
 known = ConnectionProxy(caches, "known")
 
 
 def address_of(request: HttpRequest) -> str:
-    """Who asks: the address, as waitress has it of the server before the hall if there is one. Of an address of IPv6
-    that is the network, whose addresses are all one person's."""
+    """Who asks: the address, as waitress has it of the server before the hall if there
+    is one. Of an address of IPv6 that is the network, whose addresses are all one
+    person's."""
     found = str(request.META.get("REMOTE_ADDR", ""))
     try:
         address = ipaddress.ip_address(found.partition("%")[0])
@@ -113,10 +125,10 @@ def token_in(request: HttpRequest) -> Optional[str]:
 
 
 def credential_of(request: HttpRequest) -> Optional[str]:
-    """The digest of the token or of the session by which one asks: of the one that the hall will look at."""
-    token, session = token_in(request), request.COOKIES.get(
-        settings.SESSION_COOKIE_NAME
-    )
+    """The digest of the token or of the session by which one asks: of the one that the
+    hall will look at."""
+    token = token_in(request)
+    session = request.COOKIES.get(settings.SESSION_COOKIE_NAME)
     said = (
         f"token {token}"
         if token is not None
@@ -128,9 +140,9 @@ def credential_of(request: HttpRequest) -> Optional[str]:
 
 
 def has_tried_too_often(request: HttpRequest, name: str) -> bool:
-    """Whether no token or password of this name is tried any more from this address: too many were wrong. A right one
-    costs no try, however often it is tried at once. So each thread of the hall may look at one more wrong one.
-    """
+    """Whether no token or password of this name is tried any more from this address:
+    too many were wrong. A right one costs no try, however often it is tried at once. So
+    each thread of the hall may look at one more wrong one."""
     return tried.is_empty(f"{address_of(request)} {name[:40]}", TRIES)
 
 
@@ -177,7 +189,8 @@ class Guards:
 
 
 def length_of(request: HttpRequest) -> int:
-    """How many bytes are sent with a request. Without a word of that Django reads none."""
+    """How many bytes are sent with a request. Without a word of that Django reads
+    none."""
     said = str(request.META.get("CONTENT_LENGTH") or 0)
     return int(said) if said.isdecimal() and len(said) < 12 else MOST_SENT + 1
 

@@ -1,4 +1,5 @@
-"""Logging in: teams by the token of their key sheet, by a page or by each request; the teacher by a password."""
+"""Logging in: teams by the token of their key sheet, by a page or by each request; the
+teacher by a password."""
 from typing import Any, Callable, Dict, Optional, Tuple
 
 from django.conf import settings
@@ -14,7 +15,8 @@ from arena_lab.hall.teams.models import DOT, Team, team_of
 
 WRONG = _("no team has this token")
 WAIT = _("too many wrong tries: wait some minutes")
-SESSION_TEAM, SESSION_GENERATION = "team", "generation"
+SESSION_TEAM = "team"
+SESSION_GENERATION = "generation"
 
 
 def tried(request: HttpRequest, token: str) -> Optional[Team]:
@@ -31,10 +33,8 @@ def tried(request: HttpRequest, token: str) -> Optional[Team]:
 def log_in(request: Any, team: Team) -> None:
     """Begins a session of a team, in the place of any before it."""
     request.session.flush()
-    request.session[SESSION_TEAM], request.session[SESSION_GENERATION] = (
-        team.pk,
-        team.generation,
-    )
+    request.session[SESSION_TEAM] = team.pk
+    request.session[SESSION_GENERATION] = team.generation
 
 
 def team_in(request: Any) -> Optional[Team]:

@@ -33,12 +33,14 @@ class Token(forms.Form):
 @sensitive_post_parameters()
 def login(request: Any) -> HttpResponse:
     """Asks for a token."""
-    form, status = Token(request.POST or None), 400 if request.method == "POST" else 200
+    form = Token(request.POST or None)
+    status = 400 if request.method == "POST" else 200
     if form.is_valid():
         try:
             team = logins.tried(request, form.cleaned_data["token"])
         except Throttled:
-            team, status = None, 429
+            team = None
+            status = 429
         if team is not None:
             logins.log_in(request, team)
             return redirect("/matches")
@@ -66,15 +68,18 @@ class Question(forms.ModelForm):
     """The form of a question."""
 
     class Meta:
-        model, fields = Message, ["text"]
+        model = Message
+        fields = ["text"]
         labels = {"text": _("Your question")}
         widgets = {"text": forms.Textarea(attrs={"rows": 4})}
 
 
 @for_teams
 def messages(request: Any) -> HttpResponse:
-    """Announcements, questions and answers, and a form for a question of the team that asks."""
-    form, status = Question(request.POST if request.method == "POST" else None), 200
+    """Announcements, questions and answers, and a form for a question of the team that
+    asks."""
+    form = Question(request.POST if request.method == "POST" else None)
+    status = 200
     if form.is_bound:
         with transaction.atomic():
             # requests at the same time are taken one after the other
@@ -97,8 +102,8 @@ def messages(request: Any) -> HttpResponse:
 
 
 def owned(request: Any, kind: Any, number: int, right: str) -> Any:
-    """What the team that asks has under this number, or any team if a teacher or tutor asks who has a right. Another
-    team's is as if there were none."""
+    """What the team that asks has under this number, or any team if a teacher or tutor
+    asks who has a right. Another team's is as if there were none."""
     found = get_object_or_404(kind.objects.select_related("team"), pk=number)
     if (
         request.team == found.team

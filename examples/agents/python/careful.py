@@ -4,10 +4,11 @@
     python3 careful.py HOST PORT KEY NODES
     ARENA_HOST=HOST ARENA_PORT=PORT ARENA_KEY=KEY python3 careful.py NODES
 
-Start it twice, with the keys of both agents. The agent that writes first at the home base explores the side of port 0,
-the other the side of port 1. Each goes out to the next unexplored node of its side and comes back, and writes at the
-home base how many nodes of each side are safe, as "3 1": three on the side of port 0, one on the other. Once one node
-is left, that is the black hole. Nothing is decided by time.
+Start it twice, with the keys of both agents. The agent that writes first at the home
+base explores the side of port 0, the other the side of port 1. Each goes out to the
+next unexplored node of its side and comes back, and writes at the home base how many
+nodes of each side are safe, as "3 1": three on the side of port 0, one on the other.
+Once one node is left, that is the black hole. Nothing is decided by time.
 """
 import os
 import sys
@@ -59,7 +60,8 @@ def note(agent: Agent, side: int, mine: int, board: str) -> str:
 
 
 def search(agent: Agent, key: str, nodes: int) -> None:
-    """Enters and searches, until the agent has accused. The lab calls it so, by --agent "careful.py {nodes}"."""
+    """Enters and searches, until the agent has accused. The lab calls it so, by --agent
+    "careful.py {nodes}"."""
     side, board = choose_side(agent, agent.enter(key))
     mine = 0
     while True:
@@ -73,7 +75,8 @@ def search(agent: Agent, key: str, nodes: int) -> None:
 
 
 def words_of(given: List[str]) -> List[str]:
-    """HOST, PORT, KEY and NODES. Of the first three, those that are not given are taken from the environment."""
+    """HOST, PORT, KEY and NODES. Of the first three, those that are not given are taken
+    from the environment."""
     if len(given) == 1:
         known = os.environ.get
         return [

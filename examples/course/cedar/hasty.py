@@ -1,6 +1,6 @@
 #!/usr/bin/env python3
-"""Searches a ring as ring.py does, but with a mistake: when the other agent writes on a whiteboard between this agent's
-reading and its writing, it does not look again.
+"""Searches a ring as ring.py does, but with a mistake: when the other agent writes on a
+whiteboard between this agent's reading and its writing, it does not look again.
 
     python3 hasty.py HOST PORT KEY NODES
 """

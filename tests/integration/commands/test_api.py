@@ -1,4 +1,5 @@
-"""The lab from Python: rows, agents that are functions, networks that are graphs, searches with results, and pages."""
+"""The lab from Python: rows, agents that are functions, networks that are graphs,
+searches with results, and pages."""
 import hashlib
 import json
 import random
@@ -360,7 +361,8 @@ def printed(cell: Dict[str, Any]) -> str:
     )
 
 
-# runs cells one after the other, and gives what each printed; the program is the one of these tests
+# runs cells one after the other, and gives what each printed; the program is the one of
+# these tests
 RUNNER = """
 import contextlib, io, json, pathlib, sys
 sys.path.insert(0, str(pathlib.Path.cwd().parent))

@@ -1,4 +1,5 @@
-"""The commands of the lessons do what the sheets say, in the order in which they stand there."""
+"""The commands of the lessons do what the sheets say, in the order in which they stand
+there."""
 import os
 import re
 import shlex

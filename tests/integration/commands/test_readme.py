@@ -1,4 +1,5 @@
-"""The commands of arena_lab/README.md and docs/PROVING.md say what stands below them."""
+"""The commands of arena_lab/README.md and docs/PROVING.md say what stands below
+them."""
 import re
 import shlex
 import sys
@@ -20,7 +21,8 @@ NO_PROGRAM = ("network", "tournament", "invariant")
 
 def examples() -> Iterator[Tuple[str, List[str]]]:
     """Each command of the pages, and the lines below it."""
-    command, said = "", []
+    command = ""
+    said = []
     for line in (
         "\n".join(page.read_text(encoding="utf-8") for page in PAGES)
         .replace("\\\n", "")
@@ -29,9 +31,11 @@ def examples() -> Iterator[Tuple[str, List[str]]]:
         text = line.strip()
         if command and (not line.startswith("    ") or text.startswith("$")):
             yield command, said
-            command, said = "", []
+            command = ""
+            said = []
         if line.startswith("    ") and text.startswith(LAB):
-            command, said = text[len(LAB) :], []
+            command = text[len(LAB) :]
+            said = []
         elif command:
             said.append(text)
 

@@ -1,4 +1,5 @@
-"""The service in examples/arena.service ends a contest by `close`: its commands are run as systemd would run them."""
+"""The service in examples/arena.service ends a contest by `close`: its commands are run
+as systemd would run them."""
 import os
 import re
 import subprocess

@@ -1,5 +1,6 @@
-"""A graded course is written for gradebooks, and the files of examples/course/autograder grade one team as far as they
-run here: what installs the package is left out."""
+"""A graded course is written for gradebooks, and the files of
+examples/course/autograder grade one team as far as they run here: what installs the
+package is left out."""
 import csv
 import json
 import os
@@ -126,7 +127,8 @@ class Autograder(InFolder):
         self.assertEqual(len(found["tests"]), 8)
         self.assertTrue(0 < found["score"] <= 20)
         self.assertEqual({test["status"] for test in found["tests"]}, {"passed"})
-        # a program that cannot be loaded fails its matches, and the autograder still writes results
+        # a program that cannot be loaded fails its matches, and the autograder still
+        # writes results
         (self.place / "submission" / "agent.py").write_text("import nosuchmodule\n")
         found = self.results()
         self.assertEqual(found["score"], 0)

@@ -46,10 +46,8 @@ class Escapes(Folder):
         self.assertIn("<li>nobody accused</li>", pages["team-a.html"])
 
     def test_equal_failures_are_one_card(self) -> None:
-        hung, other = (
-            "agent 0: has sent no line for 20 s",
-            "agent 1: has connected twice",
-        )
+        hung = "agent 0: has sent no line for 20 s"
+        other = "agent 1: has connected twice"
         rows = [
             row(0, "a", 9, "silent", hung),
             row(1, "a", 9, "silent", hung),

@@ -1,4 +1,5 @@
-"""Agents are repeated alone at home, in hunts and searches, and for a graded course that was copied elsewhere."""
+"""Agents are repeated alone at home, in hunts and searches, and for a graded course
+that was copied elsewhere."""
 import pathlib
 import shutil
 from typing import List, Tuple
@@ -9,7 +10,8 @@ from tests.support.matches import AGENTS, InFolder, program
 from tests.support.output import ran
 
 EXAMPLE = TOP / "examples" / "course"
-# how an agent chooses what it writes, and whether it says the same when it is told the same again
+# how an agent chooses what it writes, and whether it says the same when it is told the
+# same again
 WAYS = {
     "str(time.time_ns())": False,
     "key": False,
@@ -18,7 +20,8 @@ WAYS = {
     "str(random.Random(int(os.environ['ARENA_SEED'])).random())": True,
     "str(set('abcdefgh'))": True,
 }
-# an agent that solves the ring of three nodes with the black hole at node 2, and writes something
+# an agent that solves the ring of three nodes with the black hole at node 2, and writes
+# something
 WRITES = """import json, os, random, socket, sys, time
 port, key = int(sys.argv[1]), sys.argv[2]
 lines = socket.create_connection(("127.0.0.1", port)).makefile("rw")

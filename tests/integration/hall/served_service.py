@@ -1,4 +1,5 @@
-"""Plays the hall's service from inside the system that runs it: starts it, plays a match, hands in a program, stops it.
+"""Plays the hall's service from inside the system that runs it: starts it, plays a
+match, hands in a program, stops it.
 
     python3 -m tests.integration.hall.served_service FOLDER
 
@@ -18,8 +19,10 @@ import zipfile
 from typing import Any, Callable, Dict
 
 ARENA = pathlib.Path("/opt/arena")
-HALL, PAGES = pathlib.Path("/var/lib/arena-hall/hall"), "http://127.0.0.1:8000"
-SERVICE, NETWORK = "arena-hall.service", "ring of 8"
+HALL = pathlib.Path("/var/lib/arena-hall/hall")
+PAGES = "http://127.0.0.1:8000"
+SERVICE = "arena-hall.service"
+NETWORK = "ring of 8"
 PATIENCE = 600.0
 EDGE = "edge"
 # processes of the system itself
@@ -92,7 +95,8 @@ def match(token: str) -> str:
 
 def graded(token: str) -> Any:
     """What came of a program that is handed in."""
-    made, agents = io.BytesIO(), ARENA / "examples" / "agents"
+    made = io.BytesIO()
+    agents = ARENA / "examples" / "agents"
     with zipfile.ZipFile(made, "w") as archive:
         archive.write(agents / "ring.py", "agent.py")
         archive.write(agents / "client.py", "client.py")

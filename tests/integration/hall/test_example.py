@@ -1,4 +1,5 @@
-"""The sample hall of examples/hall.py: three teams play in it, it ends by itself or by a signal, and leaves nothing."""
+"""The sample hall of examples/hall.py: three teams play in it, it ends by itself or by
+a signal, and leaves nothing."""
 import contextlib
 import os
 import pathlib
@@ -16,7 +17,8 @@ from arena_lab.support.built import TOP
 from tests.support.matches import program
 
 # how long the hall is shown, and how long anything in it may take on a busy machine
-SHOWN, PATIENCE = 15, 120.0
+SHOWN = 15
+PATIENCE = 120.0
 TEAMS = {"amber", "birch", "cedar"}
 PLAYED = "SELECT DISTINCT name FROM teams_team JOIN attempts_attempt ON team_id = teams_team.id"
 
@@ -62,8 +64,10 @@ class Example(unittest.TestCase):
         return set()
 
     def left(self) -> List[int]:
-        """The processes that belong to the hall: by their variables, their words or where they are."""
-        found, place = [], self.folder.encode()
+        """The processes that belong to the hall: by their variables, their words or
+        where they are."""
+        found = []
+        place = self.folder.encode()
         for process in listed():
             with contextlib.suppress(OSError):
                 path = pathlib.Path(f"/proc/{process}")

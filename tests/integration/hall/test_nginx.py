@@ -1,5 +1,6 @@
-"""A hall behind Debian's nginx, by the file that the hall has for it. Tries of tokens are limited by the address of who
-asks: nginx's own does not count, nor what a stranger says of himself."""
+"""A hall behind Debian's nginx, by the file that the hall has for it. Tries of tokens
+are limited by the address of who asks: nginx's own does not count, nor what a stranger
+says of himself."""
 import concurrent.futures
 import contextlib
 import http.client
@@ -45,8 +46,10 @@ class Proxy:
     """nginx before a hall."""
 
     def __init__(self, folder: pathlib.Path, hall: int) -> None:
-        self.port, self.plain = free_port(), free_port()
-        certificate, key = folder / "certificate.pem", folder / "key.pem"
+        self.port = free_port()
+        self.plain = free_port()
+        certificate = folder / "certificate.pem"
+        key = folder / "key.pem"
         subprocess.run(
             [
                 "openssl",
@@ -119,7 +122,8 @@ class Proxy:
     ) -> Told:
         """What is answered to who asks from this address."""
         strange = ssl.create_default_context()
-        strange.check_hostname, strange.verify_mode = False, ssl.CERT_NONE
+        strange.check_hostname = False
+        strange.verify_mode = ssl.CERT_NONE
         connection = http.client.HTTPSConnection(
             "127.0.0.1",
             self.port,
@@ -160,10 +164,12 @@ def setUpModule() -> None:
 
 class Nginx(unittest.TestCase):
     def setUp(self) -> None:
-        self.tokens, self.proxy = HALL[0].tokens(), PROXY[0]
+        self.tokens = HALL[0].tokens()
+        self.proxy = PROXY[0]
 
     def rest(self, token: str, address: str, said: Any = ()) -> int:
-        """The status of a request by this token, from this address, of who says of himself to be at others."""
+        """The status of a request by this token, from this address, of who says of
+        himself to be at others."""
         headers = [
             ("Authorization", f"Bearer {token}"),
             *(("X-Forwarded-For", it) for it in said),
@@ -171,7 +177,8 @@ class Nginx(unittest.TestCase):
         return self.proxy.ask("GET", "/api/networks", address, headers).status
 
     def tries(self, name: str, address: str, said: Any = lambda number: ()) -> int:
-        """How many wrong tokens of a team are tried from an address until no more is taken."""
+        """How many wrong tokens of a team are tried from an address until no more is
+        taken."""
         for number in range(100):
             status = self.rest(f"{name}.{number}", address, said(number))
             if status == 429:
@@ -180,7 +187,8 @@ class Nginx(unittest.TestCase):
         return 100
 
     def test_tries_are_limited_by_the_address_of_who_asks(self) -> None:
-        # on a slow machine there is one more after a minute; a token that was right before is no try
+        # on a slow machine there is one more after a minute; a token that was right
+        # before is no try
         self.assertIn(self.tries("amber", "127.0.0.2"), range(TRIES, TRIES + 5))
         self.assertEqual(self.rest(self.tokens["amber"], "127.0.0.2"), 429)
         self.assertEqual(self.rest(self.tokens["amber"], "127.0.0.3"), 200)
@@ -244,11 +252,14 @@ class Nginx(unittest.TestCase):
 
 
 class Headers(unittest.TestCase):
-    """What reaches the hall of a proxy that lets more headers through than nginx does."""
+    """What reaches the hall of a proxy that lets more headers through than nginx
+    does."""
 
     def test_a_header_that_is_spelled_otherwise_is_no_address(self) -> None:
-        """Caddy passes on X_Forwarded_For, which Python's interface of web servers cannot tell from the true one."""
-        hall, found = HALL[0], []
+        """Caddy passes on X_Forwarded_For, which Python's interface of web servers
+        cannot tell from the true one."""
+        hall = HALL[0]
+        found = []
         for number in range(TRIES + 5):
             found.append(
                 told_by(

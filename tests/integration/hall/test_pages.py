@@ -36,7 +36,8 @@ class Logins(Hall):
         ]
         self.assertEqual(answers[:10], [403] * 10)
         self.assertEqual(answers[-1], 429)
-        # the right one too, from there; another team behind the same address is not kept out
+        # the right one too, from there; another team behind the same address is not
+        # kept out
         self.assertEqual(
             client.post("/login", {"token": self.tokens["amber"]}).status_code, 429
         )
@@ -73,11 +74,9 @@ class Logins(Hall):
         self,
     ) -> None:
         """Each try begins while those before it are still looked at."""
-        request, team_of, begun = (
-            RequestFactory().get("/"),
-            logins.team_of,
-            iter(range(2 * guards.TRIES)),
-        )
+        request = RequestFactory().get("/")
+        team_of = logins.team_of
+        begun = iter(range(2 * guards.TRIES))
 
         def looked_at(token: str) -> Optional[Team]:
             return (
@@ -101,7 +100,8 @@ class Logins(Hall):
             )
 
     def test_who_asks_is_an_address_or_a_network_of_the_sixth_version(self) -> None:
-        """An address has many spellings, and whoever has one of IPv6 has all of its network."""
+        """An address has many spellings, and whoever has one of IPv6 has all of its
+        network."""
         for said, wanted in (
             ("192.0.2.7", "192.0.2.7"),
             ("::ffff:192.0.2.7", "192.0.2.7"),
@@ -112,7 +112,8 @@ class Logins(Hall):
             ("unknown", "unknown"),
             ("", ""),
         ):
-            # what a stranger says of himself is not read: waitress has it of the server before the hall
+            # what a stranger says of himself is not read: waitress has it of the server
+            # before the hall
             request = RequestFactory().get(
                 "/", HTTP_X_FORWARDED_FOR="10.0.0.1", REMOTE_ADDR=said
             )
@@ -144,7 +145,8 @@ class Logins(Hall):
             self.assertEqual(self.rest("get", path).status_code, 400)
 
     def test_a_new_token_ends_sessions_and_the_old_token(self) -> None:
-        client, old = self.client_of("amber"), self.tokens["amber"]
+        client = self.client_of("amber")
+        old = self.tokens["amber"]
         self.tokens["amber"] = self.team("amber").new_token()
         self.assertEqual(client.get("/matches").status_code, 302)
         self.assertEqual(
@@ -163,7 +165,8 @@ class Logins(Hall):
             )
 
     def test_a_session_begins_anew(self) -> None:
-        """A session that a stranger has planted in a browser is not the one that logs in."""
+        """A session that a stranger has planted in a browser is not the one that logs
+        in."""
         client = Client()
         client.get("/login")
         client.post("/login", {"token": self.tokens["amber"]})
@@ -207,7 +210,8 @@ class Forgeries(Hall):
         self.assertEqual(Attempt.objects.count(), 0)
 
     def test_nothing_changes_by_get(self) -> None:
-        client, attempt = self.client_of("amber"), self.running(played())
+        client = self.client_of("amber")
+        attempt = self.running(played())
         for path in (
             "/matches/ask?network=ring of 5",
             f"/matches/{attempt.pk}/close",
@@ -333,8 +337,10 @@ class Isolation(Hall):
     """What a team learns of a match that goes on, and of other teams."""
 
     def answers(self, attempt: Attempt, name: str = "amber") -> List[bytes]:
-        """Every answer about an attempt: status, headers and bytes, but for what is random in each answer."""
-        client, found = self.client_of(name), []
+        """Every answer about an attempt: status, headers and bytes, but for what is
+        random in each answer."""
+        client = self.client_of(name)
+        found = []
         number = attempt.pk
         for path in (
             f"/matches/{number}",
@@ -363,9 +369,11 @@ class Isolation(Hall):
         return found
 
     def test_matches_that_no_agent_can_tell_apart_have_the_same_answers(self) -> None:
-        """The black hole is another node, and in one match an agent is destroyed that is on its way in the other: no
-        page, no REST, no size, no header and no error tells which."""
-        dead, alive = played(1), played(3)
+        """The black hole is another node, and in one match an agent is destroyed that
+        is on its way in the other: no page, no REST, no size, no header and no error
+        tells which."""
+        dead = played(1)
+        alive = played(3)
         for match in (dead, alive):
             match.tell(1, {"do": "enter"})
             match.tell(0, {"do": "depart", "port": 0})
@@ -404,7 +412,8 @@ class Isolation(Hall):
 
     def test_another_teams_match_is_as_if_there_were_none(self) -> None:
         for attempt in (self.running(played()), self.over(played())):
-            theirs, none = self.client_of("birch"), 999_999
+            theirs = self.client_of("birch")
+            none = 999_999
             for path in (
                 "/matches/{}",
                 "/matches/{}/0/page",
@@ -413,9 +422,8 @@ class Isolation(Hall):
                 "/api/matches/{}/replays/0",
             ):
                 with self.subTest(path):
-                    one, other = theirs.get(path.format(attempt.pk)), theirs.get(
-                        path.format(none)
-                    )
+                    one = theirs.get(path.format(attempt.pk))
+                    other = theirs.get(path.format(none))
                     self.assertEqual(
                         (one.status_code, one.content), (404, other.content)
                     )
@@ -429,7 +437,8 @@ class Isolation(Hall):
             self.assertEqual(Client().get(f"/matches/{attempt.pk}").status_code, 404)
 
     def test_paths_lead_nowhere_else(self) -> None:
-        attempt, client = self.over(played()), self.client_of("amber")
+        attempt = self.over(played())
+        client = self.client_of("amber")
         for path in (
             "/static/../settings.py",
             "/static/%2e%2e/settings.py",
@@ -449,7 +458,8 @@ class Isolation(Hall):
                 self.assertIn(client.get(path).status_code, (400, 404))
 
     def test_texts_of_strangers_are_texts(self) -> None:
-        attempt, client = self.over(played()), self.client_of("birch")
+        attempt = self.over(played())
+        client = self.client_of("birch")
         page = client.get("/").content.decode()
         self.assertIn("&lt;script&gt;alert(1)&lt;/script&gt; Łódź", page)
         self.assertIn("A &lt;b&gt;trial&lt;/b&gt;", page)

@@ -1,4 +1,5 @@
-"""A hall over PostgreSQL, for which another machine works too, and whose workers are killed."""
+"""A hall over PostgreSQL, for which another machine works too, and whose workers are
+killed."""
 import os
 import pathlib
 import shutil

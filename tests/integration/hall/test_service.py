@@ -1,7 +1,9 @@
-"""The hall as a service of systemd: what systemd says of its file, and a hall that a systemd of its own runs by it.
+"""The hall as a service of systemd: what systemd says of its file, and a hall that a
+systemd of its own runs by it.
 
-That systemd is the first process of its own namespaces, over a copy of this system that is kept in memory. So the
-service runs behind the walls of its file, and nothing of this machine is changed.
+That systemd is the first process of its own namespaces, over a copy of this system that
+is kept in memory. So the service runs behind the walls of its file, and nothing of this
+machine is changed.
 """
 import json
 import os
@@ -18,12 +20,11 @@ from tests.support.matches import program
 UNIT = LAB / "hall" / "arena-hall.service"
 SYSTEMD = "/lib/systemd/systemd"
 # how exposed systemd may find the service, of 100; and how long the whole play may take
-MOST_EXPOSED, PATIENCE = 37, 900
+MOST_EXPOSED = 37
+PATIENCE = 900
 # on which networks the course grades, and fewer for this play
-GRADED, FEWER = (
-    'networks = ["ring:8", "ring:12"]',
-    'networks = ["ring:5"]\nholes = 1\nseeds = 1',
-)
+GRADED = 'networks = ["ring:8", "ring:12"]'
+FEWER = 'networks = ["ring:5"]\nholes = 1\nseeds = 1'
 # what a system starts besides, and has nothing to do with a hall
 NOT_STARTED = (
     "systemd-udevd.service systemd-udev-trigger.service systemd-udevd-control.socket "
@@ -78,7 +79,8 @@ StandardError=file:/opt/told/log.txt
 )
 class Files(unittest.TestCase):
     def test_systemd_understands_the_file(self) -> None:
-        """The commands that it names are there once the package is installed; here they are others."""
+        """The commands that it names are there once the package is installed; here they
+        are others."""
         with tempfile.TemporaryDirectory() as name:
             place = pathlib.Path(name) / UNIT.name
             text = UNIT.read_text(encoding="utf-8")
@@ -126,7 +128,8 @@ def has_all() -> bool:
 @unittest.skipUnless(has_all(), "this is not root, or there is no systemd")
 class Service(unittest.TestCase):
     def test_systemd_runs_a_hall(self) -> None:
-        """A match is played, a program that is handed in is graded behind its walls, and a stop leaves nothing."""
+        """A match is played, a program that is handed in is graded behind its walls,
+        and a stop leaves nothing."""
         with tempfile.TemporaryDirectory(prefix="service-") as name:
             told = self.played(pathlib.Path(name))
         self.assertEqual((told["match"], told["graded"]), ("solved", [1, 1]), told)

@@ -1,4 +1,5 @@
-"""A hall of an earlier version is taken along: practice, hand-ins and teams stay, and what was rated is practice."""
+"""A hall of an earlier version is taken along: practice, hand-ins and teams stay, and
+what was rated is practice."""
 import contextlib
 import os
 import pathlib
@@ -13,8 +14,8 @@ from arena_lab.hall.place import HallFolder
 from arena_lab.support.built import TOP
 from tests.support.halls import COURSE
 
-# makes the tables as they were, with a match of practice, a rated series with a trap, a match of a contest, a hand-in
-# with both gradings, and an unveiling
+# makes the tables as they were, with a match of practice, a rated series with a trap, a
+# match of a contest, a hand-in with both gradings, and an unveiling
 EARLIER = """
 import sys
 from arena_lab.hall import entry

@@ -1,4 +1,5 @@
-"""What a hall says in German and French: each text is translated, and what Django reads is made of the files."""
+"""What a hall says in German and French: each text is translated, and what Django reads
+is made of the files."""
 import os
 import pathlib
 import re

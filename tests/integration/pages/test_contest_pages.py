@@ -51,7 +51,8 @@ class Lists(unittest.TestCase):
         self.assertNotIn("match4.html", page)
 
     def test_the_matches_on_each_network_stand_apart(self) -> None:
-        solved, wrong = Verdict("solved", 9, 0), Verdict("wrong", 1, 0)
+        solved = Verdict("solved", 9, 0)
+        wrong = Verdict("wrong", 1, 0)
         page = page_of(
             "cup",
             [

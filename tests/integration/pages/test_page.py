@@ -1,4 +1,5 @@
-"""What a page of a match holds. How the page looks and steps is for tests/browser/match_in_browser.py."""
+"""What a page of a match holds. How the page looks and steps is for
+tests/browser/match_in_browser.py."""
 import json
 import re
 import sys

@@ -1,4 +1,5 @@
-"""The page of a match is the same, whether the program or the Python model judges and explains it."""
+"""The page of a match is the same, whether the program or the Python model judges and
+explains it."""
 import random
 
 from arena_lab.pages import page

@@ -29,9 +29,8 @@ class SampleAgents(unittest.TestCase):
             for hole in {1, 2, nodes // 2, nodes - 1, chance.randrange(1, nodes)} - {
                 nodes
             }:
-                given, seed = ring_fixture(nodes, hole, chance), chance.randrange(
-                    2**32
-                )
+                given = ring_fixture(nodes, hole, chance)
+                seed = chance.randrange(2**32)
                 with self.subTest(nodes=nodes, hole=hole, seed=seed):
                     self.assertFalse(played(given, RING, seed).has_failed())
 

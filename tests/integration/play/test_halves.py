@@ -1,4 +1,5 @@
-"""The agents that divide a ring into halves, and those of the shuttle, solve it within the moves of the theorems."""
+"""The agents that divide a ring into halves, and those of the shuttle, solve it within
+the moves of the theorems."""
 import random
 import unittest
 from typing import Any, Callable, Dict, List, NamedTuple
@@ -17,8 +18,10 @@ from tests.support.matches import program, two, under
 
 # the sizes of the rings that are drawn
 SIZES = (3, 4, 5, 7, 8, 11, 16, 17, 27, 33)
-# how many matches are drawn for each search and each scheduler, and how many of them the program plays too
-DRAWN, ON_THE_PROGRAM = 17, 2
+# how many matches are drawn for each search and each scheduler, and how many of them
+# the program plays too
+DRAWN = 17
+ON_THE_PROGRAM = 2
 
 
 class Bounds(NamedTuple):
@@ -65,7 +68,8 @@ class Protocols(unittest.TestCase):
     def moves(
         self, name: str, nodes: int, hole: int, first: int, bounds: Bounds
     ) -> int:
-        """The moves of a match in which one agent goes on until it is lost, and then the other."""
+        """The moves of a match in which one agent goes on until it is lost, and then
+        the other."""
         given = fixture(ring(nodes), hole, 0, bounds.commands)
         found = under(one_after_the_other(first), given, two(name, "{nodes}"))
         self.check(found, bounds)

@@ -1,4 +1,5 @@
-"""Programs that hang cost a course little time, and are told what they may have forgotten."""
+"""Programs that hang cost a course little time, and are told what they may have
+forgotten."""
 from typing import Dict, List
 
 from arena_lab.__main__ import main

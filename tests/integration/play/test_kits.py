@@ -1,4 +1,5 @@
-"""The kits of four languages are written, built and played; `python3 -m tests.release.kits PROGRAM` plays all."""
+"""The kits of four languages are written, built and played; `python3 -m
+tests.release.kits PROGRAM` plays all."""
 
 from arena_lab.play.kits import KITS
 from tests.support.kits_played import Played

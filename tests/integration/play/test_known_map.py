@@ -16,7 +16,8 @@ NETWORKS = ("ring:32", "hypercube:5", "torus:6x6", "complete:20", "ccc:3")
 
 
 def small_networks(largest: int) -> Iterator[Network]:
-    """Every biconnected network of 3 nodes and more, but for the labels of its ports, which are drawn."""
+    """Every biconnected network of 3 nodes and more, but for the labels of its ports,
+    which are drawn."""
     networkx = needed("networkx")
     for graph in networkx.graph_atlas_g():
         if 3 <= len(graph) <= largest and networkx.is_biconnected(graph):

@@ -1,4 +1,5 @@
-"""What goes wrong is said in a line that names what to change, and nothing is left behind."""
+"""What goes wrong is said in a line that names what to change, and nothing is left
+behind."""
 import concurrent.futures
 import contextlib
 import functools
@@ -224,7 +225,8 @@ class Processes(InFolder):
         )
 
     def test_workers_end_with_a_command_that_is_killed(self) -> None:
-        file, out = self.folder / "sweep.toml", self.folder / "out"
+        file = self.folder / "sweep.toml"
+        out = self.folder / "out"
         file.write_text(
             'title = "T"\nnetworks = ["ring:16"]\nseeds = 9000\n[[team]]\nname = "a"\n'
             f'agent = "{RING.words}"\n'

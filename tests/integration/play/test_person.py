@@ -1,4 +1,5 @@
-"""The page on which a person plays agents: what its server tells, and whom it answers."""
+"""The page on which a person plays agents: what its server tells, and whom it
+answers."""
 import asyncio
 import json
 import random

@@ -1,6 +1,6 @@
-"""Agents whose steps are proved, as clients: in matches of the lab they say what the same searches in Python say, or
-come to what `arena explore` finds of their module, and they solve the matches of a contest over TCP within the moves of
-the theorems."""
+"""Agents whose steps are proved, as clients: in matches of the lab they say what the
+same searches in Python say, or come to what `arena explore` finds of their module, and
+they solve the matches of a contest over TCP within the moves of the theorems."""
 import json
 import pathlib
 import random
@@ -24,8 +24,10 @@ MODULE = TOP / "examples" / "agents" / "wasm" / "ring.wasm"
 SIZES = (3, 4, 5, 8, 13, 16)
 # rings of which every schedule is tried
 SMALL = (3, 4, 5, 8)
-# how many matches of the lab are drawn for each search and each scheduler, and how many a contest has for each search
-DRAWN, SERVED = 12, 28
+# how many matches of the lab are drawn for each search and each scheduler, and how many
+# a contest has for each search
+DRAWN = 12
+SERVED = 28
 # how many matches of each are played by modules
 MODULES = 4
 # the schedulers of `explore`
@@ -56,7 +58,8 @@ def ring_of(sizes: Sequence[int], chance: random.Random) -> Network:
 
 
 def searched(name: str, chance: random.Random) -> Game:
-    """A match on a ring with the least quota and the least whiteboards of the theorem on a search in Python."""
+    """A match on a ring with the least quota and the least whiteboards of the theorem
+    on a search in Python."""
     network = ring_of(SIZES, chance)
     home, hole = chance.sample(range(network.nodes), 2)
     bounds = SEARCHES[name](network.nodes)
@@ -189,7 +192,8 @@ class Players(InFolder):
                 self.assertLessEqual(int(lost), 1)
 
     def serve(self, games: Sequence[Game]) -> None:
-        """Serves the matches of a tournament to the agents' program. An agent that is not lost ends with 0."""
+        """Serves the matches of a tournament to the agents' program. An agent that is
+        not lost ends with 0."""
         with Server(
             [program(), "serve", "cup.toml", "--pause", 1], self.folder
         ) as server:

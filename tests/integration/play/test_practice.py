@@ -1,5 +1,6 @@
-"""The match for practice of `examples/practice.toml`: a team that takes a long silence for the black hole is wrong,
-and one that decides nothing by time is silent. Without the held link no team is wrong."""
+"""The match for practice of `examples/practice.toml`: a team that takes a long silence
+for the black hole is wrong, and one that decides nothing by time is silent. Without the
+held link no team is wrong."""
 from typing import List
 
 from arena_lab.play.schedulers import Oblivious
@@ -10,8 +11,8 @@ from arena_lab.rules.fixtures import Fixture, read_tournament
 from arena_lab.rules.rehearsal import Rehearsal
 from tests.support.matches import RING, InFolder, program, under
 
-# One agent steps to the next node and comes back, node after node. The other waits behind it, and takes it for
-# destroyed if it stays away for a long time.
+# One agent steps to the next node and comes back, node after node. The other waits
+# behind it, and takes it for destroyed if it stays away for a long time.
 TIMED = """
 NAPS = 200
 

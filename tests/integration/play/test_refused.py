@@ -1,4 +1,5 @@
-"""Lines of agents that were refused are told by `run`, `replay`, `grade` and pages, and change nothing of a match."""
+"""Lines of agents that were refused are told by `run`, `replay`, `grade` and pages, and
+change nothing of a match."""
 import json
 import sys
 

@@ -1,5 +1,6 @@
-"""What `run` and `explore` find of agents that sleep, crash or are refused, and of links that are held: a search that
-forgets a wake or a nap, that wakes nobody at a write, or that crosses a held link comes to other ends."""
+"""What `run` and `explore` find of agents that sleep, crash or are refused, and of
+links that are held: a search that forgets a wake or a nap, that wakes nobody at a
+write, or that crosses a held link comes to other ends."""
 import argparse
 from typing import Dict, List
 from unittest import mock
@@ -12,7 +13,8 @@ from tests.support.matches import FAULTY, RING
 from tests.support.output import InTemporary, ran
 from tests.support.tournaments import match, write_cup
 
-# The black hole of ring:3 is node 1. One agent walks by node 2, writes x and then y at home, and accuses.
+# The black hole of ring:3 is node 1. One agent walks by node 2, writes x and then y at
+# home, and accuses.
 AGENTS = (
     FAULTY
     + """

@@ -1,4 +1,5 @@
-"""An agent inside the lab may compute for a while; a machine that lets it wait does not end it."""
+"""An agent inside the lab may compute for a while; a machine that lets it wait does not
+end it."""
 import subprocess
 import sys
 import time

@@ -1,4 +1,5 @@
-"""What the tests of `explore` share: the command, a game with one match, and what the program answers of it."""
+"""What the tests of `explore` share: the command, a game with one match, and what the
+program answers of it."""
 from typing import Any, List, Optional, Tuple
 
 from arena_lab.__main__ import main, parser
@@ -50,7 +51,8 @@ class InExplore(InFolder):
         shown: Any = NO_PROGRESS,
         check: int = 0,
     ) -> ExploreAnswer:
-        """What the program answers of all schedules, or of drawn ones. Then this many drawn schedules are followed."""
+        """What the program answers of all schedules, or of drawn ones. Then this many
+        drawn schedules are followed."""
         machines = Machines(fixture, agents, 5)
         machines.start()
         try:

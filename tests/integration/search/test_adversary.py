@@ -1,5 +1,5 @@
-"""The adversary makes right teams move as much as every team must, and shows the black hole that a wrong team does not
-find."""
+"""The adversary makes right teams move as much as every team must, and shows the black
+hole that a wrong team does not find."""
 import random
 from typing import List, Tuple
 
@@ -81,7 +81,8 @@ class RightTeams(InFolder):
                 )
 
     def check(self, adversary: Adversary) -> None:
-        """Each phase makes the moves that the proof counts, and the team solves with either of the last two nodes."""
+        """Each phase makes the moves that the proof counts, and the team solves with
+        either of the last two nodes."""
         phases = list(adversary.phases())
         for before, phase in zip(phases, phases[1:]):
             self.assertGreaterEqual(
@@ -100,7 +101,8 @@ class RightTeams(InFolder):
 
     @staticmethod
     def due(nodes: int, before: Phase) -> int:
-        """The moves that a phase costs: n + v - 3 if it leaves v of 2 v - 1 new nodes, or three for each node."""
+        """The moves that a phase costs: n + v - 3 if it leaves v of 2 v - 1 new nodes,
+        or three for each node."""
         steps = steps_of(before.arcs.new)
         left = before.arcs.new - steps
         return nodes + left - 3 if before.arcs.new == 2 * left - 1 else 3 * steps

@@ -1,4 +1,5 @@
-"""One command checks an agent: it is right in one sentence, or the first thing to mend is told with what shows it."""
+"""One command checks an agent: it is right in one sentence, or the first thing to mend
+is told with what shows it."""
 import shutil
 import sys
 from typing import Tuple
@@ -41,8 +42,8 @@ class Checks(InFolder):
             self.assertRegex(
                 said.splitlines()[-1],
                 (
-                    r"^Right on all 14 matches, under \d+ schedules that were drawn and \d+ that were hunted on ring:5, "
-                    r"ring:6 and ring:8 and under every schedule of a ring of 5$"
+                    r"^Right on all 14 matches, under \d+ schedules that were drawn and \d+ that were hunted on "
+                    r"ring:5, ring:6 and ring:8 and under every schedule of a ring of 5$"
                 ),
             )
         self.assertFalse((self.folder / "kept").exists())
@@ -123,7 +124,8 @@ class Checks(InFolder):
         return str(self.folder / "kit")
 
     def impatient(self, old: str, new: str, said: str) -> None:
-        """Checks a kit whose client has a change by which it does something when two seconds have gone by."""
+        """Checks a kit whose client has a change by which it does something when two
+        seconds have gone by."""
         kit = self.kit(old, new, "client.py")
         status, told = self.checked(
             f"{sys.executable} {kit}/careful.py {{host}} {{port}} {{key}} {{nodes}}",

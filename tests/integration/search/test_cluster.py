@@ -1,4 +1,5 @@
-"""A sweep over the workers of a Dask scheduler gives the rows of a sweep over processes, byte for byte."""
+"""A sweep over the workers of a Dask scheduler gives the rows of a sweep over
+processes, byte for byte."""
 import importlib.util
 import subprocess
 import sys
@@ -22,7 +23,8 @@ name = "ring"
 agent = "examples/agents/ring.py {nodes}"
 """
 HAS_DASK = importlib.util.find_spec("distributed") is not None
-SCHEDULER, WORKER = "distributed.cli.dask_scheduler", "distributed.cli.dask_worker"
+SCHEDULER = "distributed.cli.dask_scheduler"
+WORKER = "distributed.cli.dask_worker"
 
 
 @unittest.skipUnless(HAS_DASK, "Debian's python3-distributed is not installed")

@@ -1,6 +1,6 @@
-"""`explore` tells agents apart by their histories: what an agent hides counts, wherever it hides it, and so do lines
-that it sends early, late or not as lines. What was found is compared with the Python model's search of small
-matches."""
+"""`explore` tells agents apart by their histories: what an agent hides counts, wherever
+it hides it, and so do lines that it sends early, late or not as lines. What was found
+is compared with the Python model's search of small matches."""
 from typing import Any, Dict, NamedTuple
 from unittest import mock
 
@@ -12,7 +12,8 @@ from tests.support.tournaments import match, write_cup
 
 
 class Hides(NamedTuple):
-    """Lines of a file, how an agent hides the text `b`, and how it finds it again from what it has kept, `h`."""
+    """Lines of a file, how an agent hides the text `b`, and how it finds it again from
+    what it has kept, `h`."""
 
     lines: str
     hides: str
@@ -107,7 +108,8 @@ class Histories(InExplore):
         return self.command("--network", "ring:3", "--hole", 1, *words)
 
     def hidden(self, hides: Hides, good: str) -> int:
-        """The status of a team whose reader hides a text so, and is right if it finds this one again."""
+        """The status of a team whose reader hides a text so, and is right if it finds
+        this one again."""
         file = f"{self.folder}/hides.py"
         return self.explored(
             TEXT.format(**hides._asdict(), good=good),

@@ -1,4 +1,5 @@
-"""`explore` finds the same by any number of processes and by a cluster, and goes on behind the rows of a folder."""
+"""`explore` finds the same by any number of processes and by a cluster, and goes on
+behind the rows of a folder."""
 import re
 import subprocess
 import sys
@@ -15,7 +16,8 @@ from tests.integration.search.test_cluster import OnCluster
 from tests.support.matches import RING, RING_STEP, program
 from tests.support.output import ran
 
-# the numbers of a line that tells of a match or of all: without seconds, and what was checked
+# the numbers of a line that tells of a match or of all: without seconds, and what was
+# checked
 TELLS = re.compile(r"^home .*, (?=[\d.]+ s)|^most moves.*", re.MULTILINE)
 WRONG = "arena_lab/mutants/reads_once.py {nodes}"
 # an agent that goes by a file beside it
@@ -181,7 +183,8 @@ class Workers(InExplore):
 
 class Clusters(OnCluster):
     def test_a_cluster_proves_the_same(self) -> None:
-        address, found = self.scheduler(), []
+        address = self.scheduler()
+        found = []
         self.worker(address)
         for out, more in (("here", []), ("there", ["--cluster", address])):
             status, said, errors = ran(

@@ -1,4 +1,5 @@
-"""`sweep --explore` tries every schedule of a sweep's matches, and says what was found beside the runs."""
+"""`sweep --explore` tries every schedule of a sweep's matches, and says what was found
+beside the runs."""
 import csv
 from typing import Dict, List, Tuple
 from unittest import mock
@@ -24,7 +25,8 @@ agent = "examples/agents/ring.py {nodes}"
 name = "wrong"
 agent = "arena_lab/mutants/reads_once.py {nodes}"
 """
-# by network and team: what is said of every schedule, the most moves and the most lost agents
+# by network and team: what is said of every schedule, the most moves and the most lost
+# agents
 FOUND = {
     ("ring:3", "right"): ["solves", "4", "1"],
     ("ring:3", "wrong"): ["solves", "4", "1"],
@@ -36,7 +38,8 @@ FOUND = {
 class Every(InFolder):
     def setUp(self) -> None:
         super().setUp()
-        self.file, self.out = self.folder / "sweep.toml", self.folder / "out"
+        self.file = self.folder / "sweep.toml"
+        self.out = self.folder / "out"
         self.file.write_text(TEXT)
 
     def swept(self, *more: str) -> Tuple[int, str]:
@@ -92,7 +95,8 @@ class Every(InFolder):
         )
         self.assertEqual([row[9] for row in rows].count("solves"), 9)
         # by one process, and again, it is the same, and what is there is tried no more
-        text, self.out = (self.out / every.EVERY).read_text(), self.folder / "alone"
+        text = (self.out / every.EVERY).read_text()
+        self.out = self.folder / "alone"
         self.comes_to(1, "--explore", "100000", "--workers", "1")
         self.assertEqual((self.out / every.EVERY).read_text(), text)
         with mock.patch.object(
@@ -242,7 +246,8 @@ class Clusters(OnCluster):
         self.file.write_text(
             TEXT.partition('[[team]]\nname = "wrong"')[0].replace(', "ring:4"', "")
         )
-        address, found = self.scheduler(), []
+        address = self.scheduler()
+        found = []
         self.worker(address)
         for out, more in (("here", []), ("there", ["--cluster", address])):
             self.swept(out, "--program", program(), "--explore", "1000", *more)

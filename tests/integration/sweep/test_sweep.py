@@ -1,4 +1,5 @@
-"""A sweep gives the same rows by any number of workers, by either engine, and after an interruption."""
+"""A sweep gives the same rows by any number of workers, by either engine, and after an
+interruption."""
 import functools
 import hashlib
 import pathlib
@@ -136,7 +137,8 @@ class Sweeps(InFolder):
     def test_it_does_not_go_on_once_a_file_that_an_agent_imports_has_changed(
         self,
     ) -> None:
-        agents, helper = TOP / "examples" / "agents", self.folder / "helper.py"
+        agents = TOP / "examples" / "agents"
+        helper = self.folder / "helper.py"
         (self.folder / "own.py").write_text(
             "def search(agent, key, nodes):\n    import helper\n"
             "    helper.search(agent, key, nodes)\n"
@@ -219,7 +221,8 @@ class Sweeps(InFolder):
         self.assertEqual(self.verified(*MODEL)[0], 0)
 
     def test_rows_of_another_grid_are_refused(self) -> None:
-        """Rows that were written as they are, but are not those of the sweep: swapped, or one too many."""
+        """Rows that were written as they are, but are not those of the sweep: swapped,
+        or one too many."""
         self.small(TOP / "examples" / "agents" / "ring.py")
         self.assertEqual(ran(main, self.words("out", *MODEL)).status, 0)
         path = self.folder / "out" / tables.RUNS
@@ -245,7 +248,8 @@ class Sweeps(InFolder):
     def test_what_an_agent_reads_without_importing_it_by_its_name_is_noted(
         self,
     ) -> None:
-        helper, table = self.folder / "helper.py", self.folder / "table.json"
+        helper = self.folder / "helper.py"
+        table = self.folder / "table.json"
         (self.folder / "own.py").write_text(
             "import importlib, json, pathlib\nHERE = pathlib.Path(__file__).parent\ndef search(agent, key, nodes):\n"
             "    helper = importlib.import_module('hel' + 'per')\n"
@@ -275,7 +279,8 @@ class Sweeps(InFolder):
             self.assertEqual(ran(main, self.words(f"out{workers}", *MODEL)).status, 0)
 
     def verified(self, *more: str) -> Tuple[int, str, str]:
-        """The exit status of --verify, the end of its line, and what it says on standard error."""
+        """The exit status of --verify, the end of its line, and what it says on
+        standard error."""
         status, said, errors = ran(main, self.words("out", "--verify", *more))
         return (
             status,

@@ -6,7 +6,8 @@ import unittest
 from arena_lab.play.parallel import PLAY
 from arena_lab.support.built import TOP
 
-# says in which order a process goes through a set of texts, once the lab has given it one
+# says in which order a process goes through a set of texts, once the lab has given it
+# one
 ORDER = (
     "import os, arena_lab; arena_lab.with_one_order(); print(os.environ['PYTHONHASHSEED'], "
     "list({'north', 'east', 'south', 'west', 'up', 'down'}))"

@@ -1,4 +1,5 @@
-"""Old spellings of the lab's commands and options: they still work, and say the new one."""
+"""Old spellings of the lab's commands and options: they still work, and say the new
+one."""
 import argparse
 import importlib.util
 import sys

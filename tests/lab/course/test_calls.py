@@ -1,5 +1,5 @@
-"""The calls of the system that programs behind walls may make: the table, the filter that is made of it, and what is
-said of a trace."""
+"""The calls of the system that programs behind walls may make: the table, the filter
+that is made of it, and what is said of a trace."""
 import errno
 import json
 import os
@@ -17,13 +17,15 @@ from arena_lab.support.fields import WrongFile
 from arena_lab.support.missing import DEBIANS_PYTHON
 from tests.support.output import ran
 
-# what programs have used to talk past the network and the whiteboards, to leave notes, or to see what others do
+# what programs have used to talk past the network and the whiteboards, to leave notes,
+# or to see what others do
 ATTACKS = """io_setup io_submit io_uring_setup io_uring_enter io_uring_register pidfd_open pidfd_getfd pidfd_send_signal
 perf_event_open bpf add_key keyctl request_key userfaultfd ptrace process_vm_readv process_vm_writev memfd_create
 memfd_secret inotify_init inotify_init1 inotify_add_watch fanotify_init fanotify_mark mq_open mq_unlink mq_timedsend
 mq_timedreceive mq_notify shmget shmat semget semop msgget msgsnd msgrcv flock mincore readahead preadv2 sysinfo kcmp
 syslog unshare setns mount clone3 seccomp setsid""".split()
-# loads the filter of a language, makes calls by their numbers with these arguments, and writes their errors
+# loads the filter of a language, makes calls by their numbers with these arguments, and
+# writes their errors
 LOADS = """import ctypes, json, os, sys, tomllib
 sys.path.insert(0, sys.argv[1])
 import filter, seccomp
@@ -177,7 +179,8 @@ class TestFilter(unittest.TestCase):
         )
 
     def test_calls_are_allowed_by_their_arguments(self) -> None:
-        past, refused = 1 << 32, errno.ENOSYS
+        past = 1 << 32
+        refused = errno.ENOSYS
         wanted = [
             (["socket", 1, 1, 0], 0),
             (["socket", past + 1, 1, past], 0),

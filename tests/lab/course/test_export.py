@@ -1,4 +1,5 @@
-"""Points of matches, and what is written of them for gradebooks, by the rules of each format."""
+"""Points of matches, and what is written of them for gradebooks, by the rules of each
+format."""
 import csv
 import io
 import json
@@ -16,7 +17,8 @@ from arena_lab.support.fields import WrongFile
 from tests.lab.course.test_grade import HEAD, SECRET, TEAM, Folder, row
 
 HOSTILE = "=cmd|' /C calc'!A0\x1b[2J\x00<b>\"&]]>\ufffe\ud800é"
-# the specification of Gradescope's results.json (gradescope-autograders.readthedocs.io, "Output format")
+# the specification of Gradescope's results.json (gradescope-autograders.readthedocs.io,
+# "Output format")
 FORMATS = {"text", "html", "simple_format", "md", "ansi"}
 SEEN = {"hidden", "after_due_date", "after_published", "visible"}
 RESULTS = {
@@ -45,7 +47,8 @@ TEST = {
     "visibility",
     "extra_data",
 }
-# the schema of JUnit's XML that Jenkins publishes: of each element its attributes and its children
+# the schema of JUnit's XML that Jenkins publishes: of each element its attributes and
+# its children
 JUNIT = {
     "testsuites": (
         {"name", "time", "tests", "failures", "disabled", "errors"},
@@ -103,7 +106,8 @@ JUNIT = {
 
 
 def rows() -> List[Dict[str, Any]]:
-    """Matches of two teams: solved, wrong, crashed with hostile last words, and not played."""
+    """Matches of two teams: solved, wrong, crashed with hostile last words, and not
+    played."""
     return [
         row(0, "a", 9),
         row(1, "a", 4, "wrong"),
@@ -122,7 +126,8 @@ class Given(Folder):
         return found
 
     def marks(self, table: str = "") -> Marks:
-        points, teams = self.points(table), {}
+        points = self.points(table)
+        teams = {}
         for team in ("b", "a"):
             teams[team] = marks(points, [it for it in rows() if it["team"] == team])
         return Marks(

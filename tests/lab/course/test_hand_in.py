@@ -73,7 +73,8 @@ class HandIns(unittest.TestCase):
         self.assertNotEqual(self.read().digest(), first.digest())
 
     def test_no_link_is_followed(self) -> None:
-        """What it leads to may be another team's, or a file of the system that never ends, as /proc/kmsg is."""
+        """What it leads to may be another team's, or a file of the system that never
+        ends, as /proc/kmsg is."""
         (self.folder / "secret").write_text("secret")
         for name, leads in (
             ("a", "../secret"),
@@ -109,7 +110,8 @@ class HandIns(unittest.TestCase):
         )
 
     def test_nothing_is_written_through_a_link(self) -> None:
-        """Files that are named later take the place of those of the same name, and of links in their way."""
+        """Files that are named later take the place of those of the same name, and of
+        links in their way."""
         for name in ("bad", "more"):
             (self.folder / name).mkdir()
         (self.folder / "bad" / "agent.py").symlink_to("/etc/passwd")

@@ -1,4 +1,5 @@
-"""What the Python model says of a replay: the verdict and causal pasts that the program says of it."""
+"""What the Python model says of a replay: the verdict and causal pasts that the program
+says of it."""
 
 from arena_lab.pages import judging
 from arena_lab.play.agent_files import TOP

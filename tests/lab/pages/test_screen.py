@@ -48,7 +48,8 @@ def drawn_events(chance: random.Random, match: Match) -> List[Event]:
 
 def lost_by(setup: Setup, events: List[Event]) -> List[bool]:
     """Of each event whether it is a delivery into what destroys."""
-    match, found = Match(setup), []
+    match = Match(setup)
+    found = []
     for event in events:
         agent = match.agents[event["agent"]]
         goes = (
@@ -76,7 +77,8 @@ class Twins(unittest.TestCase):
             if not free:
                 continue
             twin_setup = setup._replace(holes=[free[0]])
-            here, there = Match(setup), Match(twin_setup)
+            here = Match(setup)
+            there = Match(twin_setup)
             for event, is_lost in zip(events, lost_by(setup, events)):
                 here.play(event)
                 if not is_lost:

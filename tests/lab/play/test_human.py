@@ -1,4 +1,5 @@
-"""A person who plays agents sees what agents see: a black hole and a slow link look alike until the match is over."""
+"""A person who plays agents sees what agents see: a black hole and a slow link look
+alike until the match is over."""
 import io
 import random
 import unittest
@@ -42,7 +43,8 @@ def made(holes: List[int], is_held: bool) -> HumanMatch:
 
 class Twins(unittest.TestCase):
     def test_a_black_hole_and_a_slow_link_look_alike(self) -> None:
-        hole, slow = made([1], False), made([], True)
+        hole = made([1], False)
+        slow = made([], True)
         for name, *given in STEPS:
             for match in (hole, slow):
                 getattr(match, name)(*given)

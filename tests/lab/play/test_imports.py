@@ -97,9 +97,8 @@ class Imports(InTemporary):
 
     def test_an_agent_inside_has_its_client(self) -> None:
         path = self.folder / "two" / "inner.py"
-        inside, outside = AgentWords(INSIDE, str(path)), AgentWords(
-            OUTSIDE, f"python3 {path} {{port}} {{key}}"
-        )
+        inside = AgentWords(INSIDE, str(path))
+        outside = AgentWords(OUTSIDE, f"python3 {path} {{port}} {{key}}")
         self.assertEqual(
             [pathlib.Path(name).name for name in inside.digests()],
             ["inner.py", "client.py"],

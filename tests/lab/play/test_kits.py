@@ -1,4 +1,5 @@
-"""Kits are copied whole, to new folders, and their READMEs name the commands that `./arena-lab new` names."""
+"""Kits are copied whole, to new folders, and their READMEs name the commands that
+`./arena-lab new` names."""
 
 from arena_lab.__main__ import main
 from arena_lab.play.agent_files import AGENTS

@@ -1,4 +1,5 @@
-"""The line that names the error, of what programs in several languages print when they crash."""
+"""The line that names the error, of what programs in several languages print when they
+crash."""
 import pathlib
 import shutil
 import subprocess

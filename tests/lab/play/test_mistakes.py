@@ -1,4 +1,5 @@
-"""Each mistake of a line has its sentence, as two languages spell it, and refused lines are told for their agents."""
+"""Each mistake of a line has its sentence, as two languages spell it, and refused lines
+are told for their agents."""
 import unittest
 from typing import Dict, List, Tuple
 
@@ -17,7 +18,8 @@ from arena_lab.play.mistakes import (
 )
 from arena_lab.rules.model import BAD, command_of, text_of
 
-# of each mistake what is said of it, and two lines, as programs in two languages send them
+# of each mistake what is said of it, and two lines, as programs in two languages send
+# them
 ROWS: Dict[str, Tuple[str, List[bytes]]] = {
     "mark": (
         "a byte order mark stands before the line",

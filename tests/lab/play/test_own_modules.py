@@ -12,7 +12,8 @@ from arena_lab.play.own_modules import OwnModules, random_from
 
 class Randoms(unittest.TestCase):
     def test_it_draws_as_a_generator_of_its_seed(self) -> None:
-        made, wanted = random_from(3), random.Random(3)
+        made = random_from(3)
+        wanted = random.Random(3)
         for _ in range(3):
             self.assertEqual(
                 [
@@ -31,7 +32,8 @@ class Randoms(unittest.TestCase):
         self.assertEqual(made.getstate(), wanted.getstate())
 
     def test_its_draws_and_seeds_change_no_other(self) -> None:
-        before, other = random.getstate(), random_from(3)
+        before = random.getstate()
+        other = random_from(3)
         state = other.getstate()
         made = random_from(3)
         made.seed(7)

@@ -1,4 +1,5 @@
-"""What is told of a match that was not solved: one fact a sentence, with nodes and ports as the referee sees them."""
+"""What is told of a match that was not solved: one fact a sentence, with nodes and
+ports as the referee sees them."""
 import unittest
 from typing import List, Sequence
 

@@ -26,7 +26,9 @@ class Speaks:
     """A player that says these lines, whatever it is told."""
 
     def __init__(self, number: int, lines: List[Any]) -> None:
-        self.number, self.state, self.fault = number, WAITS, None
+        self.number = number
+        self.state = WAITS
+        self.fault = None
         self.told: List[str] = []
         self._left = [spelled(line).encode() for line in lines]
         self.line: Optional[bytes] = self._left.pop(0) if self._left else None
@@ -53,17 +55,17 @@ class Sleeps(Speaks):
             self._sleep()
 
     def go_on(self) -> None:
-        self.woken, self._due = self.woken + 1, self._due - 1
+        self.woken = self.woken + 1
+        self._due = self._due - 1
         if not self._due:
-            self.state, self.line = WAITS, self._kept
+            self.state = WAITS
+            self.line = self._kept
 
     def _sleep(self) -> None:
-        self.state, self._kept, self.line, self._due = (
-            SLEEPS,
-            self.line,
-            None,
-            self._naps,
-        )
+        self.state = SLEEPS
+        self._kept = self.line
+        self.line = None
+        self._due = self._naps
 
 
 class RepeatingTest(unittest.TestCase):

@@ -1,4 +1,5 @@
-"""How two agents divide a ring into three parts, and what that comes to in the worst case."""
+"""How two agents divide a ring into three parts, and what that comes to in the worst
+case."""
 import functools
 import math
 import unittest
@@ -9,13 +10,14 @@ ring3 = loaded(AGENTS / "ring3.py")
 
 
 def most_moves(nodes: int) -> int:
-    """The moves of the search in the worst case, counted: of cautious walks, and of ways between the agents."""
+    """The moves of the search in the worst case, counted: of cautious walks, and of
+    ways between the agents."""
 
     @functools.lru_cache(None)
     def ways(left: int) -> int:
-        """The most that ways cost from a division of what is left on, with the way of the agent that divides. A way to
-        somewhere and back is two moves shorter, as an agent goes to its last safe node only to go on from there.
-        """
+        """The most that ways cost from a division of what is left on, with the way of
+        the agent that divides. A way to somewhere and back is two moves shorter, as an
+        agent goes to its last safe node only to go on from there."""
         if left == 1:
             return 0
         way = nodes - 1 - left
@@ -39,7 +41,8 @@ def most_moves(nodes: int) -> int:
 
     @functools.lru_cache(None)
     def met(left: int, way: int) -> int:
-        """The most from where an agent has done all but the part of the other, which may come some nodes far."""
+        """The most from where an agent has done all but the part of the other, which
+        may come some nodes far."""
         return (
             0 if left == 1 else way - 2 + max(i + ways(left - i) for i in range(left))
         )

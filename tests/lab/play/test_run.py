@@ -20,7 +20,8 @@ class Rows(unittest.TestCase):
             print("not a row")
             yield mock.Mock(line=lambda: "a row")
 
-        said, told = io.StringIO(), io.StringIO()
+        said = io.StringIO()
+        told = io.StringIO()
         words = argparse.Namespace(
             json=True,
             seeds=None,
@@ -71,12 +72,15 @@ class Tallies(unittest.TestCase):
         self.assertGreater(rank(row(moves=7)), rank(row()))  # type: ignore[arg-type]
 
     def test_networks_that_are_solved_while_an_agent_fails(self) -> None:
-        """Of sixty matches that are solved, in all of which an agent fails, it is said that they are the same."""
-        tally, said = Tally(), io.StringIO()
+        """Of sixty matches that are solved, in all of which an agent fails, it is said
+        that they are the same."""
+        tally = Tally()
+        said = io.StringIO()
         for _ in range(60):
             tally.add(row(failed=True, seed=0, home=0, holes=[1]))  # type: ignore[arg-type]
         best: Any = mock.Mock()
-        best.match().told.return_value, best.match().faults.return_value = [], []
+        best.match().told.return_value = []
+        best.match().faults.return_value = []
         best.match().played.refused = []
         best.__getitem__ = mock.Mock(return_value=0)
         report(tally, best, None, said)

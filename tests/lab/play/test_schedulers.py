@@ -20,7 +20,8 @@ ARRIVALS = [Choice(ARRIVE, agent) for agent in range(3)]
 
 
 def state(pool: List[int]) -> Any:
-    """How a match stands whose agents departed in this order, agent i from node i by port 0."""
+    """How a match stands whose agents departed in this order, agent i from node i by
+    port 0."""
     agents = [SimpleNamespace(node=agent, port=0) for agent in range(3)]
     return SimpleNamespace(match=SimpleNamespace(pool=pool, agents=agents))
 
@@ -52,7 +53,8 @@ class Schedulers(unittest.TestCase):
         self.assertLess(min(counts) * 3, max(counts))
 
     def test_slow_links_are_slow_for_the_whole_match_and_answers_are_not(self) -> None:
-        choose, arrived = schedulers.slow_links(SLOW), [0, 0, 0]
+        choose = schedulers.slow_links(SLOW)
+        arrived = [0, 0, 0]
         for _ in range(3000):
             arrived[choose(ARRIVALS, state([0, 1, 2])).agent] += 1
         self.assertLess(min(arrived) * 3, max(arrived))

@@ -13,7 +13,8 @@ from arena_lab.rules.networks import ring
 from tests.support.output import InTemporary
 
 PATH = pathlib.Path("schedule.txt")
-ZERO, ONE = Choice(ANSWER, 0), Choice(ANSWER, 1)
+ZERO = Choice(ANSWER, 0)
+ONE = Choice(ANSWER, 1)
 
 
 class Choices(unittest.TestCase):
@@ -43,7 +44,8 @@ class Follows(unittest.TestCase):
     def followed(
         self, schedule: List[Choice], *possible: List[Choice]
     ) -> Tuple[List[Choice], str]:
-        following, state = ScheduleFollower(schedule), cast(MatchView, None)
+        following = ScheduleFollower(schedule)
+        state = cast(MatchView, None)
         return [following(choices, state) for choices in possible], str(following)
 
     def test_all_choices(self) -> None:

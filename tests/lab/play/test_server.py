@@ -1,4 +1,5 @@
-"""The stand-in: its oblivious schedule tells an agent nothing of others, and who does not read keeps nobody waiting."""
+"""The stand-in: its oblivious schedule tells an agent nothing of others, and who does
+not read keeps nobody waiting."""
 import socket
 import threading
 import unittest
@@ -30,13 +31,17 @@ def contest_on_ring(delays: Optional[Delays]) -> Contest:
 def turns_of_moves(
     delays: Optional[Delays], is_other_destroyed: bool, moves: int
 ) -> List[int]:
-    """After how many turns each move of agent 0 ends, on a ring whose black hole agent 1 departs for or not."""
+    """After how many turns each move of agent 0 ends, on a ring whose black hole agent
+    1 departs for or not."""
     contest = contest_on_ring(delays)
     for agent in range(2):
         contest.take(agent, b'{"do":"enter","key":"k%d"}' % agent)
     if is_other_destroyed:
         contest.take(1, b'{"do":"depart","port":1}')
-    found, port, turns, walker = [], 0, 0, contest.matches[0].agents[0]
+    found = []
+    port = 0
+    turns = 0
+    walker = contest.matches[0].agents[0]
     for _ in range(moves):
         contest.take(0, b'{"do":"depart","port":%d}' % port)
         while walker.standing == AWAY:
@@ -49,7 +54,8 @@ def turns_of_moves(
 
 class Clients(unittest.TestCase):
     def test_one_that_does_not_read_keeps_nobody_waiting(self) -> None:
-        contest, (ours, theirs) = contest_on_ring(None), socket.socketpair()
+        contest = contest_on_ring(None)
+        (ours, theirs) = socket.socketpair()
         threading.Thread(target=contest.serve, args=(0, theirs), daemon=True).start()
         with ours:
             ours.settimeout(0.5)

@@ -1,4 +1,5 @@
-"""Agents that are written as steps: their memories are plain values, by which they are named, and nothing else."""
+"""Agents that are written as steps: their memories are plain values, by which they are
+named, and nothing else."""
 import math
 import unittest
 from typing import Any

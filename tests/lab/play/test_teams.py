@@ -100,7 +100,9 @@ class Standings(unittest.TestCase):
 
     def test_matches_as_they_are_watched(self) -> None:
         setup = Setup(3, ring(3).links, 0, [2], 2, 10, 8)
-        solved, running, empty = Match(setup), Match(setup), Match(setup)
+        solved = Match(setup)
+        running = Match(setup)
+        empty = Match(setup)
         for event in ({"do": "enter"}, {"do": "depart", "port": 0}):
             solved.tell(0, event)
         solved.deliver(0)

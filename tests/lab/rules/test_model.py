@@ -36,8 +36,8 @@ class Model(unittest.TestCase):
         self.assertEqual(
             match.replay().splitlines(),
             [
-                '{"agents":2,"board":8,"dark":[],"holes":[2],"home":0,"links":[[0,0,1,0],[0,1,2,1],[1,1,2,0]],"nodes":3,'
-                '"quota":10,"replay":2}',
+                '{"agents":2,"board":8,"dark":[],"holes":[2],"home":0,"links":[[0,0,1,0],[0,1,2,1],[1,1,2,0]],"nodes":'
+                '3,"quota":10,"replay":2}',
                 '{"agent":0,"do":"enter","reply":{"board":"","from":null,"ok":"here","ports":2}}',
                 '{"agent":0,"do":"accuse","port":1,"reply":{"ok":"noted"}}',
                 '{"do":"close","reply":null}',

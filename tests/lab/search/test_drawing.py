@@ -1,4 +1,5 @@
-"""What is said of drawn schedules: counts of all matches, the worst of all, and failures that are counted alone."""
+"""What is said of drawn schedules: counts of all matches, the worst of all, and
+failures that are counted alone."""
 import unittest
 from typing import Any, List
 from unittest import mock
@@ -29,9 +30,8 @@ def tried(
 
 class Drawing(unittest.TestCase):
     def told(self, tries: List[MatchResult], hunt: Any = None) -> str:
-        search, draws = mock.Mock(
-            tries=tries, checks="checked", seconds=1.25
-        ), SampleRequest(7, 1, "fair", hunt)
+        search = mock.Mock(tries=tries, checks="checked", seconds=1.25)
+        draws = SampleRequest(7, 1, "fair", hunt)
         with mock.patch.object(explore_samples, "keep"):
             status, said, _ = ran(
                 explore_samples.report_samples, mock.Mock(), draws, search
@@ -48,7 +48,8 @@ class Drawing(unittest.TestCase):
         )
 
     def test_the_worst_of_all_matches_is_told(self) -> None:
-        few, many = tried(1, 2, 1), tried(2, 3, 0)
+        few = tried(1, 2, 1)
+        many = tried(2, 3, 0)
         for tries in ([few, many], [many, few]):
             self.assertIn("holes [2], solved moves 3 lost 0", self.told(tries, "moves"))
             self.assertIn("holes [1], solved moves 2 lost 1", self.told(tries, "lost"))

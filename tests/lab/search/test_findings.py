@@ -1,5 +1,5 @@
-"""What the program finds is read into values, and `explore` and the lab of Python programs say of them what they said
-of its lines."""
+"""What the program finds is read into values, and `explore` and the lab of Python
+programs say of them what they said of its lines."""
 import json
 import unittest
 from typing import Any, Dict, List, Tuple
@@ -137,12 +137,8 @@ class Findings(unittest.TestCase):
         )
 
     def test_a_module_that_fails_is_told_with_its_function(self) -> None:
-        failed, other = {
-            "module": "31",
-            "arguments": [8],
-            "failure": "fuel",
-            "function": 7,
-        }, {"module": "32"}
+        failed = {"module": "31", "arguments": [8], "failure": "fuel", "function": 7}
+        other = {"module": "32"}
         for agent, modules in (
             (0, [failed]),
             (1, [failed]),
@@ -225,9 +221,8 @@ class Driver(unittest.TestCase):
         return found
 
     def test_matches_are_tried_up_to_one_that_fails_or_is_stopped(self) -> None:
-        solves, stopped = ExploreAnswer(Solves(1, 0, 4), 1.0, 5), ExploreAnswer(
-            None, 1.0
-        )
+        solves = ExploreAnswer(Solves(1, 0, 4), 1.0, 5)
+        stopped = ExploreAnswer(None, 1.0)
         self.assertEqual(
             [it.fixture.setup.holes for it in self.tried(solves, solves)], [[1], [2]]
         )
@@ -240,9 +235,8 @@ class Driver(unittest.TestCase):
 
     def test_what_is_made_of_a_match_says_whether_it_goes_on(self) -> None:
         beside = mock.Mock(is_whole=True, rank=lambda: (False, 3))
-        exceeds, solves = ExploreAnswer(Exceeds(0, 11), 1.0, 5), ExploreAnswer(
-            Solves(1, 0, 4), 1.0, 5
-        )
+        exceeds = ExploreAnswer(Exceeds(0, 11), 1.0, 5)
+        solves = ExploreAnswer(Solves(1, 0, 4), 1.0, 5)
         tries = self.tried(
             exceeds,
             solves,

@@ -1,24 +1,23 @@
-"""An agent that is drawn by chance, and is a function of its key and of what it has heard. It sleeps, naps, raises,
-polls, leaves, is refused, crashes when the match is over, says lines after its end, and may send a line before it
-arrives."""
+"""An agent that is drawn by chance, and is a function of its key and of what it has
+heard. It sleeps, naps, raises, polls, leaves, is refused, crashes when the match is
+over, says lines after its end, and may send a line before it arrives."""
 import hashlib
 import json
 
 from client import MatchOver
 
-GONE, OVER = '{"ok":"gone"}', '{"ok":"over"}'
+GONE = '{"ok":"gone"}'
+OVER = '{"ok":"over"}'
 
 
 class Drawn:
     """What it does next is drawn by all that it has heard."""
 
     def __init__(self, salt, lines, sleep, is_early):
-        self._heard, self._lines, self._sleep, self._is_early = (
-            salt,
-            lines,
-            sleep,
-            is_early,
-        )
+        self._heard = salt
+        self._lines = lines
+        self._sleep = sleep
+        self._is_early = is_early
 
     def draw(self, below):
         self._heard += "."
@@ -33,7 +32,8 @@ class Drawn:
         return line
 
     def say(self, command):
-        """What it is answered, after its arrival if it departs. Some crash when the match is over."""
+        """What it is answered, after its arrival if it departs. Some crash when the
+        match is over."""
         self._lines.send(json.dumps(command, separators=(",", ":")))
         line = self.hear()
         if line == GONE:
@@ -102,7 +102,8 @@ class Drawn:
 
 
 def search(agent, key, seed, length, early, roles, sleep):
-    """Each agent of a match has a role of its own: by its key, or by what its module `random` draws."""
+    """Each agent of a match has a role of its own: by its key, or by what its module
+    `random` draws."""
     import random
 
     role = (key, str(random.random()), "")[roles]

@@ -1,5 +1,5 @@
-"""Agents' programs that keep to no rule: `python3 rude.py HOW HOST PORT KEY`. What `silent:MARK` starts has the word
-MARK, by which a test finds it."""
+"""Agents' programs that keep to no rule: `python3 rude.py HOW HOST PORT KEY`. What
+`silent:MARK` starts has the word MARK, by which a test finds it."""
 import json
 import os
 import socket

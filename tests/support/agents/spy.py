@@ -1,8 +1,9 @@
 """An agent's program that looks for what is not its own: `python3 spy.py KEY PLACE ..`.
 
-It reads each file below its folder, below the folder above and below the places that are named, but for the system's
-programs, and the command lines and environments of all processes. It ends with what it found, which is a word that
-begins with TREASURE, or a key that is not its own.
+It reads each file below its folder, below the folder above and below the places that
+are named, but for the system's programs, and the command lines and environments of all
+processes. It ends with what it found, which is a word that begins with TREASURE, or a
+key that is not its own.
 """
 import pathlib
 import re

@@ -1,4 +1,5 @@
-"""Matches over sockets are practice: rated series and contests of earlier halls are kept as such."""
+"""Matches over sockets are practice: rated series and contests of earlier halls are
+kept as such."""
 import sys
 from typing import Any
 

@@ -1,4 +1,5 @@
-"""An unveiling names what it shows. Those of earlier halls have shown all there was of the course's table."""
+"""An unveiling names what it shows. Those of earlier halls have shown all there was of
+the course's table."""
 from typing import Any
 
 from django.db import migrations, models

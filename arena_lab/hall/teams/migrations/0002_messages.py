@@ -1,5 +1,6 @@
-"""Announcements, and questions of teams with their answers. Tries are granted no more: a team may have a deadline of
-its own. Names of teams do not begin with a hyphen: a program for tables would take their tokens for formulas."""
+"""Announcements, and questions of teams with their answers. Tries are granted no more:
+a team may have a deadline of its own. Names of teams do not begin with a hyphen: a
+program for tables would take their tokens for formulas."""
 import django.utils.timezone
 from django.core.validators import RegexValidator
 from django.db import migrations, models
