@@ -1,22 +1,25 @@
-"""Compares how fast `./arena-lab explore` and the model checker SPIN try all schedules of the sample search of rings.
+"""Compares how fast `./arena-lab explore` and the model checker SPIN try all schedules
+of the sample search of rings.
 
     tools/build               # proves and builds the program, if that is not done yet
     apt install spin
     /usr/bin/python3 -m bench.spin [N ..]
 
-On the ring of each number of nodes (16, 24 and 32), each node but the home base is the black hole in turn. SPIN
-searches two models of `examples/agents/ring.py` that were written by hand: "natural" with SPIN's own reductions, and
-"merged", in which steps that nobody can know of were merged by hand as well. `./arena-lab explore` asks the same search
-as a step, `ring_step.py`: its row has the whole, and the next row what `arena explore` takes if it reads the agents'
-answers from a file. The last row is of `arena explore --module` on `wasm/ring.wasm`. A row has who searched, the
-states, the most moves, the seconds of one processor, and megabytes. All must find the same moves. The seconds of SPIN
-do not count the compiler.
+On the ring of each number of nodes (16, 24 and 32), each node but the home base is the
+black hole in turn. SPIN searches two models of `examples/agents/ring.py` that were
+written by hand: "natural" with SPIN's own reductions, and "merged", in which steps that
+nobody can know of were merged by hand as well. `./arena-lab explore` asks the same
+search as a step, `ring_step.py`: its row has the whole, and the next row what `arena
+explore` takes if it reads the agents' answers from a file. The last row is of `arena
+explore --module` on `wasm/ring.wasm`. A row has who searched, the states, the most
+moves, the seconds of one processor, and megabytes. All must find the same moves. The
+seconds of SPIN do not count the compiler.
 """
 import argparse
 from typing import List, NamedTuple
 
-from bench.explore import STATES, measured, measured_by_module
 from bench import promela
+from bench.explore import STATES, measured, measured_by_module
 
 
 class Row(NamedTuple):
@@ -43,7 +46,8 @@ def rows_of(nodes: int) -> List[Row]:
             )
         found.append(Row(name, one.states, one.moves, one.seconds, f"{one.memory:.0f}"))
     matches = measured(f"ring:{nodes}", "ring_step", STATES)
-    states, moves = sum(it.states for it in matches), max(it.moves for it in matches)
+    states = sum(it.states for it in matches)
+    moves = max(it.moves for it in matches)
     found.append(
         Row(
             "./arena-lab explore",

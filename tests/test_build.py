@@ -1,4 +1,5 @@
-"""What tools/build shows of a build, and what is left of it by earlier times. The prover here is a script."""
+"""What tools/build shows of a build, and what is left of it by earlier times. The
+prover here is a script."""
 import contextlib
 import io
 import os
@@ -10,11 +11,9 @@ import unittest
 import unittest.mock
 
 from tests import TOP
-from tests.test_gate import module
 from tests.support.output import ran, write
-from tools.prove import version
-from tools.prove import bar
-from tools.prove import prover
+from tests.test_gate import module
+from tools.prove import bar, prover, version
 from tools.prove.forecast import (
     LAST_PART,
     SECONDS,
@@ -95,8 +94,10 @@ class Forecasts(unittest.TestCase):
     def test_the_file_names_the_crates(self) -> None:
         text = SECONDS.read_text()
         self.assertEqual(text_of(seconds_of(text), text), text)
-        # a crate without a time gets the median: one may wait for the next gate that is measured
-        named, crates = set(seconds_of(text)), set(prover.libraries_of())
+        # a crate without a time gets the median: one may wait for the next gate that is
+        # measured
+        named = set(seconds_of(text))
+        crates = set(prover.libraries_of())
         self.assertLessEqual(named, crates)
         self.assertLessEqual(len(crates - named), 1)
 
@@ -104,7 +105,8 @@ class Forecasts(unittest.TestCase):
 class Build(unittest.TestCase):
     def setUp(self) -> None:
         self.top = pathlib.Path(self.enterContext(tempfile.TemporaryDirectory()))
-        self.crates, kit = self.top / "crates", self.top / "kit"
+        self.crates = self.top / "crates"
+        kit = self.top / "kit"
         for name in ALL:
             write(self.crates / name / "src" / "lib.rt", "whole\n")
         write(kit / "KIT-ID", "kit 1\n")

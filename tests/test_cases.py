@@ -1,4 +1,5 @@
-"""A case of a command that dies is one that failed, and nothing waits in a way that fails where many sockets are."""
+"""A case of a command that dies is one that failed, and nothing waits in a way that
+fails where many sockets are."""
 import ast
 import contextlib
 import fcntl
@@ -9,9 +10,9 @@ from typing import Iterator
 
 from arena_lab.support.waiting import is_ready
 from tests import TOP
-from tests.support.output import ran
-from tests.support.cases import Cases, raise_descriptors
 from tests.hostile.commands import Lab
+from tests.support.cases import Cases, raise_descriptors
+from tests.support.output import ran
 from tests.support.program_rows import fault_of
 
 # a descriptor that select.select() does not take

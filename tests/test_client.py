@@ -1,4 +1,5 @@
-"""The client and the search in C over sockets, served by the stand-in with turns that wait."""
+"""The client and the search in C over sockets, served by the stand-in with turns that
+wait."""
 import contextlib
 import socket
 import subprocess
@@ -8,9 +9,9 @@ import time
 import unittest
 from typing import List
 
+from arena_lab.rules import networks
 from examples.agents import client
 from examples.agents.client import Agent, Here, Swap
-from arena_lab.rules import networks
 from tests import TOP, needs
 from tests.support.output import InTemporary
 from tests.support.servers import Server
@@ -31,7 +32,8 @@ class Served(InTemporary):
         sessions: int,
         turns: int = 300,
     ) -> int:
-        """Starts a server, and answers its port. The match is closed after these turns, or when the test says so."""
+        """Starts a server, and answers its port. The match is closed after these turns,
+        or when the test says so."""
         cup = write_cup(
             self.folder,
             [
@@ -64,7 +66,8 @@ class Served(InTemporary):
         return self.server.port
 
     def outcome(self) -> List[str]:
-        """Closes the match, and answers the row of its team in the table: place, team, outcome, moves and lost."""
+        """Closes the match, and answers the row of its team in the table: place, team,
+        outcome, moves and lost."""
         self.server.child.stdin.close()
         return self.server.child.stdout.read().decode().splitlines()[1].split()
 
@@ -162,7 +165,8 @@ class SearchInC(Served):
                     subprocess.Popen([*command, port, key, "8"], **quiet)
                     for command, key in zip(commands, ("ka", "kb"))
                 ]
-                # one of them accuses and ends; the other does so soon, or is lost and ends with the match
+                # one of them accuses and ends; the other does so soon, or is lost and
+                # ends with the match
                 while all(agent.poll() is None for agent in agents):
                     time.sleep(0.01)
                 for agent in agents:

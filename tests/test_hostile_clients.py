@@ -9,7 +9,6 @@ import unittest
 from unittest import mock
 
 from arena_lab.rules.model import Match, Setup
-from tests.support.output import InTemporary, ran
 from tests.hostile import hostile_clients
 from tests.hostile.hostile_attacks import (
     ATTACKS,
@@ -29,6 +28,7 @@ from tests.hostile.hostile_clients import (
     check_table,
     match_of,
 )
+from tests.support.output import InTemporary, ran
 
 STAND_IN = f"{sys.executable} -m arena_lab"
 SMALL = Sizes(

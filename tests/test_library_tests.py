@@ -1,11 +1,12 @@
-"""How tests/runners/library_tests.py makes a crate of the files of tests/library, and counts what its tests say."""
+"""How tests/runners/library_tests.py makes a crate of the files of tests/library, and
+counts what its tests say."""
 import pathlib
 import subprocess
 import sys
 
 from tests import TOP, needs
-from tests.support.output import InTemporary, ran
 from tests.runners import library_tests
+from tests.support.output import InTemporary, ran
 
 LINES = "print('test a ... ok'); print('test result: ok. {passed} passed; {failed} failed; 0 ignored'); exit({status})"
 

@@ -1,12 +1,13 @@
-"""The rows that play the program: how they are read, and that a row that fails is told."""
+"""The rows that play the program: how they are read, and that a row that fails is
+told."""
 import sys
 import unittest
 import unittest.mock
 from typing import List
 
-from tests.support.output import InTemporary, ran, write
 from tests.program import program_cases
 from tests.runners import program_tests
+from tests.support.output import InTemporary, ran, write
 from tests.support.program_rows import Step, fault_of, play, rows_of
 
 # prints its script, or tells its words and fails

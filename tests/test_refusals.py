@@ -1,15 +1,16 @@
-"""Tests of tests/hostile/refusals.py and of its library, with programs in C that stand in."""
+"""Tests of tests/hostile/refusals.py and of its library, with programs in C that stand
+in."""
 import subprocess
 import unittest
 import unittest.mock
 
 from tests import needs
-from tests.support.output import InTemporary, ran
-from tests.hostile import commands
-from tests.hostile import refusals
+from tests.hostile import commands, refusals
 from tests.hostile.commands import COMMANDS, Lab, Run
+from tests.support.output import InTemporary, ran
 
-# asks for memory five times, reads a line and writes it, and says which request was refused
+# asks for memory five times, reads a line and writes it, and says which request was
+# refused
 CALLS = """
 #include <stdlib.h>
 #include <sys/uio.h>
@@ -32,7 +33,8 @@ int main(int count_of_words, char **words) {
 }
 """
 
-# prints its second word's file, as long as it is, or a fault line; the macros are ways to do so badly
+# prints its second word's file, as long as it is, or a fault line; the macros are ways
+# to do so badly
 PRINTS = """
 #include <fcntl.h>
 #include <stdlib.h>
@@ -87,8 +89,8 @@ int main(int count_of_words, char **words) {
 """
 
 
-# lists tests, and runs one that asks for memory before the call that it tests and in it, with a mark before and behind
-# it, or another that asks between a play and its end
+# lists tests, and runs one that asks for memory before the call that it tests and in
+# it, with a mark before and behind it, or another that asks between a play and its end
 TESTS = """
 #include <stdio.h>
 #include <stdlib.h>
@@ -193,7 +195,8 @@ class ShimTest(InTemporary):
 @needs("gcc", "gcc")
 class CommandTest(InTemporary):
     def faults_of(self, *options):
-        """What a command of the program that is built with these options does otherwise."""
+        """What a command of the program that is built with these options does
+        otherwise."""
         lab = Lab(built(self.folder, "prints", PRINTS, *options), self.folder)
         trials = refusals.Trials(lab, refusals.Shim.built(self.folder), 0, 0, 2)
         said = ran(refusals.refuse_command, trials, COMMANDS[0]).said

@@ -1,4 +1,5 @@
-"""The scripts of WebAssembly's specification are played so that a reader and an interpreter that are wrong fail."""
+"""The scripts of WebAssembly's specification are played so that a reader and an
+interpreter that are wrong fail."""
 import contextlib
 import io
 import pathlib
@@ -8,9 +9,9 @@ import unittest.mock
 from typing import Any, Dict, List
 
 from tests.program import wasm_scripts
+from tests.program.wasm_scripts import Module, Scripts, Told
 from tests.support.program_rows import Stage
 from tests.support.wasm_encoding import Function, module, with_run
-from tests.program.wasm_scripts import Module, Scripts, Told
 
 TEXT = """(module
   (type (;0;) (func (param i32)))
@@ -82,9 +83,8 @@ class Texts(unittest.TestCase):
         )
 
     def test_run_is_added_behind_all_others(self) -> None:
-        other, nothing = Function([0x7F], [], b"\x01", "other"), Function(
-            [], [], b"", "run"
-        )
+        other = Function([0x7F], [], b"\x01", "other")
+        nothing = Function([], [], b"", "run")
         self.assertEqual(with_run(module([other])), module([other, nothing]))
 
 

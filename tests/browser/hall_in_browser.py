@@ -1,10 +1,12 @@
-"""Goes through a hall in headless Chromium as a team, as another team and as the teacher, and looks at what pages say.
+"""Goes through a hall in headless Chromium as a team, as another team and as the
+teacher, and looks at what pages say.
 
     /usr/bin/python3 -m tests.browser.hall_in_browser PROGRAM [FOLDER]
 
-Logs in by a token, practises, watches the match afterwards, hands in a program, and looks at the standings before and
-after they freeze, in three languages, on a projector and on a phone. Finds no error in the
-console. Screenshots go to the folder. `tools/nightly` installs what it needs.
+Logs in by a token, practises, watches the match afterwards, hands in a program, and
+looks at the standings before and after they freeze, in three languages, on a projector
+and on a phone. Finds no error in the console. Screenshots go to the folder.
+`tools/nightly` installs what it needs.
 """
 import datetime
 import os
@@ -16,10 +18,11 @@ from typing import Any, List
 from selenium import webdriver
 from selenium.webdriver.support.ui import WebDriverWait
 
-from tests.support import halls
 from tests.browser.watch_in_browser import SECONDS, browser
+from tests.support import halls
 
-WIDE, PHONE = (1200, 900), (400, 850)
+WIDE = (1200, 900)
+PHONE = (400, 850)
 
 
 class Walk:
@@ -28,7 +31,9 @@ class Walk:
     def __init__(
         self, hall: halls.Served, page: webdriver.Chrome, shots: pathlib.Path
     ) -> None:
-        self._hall, self._page, self._shots = hall, page, shots
+        self._hall = hall
+        self._page = page
+        self._shots = shots
         self._tokens = hall.tokens()
         self._address = f"http://127.0.0.1:{hall.port}"
 

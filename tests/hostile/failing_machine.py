@@ -1,12 +1,15 @@
-"""Runs the program on a machine that fails it: no memory, no files, no stack, full disks, closed pipes.
+"""Runs the program on a machine that fails it: no memory, no files, no stack, full
+disks, closed pipes.
 
     python3 -m tests.hostile.failing_machine PROGRAM
 
-PROGRAM is the built program. Each command is run on the examples, once as it should be, and then with one thing
-missing. Each run must end within a minute, by itself, and say what it says with nothing missing, or the fault that is
-named here with its status; nothing else may come, neither on standard output nor on standard error. For each thing that
-is missing a line is printed with the number of runs and what came of them, and then the number of all; the exit status
-is 1 if a run ended otherwise. Nothing is written outside a temporary folder.
+PROGRAM is the built program. Each command is run on the examples, once as it should be,
+and then with one thing missing. Each run must end within a minute, by itself, and say
+what it says with nothing missing, or the fault that is named here with its status;
+nothing else may come, neither on standard output nor on standard error. For each thing
+that is missing a line is printed with the number of runs and what came of them, and
+then the number of all; the exit status is 1 if a run ended otherwise. Nothing is
+written outside a temporary folder.
 """
 import collections
 import contextlib
@@ -20,7 +23,6 @@ import threading
 from typing import Callable, Counter
 
 from bench.inputs import MIB
-from tests.support.servers import Server
 from tests.hostile.commands import (
     COMMANDS,
     DONE,
@@ -35,6 +37,7 @@ from tests.hostile.commands import (
     command_named,
     ended,
 )
+from tests.support.servers import Server
 
 # of a server; fewer than connections that the system keeps waiting for it
 SESSIONS = 100
@@ -86,7 +89,8 @@ def no_stack(lab: Lab) -> None:
 
 
 def few_files(lab: Lab) -> None:
-    """One file can be open beside the three streams: the fewest with which the system starts a program."""
+    """One file can be open beside the three streams: the fewest with which the system
+    starts a program."""
     seen: Counter = collections.Counter()
     for command in COMMANDS:
         lab.expect(
@@ -162,7 +166,8 @@ def closed_streams(lab: Lab) -> None:
 
 
 def strange_files(lab: Lab) -> None:
-    """A folder for a file, no file at all, and a replay that grows while it is read and never ends whole."""
+    """A folder for a file, no file at all, and a replay that grows while it is read and
+    never ends whole."""
     seen: Counter = collections.Counter()
     (lab.folder / "folder").mkdir()
     for command in COMMANDS:
@@ -179,7 +184,8 @@ def strange_files(lab: Lab) -> None:
                 FAILED_STREAM,
                 seen,
             )
-    judge, whole = command_named("judge"), (lab.folder / WHOLE_OF_PART).read_bytes()
+    judge = command_named("judge")
+    whole = (lab.folder / WHOLE_OF_PART).read_bytes()
     for cut in range(0, len(whole), 997):
         fifo = lab.folder / "grows.jsonl"
         os.mkfifo(fifo)
@@ -236,14 +242,16 @@ def served(lab: Lab, sessions: int, limit: Callable[[], None]) -> Run:
     return run._replace(printed=server.first + run.printed)
 
 
-# each part takes a descriptor while a contest goes on; without one the replay is whole nevertheless
+# each part takes a descriptor while a contest goes on; without one the replay is whole
+# nevertheless
 NO_PART = re.compile(
     r"\d+:\d\d:\d\d serve: the part of match \d+ stops after \d+ events: write"
 )
 
 
 def servers(lab: Lab) -> None:
-    """A contest of many sessions with little memory, so that threads cannot start, and with few descriptors."""
+    """A contest of many sessions with little memory, so that threads cannot start, and
+    with few descriptors."""
     seen: Counter = collections.Counter()
     limits = [
         ("memory", resource.RLIMIT_AS, most * MIB)

@@ -1,23 +1,28 @@
-"""Grades a course of four honest teams alone, and then with eight that want to win or to stop it by other ways.
+"""Grades a course of four honest teams alone, and then with eight that want to win or
+to stop it by other ways.
 
     /usr/bin/python3 -m tests.hostile.hostile_course [--program PATH] [--seeds N] [--workers N ..]
 
-A hostile team makes thousands of folders in folders and hands in links to files that never end; guesses the black holes
-by how they were drawn; talks past the whiteboards; stalls; takes memory and disk; looks for results and secrets; sends
-its lines without reading the answers; or ends with words that forge faults. One honest team is wrong. Without --program
-the Python model plays.
+A hostile team makes thousands of folders in folders and hands in links to files that
+never end; guesses the black holes by how they were drawn; talks past the whiteboards;
+stalls; takes memory and disk; looks for results and secrets; sends its lines without
+reading the answers; or ends with words that forge faults. One honest team is wrong.
+Without --program the Python model plays.
 
-A line for each check says how it went, and the last line counts. The exit status is 1 if one of these fails, for each
-number of workers:
+A line for each check says how it went, and the last line counts. The exit status is 1
+if one of these fails, for each number of workers:
 
-- The honest teams get the same rows as alone, byte for byte but for the number of the match.
-- It takes less than three times as long. Each team has one and a half times the time that an honest one takes alone.
-- The command ends with status 0. No hostile team solves a match but the one that does not read, and by chance the one
-  that guesses.
+- The honest teams get the same rows as alone, byte for byte but for the number of the
+  match.
+- It takes less than three times as long. Each team has one and a half times the time
+  that an honest one takes alone.
+- The command ends with status 0. No hostile team solves a match but the one that does
+  not read, and by chance the one that guesses.
 - Nothing is left of it in the folder for temporary files.
 
-Then two commands grade the honest teams at the same time, and again the rows are the same. A run takes some minutes.
-Where other work comes and goes beside it, the times of the two gradings cannot be compared, and that check may fail.
+Then two commands grade the honest teams at the same time, and again the rows are the
+same. A run takes some minutes. Where other work comes and goes beside it, the times of
+the two gradings cannot be compared, and that check may fail.
 """
 import argparse
 import pathlib
@@ -29,14 +34,12 @@ import time
 from typing import Dict, List
 
 from arena_lab.sweep import tables
-from tests.support.courses import rows_of_teams, team
 from tests.support.counts import concluded
+from tests.support.courses import rows_of_teams, team
 
 TOP = pathlib.Path(__file__).resolve().parents[2]
-AGENTS, MUTANT = (
-    TOP / "examples" / "agents",
-    TOP / "arena_lab" / "mutants" / "reads_once.py",
-)
+AGENTS = TOP / "examples" / "agents"
+MUTANT = TOP / "arena_lab" / "mutants" / "reads_once.py"
 HEAD = """title = "A hostile course"
 networks = ["ring:24", "ring:48", "ring:64"]
 holes = 2
@@ -155,7 +158,8 @@ NAMES = [name for name in tables.COLUMNS if name not in ("run", "check", "fault"
 
 
 def honest(folder: pathlib.Path) -> List[str]:
-    """The honest teams of a course's file. One hands in a program in C, which is compiled."""
+    """The honest teams of a course's file. One hands in a program in C, which is
+    compiled."""
     made = folder / "cedar"
     made.mkdir()
     subprocess.run(
@@ -317,7 +321,8 @@ def main() -> int:
             ["--program", words.program] if words.program else ["--engine", "model"]
         )
         grading = Grading(folder, engine)
-        good, bad = honest(folder), hostile(folder)
+        good = honest(folder)
+        bad = hostile(folder)
         (folder / "honest.toml").write_text(
             HEAD.format(seeds=words.seeds, team_limit=10_000) + "".join(good)
         )

@@ -1,10 +1,12 @@
-"""What the operator of a contest is told, and whom a server cuts off: tests for what no contract says.
+"""What the operator of a contest is told, and whom a server cuts off: tests for what no
+contract says.
 
     python3 -m tests.hostile.operators PROGRAM [TEXT]
 
-Each case serves a contest in a temporary folder; with TEXT only those whose titles have it. They run beside each other,
-since most of them wait. A line for each says how it went, and the last line reads `N passed, M failed`. It takes about
-a minute, which is how long the line of a minute takes.
+Each case serves a contest in a temporary folder; with TEXT only those whose titles have
+it. They run beside each other, since most of them wait. A line for each says how it
+went, and the last line reads `N passed, M failed`. It takes about a minute, which is
+how long the line of a minute takes.
 """
 import contextlib
 import os
@@ -20,11 +22,19 @@ from arena_lab.rules.delays import Delays
 from arena_lab.rules.fixtures import Fixture
 from arena_lab.rules.networks import ring
 from bench.inputs import peak_so_far
+from tests.hostile.spoilers import (
+    TEAMS,
+    WAITING,
+    answer,
+    entered,
+    looks,
+    serving,
+    tournament,
+)
+from tests.program.killed_servers import appeal_to
+from tests.support.cases import Cases
 from tests.support.counts import Wrong, require, wants
 from tests.support.servers import Server, enter, serve
-from tests.support.tournaments import match, write_cup
-from tests.support.cases import Cases
-from tests.program.killed_servers import appeal_to
 from tests.support.session_lines import (
     BYE,
     DEPART,
@@ -37,23 +47,18 @@ from tests.support.session_lines import (
     OVER,
     WRITTEN,
 )
-from tests.hostile.spoilers import (
-    TEAMS,
-    WAITING,
-    answer,
-    entered,
-    looks,
-    serving,
-    tournament,
-)
+from tests.support.tournaments import match, write_cup
 
 # turns that no test waits for
 LONG = 1_000_000
 ACCUSE = b'{"do":"accuse","port":1}\n'
 # the row of the last of two teams
 LAST_ROW = "  2 "
-# how many looks, at a text of how many bytes, and by how many kilobytes a server may grow meanwhile
-LOOKS, BOARD, MOST_GROWN = 3000, 60_000, 20_000
+# how many looks, at a text of how many bytes, and by how many kilobytes a server may
+# grow meanwhile
+LOOKS = 3000
+BOARD = 60_000
+MOST_GROWN = 20_000
 # how many cases run beside each other
 BESIDE = 12
 
@@ -117,7 +122,8 @@ def denied_in_grace(program: str, folder: pathlib.Path) -> None:
         for number in range(5):
             with server.connect(enter(f"no-{number}")) as stranger:
                 answer(stranger, 100)
-        # the matches are closed after a second, and the session has five seconds left then
+        # the matches are closed after a second, and the session has five seconds left
+        # then
         time.sleep(3)
         client.sendall(LOOK)
         wants("an agent within its time of grace", answer(client, len(OVER)), OVER)
@@ -137,7 +143,8 @@ def many_agents(program: str, folder: pathlib.Path) -> None:
 @case("a client whose first line never ends is cut off for its bytes")
 def dripping(program: str, folder: pathlib.Path) -> None:
     with serving(program, folder, turns=LONG) as server, server.connect() as client:
-        begun, sent = time.monotonic(), 0
+        begun = time.monotonic()
+        sent = 0
         client.settimeout(9)
         with contextlib.suppress(OSError):
             while time.monotonic() - begun < 6:
@@ -220,7 +227,8 @@ def looks_keep_one_text(program: str, folder: pathlib.Path) -> None:
     ) as server, entered(server, "red-0") as client:
         client.sendall(b'{"do":"write","expect":"","put":"%b"}\n' % (b"x" * BOARD))
         wants("write", answer(client, len(WRITTEN)), WRITTEN)
-        before, shown = peak_so_far(server.child), len(HERE) + BOARD
+        before = peak_so_far(server.child)
+        shown = len(HERE) + BOARD
         for _ in range(LOOKS // 10):
             client.sendall(LOOK * 10)
             require(
@@ -250,7 +258,8 @@ def own_numbers(program: str, folder: pathlib.Path) -> None:
 # ---- floods
 
 # a network of strangers, and one of agents
-STRANGERS, HOMES = "127.0.1.%d", "127.0.2.%d"
+STRANGERS = "127.0.1.%d"
+HOMES = "127.0.2.%d"
 
 
 def flood(
@@ -480,7 +489,8 @@ def times_of_the_log(program: str, folder: pathlib.Path) -> None:
 @case("with --log it is told each minute how far the matches are")
 def each_minute(program: str, folder: pathlib.Path) -> None:
     with serving(program, folder, "--log", turns=LONG) as server:
-        until, told = time.monotonic() + 75, b""
+        until = time.monotonic() + 75
+        told = b""
         os.set_blocking(server.child.stderr.fileno(), False)
         while time.monotonic() < until and b"is open: turns" not in told:
             told += server.child.stderr.read() or b""

@@ -1,31 +1,40 @@
-"""Refuses the program one request for memory, or fails or shortens one read or one write, each in turn.
+"""Refuses the program one request for memory, or fails or shortens one read or one
+write, each in turn.
 
     python3 -m tests.hostile.refusals [--quick] [--workers N] PROGRAM [TESTS]
 
-PROGRAM is the built program, linked dynamically. Each command is run on the examples with the first, the second, and
-each later request for memory refused; then with each read and each write failed, and with each shortened to one byte. A
-run with a short read or write must do what it does else. Any other must do that too, or tell the fault (`memory`,
-`read` or `write`, with its status) of a place that it may name; what it printed is then the front of what it prints
-else, and `judge` refuses each replay that it left and that is not whole. If the fault line itself could not be
-written, the status and what was printed are the same. Nothing may crash, hang or end with another status.
+PROGRAM is the built program, linked dynamically. Each command is run on the examples
+with the first, the second, and each later request for memory refused; then with each
+read and each write failed, and with each shortened to one byte. A run with a short read
+or write must do what it does else. Any other must do that too, or tell the fault
+(`memory`, `read` or `write`, with its status) of a place that it may name; what it
+printed is then the front of what it prints else, and `judge` refuses each replay that
+it left and that is not whole. If the fault line itself could not be written, the status
+and what was printed are the same. Nothing may crash, hang or end with another status.
 
-A server is run so as well, with a client that enters and looks and one that has a wrong key. It must end within ten
-seconds, by itself. What the clients hear are fronts of what they hear else, and at most one of them hears less if
-the server ends well; the table is that of the replay; and the replay has all that was answered.
+A server is run so as well, with a client that enters and looks and one that has a wrong
+key. It must end within ten seconds, by itself. What the clients hear are fronts of what
+they hear else, and at most one of them hears less if the server ends well; the table is
+that of the replay; and the replay has all that was answered.
 
-A contest of which a part is left is finished so as well. Whatever is refused, the replay is whole or the part is
-there; and the same command, with nothing refused, then finishes it.
+A contest of which a part is left is finished so as well. Whatever is refused, the
+replay is whole or the part is there; and the same command, with nothing refused, then
+finishes it.
 
-TESTS is the program that `tests/runners/library_tests.py TESTS` leaves. Its tests of tests/library/memory are run with
-each request for memory refused. They mark the beginning and the end of the calls that they test: if a request between
-two such marks is refused, the test must pass; if another one is, it may want memory itself. One test makes a match,
-plays on it, and then asks for memory once, for itself: no request before that may be one of the play.
+TESTS is the program that `tests/runners/library_tests.py TESTS` leaves. Its tests of
+tests/library/memory are run with each request for memory refused. They mark the
+beginning and the end of the calls that they test: if a request between two such marks
+is refused, the test must pass; if another one is, it may want memory itself. One test
+makes a match, plays on it, and then asks for memory once, for itself: no request before
+that may be one of the play.
 
-A line is printed for each command and kind, with the number of runs and what came of them, and then the number of all;
-the exit status is 1 if a run ended otherwise. With --quick there are at most 60 runs of each command and kind, 40 of
-a server and kind, and 20 of what a test does beside the calls that it tests, evenly spread, the first and the last
-among them; all others are left out. Without it only those of a server are left out that are more than 2,000 of a kind.
-It needs gcc, which builds `tests/hostile/refusals_shim.c`.
+A line is printed for each command and kind, with the number of runs and what came of
+them, and then the number of all; the exit status is 1 if a run ended otherwise. With
+--quick there are at most 60 runs of each command and kind, 40 of a server and kind, and
+20 of what a test does beside the calls that it tests, evenly spread, the first and the
+last among them; all others are left out. Without it only those of a server are left out
+that are more than 2,000 of a kind. It needs gcc, which builds
+`tests/hostile/refusals_shim.c`.
 """
 import argparse
 import collections
@@ -56,8 +65,6 @@ from typing import (
     Tuple,
 )
 
-from tests.support.counts import Wrong, require
-from tests.support.servers import Server
 from tests.hostile.commands import (
     COMMANDS,
     DONE,
@@ -71,8 +78,10 @@ from tests.hostile.commands import (
     Run,
     ended,
 )
-from tests.support.session_lines import HERE, OVER
 from tests.program.program_cases import CUP, REFUSED_WORDS, TRIANGLE
+from tests.support.counts import Wrong, require
+from tests.support.servers import Server
+from tests.support.session_lines import HERE, OVER
 
 SHIM = pathlib.Path(__file__).resolve().with_name("refusals_shim.c")
 KINDS = ["memory", "read", "write"]
@@ -81,11 +90,14 @@ COUNTED = [*KINDS, "refused"]
 MARKS = 32
 STATUSES = {"memory": NO_MEMORY, "read": FAILED_STREAM, "write": FAILED_STREAM}
 MODES = ["memory", "read", "short-read", "write", "short-write"]
-QUICK, QUICK_SERVED, MOST_SERVED = 60, 40, 2000
+QUICK = 60
+QUICK_SERVED = 40
+MOST_SERVED = 2000
 # of a test, of requests that are not between its marks
 QUICK_BESIDE = 20
 WORKERS = 8
-# what is told if a part could not be written on or a line could not be told, which keeps nothing else back
+# what is told if a part could not be written on or a line could not be told, which
+# keeps nothing else back
 CUT_PART = re.compile(
     r"(\d+:\d\d:\d\d serve: (the part of match 0 (stops after \d+ events: write"
     r"|goes on after \d+ events)|\d+ lines were dropped here, since nobody read the log)\n)+"
@@ -97,7 +109,8 @@ PLAYING = "memory::playing::playing_takes_no_memory"
 FAILED_TEST = 101
 # what a test says that wants memory itself
 WANTS = re.compile("(?i)(memory|alloc)")
-# what it says if its own request is refused, and how runs of it end, one request after the other
+# what it says if its own request is refused, and how runs of it end, one request after
+# the other
 OWN = "after the play"
 WANTED_OF_PLAYING = re.compile(r"(begins )*own (passed )*")
 OTHERS = [
@@ -131,14 +144,16 @@ WANTED_TEXTS = {
 }
 
 SAID = [b'{"do":"enter","key":"ka"}\n{"do":"look"}\n', b'{"do":"enter","key":"zz"}\n']
-# what each of the clients may hear: the first also that the match is over, if it was closed before
+# what each of the clients may hear: the first also that the match is over, if it was
+# closed before
 WHOLE = [[HERE + HERE, HERE + OVER, OVER], [b'{"no":"key"}\n']]
 # what a client may hear for whose session there is no memory
 NO_MEMORY_LINE = b'{"no":"memory"}\n'
 
 
 class Shim:
-    """What refuses and counts calls: a library that is loaded, or a part of the program."""
+    """What refuses and counts calls: a library that is loaded, or a part of the
+    program."""
 
     def __init__(self, loaded: str = "") -> None:
         self.variables = {"LD_PRELOAD": loaded} if loaded else {}
@@ -155,7 +170,8 @@ class Shim:
     def counting(
         self, numbers: Dict[str, int], mode: str = "", place: int = 0
     ) -> Iterator[Dict[str, str]]:
-        """An environment in which calls are counted, and one is refused if it is named; at the end the numbers."""
+        """An environment in which calls are counted, and one is refused if it is named;
+        at the end the numbers."""
         refuse = {"REFUSE": f"{mode} {place}"} if mode else {}
         with tempfile.NamedTemporaryFile() as file:
             file.write(bytes(8 * (len(COUNTED) + MARKS)))
@@ -190,7 +206,8 @@ class Attempt(NamedTuple):
 
 
 class Trials(NamedTuple):
-    """The program, the library that refuses it calls, and how many runs of a kind there are and at the same time."""
+    """The program, the library that refuses it calls, and how many runs of a kind there
+    are and at the same time."""
 
     lab: Lab
     shim: Shim
@@ -201,7 +218,8 @@ class Trials(NamedTuple):
     def alike(
         self, work: Callable[[int], str], some: Iterable[int], what: str, name: str
     ) -> None:
-        """Does a piece of work for each of these places, several at the same time, and counts what came of them."""
+        """Does a piece of work for each of these places, several at the same time, and
+        counts what came of them."""
 
         def tried(place: int) -> Tuple[str, List[str]]:
             try:
@@ -221,7 +239,8 @@ def kind_of(mode: str) -> str:
 
 
 def places(number: int, most: int) -> Sequence[int]:
-    """The places 1 to a number, or at most this many of them, evenly spread, the first and the last among them."""
+    """The places 1 to a number, or at most this many of them, evenly spread, the first
+    and the last among them."""
     if not most or number <= most:
         return range(1, number + 1)
     return [1 + index * (number - 1) // (most - 1) for index in range(most)]
@@ -274,7 +293,8 @@ def attempt(
 
 
 def judged(lab: Lab, text: bytes, *words: str) -> Optional[bytes]:
-    """What the program prints of a replay, with nothing refused, or None if it refuses the text."""
+    """What the program prints of a replay, with nothing refused, or None if it refuses
+    the text."""
     with room_of(lab) as room:
         (room / "left.jsonl").write_bytes(text)
         run = plain_run(lab, words or ["judge", "left.jsonl"], room)
@@ -282,7 +302,8 @@ def judged(lab: Lab, text: bytes, *words: str) -> Optional[bytes]:
 
 
 def wheres(folder: pathlib.Path, command: Command, mode: str) -> Set[str]:
-    """What a fault of this kind may name: files that the command reads, files that it writes, or a stream."""
+    """What a fault of this kind may name: files that the command reads, files that it
+    writes, or a stream."""
     named = {*(word.rpartition("=")[2] for word in command.words), *command.beside}
     files = {name for name in named if (folder / name).is_file()}
     if any(name.endswith(".toml") for name in files):
@@ -304,7 +325,8 @@ def wheres(folder: pathlib.Path, command: Command, mode: str) -> Set[str]:
 
 
 def fault_of(mode: str, run: Run) -> str:
-    """The place that the one fault line names, which is the fault that this refusal makes, with its status."""
+    """The place that the one fault line names, which is the fault that this refusal
+    makes, with its status."""
     where, _, text = run.told.rstrip("\n").rpartition(": ")
     # a thread needs memory to start
     faults = {
@@ -321,7 +343,8 @@ def fault_of(mode: str, run: Run) -> str:
 
 
 def is_untold(whole: Run, found: Run) -> bool:
-    """Whether all is as ever but for what is told, of which only a front could be written."""
+    """Whether all is as ever but for what is told, of which only a front could be
+    written."""
     return whole != found == found._replace(
         status=whole.status, printed=whole.printed
     ) and whole.told.startswith(found.told)
@@ -363,7 +386,8 @@ def outcome(
 def wanted_fault(
     lab: Lab, command: Command, plain: Run, whole: Attempt
 ) -> Optional[str]:
-    """What is wrong with a run of a command with nothing refused, beside one without the library."""
+    """What is wrong with a run of a command with nothing refused, beside one without
+    the library."""
     examples = lab.folder / "examples"
     wanted = WANTED_TEXTS.get(command.name, plain.printed)
     if command.name in WANTED:
@@ -374,10 +398,8 @@ def wanted_fault(
         return f"status {plain.status}, `{plain.told.strip()[:200]}`"
     if plain.printed != wanted:
         return f"another text was printed: `{plain.printed[-200:]!r}`"
-    kept, first = (
-        whole.replays.get("kept0.jsonl"),
-        (lab.folder / WHOLE_OF_PART).read_bytes(),
-    )
+    kept = whole.replays.get("kept0.jsonl")
+    first = (lab.folder / WHOLE_OF_PART).read_bytes()
     if command.name in ("rehearse", "interactive") and kept != first:
         return "its replay is not examples/first0.jsonl"
     return None
@@ -405,23 +427,24 @@ def refuse_command(trials: Trials, command: Command) -> None:
         )
 
 
-# what finishes a contest of one match, and the replay and the turns that it is to make of the match's parts
-RECOVERY, RECOVERED = ["recover", "examples/appeal.toml", "--replay", "kept"], (
-    "appeal0.jsonl",
-    "appeal0.turns",
-)
+# what finishes a contest of one match, and the replay and the turns that it is to make
+# of the match's parts
+RECOVERY = ["recover", "examples/appeal.toml", "--replay", "kept"]
+RECOVERED = ("appeal0.jsonl", "appeal0.turns")
 
 
 def recover_twice(
     trials: Trials, numbers: Dict[str, int], mode: str = "", place: int = 0
 ) -> str:
-    """Finishes a contest with this call refused, or none: the replay and the turns are whole, or their parts are there.
-    Then finishes it with nothing refused."""
+    """Finishes a contest with this call refused, or none: the replay and the turns are
+    whole, or their parts are there. Then finishes it with nothing refused."""
     lab = trials.lab
     whole, timed = ((lab.folder / "examples" / name).read_bytes() for name in RECOVERED)
     with room_of(lab) as room:
-        replay, part = room / "kept0.jsonl", room / "kept0.jsonl.part"
-        turns, part_of_turns = room / "kept0.turns", room / "kept0.turns.part"
+        replay = room / "kept0.jsonl"
+        part = room / "kept0.jsonl.part"
+        turns = room / "kept0.turns"
+        part_of_turns = room / "kept0.turns.part"
         part.write_bytes(b"".join(whole.splitlines(keepends=True)[:-2]))
         part_of_turns.write_bytes(timed)
         with trials.shim.counting(numbers, mode, place) as variables:
@@ -468,7 +491,8 @@ def refuse_recovery(trials: Trials) -> None:
 
 
 class Contest(NamedTuple):
-    """What came of a server, what its clients heard, the replays that it left, its calls, and how long it took."""
+    """What came of a server, what its clients heard, the replays that it left, its
+    calls, and how long it took."""
 
     run: Run
     heard: List[bytes]
@@ -494,7 +518,8 @@ def hears(port: int, said: bytes) -> bytes:
 
 
 def hosted(program: str, folder: pathlib.Path, variables: Dict[str, str]) -> Contest:
-    """Serves a contest in a folder to two clients, one behind the other. What is printed has N for the port."""
+    """Serves a contest in a folder to two clients, one behind the other. What is
+    printed has N for the port."""
     words = [
         program,
         SERVED,
@@ -524,7 +549,8 @@ def hosted(program: str, folder: pathlib.Path, variables: Dict[str, str]) -> Con
 
 
 def served(trials: Trials, mode: str = "", place: int = 0) -> Contest:
-    """Serves a contest with this call refused, or none; again where another took the port meanwhile."""
+    """Serves a contest with this call refused, or none; again where another took the
+    port meanwhile."""
     for _ in range(5):
         numbers: Dict[str, int] = {}
         with room_of(trials.lab) as room, trials.shim.counting(
@@ -562,13 +588,15 @@ def cut_sessions(heard: Sequence[bytes]) -> int:
 
 
 def check_replay(contest: Contest, lab: Lab, told: str) -> Optional[bytes]:
-    """The table of the replay that a server left, which has all that was answered, and nothing if its client was told
-    that there is no memory for it; None if there is no replay."""
+    """The table of the replay that a server left, which has all that was answered, and
+    nothing if its client was told that there is no memory for it; None if there is no
+    replay."""
     replay = contest.replays.get("kept0.jsonl", b"")
     table = judged(lab, replay, "table", "red=left.jsonl")
     if table is None:
         return None
-    kept, heard = answers_of(replay), contest.heard[0]
+    kept = answers_of(replay)
+    heard = contest.heard[0]
     if heard == NO_MEMORY_LINE:
         require(not kept, f"client 0 plays and is told that there is no memory: {told}")
         return table
@@ -669,7 +697,8 @@ def run_test(
 
 
 def marked(numbers: Dict[str, int]) -> Set[int]:
-    """The requests of the calls that a test tests: those between the first mark and the second, and so on."""
+    """The requests of the calls that a test tests: those between the first mark and the
+    second, and so on."""
     marks = [
         numbers[f"mark {place}"] for place in range(MARKS) if f"mark {place}" in numbers
     ]
@@ -685,7 +714,8 @@ def marked(numbers: Dict[str, int]) -> Set[int]:
 def outcome_of_test(
     trials: Trials, program: str, name: str, tested: Set[int], place: int
 ) -> str:
-    """What came of a test with a request for memory refused: one of a call that it tests, or another."""
+    """What came of a test with a request for memory refused: one of a call that it
+    tests, or another."""
     numbers: Dict[str, int] = {}
     with LINKED.counting(numbers, "memory", place) as variables:
         found = run_test(program, name, trials.lab.folder, variables)
@@ -703,7 +733,8 @@ def outcome_of_test(
 
 
 def play_in_turn(trials: Trials, program: str, number: int) -> str:
-    """What came of the test of a play with each request for memory refused, one after the other."""
+    """What came of the test of a play with each request for memory refused, one after
+    the other."""
     outcomes = [
         outcome_of_test(trials, program, PLAYING, set(), place)
         for place in range(1, number + 1)
@@ -728,7 +759,8 @@ def refuse_tests(trials: Trials, tests: str) -> None:
         numbers: Dict[str, int] = {}
         with LINKED.counting(numbers) as variables:
             found = run_test(program, name, trials.lab.folder, variables)
-        number, what = numbers["memory"], f"{name}, memory of {numbers['memory']}"
+        number = numbers["memory"]
+        what = f"{name}, memory of {numbers['memory']}"
         if found.status != DONE or not number:
             trials.lab.faults.append(
                 f"{what}, with nothing refused: status {found.status}"
@@ -747,7 +779,8 @@ def refuse_tests(trials: Trials, tests: str) -> None:
 def refuse_calls(
     trials: Trials, program: str, name: str, numbers: Dict[str, int]
 ) -> None:
-    """Runs a test with each request of the calls that it tests refused, and with others."""
+    """Runs a test with each request of the calls that it tests refused, and with
+    others."""
     tested = marked(numbers)
     if not tested:
         trials.lab.faults.append(f"{name}: no request is one of a call that is tested")

@@ -1,9 +1,11 @@
-"""Tries to spoil contests as somebody without a key would, or a machine that lacks something.
+"""Tries to spoil contests as somebody without a key would, or a machine that lacks
+something.
 
     python3 -m tests.hostile.spoilers PROGRAM [TEXT]
 
-Each case serves a contest of two teams on a ring in a temporary folder; with TEXT only those whose titles have it. A
-line for each says how it went, and the last line reads `N passed, M failed`. It takes about a minute.
+Each case serves a contest of two teams on a ring in a temporary folder; with TEXT only
+those whose titles have it. A line for each says how it went, and the last line reads `N
+passed, M failed`. It takes about a minute.
 """
 import contextlib
 import fcntl
@@ -22,10 +24,9 @@ import time
 from typing import Callable, Iterator, List, Sequence, Tuple
 
 from arena_lab.rules.networks import ring
+from tests.support.cases import Cases
 from tests.support.counts import Wrong, require, wants
 from tests.support.servers import HOST, PATIENCE, Server, enter, serve
-from tests.support.tournaments import match, write_cup
-from tests.support.cases import Cases
 from tests.support.session_lines import (
     HERE,
     LOOK,
@@ -36,12 +37,18 @@ from tests.support.session_lines import (
     NO_TWICE,
     OVER,
 )
+from tests.support.tournaments import match, write_cup
 
-# how many clients may wait beside each other to be let in, and within how many seconds their first line is to come
-WAITING, FIRST_LINE = 256, 10.0
-# a client keeps its place for at least these seconds; how often the case is tried if the machine is too busy for them
-ROOM_AFTER, TRIES = 0.5, 10
-REFUSED, NO_THREADS = 6, 7
+# how many clients may wait beside each other to be let in, and within how many seconds
+# their first line is to come
+WAITING = 256
+FIRST_LINE = 10.0
+# a client keeps its place for at least these seconds; how often the case is tried if
+# the machine is too busy for them
+ROOM_AFTER = 0.5
+TRIES = 10
+REFUSED = 6
+NO_THREADS = 7
 TEAMS = ("red", "blue")
 
 
@@ -112,7 +119,8 @@ def strangers(program: str, folder: pathlib.Path) -> None:
     "commands that use up no quota are answered one a millisecond, and others play on"
 )
 def unheard(program: str, folder: pathlib.Path) -> None:
-    quota, more = 1000, 500
+    quota = 1000
+    more = 500
     with serving(program, folder, turns=4000) as server, entered(
         server, "red-0"
     ) as client:
@@ -159,8 +167,8 @@ def silent(program: str, folder: pathlib.Path) -> None:
 
 
 def makes_room_in_time(program: str, folder: pathlib.Path) -> bool:
-    """Whether the clients connected before the first of them had waited for long: else it is the first that makes
-    room, and not who comes."""
+    """Whether the clients connected before the first of them had waited for long: else
+    it is the first that makes room, and not who comes."""
     with serving(
         program, folder, sessions=1000, turns=2000
     ) as server, contextlib.ExitStack() as stack:
@@ -362,7 +370,8 @@ def operator_closes(program: str, folder: pathlib.Path) -> None:
 
 
 def closes_one(program: str, folder: pathlib.Path, game: int) -> None:
-    closed, other = TEAMS[game], TEAMS[1 - game]
+    closed = TEAMS[game]
+    other = TEAMS[1 - game]
     with serving(
         program, folder, "--log", turns=LONG, stdin=subprocess.PIPE
     ) as server, entered(server, f"{closed}-0") as ends, entered(
@@ -490,14 +499,16 @@ def closed_input(program: str, folder: pathlib.Path) -> None:
 def in_terminal(
     program: str, folder: pathlib.Path, is_behind: bool
 ) -> Iterator[Tuple[Server, int]]:
-    """A server whose standard input is a terminal, in the background of a session or in front; and who types there."""
+    """A server whose standard input is a terminal, in the background of a session or in
+    front; and who types there."""
     typing, terminal = pty.openpty()
 
     def joins() -> None:
         os.setsid()
         fcntl.ioctl(0, termios.TIOCSCTTY, 0)
         if is_behind:
-            # the leader of the session stays in front, and a child in a group of its own goes on as the server
+            # the leader of the session stays in front, and a child in a group of its
+            # own goes on as the server
             child = os.fork()
             if child:
                 os.closerange(3, 256)
@@ -561,7 +572,8 @@ def no_threads(program: str, folder: pathlib.Path) -> None:
     require("serve: threads" in told, f"it told {told!r}")
 
 
-# threads of a contest of two matches before it listens: its own, one of each match, and five more
+# threads of a contest of two matches before it listens: its own, one of each match, and
+# five more
 THREADS = 8
 
 
@@ -621,7 +633,8 @@ def few_descriptors(program: str, folder: pathlib.Path) -> None:
 
 @case("a part goes on once there is room")
 def part_goes_on(program: str, folder: pathlib.Path) -> None:
-    room, looks = 700, 20
+    room = 700
+    looks = 20
 
     def limit() -> None:
         signal.signal(signal.SIGXFSZ, signal.SIG_IGN)

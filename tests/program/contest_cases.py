@@ -1,4 +1,5 @@
-"""Cases that play contests over TCP whose clients keep to no rule: no client can withhold the results."""
+"""Cases that play contests over TCP whose clients keep to no rule: no client can
+withhold the results."""
 import contextlib
 import pathlib
 import re
@@ -9,11 +10,9 @@ import time
 from typing import Callable, List, Optional, Sequence
 
 from arena_lab.support.ports import free_port
-from tests.support.counts import Wrong, require
-from tests.support.servers import Server, enter, serve
 from tests.program.killed_servers import appeal_to, kills, try_kill
-from tests.support.session_lines import HERE, LEAVE, LOOKS
 from tests.program.program_cases import MATCH, SEED, TABLE_HEAD, TRIANGLE, case, writes
+from tests.support.counts import Wrong, require
 from tests.support.program_rows import (
     DONE,
     FAILED_STREAM,
@@ -22,6 +21,8 @@ from tests.support.program_rows import (
     Stage,
     expect,
 )
+from tests.support.servers import Server, enter, serve
+from tests.support.session_lines import HERE, LEAVE, LOOKS
 
 TOP = pathlib.Path(__file__).resolve().parents[2]
 TWO_TEAMS = (
@@ -37,8 +38,11 @@ delay_scales = 0
 delay_odds = 1
 """,
 )
-# seconds: what the matches last, what sessions have left then, and within which the server is to have ended
-LASTS, GRACE, SOON = 0.2, 0.5, 5.0
+# seconds: what the matches last, what sessions have left then, and within which the
+# server is to have ended
+LASTS = 0.2
+GRACE = 0.5
+SOON = 5.0
 MANY = 40
 
 
@@ -52,7 +56,8 @@ def served(
     grace: float = GRACE,
     limit: Optional[Callable[[], None]] = None,
 ) -> Server:
-    """A server of this tournament on the triangle, by these options. What is to limit it is called as it starts."""
+    """A server of this tournament on the triangle, by these options. What is to limit
+    it is called as it starts."""
     writes(stage, cup=cup, tri=TRIANGLE)
     return serve(
         stage.program,
@@ -80,7 +85,8 @@ Attack = Callable[[Server], List[socket.socket]]
 
 
 def holds_up(stage: Stage, attack: Attack) -> None:
-    """The server ends soon although these clients hold on to their connections, and the results are there."""
+    """The server ends soon although these clients hold on to their connections, and the
+    results are there."""
     with served(stage) as server, contextlib.ExitStack() as held:
         heard = server.hears(enter("ba") + b'{"do":"accuse","port":1}\n')
         for client in attack(server):
@@ -523,7 +529,8 @@ ROOM = 900
 
 
 def full_disk() -> None:
-    """Has each file of a program that is started take no more than this number of bytes: writes beyond them fail."""
+    """Has each file of a program that is started take no more than this number of
+    bytes: writes beyond them fail."""
     signal.signal(signal.SIGXFSZ, signal.SIG_IGN)
     resource.setrlimit(resource.RLIMIT_FSIZE, (ROOM, ROOM))
 

@@ -2,20 +2,23 @@
 
     python3 -m tests.program.killed_servers PROGRAM [--kills N] [--seed S]
 
-PROGRAM is the built program. Each time `serve` is started on two matches in a temporary folder; an agent of each looks
-or goes on to the next node again and again, and the server is killed by SIGKILL. Every other contest is so short that
-the kill may come while the replays are written. Then of each match:
+PROGRAM is the built program. Each time `serve` is started on two matches in a temporary
+folder; an agent of each looks or goes on to the next node again and again, and the
+server is killed by SIGKILL. Every other contest is so short that the kill may come
+while the replays are written. Then of each match:
 
 - If a file has the name of the replay, it is one whole replay.
 - Otherwise `arena recover` makes a replay of the part.
 - It has each event that an agent was answered more than two seconds before the kill.
 
-And `arena recover T --replay P` prints the table of both: it writes the replays that are missing, each the text that
-`arena recover` printed, and leaves those that were there. Each match has turns then, with which its replay stands an
-appeal, and no part is left.
+And `arena recover T --replay P` prints the table of both: it writes the replays that
+are missing, each the text that `arena recover` printed, and leaves those that were
+there. Each match has turns then, with which its replay stands an appeal, and no part is
+left.
 
-By default there are 100 kills, several at the same time, which take a minute or two. For each kill that leaves less a
-line is printed; the last line reads `N passed, M failed`.
+By default there are 100 kills, several at the same time, which take a minute or two.
+For each kill that leaves less a line is printed; the last line reads `N passed, M
+failed`.
 """
 import argparse
 import concurrent.futures
@@ -35,27 +38,33 @@ from typing import Dict, List, NamedTuple, Optional
 from arena_lab.rules.delays import Delays
 from tests.support.counts import Wrong, concluded, require
 from tests.support.servers import enter, serve
-from tests.support.tournaments import TRIANGLE, match, write_cup
 from tests.support.session_lines import DEPART, GONE, LOOK
+from tests.support.tournaments import TRIANGLE, match, write_cup
 
 TEAMS = ["red", "blue"]
-# seconds: how old an event is that must be there, and how long a short and a long contest are killed in at most
-OLD, SHORT, LONG = 2.0, 0.6, 4.0
-SHORT_TURNS, LONG_TURNS, PAUSE = 50, 1_000_000, 5
+# seconds: how old an event is that must be there, and how long a short and a long
+# contest are killed in at most
+OLD = 2.0
+SHORT = 0.6
+LONG = 4.0
+SHORT_TURNS = 50
+LONG_TURNS = 1_000_000
+PAUSE = 5
 WORKERS = 8
 PATIENCE = 30
 
 
 class Kill(NamedTuple):
-    """When a server is killed, in seconds after it listens, and how many turns its matches have."""
+    """When a server is killed, in seconds after it listens, and how many turns its
+    matches have."""
 
     after: float
     turns: int
 
 
 class Client(threading.Thread):
-    """An agent that enters, looks, and goes to and fro between its home base and the next node; and when it was
-    answered."""
+    """An agent that enters, looks, and goes to and fro between its home base and the
+    next node; and when it was answered."""
 
     def __init__(self, port: int, team: str) -> None:
         super().__init__(daemon=True)
@@ -125,7 +134,8 @@ def finish(program: str, folder: pathlib.Path) -> List[bytes]:
 
 
 def appeal_to(number: int) -> List[str]:
-    """The words of an appeal to a match of cup.toml, with the turns beside its replay."""
+    """The words of an appeal to a match of cup.toml, with the turns beside its
+    replay."""
     return [
         "judge",
         f"match{number}.jsonl",
@@ -139,7 +149,8 @@ def appeal_to(number: int) -> List[str]:
 
 
 def stand_appeals(program: str, folder: pathlib.Path) -> None:
-    """Each match of what was finished has turns with which it stands its appeal, and there is no part."""
+    """Each match of what was finished has turns with which it stands its appeal, and
+    there is no part."""
     for number in range(len(TEAMS)):
         judged = subprocess.run(
             [program, *appeal_to(number)],
@@ -165,7 +176,8 @@ def told_events(replay: bytes) -> int:
 
 
 def try_kill(program: str, kill: Kill, folder: pathlib.Path) -> None:
-    """Serves a contest in this folder, kills the server, and looks at what it has left."""
+    """Serves a contest in this folder, kills the server, and looks at what it has
+    left."""
     write_cup(
         folder,
         [match(team, TRIANGLE, [2], agents=1, board=8) for team in TEAMS],

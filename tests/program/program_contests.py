@@ -1,9 +1,12 @@
-"""A contest of two matches that is played on the program over TCP, and what must be true of it.
+"""A contest of two matches that is played on the program over TCP, and what must be
+true of it.
 
-Both matches have one seed. In each, several agents are on links at the same time, one of them on a link that is held,
-and one is destroyed. Which turn a delivery was made at depends on the clock, but not who arrives: each turn takes the
-next word of its match's stream, and the word picks out of the pool, or under the oblivious schedule out of all agents.
-So the log of a match is compared with those words, whenever its clients may have come.
+Both matches have one seed. In each, several agents are on links at the same time, one
+of them on a link that is held, and one is destroyed. Which turn a delivery was made at
+depends on the clock, but not who arrives: each turn takes the next word of its match's
+stream, and the word picks out of the pool, or under the oblivious schedule out of all
+agents. So the log of a match is compared with those words, whenever its clients may
+have come.
 """
 import json
 import pathlib
@@ -26,24 +29,25 @@ from arena_lab.rules.model import (
     spelled,
 )
 from arena_lab.rules.networks import ring
+from tests.program.program_cases import case
 from tests.support.counts import Wrong, require
+from tests.support.program_rows import Stage, expect
 from tests.support.servers import Run, Server, enter, serve
 from tests.support.tournaments import match, write_cup
-from tests.program.program_cases import case
-from tests.support.program_rows import Stage, expect
 
 TOP = pathlib.Path(__file__).resolve().parents[2]
 SEED = bytes(range(32))
-TURNS, PAUSE = 400, 5
-# a contest in which the wrong words could have made the deliveries too, as on a machine that is too slow, says nothing
-# and is played again
+TURNS = 400
+PAUSE = 5
+# a contest in which the wrong words could have made the deliveries too, as on a machine
+# that is too slow, says nothing and is played again
 TRIES = 3
 
 
 class Side(NamedTuple):
-    """A match on a ring, on which node 0 is the home base and port 0 leads to the next node: how many nodes; the black
-    hole; the link that is held, as its departure; and what its agents do, each by the steps of a word.
-    """
+    """A match on a ring, on which node 0 is the home base and port 0 leads to the next
+    node: how many nodes; the black hole; the link that is held, as its departure; and
+    what its agents do, each by the steps of a word."""
 
     team: str
     nodes: int
@@ -66,8 +70,8 @@ class Side(NamedTuple):
         )
 
 
-# 0 and 1 are departures by that port, a is an accusation of the link of port 0, l is leave. The last agent is the one
-# that is held, and the one before it is destroyed.
+# 0 and 1 are departures by that port, a is an accusation of the link of port 0, l is
+# leave. The last agent is the one that is held, and the one before it is destroyed.
 SIDES = [
     Side("red", 6, 3, (0, 1), ["00a", *["0011l", "01010l", "0l"] * 3, "000", "1"]),
     Side("blue", 5, 2, (0, 0), [*["1100l", "10101l", "1l"] * 3, "111", "0"]),
@@ -91,34 +95,40 @@ def kept(match: Match, held: Set[Place], picked: int) -> Optional[int]:
 
 
 def drawn(match: Match, held: Set[Place], number: int) -> Optional[int]:
-    """The agent whose Deliver is kept if a turn draws this word out of the pool, if there is one."""
+    """The agent whose Deliver is kept if a turn draws this word out of the pool, if
+    there is one."""
     return (
         kept(match, held, match.pool[number % len(match.pool)]) if match.pool else None
     )
 
 
 def picked_blindly(match: Match, held: Set[Place], number: int) -> Optional[int]:
-    """The same if a turn picks one of all agents by this word, and links have no delay."""
+    """The same if a turn picks one of all agents by this word, and links have no
+    delay."""
     picked = number % len(match.agents)
     return kept(match, held, picked) if picked in match.pool else None
 
 
 class Rule(NamedTuple):
-    """A schedule: its delays, if it has some, whom a word delivers, and whether the turns of events are written."""
+    """A schedule: its delays, if it has some, whom a word delivers, and whether the
+    turns of events are written."""
 
     delays: Optional[Delays]
     delivered: Callable[[Match, Set[Place], int], Optional[int]]
     has_turns: bool
 
 
-ADAPTIVE, OBLIVIOUS = Rule(None, drawn, False), Rule(Delays(0, 1), picked_blindly, True)
+ADAPTIVE = Rule(None, drawn, False)
+OBLIVIOUS = Rule(Delays(0, 1), picked_blindly, True)
 
 
 def may_be(
     rule: Rule, match: Match, held: Set[Place], words: Sequence[int], turns: Set[int]
 ) -> Set[int]:
-    """The numbers of turns that may have been taken before the next event, by those before the last one."""
-    found, new = set(turns), set(turns)
+    """The numbers of turns that may have been taken before the next event, by those
+    before the last one."""
+    found = set(turns)
+    new = set(turns)
     while new:
         new = {
             turn + 1
@@ -130,10 +140,11 @@ def may_be(
 
 
 def made_by(rule: Rule, replay: str, held: Set[Place], words: Sequence[int]) -> bool:
-    """Whether turns with these words, all of them and in their order, can have made the deliveries of a replay, and no
-    others."""
+    """Whether turns with these words, all of them and in their order, can have made the
+    deliveries of a replay, and no others."""
     head, *events = objects_of(replay)
-    match, turns = begun(head), {0}
+    match = begun(head)
+    turns = {0}
     for event in events:
         turns = may_be(rule, match, held, words, turns)
         if event["do"] == "deliver":
@@ -155,7 +166,8 @@ def words_of(stream: int) -> List[int]:
 
 
 class Heard(NamedTuple):
-    """What came of a contest: the run, what the clients of each match heard, and the replays."""
+    """What came of a contest: the run, what the clients of each match heard, and the
+    replays."""
 
     run: Run
     heard: List[List[str]]
@@ -163,7 +175,8 @@ class Heard(NamedTuple):
 
 
 def client(server: Server, key: str, steps: str) -> socket.socket:
-    """A client that has entered and said all that it will say, and has ended its input."""
+    """A client that has entered and said all that it will say, and has ended its
+    input."""
     made = server.connect(
         enter(key) + "".join(f"{STEPS[step]}\n" for step in steps).encode()
     )
@@ -217,7 +230,8 @@ def contest(stage: Stage, rule: Rule) -> Heard:
 
 
 def match_of(side: Side, replay: str) -> Match:
-    """The match of a replay, which is that of its side, with the replies of the rules."""
+    """The match of a replay, which is that of its side, with the replies of the
+    rules."""
     head, *events = objects_of(replay)
     match = begun(head)
     setup = match.setup
@@ -237,7 +251,8 @@ def match_of(side: Side, replay: str) -> Match:
 
 
 def told_to(match: Match, agent: int) -> str:
-    """What the client of an agent hears: the replies to it in the log, and that the match is over, if it waits then."""
+    """What the client of an agent hears: the replies to it in the log, and that the
+    match is over, if it waits then."""
     replies: List[Object] = [
         event["reply"]
         for event in match.log
@@ -257,7 +272,8 @@ def check_side(
         raise Wrong(
             f"the words of stream {number} do not make the deliveries of {side.team}"
         )
-    lost, held = len(side.agents) - 2, len(side.agents) - 1
+    lost = len(side.agents) - 2
+    held = len(side.agents) - 1
     if any(event["do"] == "deliver" and event["agent"] == held for event in match.log):
         raise Wrong(f"{side.key(held)} was delivered over the link that is held")
     require(match.agents[lost].lost, f"{side.key(lost)} was not destroyed")
@@ -275,7 +291,8 @@ def check_side(
 
 
 def is_telling(rule: Rule, replays: Sequence[str]) -> bool:
-    """Whether other words do not make the deliveries: those of another match's stream, and equal ones."""
+    """Whether other words do not make the deliveries: those of another match's stream,
+    and equal ones."""
     others = [[words_of(1 - number), [0] * TURNS] for number in range(len(SIDES))]
     return not any(
         made_by(rule, replay, {side.held}, words)
@@ -285,7 +302,8 @@ def is_telling(rule: Rule, replays: Sequence[str]) -> bool:
 
 
 def check_table(stage: Stage, printed: bytes, matches: Sequence[Match]) -> None:
-    """The table has the verdict on each match beside its team, and so has its replay."""
+    """The table has the verdict on each match beside its team, and so has its
+    replay."""
     verdicts = [judge(match) for match in matches]
     require(
         [verdict.outcome for verdict in verdicts] == ["guess 4", "silent"],
@@ -335,7 +353,8 @@ def without(replay: str, turns: Sequence[int], place: int) -> Tuple[str, List[in
 def check_left_out(
     stage: Stage, number: int, replay: str, turns: Sequence[int], place: int, told: str
 ) -> None:
-    """A replay from which the last delivery of an agent that stays on its link is left out stands no appeal."""
+    """A replay from which the last delivery of an agent that stays on its link is left
+    out stands no appeal."""
     text, left = without(replay, turns, place)
     (stage.folder / "left.jsonl").write_text(text)
     expect(
@@ -356,7 +375,8 @@ def last_destructions(events: Sequence[dict]) -> List[int]:
 
 
 def check_turns(stage: Stage, number: int, replay: str) -> None:
-    """A replay stands an appeal by the turns that are served beside it, and by no others."""
+    """A replay stands an appeal by the turns that are served beside it, and by no
+    others."""
     own = f"hosted{number}.jsonl"
     text = (stage.folder / f"hosted{number}.turns").read_text()
     turns = [int(line) for line in text.splitlines()]

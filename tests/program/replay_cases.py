@@ -1,16 +1,18 @@
-"""Cases of many and of long replays: more than one digit in their numbers, more words than a shell's line has, and more
-bytes than a program reads at once. And cases of texts that would control a terminal."""
+"""Cases of many and of long replays: more than one digit in their numbers, more words
+than a shell's line has, and more bytes than a program reads at once. And cases of texts
+that would control a terminal."""
 import concurrent.futures
 import json
 import os
 import tty
 from typing import List, Sequence
 
-from tests.support.counts import require
 from tests.program.program_cases import MATCH, SEED, TABLE_HEAD, TRIANGLE, case, writes
+from tests.support.counts import require
 from tests.support.program_rows import Stage, Wrong, expect
 
-ENTER, LOOK = '{"do":"enter","key":"ka"}', '{"do":"look"}'
+ENTER = '{"do":"enter","key":"ka"}'
+LOOK = '{"do":"look"}'
 # more than any buffer of the program takes
 LONG = 70_000
 
@@ -84,8 +86,8 @@ def long_replays(stage: Stage) -> None:
     )
 
 
-# Characters that control a terminal or turn the direction of a text, first and last of each kind, and those beside them
-# that do not, as far as a text may have them.
+# Characters that control a terminal or turn the direction of a text, first and last of
+# each kind, and those beside them that do not, as far as a text may have them.
 CONTROLS = [
     (0x00, 0x1F),
     (0x7F, 0x9F),
@@ -101,7 +103,8 @@ def controls(character: str) -> bool:
 
 
 def replay_of_controls(stage: Stage) -> List[str]:
-    """The event lines of a replay m0.jsonl whose agent writes each of these characters, the close left out."""
+    """The event lines of a replay m0.jsonl whose agent writes each of these characters,
+    the close left out."""
     cup = SEED + MATCH.format(network="tri.toml", key="k").replace(
         "quota = 10", "quota = 1000"
     )

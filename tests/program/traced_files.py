@@ -1,4 +1,5 @@
-"""Cases that look at the calls by which a server writes its files: no contract speaks of the names of files."""
+"""Cases that look at the calls by which a server writes its files: no contract speaks
+of the names of files."""
 import contextlib
 import itertools
 import re
@@ -6,17 +7,17 @@ import shutil
 import unittest
 from typing import Dict, Iterator, List, NamedTuple, Tuple
 
+from tests.program.program_cases import MATCH, SEED, TRIANGLE, case, writes
 from tests.support.counts import Wrong, require
+from tests.support.program_rows import DONE, Stage
 from tests.support.servers import enter, serve
 from tests.support.session_lines import LEAVE, LOOK
-from tests.program.program_cases import MATCH, SEED, TRIANGLE, case, writes
-from tests.support.program_rows import DONE, Stage
 
 CALLS = (
     "write,writev,pwrite64,fsync,fdatasync,rename,renameat,renameat2,unlink,unlinkat"
 )
-# `12 fsync(7</folder/name>) = 0` and `12 rename("name", "other") = 0`, 12 being the thread; a call that another thread
-# interrupts stands in two lines
+# `12 fsync(7</folder/name>) = 0` and `12 rename("name", "other") = 0`, 12 being the
+# thread; a call that another thread interrupts stands in two lines
 CALL = re.compile(r"\d+ +(\w+)\((.*)\) += (-?\d+)")
 BEGUN = re.compile(r"(\d+) +(\w+\(.*) <unfinished \.\.\.>")
 RESUMED = re.compile(r"(\d+) +<\.\.\. \w+ resumed>(.*)")
@@ -35,12 +36,14 @@ STEPS = {
     "unlinkat": "remove",
 }
 
-# what a call is for, and the names of its files, as they are from the folder of the server
+# what a call is for, and the names of its files, as they are from the folder of the
+# server
 Step = Tuple[str, ...]
 
 
 class Call(NamedTuple):
-    """A call that succeeded, and the number that it gave: of a write, how many bytes it took."""
+    """A call that succeeded, and the number that it gave: of a write, how many bytes it
+    took."""
 
     step: Step
     given: int
@@ -50,7 +53,8 @@ def whole_calls(trace: str) -> Iterator[str]:
     """The lines of a trace, a call in each."""
     begun: Dict[str, str] = {}
     for line in trace.splitlines():
-        first, last = BEGUN.match(line), RESUMED.match(line)
+        first = BEGUN.match(line)
+        last = RESUMED.match(line)
         if first:
             begun[first[1]] = f"{first[1]} {first[2]}"
         elif last:
@@ -88,7 +92,8 @@ def steps_of(calls: List[Call]) -> List[Step]:
 def traced(
     stage: Stage, cup: str, turns: int, *says: bytes, prefix: str = "match"
 ) -> List[Call]:
-    """The calls of a server of this tournament, to which clients say this at the same time."""
+    """The calls of a server of this tournament, to which clients say this at the same
+    time."""
     if not shutil.which("strace"):
         raise unittest.SkipTest("Debian's strace is not installed")
     writes(stage, cup=cup, tri=TRIANGLE)
@@ -122,7 +127,8 @@ RED, BLUE = (MATCH.format(network="tri.toml", key=key) for key in "rb")
 )
 def put_in_place(stage: Stage) -> None:
     steps = steps_of(traced(stage, SEED + RED, 1))
-    part, new = "match0.jsonl.part", "match0.jsonl.new"
+    part = "match0.jsonl.part"
+    new = "match0.jsonl.new"
     wanted = [
         ("write", part),
         ("sync", part),
@@ -179,7 +185,8 @@ def turns_come_first(stage: Stage) -> None:
             enter("ra") + LEAVE,
         )
     )
-    turns, part = "match0.turns.part", "match0.jsonl.part"
+    turns = "match0.turns.part"
+    part = "match0.jsonl.part"
     kept = [
         step
         for step in steps
@@ -209,7 +216,8 @@ def parts_are_synced(stage: Stage) -> None:
             raise Wrong(f"the calls on the part of match {match} were {part}")
 
 
-# how many events of a match are written before another match has its turn, and the line of a Look in a part
+# how many events of a match are written before another match has its turn, and the line
+# of a Look in a part
 EVENTS_A_TURN = 64
 LOOK_LINE = (
     b'{"agent":0,"do":"look","reply":{"board":"","from":null,"ok":"here","ports":2}}\n'

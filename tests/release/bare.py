@@ -1,18 +1,21 @@
-"""Runs the Python part of the gate in a bare Debian, which has python3 and no other package.
+"""Runs the Python part of the gate in a bare Debian, which has python3 and no other
+package.
 
     sudo python3 -m tests.release.bare [--root FOLDER] [--program PATH]
 
-Makes a root by `debootstrap`, or copies the root in FOLDER. Clones the commit of this repository into it, adds the
-programs that are built here, and binds the toolchain in. A program at PATH takes the place of the proved one. In the
-root it runs
+Makes a root by `debootstrap`, or copies the root in FOLDER. Clones the commit of this
+repository into it, adds the programs that are built here, and binds the toolchain in. A
+program at PATH takes the place of the proved one. In the root it runs
 
 - `python3 -m unittest`, without a package;
-- `tools/gate --played` where apt-get reaches no archive: all tests that need a package must be skipped;
+- `tools/gate --played` where apt-get reaches no archive: all tests that need a package
+  must be skipped;
 - `tools/gate --played` again, which installs the packages, and skips few;
 - the lab's tests as in a container, where programs of teams have no walls.
 
-In each no test may fail. It prints which failed, the last lines of each, and the file in out/bare that has all lines.
-It needs root and a network. The last line reads `N passed, M failed`, and the exit status is 1 if one failed.
+In each no test may fail. It prints which failed, the last lines of each, and the file
+in out/bare that has all lines. It needs root and a network. The last line reads `N
+passed, M failed`, and the exit status is 1 if one failed.
 """
 import argparse
 import pathlib
@@ -21,9 +24,9 @@ import subprocess
 import sys
 from typing import List
 
+from tests.support import roots
 from tests.support.counts import concluded
 from tools.parts import FAILURE
-from tests.support import roots
 from tools.prove.prover import KIT, TOP
 from tools.prove.record import PROGRAMS
 
@@ -31,8 +34,11 @@ from tools.prove.record import PROGRAMS
 HOME = "home/arena"
 BUILT = (*(f"crates/{name}/out" for name in (*PROGRAMS, "bhs_bench")), "tests/out")
 PROGRAM = "crates/bhs_main/out/bhs_main"
-# where apt-get finds archives, what keeps all that a command prints, and how many last lines are shown
-SOURCES, LOGS, LINES = "etc/apt/sources.list", TOP / "out" / "bare", 60
+# where apt-get finds archives, what keeps all that a command prints, and how many last
+# lines are shown
+SOURCES = "etc/apt/sources.list"
+LOGS = TOP / "out" / "bare"
+LINES = 60
 
 
 def clone(place: pathlib.Path, program: str) -> None:
@@ -74,7 +80,8 @@ def results(root: pathlib.Path, program: str) -> List[bool]:
     """Whether each command passes."""
     roots.make(root, ["python3"])
     clone(root / HOME, program)
-    within, sources = roots.inside(root, f"/{HOME}"), root / SOURCES
+    within = roots.inside(root, f"/{HOME}")
+    sources = root / SOURCES
     with roots.mounted(root, {KIT: str(KIT).lstrip("/")}):
         archives = sources.read_text()
         found = [

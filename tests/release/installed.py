@@ -1,13 +1,15 @@
-"""Installs a release and plays it, as a researcher would: the wheel in a virtual environment of Python, and the Debian
-package in a bare Debian 12.
+"""Installs a release and plays it, as a researcher would: the wheel in a virtual
+environment of Python, and the Debian package in a bare Debian 12.
 
     python3 -m tests.release.installed [--unproved] [--root FOLDER] [--only wheel|debian] [--system]
 
-Makes the release twice and compares the bytes. Then it installs the wheel with `pip`, which fetches greenlet and
-others, and the Debian package with `apt-get` in a root that `debootstrap` makes in FOLDER, or in a temporary one. In
-each it asks for the version, plays the sample contest (in the root), the first commands of the lab's tutorial and a
-page, and looks for man pages and completions. It needs root, debootstrap and a network, and takes some minutes. The
-last line reads `N passed, M failed`, and the exit status is 1 if one failed.
+Makes the release twice and compares the bytes. Then it installs the wheel with `pip`,
+which fetches greenlet and others, and the Debian package with `apt-get` in a root that
+`debootstrap` makes in FOLDER, or in a temporary one. In each it asks for the version,
+plays the sample contest (in the root), the first commands of the lab's tutorial and a
+page, and looks for man pages and completions. It needs root, debootstrap and a network,
+and takes some minutes. The last line reads `N passed, M failed`, and the exit status is
+1 if one failed.
 """
 import argparse
 import os
@@ -17,16 +19,14 @@ import sys
 import tempfile
 from typing import Callable, Dict, List, Sequence
 
-from tests.support.counts import Wrong, concluded, require
 from tests.support import roots
+from tests.support.counts import Wrong, concluded, require
 
 TOP = pathlib.Path(__file__).resolve().parents[2]
 DEBIANS_PYTHON = "/usr/bin/python3"
 EXTRAS = "hunt,page,sweep"
-RING, WRONG = (
-    "examples/agents/ring.py {nodes}",
-    "arena_lab/mutants/reads_once.py {nodes}",
-)
+RING = "examples/agents/ring.py {nodes}"
+WRONG = "arena_lab/mutants/reads_once.py {nodes}"
 MODULE = "examples/agents/wasm/ring.wasm:{nodes}"
 # commands of the lab's tutorial, and what each says
 TUTORIAL = (
@@ -97,7 +97,8 @@ def plays(
     folder: pathlib.Path,
     is_proved: bool,
 ) -> None:
-    """The version, the tutorial and a page, by these commands, in this folder of the system where they are."""
+    """The version, the tutorial and a page, by these commands, in this folder of the
+    system where they are."""
     said = ran([*arena, "--version"], folder)
     for wanted in (
         f", {'proved' if is_proved else 'unproved'}\n",
@@ -119,7 +120,8 @@ def plays(
 
 
 def wheel_plays(wheel: pathlib.Path, is_proved: bool, is_system: bool) -> None:
-    """The wheel is installed in a virtual environment, and nothing of this repository is seen."""
+    """The wheel is installed in a virtual environment, and nothing of this repository
+    is seen."""
     with tempfile.TemporaryDirectory() as name:
         folder = pathlib.Path(name)
         ran(
@@ -197,7 +199,8 @@ def cases_of(
 ) -> Dict[str, Callable[[], None]]:
     """What is tried, by name. The release is made twice before."""
     options = ["--unproved"] if words.unproved else []
-    first, second = made(folder / "one", options), made(folder / "two", options)
+    first = made(folder / "one", options)
+    second = made(folder / "two", options)
     root = words.root or folder / "root"
     found: Dict[str, Callable[[], None]] = {
         "the same bytes twice": lambda: are_alike(first, second)

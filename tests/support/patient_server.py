@@ -2,14 +2,15 @@
 
     python3 -m tests.support.patient_server serve T --port N --sessions S --turns K --pause MS --replay P
 
-A turn waits until an agent may arrive or be destroyed, however long its client takes. If the input has ended no
-turn waits, so the matches are closed. The milliseconds of a pause are not kept.
+A turn waits until an agent may arrive or be destroyed, however long its client takes.
+If the input has ended no turn waits, so the matches are closed. The milliseconds of a
+pause are not kept.
 """
 import sys
 import threading
 
-from arena_lab.play import server
 from arena_lab.__main__ import main
+from arena_lab.play import server
 
 is_over = threading.Event()
 contests = []

@@ -1,4 +1,5 @@
-"""Nothing that a team hands in stops a course, or is said of it by the lab that a program has said."""
+"""Nothing that a team hands in stops a course, or is said of it by the lab that a
+program has said."""
 import os
 import pathlib
 import shutil
@@ -11,13 +12,14 @@ from arena_lab.course import intake, league
 from arena_lab.course.grading import GradingRun
 from arena_lab.course.hand_in import HandIn
 from arena_lab.play import schedules
-from tests.support.courses import HEAD, HONEST, rows_of_teams, team
 from tests.integration.course.test_attacks import EVIL, Course
+from tests.support.courses import HEAD, HONEST, rows_of_teams, team
 from tests.support.matches import AGENTS
 from tests.support.output import ran
 
 RING = "python3 ring.py {host} {port} {key} {nodes}"
-# writes texts of odd characters on a whiteboard until it is ended, and as odd ones to standard error
+# writes texts of odd characters on a whiteboard until it is ended, and as odd ones to
+# standard error
 LOUD = r"""import json, socket, sys
 lines = socket.create_connection((sys.argv[1], int(sys.argv[2]))).makefile("rw", newline="\n")
 def ask(**command):
@@ -78,10 +80,12 @@ class HandIns(Course):
         # who is another user finds its folder in there
         long.parent.chmod(0o711)
         self.addCleanup(shutil.rmtree, long.parent)
-        place, left = os.open(self.team, os.O_RDONLY), 4080 - len(str(self.team))
+        place = os.open(self.team, os.O_RDONLY)
+        left = 4080 - len(str(self.team))
         while left > 246:
             os.mkdir("d" * 240, dir_fd=place)
-            above, place = place, os.open("d" * 240, os.O_RDONLY, dir_fd=place)
+            above = place
+            place = os.open("d" * 240, os.O_RDONLY, dir_fd=place)
             os.close(above)
             left -= 241
         os.close(os.open("x" * left + ".py", os.O_CREAT | os.O_WRONLY, dir_fd=place))
@@ -224,7 +228,8 @@ class Again(Course):
         return errors
 
     def table(self, out: str) -> Dict[str, Tuple[int, int, int]]:
-        """What the failed matches show: by its key the home base and the black hole, and a port that leads there."""
+        """What the failed matches show: by its key the home base and the black hole,
+        and a port that leads there."""
         found = {}
         for place in (self.folder / out / "failed").glob("evil-*"):
             setup = schedules.read(place / "schedule.txt").fixture
@@ -258,7 +263,8 @@ class Again(Course):
         )
 
     def test_what_was_read_is_graded_and_a_change_is_told(self) -> None:
-        """The first match has the team exchange its program for one that ends with other words."""
+        """The first match has the team exchange its program for one that ends with
+        other words."""
         play = GradingRun.match
 
         def match(graded: GradingRun, case: Any, *given: Any) -> Any:

@@ -1,13 +1,12 @@
-"""What the tests of a hall's pages share: a hall without servers, its teams with their tokens, and matches as they
-stand. Django begins when this is loaded."""
+"""What the tests of a hall's pages share: a hall without servers, its teams with their
+tokens, and matches as they stand. Django begins when this is loaded."""
 import json
 import shutil
 from typing import Any
 from unittest import mock
 
 from arena_lab.hall import machine
-from arena_lab.rules.model import Match as Played
-from arena_lab.rules.model import Setup, spelled
+from arena_lab.rules.model import Match as Played, Setup, spelled
 from arena_lab.rules.networks import ring
 from tests.support import halls
 
@@ -72,7 +71,8 @@ class Hall(TestCase):
         return ask(path, **more, **header, **given)
 
     def hand_in(self, sent: bytes, name: str = "amber", **fields: Any) -> Any:
-        """What a team is answered that hands this in as a file, for the course or for the contest of a number."""
+        """What a team is answered that hands this in as a file, for the course or for
+        the contest of a number."""
         return Client().post(
             "/api/hand-ins",
             {"file": SimpleUploadedFile("agent.py", sent), **fields},
@@ -137,7 +137,8 @@ def graded(
     is_secret: bool = False,
     contest: Any = None,
 ) -> Any:
-    """A grading of a hand-in that is over: how many of two matches on the ring it solved."""
+    """A grading of a hand-in that is over: how many of two matches on the ring it
+    solved."""
     word = "ring:6" if is_secret else "ring:5"
     team = Team.objects.get(name=name)
     made = HandIn.objects.create(

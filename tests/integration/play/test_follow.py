@@ -1,11 +1,12 @@
-"""A find is never lost: its limit is part of the schedule, and a mended program follows it as far as it goes along."""
+"""A find is never lost: its limit is part of the schedule, and a mended program follows
+it as far as it goes along."""
 import shutil
 from typing import Tuple
 
 from arena_lab.__main__ import main
 from arena_lab.play.schedules import read
-from tests.support.matches import AGENTS, InFolder
 from arena_lab.support.built import TOP
+from tests.support.matches import AGENTS, InFolder
 from tests.support.output import ran
 
 # computes for a second of the processor's time, and then searches

@@ -1,4 +1,5 @@
-"""WebAssembly modules as agents: they play as programs, and `arena explore --module` tries every schedule of them."""
+"""WebAssembly modules as agents: they play as programs, and `arena explore --module`
+tries every schedule of them."""
 import csv
 import hashlib
 import re
@@ -20,6 +21,7 @@ from arena_lab.search.history_tree import NoFunction
 from arena_lab.search.match_results import unkept
 from arena_lab.support import built
 from tests.support.matches import AGENTS, InFolder, program
+from tests.support.output import ran
 from tests.support.sample_modules import (
     LEAVER,
     MODULE,
@@ -27,7 +29,6 @@ from tests.support.sample_modules import (
     WALKER,
     play_by_stand_in,
 )
-from tests.support.output import ran
 
 RING = AGENTS / "wasm" / "ring.wasm"
 SWEEP = f"""
@@ -264,13 +265,12 @@ class Modules(InFolder):
         )
 
     def test_each_agent_may_run_a_module_of_its_own(self) -> None:
-        leaver, walker = self.folder / "leaver.wasm", self.folder / "walker.wasm"
+        leaver = self.folder / "leaver.wasm"
+        walker = self.folder / "walker.wasm"
         leaver.write_bytes(LEAVER)
         walker.write_bytes(WALKER)
-        one, two = (
-            "by memories of the module with the SHA-256 {}",
-            "by memories of the modules with the SHA-256 {}, {}",
-        )
+        one = "by memories of the module with the SHA-256 {}"
+        two = "by memories of the modules with the SHA-256 {}, {}"
         for agents, moves, by in (
             ((walker, leaver), 1, two.format(*map(digest, (WALKER, LEAVER)))),
             ((leaver, walker), 1, two.format(*map(digest, (LEAVER, WALKER)))),

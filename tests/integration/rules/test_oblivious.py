@@ -1,24 +1,27 @@
-"""Under the oblivious schedule a match of the lab is the contest's: the replay of a served contest and that of
-`./arena-lab run --scheduler oblivious` are equal byte for byte, of agents that answer within their turn. A picked
-agent, a delay, or a turn of departure that is another one delivers in another order; so does the adaptive schedule."""
+"""Under the oblivious schedule a match of the lab is the contest's: the replay of a
+served contest and that of `./arena-lab run --scheduler oblivious` are equal byte for
+byte, of agents that answer within their turn. A picked agent, a delay, or a turn of
+departure that is another one delivers in another order; so does the adaptive
+schedule."""
 import contextlib
 import pathlib
 import threading
 import time
 from types import ModuleType
 
-from examples.agents import client
 from arena_lab.play.schedulers import Oblivious, Scheduler, fair
 from arena_lab.play.teams import INSIDE, AgentWords
 from arena_lab.rules.delays import Delays
 from arena_lab.rules.networks import ring
+from examples.agents import client
 from tests.support.matches import InFolder, program, under
 from tests.support.servers import serve
 from tests.support.tournaments import match, write_cup
 
 SEED = 7
 DELAYS = Delays(3, 6)
-# each agent goes to and fro; the third goes into the black hole, the last over the link that is held
+# each agent goes to and fro; the third goes into the black hole, the last over the link
+# that is held
 STEPS = ["010101010101", "1001100110011001", "0w1w00w", "11"]
 WALKS = f"""
 STEPS = {STEPS}
@@ -32,7 +35,8 @@ def walks(agent, key, number):
             agent.depart(int(step))
     agent.leave()
 """
-PAUSE, TURNS = 40, 220
+PAUSE = 40
+TURNS = 220
 # how long an agent may take until it is on a link, before the next is started
 SETTLES = 0.3
 # on a busy machine an agent may answer a turn late
@@ -57,7 +61,8 @@ class ObliviousTest(InFolder):
         write_cup(self.folder, [self.fixture], DELAYS, f"{SEED:064x}")
 
     def served(self) -> bytes:
-        """The replay of a contest over TCP. Turns begin once the last agent has entered."""
+        """The replay of a contest over TCP. Turns begin once the last agent has
+        entered."""
         agents = ModuleType("walks")
         exec(WALKS, agents.__dict__)
         with serve(

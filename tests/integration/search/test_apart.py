@@ -1,12 +1,13 @@
-"""`explore` fails agents that rely on an accident of one process, on chance, on a clock or on a shared library: each of
-them fails outside, always or now and then. Of other agents it says what they read besides replies."""
+"""`explore` fails agents that rely on an accident of one process, on chance, on a clock
+or on a shared library: each of them fails outside, always or now and then. Of other
+agents it says what they read besides replies."""
 import pathlib
 import subprocess
 import sys
 
 from arena_lab import api as lab
-from tests.support.matches import program
 from tests.integration.search.exploring import InExplore
+from tests.support.matches import program
 
 AGENT = """{lines}
 def search(agent, key):
@@ -15,8 +16,8 @@ def search(agent, key):
     agent.depart(1)
     agent.accuse(1 if {is_right} else 0)
 """
-# agents that now and then do something else after the same replies: their lines, what they do first, and when they are
-# right
+# agents that now and then do something else after the same replies: their lines, what
+# they do first, and when they are right
 ACCIDENTS = {
     "the order of a set": (
         "",
@@ -173,7 +174,8 @@ class Apart(InExplore):
         self.assertEqual(row["outcome"], "wrong")
 
     def test_what_a_program_of_the_lab_finds_does_not_hang_on_its_start(self) -> None:
-        """The lab's own command fixes the order of sets; a script that uses `arena_lab.api` has any."""
+        """The lab's own command fixes the order of sets; a script that uses
+        `arena_lab.api` has any."""
         lines, first, is_right = ACCIDENTS["the order of a set"]
         (self.folder / "agent.py").write_text(
             AGENT.format(lines=lines, first=first, is_right=is_right)

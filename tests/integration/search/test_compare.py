@@ -1,10 +1,11 @@
-"""`compare` tells a program that refuses what it must take, and one whose verdict is another in its moves alone."""
+"""`compare` tells a program that refuses what it must take, and one whose verdict is
+another in its moves alone."""
 from unittest import mock
 
 from arena_lab.rules.model import Match, Setup, Verdict
 from arena_lab.rules.networks import ring
-from tests.support.output import InTemporary
 from tests.integration import compare
+from tests.support.output import InTemporary
 
 
 class Compared(InTemporary):

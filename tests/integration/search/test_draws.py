@@ -1,12 +1,13 @@
-"""What `explore --draws` finds by the program. No drawn schedule has more moves than a search of all schedules finds, a
-hunt finds the most moves on small rings, and the agents play the kept schedule to the same verdict."""
+"""What `explore --draws` finds by the program. No drawn schedule has more moves than a
+search of all schedules finds, a hunt finds the most moves on small rings, and the
+agents play the kept schedule to the same verdict."""
 import statistics
 from typing import Optional, Tuple
 
 from arena_lab import api as lab
 from arena_lab.__main__ import main
-from arena_lab.commands.explore_samples import moves_of
 from arena_lab.commands.explore import SCHEDULERS
+from arena_lab.commands.explore_samples import moves_of
 from arena_lab.search.findings import Comes, ExploreAnswer, SampleCounts, Solves
 from arena_lab.search.program_search import SampleRequest
 from tests.integration.search.exploring import InExplore
@@ -18,7 +19,8 @@ class Drawing(InExplore):
     def on_ring(
         self, network: str, hole: int, draws: Optional[SampleRequest]
     ) -> ExploreAnswer:
-        """What the program finds of two agents on a ring, under all schedules or under those that are drawn."""
+        """What the program finds of two agents on a ring, under all schedules or under
+        those that are drawn."""
         game, fixture = self.game(
             "--network", network, "--hole", str(hole), "--agent", RING_STEP.words
         )
@@ -27,7 +29,8 @@ class Drawing(InExplore):
     def drawn(
         self, network: str, hole: int, draws: SampleRequest
     ) -> Tuple[Comes, SampleCounts]:
-        """The worst of schedules that are drawn, none of which fails, and the counts of all."""
+        """The worst of schedules that are drawn, none of which fails, and the counts of
+        all."""
         answered = self.on_ring(network, hole, draws)
         assert isinstance(answered.found, Comes) and answered.drawn
         return answered.found, answered.drawn

@@ -1,5 +1,6 @@
-"""What `explore` finds by the program: what is known of the sample agents, their wrong versions, and agents that sleep,
-poll, raise or are spent; and it agrees with the Python model's search of machines that are drawn."""
+"""What `explore` finds by the program: what is known of the sample agents, their wrong
+versions, and agents that sleep, poll, raise or are spent; and it agrees with the Python
+model's search of machines that are drawn."""
 import contextlib
 import random
 import re
@@ -13,10 +14,10 @@ from arena_lab.play.teams import Game
 from arena_lab.rules.fixtures import Fixture
 from arena_lab.search.explore import End, explored
 from arena_lab.search.findings import Breaks, Fails, Finding, Solves, name_of
+from arena_lab.search.history_tree import NoFunction
+from arena_lab.search.machines import Machines
 from arena_lab.search.program_search import asked
 from arena_lab.search.sampled_runs import follow
-from arena_lab.search.machines import Machines
-from arena_lab.search.history_tree import NoFunction
 from tests.integration.search.exploring import InExplore
 from tests.support.matches import AGENTS, FAULTY, KNOWN_MAP, MAP, RING, program
 from tests.support.mutants import FOLDER
@@ -32,7 +33,8 @@ print('{"found":"solves","moves":1,"lost":0,"turns":4}')
 print('{"states":600000}')
 """
 # how many drawn ends, and drawn machines, are compared
-ENDS, MACHINES = 60, 20
+ENDS = 60
+MACHINES = 20
 ODD = (
     FAULTY
     + """
@@ -179,7 +181,8 @@ def command_of(what, board):
     return {"do": "accuse", "port": what % 2} if what < 15 else {"do": "leave"}
 """
 )
-# an agent of its own: it enters, departs by port 0 and accuses port 0, and declares where it is
+# an agent of its own: it enters, departs by port 0 and accuses port 0, and declares
+# where it is
 OWN = """
 import json, socket, sys
 line = socket.create_connection(("127.0.0.1", int(sys.argv[1]))).makefile("rw", newline="\\n")
@@ -428,7 +431,8 @@ class Exploring(InExplore):
         long = self.folder / "long"
         long.write_text(LONG, encoding="utf-8")
         long.chmod(0o755)
-        shown, machines = mock.Mock(), mock.Mock(modules=[])
+        shown = mock.Mock()
+        machines = mock.Mock(modules=[])
         with mock.patch("arena_lab.search.program_search.PAUSE", 0.01):
             answered = asked(str(long), fixture, machines, 1_000_000, shown)
         self.assertEqual(answered.states, 600_000)

@@ -1,5 +1,5 @@
-"""Candidate invariants on all pictures of small rings: right ones hold, and of wrong ones the first picture is told, to
-which the schedule leads that is kept."""
+"""Candidate invariants on all pictures of small rings: right ones hold, and of wrong
+ones the first picture is told, to which the schedule leads that is kept."""
 import contextlib
 import pathlib
 import random
@@ -26,9 +26,6 @@ from arena_lab.rules.model import (
     text_of,
 )
 from arena_lab.rules.networks import flipped_ring, ring
-from arena_lab.search.explore import TooMany
-from arena_lab.search.invariants import Candidate, Walk, Walked, walked
-from arena_lab.search.history_tree import HistoryState
 from arena_lab.search.configurations import (
     After,
     At,
@@ -39,6 +36,9 @@ from arena_lab.search.configurations import (
     Position,
     World,
 )
+from arena_lab.search.explore import TooMany
+from arena_lab.search.history_tree import HistoryState
+from arena_lab.search.invariants import Candidate, Walk, Walked, walked
 from arena_lab.support.progress import NO_PROGRESS
 from tests.support.matches import FAULTY, MAP, InFolder, program, two, under
 from tests.support.output import ran
@@ -48,8 +48,9 @@ SEEDS = 20
 
 
 class Mistake(NamedTuple):
-    """A text of the shuttle's invariant, a wrong one for it, and what is told on the ring of three nodes: of the first
-    picture at which it is wrong, after how many turns, and why."""
+    """A text of the shuttle's invariant, a wrong one for it, and what is told on the
+    ring of three nodes: of the first picture at which it is wrong, after how many
+    turns, and why."""
 
     old: str
     new: str
@@ -85,7 +86,8 @@ MISTAKES = {
 }
 
 
-SHUTTLE, TRIANGLE = two("shuttle.py", "{nodes}"), two("triangle.py")
+SHUTTLE = two("shuttle.py", "{nodes}")
+TRIANGLE = two("triangle.py")
 
 
 def place_of(agent: AgentState) -> Position:
@@ -165,8 +167,10 @@ def turned(
 def said(
     world: World, old: Configuration, agent: int, command: Object
 ) -> Configuration:
-    """What a command makes of a picture that is heard of an agent at a node, or of one that enters."""
-    place, do = old.position[agent], command["do"]
+    """What a command makes of a picture that is heard of an agent at a node, or of one
+    that enters."""
+    place = old.position[agent]
+    do = command["do"]
     node = place.node if isinstance(place, At) else world.home
     came = place.came if isinstance(place, At) else None
     reply = {
@@ -183,9 +187,8 @@ def said(
     if do == "enter":
         new = new._replace(position=changed(old.position, agent, At(node, None)))
     elif do == "write" and old.shown[node] == command["expect"]:
-        reply, new = {"ok": "written"}, new._replace(
-            shown=changed(old.shown, node, command["put"])
-        )
+        reply = {"ok": "written"}
+        new = new._replace(shown=changed(old.shown, node, command["put"]))
     elif do == "write":
         reply = {"ok": "changed", "board": old.shown[node]}
     elif do == "depart":
@@ -195,9 +198,8 @@ def said(
             moves=old.moves + 1,
         )
     elif do == "accuse":
-        reply, accused = {"ok": "noted"}, changed(
-            old.accused, agent, (node, command["port"])
-        )
+        reply = {"ok": "noted"}
+        accused = changed(old.accused, agent, (node, command["port"]))
         new = new._replace(
             position=changed(old.position, agent, After()), accused=accused
         )
@@ -207,7 +209,8 @@ def said(
 def told(
     world: World, old: Configuration, new: Configuration, agent: int, reply: Object
 ) -> Configuration:
-    """A picture in which an agent has heard a reply. Who faces another sight than before has not woken since."""
+    """A picture in which an agent has heard a reply. Who faces another sight than
+    before has not woken since."""
     woken = tuple(
         times
         if sight(world, before, old.shown) == sight(world, after, new.shown)
@@ -237,7 +240,8 @@ class Noting:
 
 
 class Following(Walk):
-    """A search that compares what each turn makes of a picture with what the definitions make of it."""
+    """A search that compares what each turn makes of a picture with what the
+    definitions make of it."""
 
     def __init__(self, *given: Any) -> None:
         super().__init__(*given)
@@ -245,7 +249,8 @@ class Following(Walk):
         self.met: Set[str] = set()
 
     def _after(self, state: HistoryState, agent: int) -> HistoryState:
-        after, picture = super()._after(state, agent), self._pictures.of(state)
+        after = super()._after(state, agent)
+        picture = self._pictures.of(state)
         past = state.pasts[agent]
         command = None if past.line is None else command_of(text_of(past.line))
         self.met.add(command["do"] if command else past.state)
@@ -326,7 +331,8 @@ class Invariants(InFolder):
                         self.assertIsNone(found.walk.breach)
 
     def test_each_order_of_turns_on_the_triangle_is_tried(self) -> None:
-        """The agent that is lost has two turns, and the other six: any two numbers of turns make a picture."""
+        """The agent that is lost has two turns, and the other six: any two numbers of
+        turns make a picture."""
         self.assertEqual(
             self.command(INVARIANTS / "triangle.py", TRIANGLE, "--network", "ring:3"),
             0,
@@ -381,7 +387,8 @@ class Invariants(InFolder):
 
     def test_each_picture_that_a_drawn_schedule_comes_to_is_tried(self) -> None:
         for hole in (1, 2, 3):
-            noting, fixture = Noting(), self.fixture(4, hole, 0)
+            noting = Noting()
+            fixture = self.fixture(4, hole, 0)
             found = self.walked(fixture, SHUTTLE, noting)
             self.assertTrue(found.is_whole and found.walk.breach is None)
             for seed in range(SEEDS):

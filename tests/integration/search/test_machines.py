@@ -1,5 +1,6 @@
-"""What agents hold and do next does not depend on the order in which it is asked: programs that wait go on, and others
-are played again. Programs that have ended are not kept."""
+"""What agents hold and do next does not depend on the order in which it is asked:
+programs that wait go on, and others are played again. Programs that have ended are not
+kept."""
 import collections
 import itertools
 import unittest
@@ -9,8 +10,8 @@ from arena_lab.__main__ import parser
 from arena_lab.commands.words import games_of
 from arena_lab.play.players import DONE
 from arena_lab.rules.model import GONE, OVER, spelled
-from arena_lab.search.machines import Machines
 from arena_lab.search.agent_processes import SAYS, STOP, AgentStep
+from arena_lab.search.machines import Machines
 from tests.support.matches import RING
 
 BOARDS = ("", "right going, left new", "right safe, left told 2")
@@ -79,7 +80,8 @@ class Asked:
 
 class Order(unittest.TestCase):
     def test_the_order_of_questions_changes_no_answer(self) -> None:
-        one, other = Asked(False), Asked(True)
+        one = Asked(False)
+        other = Asked(True)
         self.assertEqual(one.found.keys(), other.found.keys())
         self.assertGreater(len(one.found), 100)
         for history in one.found:

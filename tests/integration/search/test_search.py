@@ -1,4 +1,5 @@
-"""What `explore` and `hunt` find: the worst that is known of the sample search, and what its wrong versions do."""
+"""What `explore` and `hunt` find: the worst that is known of the sample search, and
+what its wrong versions do."""
 import argparse
 import itertools
 import re
@@ -11,11 +12,11 @@ from arena_lab.play.games import play_seed
 from arena_lab.play.teams import INSIDE, AgentWords, Game
 from arena_lab.rules import networks
 from arena_lab.rules.networks import ring
-from arena_lab.search import explore, hunt, history_tree
-from tests.support.matches import FAULTY, MAP, RING, fixture, program
+from arena_lab.search import explore, history_tree, hunt
 from tests.integration.search.test_brute import played
-from tests.support.output import InTemporary, ran
 from tests.support import mutants
+from tests.support.matches import FAULTY, MAP, RING, fixture, program
+from tests.support.output import InTemporary, ran
 
 WORST = {3: 4, 4: 9, 5: 14, 6: 23}
 BY_MODEL = ("--search", "model")
@@ -193,7 +194,9 @@ class Hunting(Searches):
     def test_draws_come_first(self) -> None:
         for name in ("reads_once", "forgets_to_mark", "counts_naps"):
             place = mutants.PLANS[name].hunted
-            network, count, words = place.network, place.agents, mutants.agent_of(name)
+            network = place.network
+            count = place.agents
+            words = mutants.agent_of(name)
             with self.subTest(name):
                 game = Game(
                     network,
@@ -274,7 +277,8 @@ class Hunting(Searches):
                 self.assertIn(fault, self.said)
 
     def test_a_hunt_that_is_interrupted_says_what_it_has(self) -> None:
-        real, tries = hunt.play, iter(range(10))
+        real = hunt.play
+        tries = iter(range(10))
 
         def play(*given: object) -> object:
             if next(tries, None) is None:

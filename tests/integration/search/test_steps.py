@@ -1,13 +1,13 @@
-"""Agents that are written as steps: they play as other agents do, inside the lab and outside, and `explore` tells them
-apart by their memories."""
+"""Agents that are written as steps: they play as other agents do, inside the lab and
+outside, and `explore` tells them apart by their memories."""
 import random
 from typing import Any, Dict, Tuple
 
 from arena_lab import api as lab
 from arena_lab.play import schedulers
 from arena_lab.play.teams import OUTSIDE, AgentWords
-from tests.support.matches import AGENTS, RING, RING_STEP, played, program, ring_fixture
 from tests.integration.search.exploring import InExplore
+from tests.support.matches import AGENTS, RING, RING_STEP, played, program, ring_fixture
 
 SOLVED = "every schedule that the lab tried solves, by memories of Python steps"
 # steps on the ring of 3, whose black hole is node 1
