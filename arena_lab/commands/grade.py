@@ -1,37 +1,44 @@
-"""Grades the programs of a course: plays them all, and writes a league table and a page for each team.
+"""Grades the programs of a course: plays them all, and writes a league table and a page
+for each team.
 
     ./arena-lab grade examples/course/course.toml --out out/course
     ./arena-lab grade out/course --repeat-only
 
-Each team plays the same matches. The folder gets `league.html` and `league.csv`, the table of all teams (matches solved
-first, then the moves and the lost agents of these); `team-NAME.html` for each team; `runs.csv`, a row for each
-match; and in `failed` each match that a team failed, with its schedule, its replay and its page, and with the smallest
-schedule that was found after which the team fails on the same network. The same file and programs give the same bytes
-on every run, if the programs are functions of what they are told. Interrupted, the same command goes on behind the last
-row.
+Each team plays the same matches. The folder gets `league.html` and `league.csv`, the
+table of all teams (matches solved first, then the moves and the lost agents of these);
+`team-NAME.html` for each team; `runs.csv`, a row for each match; and in `failed` each
+match that a team failed, with its schedule, its replay and its page, and with the
+smallest schedule that was found after which the team fails on the same network. The
+same file and programs give the same bytes on every run, if the programs are functions
+of what they are told. Interrupted, the same command goes on behind the last row.
 
-A solved match counts only if it repeats. When all matches have been played, the lab starts each agent of it again,
-alone in a new cell, and tells it what it was told: the agent must say what it said. What another program signals past
-the whiteboards only while it runs is not there to be heard. The first difference stands on the team's page,
-`repeats.csv` has a row for each solved match, and `solved` has the replays. A program may use what it is told and the
-number in ARENA_SEED, and nothing else: no clock, and no other random numbers. With `--no-repeat` the lab leaves that
-out.
+A solved match counts only if it repeats. When all matches have been played, the lab
+starts each agent of it again, alone in a new sandbox, and tells it what it was told:
+the agent must say what it said. What another program signals past the whiteboards only
+while it runs is not there to be heard. The first difference stands on the team's page,
+`repeats.csv` has a row for each solved match, and `solved` has the replays. A program
+may use what it is told and the number in ARENA_SEED, and nothing else: no clock, and no
+other random numbers. With `--no-repeat` the lab leaves that out.
 
-With `--repeat-only` it does nothing else, and writes nothing. The folder of results has all that is needed: the
-course's file, what each team has handed in, the secret, and the replays of solved matches. So you can copy it to
-another machine, and repeat there: what an agent has left in the kernel of the first machine is not there. The order is
-drawn anew on each run. A line for each team says how many of its solved matches repeat, and a line for each that does
-not says which agent says something else, at which command. The exit status is 1 if a match does not repeat that counted
-when the course was graded.
+With `--repeat-only` it does nothing else, and writes nothing. The folder of results has
+all that is needed: the course's file, what each team has handed in, the secret, and the
+replays of solved matches. So you can copy it to another machine, and repeat there: what
+an agent has left in the kernel of the first machine is not there. The order is drawn
+anew on each run. A line for each team says how many of its solved matches repeat, and a
+line for each that does not says which agent says something else, at which command. The
+exit status is 1 if a match does not repeat that counted when the course was graded.
 
-A program that crashes, hangs, or sends rubbish fails its own matches, and so does one that is handed in with too much
-or takes too long. Each program runs in a folder of its own, and what else keeps it apart depends on the machine; the
-command says on standard error what does not. With Debian's bubblewrap and python3-seccomp a program sees neither other
-teams' files nor the other agents of its team. Black holes that are drawn, keys, and what schedulers draw come from a
-secret, which the first run draws and keeps in `secret.txt` in the folder. The exit status is 0 if all was graded,
-however teams did, and 1 if the lab itself could not play a match.
+A program that crashes, hangs, or sends rubbish fails its own matches, and so does one
+that is handed in with too much or takes too long. Each program runs in a folder of its
+own, and what else keeps it apart depends on the machine; the command says on standard
+error what does not. With Debian's bubblewrap and python3-seccomp a program sees neither
+other teams' files nor the other agents of its team. Black holes that are drawn, keys,
+and what schedulers draw come from a secret, which the first run draws and keeps in
+`secret.txt` in the folder. The exit status is 0 if all was graded, however teams did,
+and 1 if the lab itself could not play a match.
 
-For a student: with `--engine model` the command grades a course without a build of the program, and root is not needed.
+For a student: with `--engine model` the command grades a course without a build of the
+program, and root is not needed.
 """
 import argparse
 import pathlib
@@ -41,8 +48,8 @@ from arena_lab.commands.words import add_engine, add_forget, add_workers, progra
 from arena_lab.course import course, export, points
 from arena_lab.course.grading import GradingRun, graded_in, hand_ins
 from arena_lab.course.repeating import repeat_graded
-from arena_lab.sandbox import cells
-from arena_lab.sandbox.cells import Isolation, Sandbox
+from arena_lab.sandbox import sandboxes
+from arena_lab.sandbox.sandboxes import Isolation, SandboxOptions
 from arena_lab.support.missing import check
 from arena_lab.sweep import tables
 
@@ -109,7 +116,8 @@ def run(words: argparse.Namespace) -> int:
     if not words.out:
         words.refuse("name a folder for the results by --out FOLDER")
     check(*NEEDED)
-    path, strongest = words.file.resolve(), cells.strongest()
+    path = words.file.resolve()
+    strongest = sandboxes.strongest()
     read = course.read(path, "")
     course.check_networks(read)
     own = [file for files in read.files.values() for file in files]
@@ -117,7 +125,7 @@ def run(words: argparse.Namespace) -> int:
     for name in read.grid.schedulers:
         read.maker(name)
     if strongest is not Isolation.ALL:
-        print(f"arena-lab: {cells.weakness()}; {strongest.value}", file=sys.stderr)
+        print(f"arena-lab: {sandboxes.weakness()}; {strongest.value}", file=sys.stderr)
     wanted = export.export_of(
         words.export, words.students, path.parent, list(read.files)
     )
@@ -125,7 +133,7 @@ def run(words: argparse.Namespace) -> int:
     with tables.alone_in(words.out):
         handed_in = hand_ins(words.out, read)
         secret = course.secret_in(words.out, words.secret, handed_in)
-        yard = Sandbox(
+        sandbox = SandboxOptions(
             strongest, read.terms.tools, read.terms.has_proc, calls=read.terms.calls
         )
         graded = GradingRun(
@@ -133,7 +141,7 @@ def run(words: argparse.Namespace) -> int:
             path.parent,
             secret,
             program,
-            yard,
+            sandbox,
             words.out,
             not words.no_repeat,
             forgets=words.drop_caches,

@@ -34,23 +34,28 @@
     calls         calls of the system that programs may make, besides those that their language needs, such as
                   ["splice"]; `python3 -m arena_lab.sandbox.calls --help` says how to see which a program makes
 
-Each [[team]] has a `name`, of 1 to 16 characters out of a to z, 0 to 9 and -; `agents`, a number or "degree" for one
-more than the network's greatest degree (2); `files`, a list of files and folders, whose copies each of its programs
-has; and `command`, the words that start the program of one agent in the folder with the copies. In the words {host},
-{port} and {key} say where it connects and by which key it enters. {nodes}, {links} and {home} say what the team is to
-know of the network; {network} is the network's file, for a team that is to have the map. Of a WebAssembly module the
-command is its file with its arguments, such as "agent.wasm:{nodes}"; it is played without walls, as it sees nothing but
-replies.
+Each [[team]] has a `name`, of 1 to 16 characters out of a to z, 0 to 9 and -; `agents`,
+a number or "degree" for one more than the network's greatest degree (2); `files`, a
+list of files and folders, whose copies each of its programs has; and `command`, the
+words that start the program of one agent in the folder with the copies. In the words
+{host}, {port} and {key} say where it connects and by which key it enters. {nodes},
+{links} and {home} say what the team is to know of the network; {network} is the
+network's file, for a team that is to have the map. Of a WebAssembly module the command
+is its file with its arguments, such as "agent.wasm:{nodes}"; it is played without
+walls, as it sees nothing but replies.
 
-`--export` writes the points of teams for gradebooks; the table [points] says how they are given.
+`--export` writes the points of teams for gradebooks; the table [points] says how they
+are given.
 
-Names of files are paths from the folder of the course's file. A hand-in is bounded, and no link in it is followed.
+Names of files are paths from the folder of the course's file. A hand-in is bounded, and
+no link in it is followed.
 
-All teams play the same matches, each in an order of its own. If `holes` is a number, "by seed" or "drawn", the black
-hole is drawn for each match, so that one match tells nothing of another. The draws of keys, black holes, home bases,
-ports, orders and seeds of schedulers come from the course's secret. The secret is drawn at the first run and kept in
-`secret.txt` beside the results. To grade again by the same draws, name that file by --secret; if a team has handed in
-something else since, all is drawn anew.
+All teams play the same matches, each in an order of its own. If `holes` is a number,
+"by seed" or "drawn", the black hole is drawn for each match, so that one match tells
+nothing of another. The draws of keys, black holes, home bases, ports, orders and seeds
+of schedulers come from the course's secret. The secret is drawn at the first run and
+kept in `secret.txt` beside the results. To grade again by the same draws, name that
+file by --secret; if a team has handed in something else since, all is drawn anew.
 """
 import functools
 import hashlib
@@ -83,7 +88,7 @@ from arena_lab.play.wasm_modules import is_module
 from arena_lab.rules import networks
 from arena_lab.rules.fixtures import Fixture
 from arena_lab.sandbox import calls, isolation
-from arena_lab.sandbox.cells import Isolation
+from arena_lab.sandbox.sandboxes import Isolation
 from arena_lab.support import fields
 from arena_lab.support.fields import Field, WrongFile, is_text, is_texts
 from arena_lab.sweep import grid, tables
@@ -91,7 +96,8 @@ from arena_lab.sweep.grid import Case, Grid, TeamRow
 
 FILES = "files"
 # seconds and MB of a match, if that is more for all matches of a team
-FOR_A_MATCH, SPACE_FOR_A_MATCH = 5, 2
+FOR_A_MATCH = 5
+SPACE_FOR_A_MATCH = 2
 FIELDS = {
     "limit": fields.count(20, "seconds"),
     "match_limit": fields.count(60, "seconds"),
@@ -107,7 +113,8 @@ FIELDS = {
     **{name: field for name, field in grid.FIELDS.items() if name != "bound"},
     "points": fields.table("points", {}),
 }
-SECRET, GIVEN = "secret.txt", "given"
+SECRET = "secret.txt"
+GIVEN = "given"
 WORDS = ("host", "port", "key", "nodes", "links", "home", "network")
 NEEDED = ("port", "key")
 
@@ -143,8 +150,8 @@ class CourseFile(NamedTuple):
     points: Optional[Points] = None
 
     def cases(self) -> List[Case]:
-        """All matches, in the order in which they are played. Teams come in an order that is drawn; each plays the same
-        matches, in an order of its own."""
+        """All matches, in the order in which they are played. Teams come in an order
+        that is drawn; each plays the same matches, in an order of its own."""
         found = [self._placed(case) for case in self.grid.cases(self.draws.secret)]
         found.sort(
             key=lambda case: (
@@ -155,8 +162,8 @@ class CourseFile(NamedTuple):
         return [case._replace(number=number) for number, case in enumerate(found)]
 
     def _placed(self, case: Case) -> Case:
-        """A match with black holes, a home base and ports of its own, as far as the file does not name them. They are
-        the same for all teams."""
+        """A match with black holes, a home base and ports of its own, as far as the
+        file does not name them. They are the same for all teams."""
         if not isinstance(self.grid.holes, int) and self.grid.holes not in (
             grid.BY_SEED,
             grid.DRAWN,
@@ -183,13 +190,14 @@ class CourseFile(NamedTuple):
         return maker_of(str(self.folder / name) if ".py" in name else name)
 
     def seed(self, case: Case) -> int:
-        """The seed that a match's scheduler gets, which is the same for all teams. Those of matches that differ in the
-        seed alone follow one another."""
+        """The seed that a match's scheduler gets, which is the same for all teams.
+        Those of matches that differ in the seed alone follow one another."""
         drawn = self.draws.drawn("seed", case.network, case.scheduler)
         return int(drawn[:8], 16) + case.seed
 
     def digests(self) -> Dict[str, str]:
-        """The SHA-256 of each file on which the matches depend, and of the secret, but for what teams hand in."""
+        """The SHA-256 of each file on which the matches depend, and of the secret, but
+        for what teams hand in."""
         own = [
             self.folder / name.partition(":")[0]
             for name in [*self.grid.schedulers, *self.grid.names]
@@ -201,8 +209,9 @@ class CourseFile(NamedTuple):
 
 
 class ProgramLimits(NamedTuple):
-    """How many seconds programs may take: for a line, in a match, and in all matches of a team. And how many MB: of
-    lines in a match, and of what is written of all matches of a team."""
+    """How many seconds programs may take: for a line, in a match, and in all matches of
+    a team. And how many MB: of lines in a match, and of what is written of all matches
+    of a team."""
 
     line: int
     match: int
@@ -212,9 +221,10 @@ class ProgramLimits(NamedTuple):
 
 
 class Terms(NamedTuple):
-    """What a course's file says besides its matches: how many seconds programs may take, the words that start those of
-    each team, which folders they see besides the system's, whether they see /proc, and which calls of the system they
-    may make besides those of their languages."""
+    """What a course's file says besides its matches: how many seconds programs may
+    take, the words that start those of each team, which folders they see besides the
+    system's, whether they see /proc, and which calls of the system they may make
+    besides those of their languages."""
 
     limits: ProgramLimits
     commands: Dict[str, str]
@@ -235,8 +245,8 @@ def read(path: pathlib.Path, secret: str) -> CourseFile:
 def secret_in(
     out: pathlib.Path, given: Optional[pathlib.Path], handed_in: Mapping[str, str] = {}
 ) -> str:
-    """The secret of a course with these results: one that a file gives, or that of the first run, or a new one. These
-    are the digests of what was handed in."""
+    """The secret of a course with these results: one that a file gives, or that of the
+    first run, or a new one. These are the digests of what was handed in."""
     path = out / SECRET
     said = None if given is None else secret_given(given, handed_in)
     if path.exists():
@@ -258,8 +268,9 @@ def secret_in(
 
 
 def secret_given(given: pathlib.Path, handed_in: Mapping[str, str]) -> str:
-    """The secret in a file. If results stand beside it, and a team has handed in something else than then, it is
-    another one: what the team was shown of its matches is not to help it."""
+    """The secret in a file. If results stand beside it, and a team has handed in
+    something else than then, it is another one: what the team was shown of its matches
+    is not to help it."""
     said = grid.text_in(given).strip()
     if len(said) < 16:
         raise WrongFile(
@@ -318,7 +329,8 @@ def course_of(text: str, folder: pathlib.Path, secret: str) -> CourseFile:
 def for_matches(
     limits: ProgramLimits, matches: int, found: Dict[str, Any]
 ) -> ProgramLimits:
-    """The limits where each team has this number of matches, as far as the file does not say what these may take."""
+    """The limits where each team has this number of matches, as far as the file does
+    not say what these may take."""
     time = (
         limits.team
         if "team_limit" in found
@@ -359,7 +371,8 @@ def calls_of(names: List[str]) -> Tuple[str, ...]:
 
 @functools.lru_cache(maxsize=4)
 def terms_of(text: str, matches: int) -> Terms:
-    """The terms of a course that has this text, in which each team has this number of matches."""
+    """The terms of a course that has this text, in which each team has this number of
+    matches."""
     found = fields.table_of(text)
     said = fields.values_of(found, FIELDS, "a course")
     terms = terms_in(said, list(map(team_in, said["team"])))
@@ -443,7 +456,8 @@ def files_of(names: List[str], team: str, folder: pathlib.Path) -> List[pathlib.
 def check_walls(
     strongest: Isolation, paths: Sequence[pathlib.Path], tools: Sequence[str]
 ) -> None:
-    """Refuses a course and results that teams' programs could read in spite of the walls."""
+    """Refuses a course and results that teams' programs could read in spite of the
+    walls."""
     for path in paths:
         seen = isolation.seen_at(path, tools) if strongest is Isolation.ALL else None
         if seen:

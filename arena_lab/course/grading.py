@@ -1,5 +1,5 @@
-"""Grades the programs of a course: plays the matches, makes the schedules of failed ones small, and writes the
-results."""
+"""Grades the programs of a course: plays the matches, makes the schedules of failed
+ones small, and writes the results."""
 import concurrent.futures
 import contextlib
 import csv
@@ -32,8 +32,8 @@ from arena_lab.play.parallel import Result
 from arena_lab.play.summaries import Summary
 from arena_lab.rules.engines import name_of
 from arena_lab.rules.model import SOLVED, Verdict
-from arena_lab.sandbox import cells, isolation
-from arena_lab.sandbox.cells import Isolation, Sandbox
+from arena_lab.sandbox import sandboxes, isolation
+from arena_lab.sandbox.sandboxes import Isolation, SandboxOptions
 from arena_lab.search.minimising import Cut, Runs, in_words, noted, runs_of
 from arena_lab.support.fields import WrongFile
 from arena_lab.support.missing import Missing
@@ -56,7 +56,8 @@ NOT_SMALLER = {
 HURRIED = 4
 TIME_IS_UP = "the time for this was up, so there may be a smaller one"
 # what came of repeating solved matches
-REPEATS, REPEATS_HEAD = "repeats.csv", ("run", "team", "fault")
+REPEATS = "repeats.csv"
+REPEATS_HEAD = ("run", "team", "fault")
 # of a failed match what came of it, a fact a line
 TOLD = "told.txt"
 TEAM_OF = operator.attrgetter("team.name")
@@ -67,22 +68,24 @@ class NotSmaller(Exception):
 
 
 class GradingRun(NamedTuple):
-    """What plays a course's matches: the text of its file, its folder and its secret, the program or None for the
-    Python model, what keeps programs apart, and where results are written. Workers are sent it.
-    """
+    """What plays a course's matches: the text of its file, its folder and its secret,
+    the program or None for the Python model, what keeps programs apart, and where
+    results are written. Workers are sent it."""
 
     text: str
     folder: pathlib.Path
     secret: str
     program: Optional[str]
-    yard: Sandbox
+    sandbox: SandboxOptions
     out: pathlib.Path
-    # whether a solved match counts only if its agents say the same when they are repeated alone
+    # whether a solved match counts only if its agents say the same when they are
+    # repeated alone
     repeats: bool = True
     # whether the machine is to forget what it keeps of files before agents are repeated
     forgets: bool = False
     export: Export = Export()
-    # whether a program is not waited for as long, as others of its team have hung on the same network
+    # whether a program is not waited for as long, as others of its team have hung on
+    # the same network
     is_hurried: bool = False
 
     @property
@@ -90,7 +93,8 @@ class GradingRun(NamedTuple):
         return course.course_of(self.text, self.folder, self.secret)
 
     def play(self, case: Case) -> TimedResult:
-        """The row of a match. One that the team fails is written to a folder of its own."""
+        """The row of a match. One that the team fails is written to a folder of its
+        own."""
         began = time.monotonic()
         try:
             row = self._row(case)
@@ -115,7 +119,7 @@ class GradingRun(NamedTuple):
         )
         row = sweeping.row_for(case, schedule, played, self.program)
         place = self.place(case)
-        cells.remove(place)
+        sandboxes.remove(place)
         if played.has_failed() or tables.row_of(row)["outcome"] != SOLVED:
             kept_matches.write_find(place, schedule, played, self.program)
             (place / TOLD).write_text(
@@ -142,7 +146,7 @@ class GradingRun(NamedTuple):
             self.out,
             self.text,
             self.course.draws,
-            self.yard,
+            self.sandbox,
             self.course.terms.limits,
             self.forgets,
         )
@@ -179,16 +183,18 @@ class GradingRun(NamedTuple):
         self, case: Case, scheduler: Scheduler, program: Optional[str]
     ) -> Tuple[Schedule, PlayedMatch]:
         """Plays a match by this scheduler."""
-        fixture, limits = self.course.fixture(case), self.course.terms.limits
+        fixture = self.course.fixture(case)
+        limits = self.course.terms.limits
         agents = [case.team.words] * fixture.setup.agents
         files = self._take(case.team.name).files
         origin = f"{case.scheduler} {self.course.seed(case)} on {case.network}"
         empty = schedule_of(fixture, agents, origin, [], limits.line)._replace(
             files=files
         )
-        words, handed_in = case.team.words.words, self.hand_in(case.team.name)
+        words = case.team.words.words
+        handed_in = self.hand_in(case.team.name)
         with grounds_of(
-            self.yard, handed_in, words, fixture.setup, len(agents)
+            self.sandbox, handed_in, words, fixture.setup, len(agents)
         ) as grounds:
             commands = {number: agent.words for number, agent in enumerate(agents)}
             line = max(1, limits.line // HURRIED) if self.is_hurried else limits.line
@@ -231,7 +237,7 @@ def written(out: pathlib.Path, cases: Sequence[Case]) -> Dict[str, float]:
 
 def unplayed(played: CourseFile, case: Case, fault: str) -> List[str]:
     """The row of a match that was not played."""
-    return sweeping.cells_for(
+    return sweeping.sandboxes_for(
         case,
         played.fixture(case),
         Summary(Verdict(league.UNPLAYED, 0, 0), faults=[fault]),
@@ -239,7 +245,8 @@ def unplayed(played: CourseFile, case: Case, fault: str) -> List[str]:
 
 
 class Cutting(NamedTuple):
-    """Makes the schedules of failed matches small. The faults are those of each match, by its number."""
+    """Makes the schedules of failed matches small. The faults are those of each match,
+    by its number."""
 
     graded: GradingRun
     faults: Dict[int, List[str]]
@@ -248,13 +255,16 @@ class Cutting(NamedTuple):
         """What came of a failed match."""
         began = time.monotonic()
         try:
-            said, has_smallest = self._smallest(case, began), True
+            said = self._smallest(case, began)
+            has_smallest = True
         except NotSmaller as fault:
-            said, has_smallest = f"not made smaller: {fault}", False
+            said = f"not made smaller: {fault}"
+            has_smallest = False
         except OF_ALL:
             raise
         except Exception as fault:
-            said, has_smallest = f"not made smaller: {in_a_line(fault)}", False
+            said = f"not made smaller: {in_a_line(fault)}"
+            has_smallest = False
         size = size_of(self.graded.place(case) / league.SMALLEST)
         return TimedResult(
             self.failure(case, said, has_smallest), time.monotonic() - began, size
@@ -288,10 +298,12 @@ class Cutting(NamedTuple):
         return self.graded.digests()
 
     def _smallest(self, case: Case, began: float) -> str:
-        """Writes the smallest schedule that was found after which the team fails; gives what is said of it."""
+        """Writes the smallest schedule that was found after which the team fails; gives
+        what is said of it."""
         check_faults(self.faults[case.number])
         numbers: List[int] = []
-        graded, place = self.graded, self.graded.place(case)
+        graded = self.graded
+        place = self.graded.place(case)
         asked = graded.course
         _, again = graded.match(
             case, noted(asked.maker(case.scheduler)(asked.seed(case)), numbers), None
@@ -341,7 +353,8 @@ def check_faults(faults: Sequence[str]) -> None:
 
 
 def graded_in(graded: GradingRun, workers: int, digests: Dict[str, str]) -> int:
-    """Plays the matches that are not done yet, and writes everything. `digests` are the SHA-256 of the teams' files."""
+    """Plays the matches that are not done yet, and writes everything. `digests` are the
+    SHA-256 of the teams' files."""
     made = {
         **tables.made_by(graded.program),
         "course": hashlib.sha256(graded.text.encode()).hexdigest(),
@@ -352,10 +365,10 @@ def graded_in(graded: GradingRun, workers: int, digests: Dict[str, str]) -> int:
     cases = graded.course.cases()
     commands = [team.words.words for team in graded.course.grid.teams]
     try:
-        with cells.furnished(
-            graded.yard, commands, graded.course.terms.packages
-        ) as yard:
-            graded = graded._replace(yard=yard)
+        with sandboxes.furnished(
+            graded.sandbox, commands, graded.course.terms.packages
+        ) as sandbox:
+            graded = graded._replace(sandbox=sandbox)
             prepare(graded)
             budget = budget_of(graded, cases)
             left = cases[done:]
@@ -390,7 +403,8 @@ def tell_changes(before: Dict[str, str], now: Dict[str, str]) -> None:
 
 def budget_of(graded: GradingRun, cases: Sequence[Case]) -> Budget:
     """The time and the space that teams have for their matches."""
-    limits, names = graded.course.terms.limits, {case.team.name for case in cases}
+    limits = graded.course.terms.limits
+    names = {case.team.name for case in cases}
     return Budget(
         limits.team,
         dict.fromkeys(names, 0.0),
@@ -406,7 +420,8 @@ def taken_anew(out: pathlib.Path, asked: CourseFile, team: str) -> HandInRecord:
 
 
 def hand_ins(out: pathlib.Path, asked: CourseFile) -> Dict[str, str]:
-    """Reads what all teams hand in; gives the digest of each. What was read at the first run is kept."""
+    """Reads what all teams hand in; gives the digest of each. What was read at the
+    first run is kept."""
     is_first = not (out / tables.MADE).exists()
 
     def digest(name: str) -> str:
@@ -424,8 +439,10 @@ def hand_ins(out: pathlib.Path, asked: CourseFile) -> Dict[str, str]:
 
 def prepare(graded: GradingRun) -> None:
     """Does once what each process that plays would do: they are copies of this one."""
-    if graded.yard.walls is Isolation.ALL:
-        isolation.words(graded.yard.tools, graded.yard.has_proc, graded.yard.root)
+    if graded.sandbox.isolation is Isolation.ALL:
+        isolation.words(
+            graded.sandbox.tools, graded.sandbox.has_proc, graded.sandbox.root
+        )
     for network in graded.course.grid.networks.values():
         with contextlib.suppress(Missing):
             page.layout({"nodes": network.nodes, "links": network.links})
@@ -461,8 +478,8 @@ class Hangs:
 def played_in_time(
     graded: GradingRun, left: Sequence[Case], workers: int, budget: Budget, hangs: Hangs
 ) -> Iterator[Result]:
-    """The rows of matches. After the second equal hang of a team its other matches on that network are not waited for
-    as long."""
+    """The rows of matches. After the second equal hang of a team its other matches on
+    that network are not waited for as long."""
 
     def job_of(case: Case) -> GradingRun:
         return graded._replace(is_hurried=hangs.are_many(case))
@@ -480,7 +497,8 @@ def played_in_time(
 def write_results(
     graded: GradingRun, cases: List[Case], workers: int, budget: Budget
 ) -> int:
-    """Makes the schedules of failed matches small, and writes the table and the pages."""
+    """Makes the schedules of failed matches small, and writes the table and the
+    pages."""
     rows = tables.rows_in(graded.out / tables.RUNS)
     repeat_all(graded, rows, workers)
     failures = cut_down(
@@ -545,8 +563,8 @@ def export(
 
 
 def repeat_all(graded: GradingRun, rows: List[Row], workers: int) -> None:
-    """Repeats the solved matches, writes what came of that, and notes a fault in the row of each that does not repeat.
-    The file of rows keeps how they were played."""
+    """Repeats the solved matches, writes what came of that, and notes a fault in the
+    row of each that does not repeat. The file of rows keeps how they were played."""
     path = graded.out / REPEATS
     path.unlink(missing_ok=True)
     if not graded.repeats:
@@ -580,8 +598,8 @@ def cut_down(
     workers: int,
     budget: Budget,
 ) -> Dict[int, Failure]:
-    """What came of each failed match, by its number. Of those that failed in the same way on the same network one is
-    made smaller."""
+    """What came of each failed match, by its number. Of those that failed in the same
+    way on the same network one is made smaller."""
     cutting = Cutting(
         graded, {case.number: rows[case.number][report.FAULTS] for case in failed}
     )

@@ -10,15 +10,16 @@ from arena_lab.play.wasm_modules import file_in, is_module
 from arena_lab.rules import networks
 from arena_lab.rules.model import Setup
 from arena_lab.sandbox import calls
-from arena_lab.sandbox.cells import ProgramFiles, Sandbox, cells_for
+from arena_lab.sandbox.sandboxes import ProgramFiles, SandboxOptions, sandboxes_for
 
 
 @contextlib.contextmanager
 def grounds_of(
-    yard: Sandbox, handed_in: HandIn, words: str, setup: Setup, count: int
+    options: SandboxOptions, handed_in: HandIn, words: str, setup: Setup, count: int
 ) -> Iterator[Sequence[programs.Ground]]:
-    """Where this number of a team's programs run, which these words start: each in a cell, unless their hand-in is
-    refused. A module needs no cell for its player."""
+    """Where this number of a team's programs run, which these words start: each in a
+    sandbox, unless their hand-in is refused. A module needs no sandbox for its
+    player."""
     if handed_in.refusal:
         yield [programs.Nowhere(f"the hand-in is refused: {handed_in.refusal}")] * count
         return
@@ -36,5 +37,5 @@ def grounds_of(
         {"network": NETWORK} if has_map else {},
         calls.language_of(words, handed_in.content_of),
     )
-    with cells_for(yard, kept, count) as made:
+    with sandboxes_for(options, kept, count) as made:
         yield made

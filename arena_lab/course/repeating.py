@@ -1,4 +1,5 @@
-"""Repeats each agent of a graded course's solved matches once more, alone, by the results alone."""
+"""Repeats each agent of a graded course's solved matches once more, alone, by the
+results alone."""
 import pathlib
 import random
 import sys
@@ -7,14 +8,14 @@ from typing import Dict, List, Set
 from arena_lab.course import course, intake, rounds
 from arena_lab.course.grading import not_counted_in
 from arena_lab.course.rounds import Repeating, Solved
-from arena_lab.sandbox import cells
-from arena_lab.sandbox.cells import Isolation, Sandbox
+from arena_lab.sandbox import sandboxes
+from arena_lab.sandbox.sandboxes import Isolation, SandboxOptions
 from arena_lab.sweep import grid, tables
 
 
 def repeat_graded(out: pathlib.Path, workers: int, forgets: bool) -> int:
     """Repeats the course whose results a folder has; gives the exit status."""
-    strongest = cells.strongest()
+    strongest = sandboxes.strongest()
     with tables.alone_in(out, is_there=True):
         text = grid.text_in(out / intake.COURSE)
         rows = tables.rows_in(out / tables.RUNS)
@@ -26,10 +27,16 @@ def repeat_graded(out: pathlib.Path, workers: int, forgets: bool) -> int:
         terms = course.terms_of(text, max(counts, default=0))
         draws = course.CourseDraws(grid.text_in(out / course.SECRET).strip())
         if strongest is not Isolation.ALL:
-            print(f"arena-lab: {cells.weakness()}; {strongest.value}", file=sys.stderr)
-        plain = Sandbox(strongest, terms.tools, terms.has_proc, calls=terms.calls)
-        with cells.furnished(plain, terms.commands.values(), terms.packages) as yard:
-            job = Repeating(out, text, draws, yard, terms.limits, forgets)
+            print(
+                f"arena-lab: {sandboxes.weakness()}; {strongest.value}", file=sys.stderr
+            )
+        plain = SandboxOptions(
+            strongest, terms.tools, terms.has_proc, calls=terms.calls
+        )
+        with sandboxes.furnished(
+            plain, terms.commands.values(), terms.packages
+        ) as sandbox:
+            job = Repeating(out, text, draws, sandbox, terms.limits, forgets)
             found = rounds.repeated(job, solved, workers, random.SystemRandom())
         return report_repetitions(solved, found, not_counted_in(out))
 

@@ -1,8 +1,10 @@
-"""Repeats agents of a graded course's solved matches alone, in rounds, from what is kept beside the results.
+"""Repeats agents of a graded course's solved matches alone, in rounds, from what is
+kept beside the results.
 
-While an agent is repeated no other agent of its match may run, which could signal to it. So there are rounds: in each
-of them one agent of each match is repeated, in an order that no program can know. Before each round the numbers of
-pipes and sockets go on by chance. Once an agent of a match differs, the others are not repeated.
+While an agent is repeated no other agent of its match may run, which could signal to
+it. So there are rounds: in each of them one agent of each match is repeated, in an
+order that no program can know. Before each round the numbers of pipes and sockets go on
+by chance. Once an agent of a match differs, the others are not repeated.
 """
 import operator
 import pathlib
@@ -21,7 +23,7 @@ from arena_lab.play.parallel import Result
 from arena_lab.rules.fixtures import Fixture
 from arena_lab.rules.model import begun, objects_of
 from arena_lab.sandbox import kernel_traces
-from arena_lab.sandbox.cells import Sandbox
+from arena_lab.sandbox.sandboxes import SandboxOptions
 from arena_lab.sandbox.isolation import NoCell
 from arena_lab.sandbox.users import NoUser
 from arena_lab.support.built import NoProgram
@@ -34,7 +36,8 @@ from arena_lab.sweep.tables import NoTable
 
 # the replays of solved matches
 SOLVED = "solved"
-# faults of the machine or of the course's file, which end the command: all others are of a match alone
+# faults of the machine or of the course's file, which end the command: all others are
+# of a match alone
 OF_ALL = (Impossible, Missing, NoAgent, NoCell, NoProgram, NoTable, NoUser, OSError)
 
 
@@ -55,12 +58,13 @@ class Repetition(NamedTuple):
 
 
 class Repeating(NamedTuple):
-    """Repeats agents alone, by what is kept in a folder of results. Workers are sent it."""
+    """Repeats agents alone, by what is kept in a folder of results. Workers are sent
+    it."""
 
     out: pathlib.Path
     text: str
     draws: CourseDraws
-    yard: Sandbox
+    sandbox: SandboxOptions
     limits: ProgramLimits
     # whether the machine is to forget what it keeps of files before each round
     forgets: bool = False
@@ -85,12 +89,10 @@ class Repeating(NamedTuple):
         played = Fixture(
             it.team, setup, self.draws.keys(self.text, it.number, setup.agents)
         )
-        again, words = (
-            repeating.with_new_keys(played),
-            terms_of(self.text, 0).commands[it.team],
-        )
+        again = repeating.with_new_keys(played)
+        words = terms_of(self.text, 0).commands[it.team]
         handed_in = intake.hand_in_of(self.out, it.team)
-        with grounds_of(self.yard, handed_in, words, setup, 1) as grounds:
+        with grounds_of(self.sandbox, handed_in, words, setup, 1) as grounds:
             team = programs.Team(
                 again,
                 {it.agent: words},
@@ -133,8 +135,9 @@ def solved_in(rows: Sequence[Row]) -> List[Solved]:
 def repeated(
     job: Repeating, solved: Sequence[Solved], workers: int, chance: random.Random
 ) -> Dict[int, str]:
-    """Repeats the agents of solved matches; gives what one of them says otherwise, by the numbers of matches. A team
-    has as much time for its repetitions as for its matches."""
+    """Repeats the agents of solved matches; gives what one of them says otherwise, by
+    the numbers of matches. A team has as much time for its repetitions as for its
+    matches."""
     budget = Budget(job.limits.team, {it.team: 0.0 for it in solved})
     orders = {it.number: chance.sample(range(it.agents), it.agents) for it in solved}
     found: Dict[int, str] = {}

@@ -1,11 +1,10 @@
-"""Writes to standard output the filter of system calls for programs behind walls (arena_lab/sandbox/cells.py), for
-bubblewrap:
-`python3 filter.py TABLE LANGUAGE [CALL ..]`
+"""Writes to standard output the filter of system calls for programs behind walls
+(arena_lab/sandbox/sandboxes.py), for bubblewrap: `python3 filter.py TABLE LANGUAGE
+[CALL ..]`
 
-It allows what the table (arena_lab/sandbox/calls.toml) has for the language, and these calls besides. All others are
-answered
-ENOSYS, as if the system had none, but where the table names another error. Needs Debian's python3-seccomp, which
-Debian's Python sees.
+It allows what the table (arena_lab/sandbox/calls.toml) has for the language, and these
+calls besides. All others are answered ENOSYS, as if the system had none, but where the
+table names another error. Needs Debian's python3-seccomp, which Debian's Python sees.
 """
 import errno
 import itertools
@@ -15,15 +14,18 @@ from typing import Any, Dict, Iterator, List, Sequence, Set
 
 import seccomp
 
-# the bits of an argument that is an int, as the kernel looks at no others; and the language of all calls together
-INT, ANY = 0xFFFFFFFF, "any"
+# the bits of an argument that is an int, as the kernel looks at no others; and the
+# language of all calls together
+INT = 0xFFFFFFFF
+ANY = "any"
 # what libseccomp says of a name that it does not know
 UNKNOWN = -1
 Table = Dict[str, Any]
 
 
 def allowed(table: Table, language: str) -> Set[str]:
-    """The calls that a language may make, with those of which some are allowed by their arguments."""
+    """The calls that a language may make, with those of which some are allowed by their
+    arguments."""
     languages: Dict[str, Any] = table["languages"]
     chosen = list(languages.values()) if language == ANY else [languages[language]]
     return {
@@ -64,7 +66,8 @@ def number_of(error: Any) -> int:
 
 
 def conditions_of(row: Table) -> Iterator[List["seccomp.Arg"]]:
-    """The conditions under which a row of arguments holds, each as what must hold together."""
+    """The conditions under which a row of arguments holds, each as what must hold
+    together."""
     mask = row.get("mask", INT)
     for it in row["rows"]:
         for values in itertools.product(*it.values()):

@@ -1,5 +1,5 @@
-"""The walls that bubblewrap puts up around a program: what it sees of the disk and of /proc, where it can write, and
-which calls of the system it cannot make."""
+"""The walls that bubblewrap puts up around a program: what it sees of the disk and of
+/proc, where it can write, and which calls of the system it cannot make."""
 import functools
 import os
 import pathlib
@@ -12,7 +12,9 @@ from arena_lab.support.missing import DEBIANS_PYTHON
 
 FILTER = pathlib.Path(__file__).resolve().parent / "filter.py"
 # where a program's folder stands behind walls, where it connects, and who it is there
-HOME, PORT, USER = "/agent", 4000, "1000"
+HOME = "/agent"
+PORT = 4000
+USER = "1000"
 PATH = "/usr/local/bin:/usr/bin:/bin"
 # what a program sees of the disk, to read
 TOP = ("bin", "lib", "lib32", "lib64", "libx32")
@@ -53,10 +55,12 @@ PROCESSES = {
     "filesystems",
     "version",
 }
-# in a copy of the system, where the folders stand that are named as tools, by their numbers
+# in a copy of the system, where the folders stand that are named as tools, by their
+# numbers
 TOOLS = "tools"
 # where it can write, in memory, and how many bytes each of these takes
-SPACES, SPACE = (HOME, "/tmp", "/dev/shm"), 64 << 20
+SPACES = (HOME, "/tmp", "/dev/shm")
+SPACE = 64 << 20
 
 
 class NoCell(Fault):
@@ -64,9 +68,9 @@ class NoCell(Fault):
 
 
 def words(tools: Sequence[str], has_proc: bool, root: str = "") -> List[str]:
-    """The command of bubblewrap that puts up walls, up to the command that is to run behind them. These folders are
-    seen besides the system's, and /proc if it is asked for. Of the system a copy is seen, if there is one.
-    """
+    """The command of bubblewrap that puts up walls, up to the command that is to run
+    behind them. These folders are seen besides the system's, and /proc if it is asked
+    for. Of the system a copy is seen, if there is one."""
     found = [
         "bwrap",
         "--unshare-all",
@@ -77,7 +81,7 @@ def words(tools: Sequence[str], has_proc: bool, root: str = "") -> List[str]:
         "--gid",
         USER,
         "--hostname",
-        "cell",
+        "sandbox",
         "--die-with-parent",
         "--new-session",
         "--clearenv",
@@ -111,7 +115,8 @@ def words(tools: Sequence[str], has_proc: bool, root: str = "") -> List[str]:
 
 @functools.lru_cache(maxsize=8)
 def system_filter(language: str, more: Tuple[str, ...]) -> bytes:
-    """The filter of system calls for programs in a language, which allows these besides, as bubblewrap takes it."""
+    """The filter of system calls for programs in a language, which allows these
+    besides, as bubblewrap takes it."""
     ran = subprocess.run(
         [DEBIANS_PYTHON, str(FILTER), str(calls.TABLE), language, *more],
         capture_output=True,
@@ -166,7 +171,8 @@ def proc_words() -> List[str]:
 
 @functools.lru_cache(maxsize=4)
 def meeting_places(folders: Sequence[str]) -> List[str]:
-    """The pipes and sockets in these folders, by which programs that only read could talk."""
+    """The pipes and sockets in these folders, by which programs that only read could
+    talk."""
     ran = subprocess.run(
         [
             "find",
@@ -186,7 +192,8 @@ def meeting_places(folders: Sequence[str]) -> List[str]:
 
 
 def seen_at(path: pathlib.Path, tools: Sequence[str]) -> Optional[str]:
-    """The folder that programs behind walls see, and that has this path or is in it; None if they do not see it."""
+    """The folder that programs behind walls see, and that has this path or is in it;
+    None if they do not see it."""
     real = path.resolve()
     for seen in (*map("/{}".format, TOP), *SEEN, *tools):
         if real.is_relative_to(pathlib.Path(seen).resolve()):

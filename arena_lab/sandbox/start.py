@@ -1,9 +1,10 @@
-"""Starts a program in its cell (arena_lab/sandbox/cells.py): `python3 start.py CHANNEL FILES PORT SEED WORD
-..`
+"""Starts a program in its sandbox (arena_lab/sandbox/sandboxes.py): `python3 start.py
+CHANNEL FILES PORT SEED WORD ..`
 
-Unpacks the team's files, a tar archive that stands open as FILES, into its folder; opens the port to which the program
-will connect, and sends it over the channel, which is a socket; and becomes the program. In the words {port} stands for
-the port, of which 0 asks for any that is free. The program finds SEED in ARENA_SEED.
+Unpacks the team's files, a tar archive that stands open as FILES, into its folder;
+opens the port to which the program will connect, and sends it over the channel, which
+is a socket; and becomes the program. In the words {port} stands for the port, of which
+0 asks for any that is free. The program finds SEED in ARENA_SEED.
 """
 import array
 import errno
@@ -14,8 +15,10 @@ import sys
 from typing import List, NoReturn
 
 HOST = "127.0.0.1"
-READY, GO = b"ready", b"go"
-# bytes of a file, bytes of memory, bytes of addresses, open files, processes with their threads
+READY = b"ready"
+GO = b"go"
+# bytes of a file, bytes of memory, bytes of addresses, open files, processes with their
+# threads
 LIMITS = {
     resource.RLIMIT_CORE: 0,
     resource.RLIMIT_FSIZE: 64 << 20,
@@ -27,12 +30,14 @@ LIMITS = {
 NO_FIRST_LINE = "it is no program of this machine; a script's first line says what runs it, such as #!/bin/sh"
 # bytes of a script's first line that the kernel looks at
 LONGEST = 256
-# bytes that wait at the port for the lab, so that what a program sends before it ends is not lost
+# bytes that wait at the port for the lab, so that what a program sends before it ends
+# is not lost
 AHEAD = 4 << 20
 
 
 def limit() -> None:
-    """Bounds what the program may take. Who has a name has other processes, which are not counted against it."""
+    """Bounds what the program may take. Who has a name has other processes, which are
+    not counted against it."""
     for kind, most in LIMITS.items():
         hard = resource.getrlimit(kind)[1]
         least = most if hard == resource.RLIM_INFINITY else min(most, hard)
@@ -55,7 +60,8 @@ def unpack(files: int) -> None:
 
 
 def listen(channel: int, port: int) -> int:
-    """Opens the port and sends it over the channel; gives its number, once the lab says that the program may begin."""
+    """Opens the port and sends it over the channel; gives its number, once the lab says
+    that the program may begin."""
     with socket.socket() as listener, socket.socket(fileno=channel) as sends:
         listener.setsockopt(socket.SOL_SOCKET, socket.SO_RCVBUF, AHEAD)
         listener.bind((HOST, port))
@@ -77,7 +83,8 @@ def listen(channel: int, port: int) -> int:
 
 
 def hint(name: str) -> str:
-    """What to change in a team's file that cannot be started, as far as the file shows it."""
+    """What to change in a team's file that cannot be started, as far as the file shows
+    it."""
     try:
         with open(name, "rb") as file:
             first = file.readline(LONGEST)

@@ -43,20 +43,25 @@ from arena_lab.sweep.tables import (
     rows_in,
 )
 
-SUMMARY, REPORT, WORST = "summary.csv", "report.html", "worst"
-# an agent may wait for a processor that has much other work: a row is not to depend on that
+SUMMARY = "summary.csv"
+REPORT = "report.html"
+WORST = "worst"
+# an agent may wait for a processor that has much other work: a row is not to depend on
+# that
 LIMIT = 60
 
 
 class SweepRow(NamedTuple):
-    """The row of a run, and the SHA-256 of each file that its agents have read, by their names."""
+    """The row of a run, and the SHA-256 of each file that its agents have read, by
+    their names."""
 
     row: List[str]
     read: Dict[str, str]
 
 
 class SweepJob(NamedTuple):
-    """What a worker needs: the sweep's text and the program, or None for the Python model."""
+    """What a worker needs: the sweep's text and the program, or None for the Python
+    model."""
 
     text: str
     program: Optional[str]
@@ -89,10 +94,10 @@ def row_for(
     case: Case, schedule: Schedule, played: PlayedMatch, program: Optional[str]
 ) -> List[str]:
     """The row of a run that was played. The program judges it, if there is one."""
-    return cells_for(case, schedule.fixture, summary_of(played, program))
+    return sandboxes_for(case, schedule.fixture, summary_of(played, program))
 
 
-def cells_for(case: Case, fixture: Fixture, summary: Summary) -> List[str]:
+def sandboxes_for(case: Case, fixture: Fixture, summary: Summary) -> List[str]:
     """The row of a run, of which this came."""
     row = {
         **asked_of(case, fixture),
@@ -148,8 +153,8 @@ def made_of(spec: Grid, text: str, program: Optional[str]) -> Dict[str, Any]:
 
 
 class SweepRequest(NamedTuple):
-    """Where a sweep is written, who plays it, and up to how many states of each match every schedule is tried, if it
-    is."""
+    """Where a sweep is written, who plays it, and up to how many states of each match
+    every schedule is tried, if it is."""
 
     out: pathlib.Path
     way: Parallelism
@@ -159,12 +164,11 @@ class SweepRequest(NamedTuple):
 def swept(
     work: SweepJob, keeper: SweepJob, cases: List[Case], done: int, wanted: SweepRequest
 ) -> int:
-    """Plays the runs that are not done yet, and writes everything. The keeper plays what is kept once more."""
-    spec, out, is_explored = (
-        grid.grid_of(work.text),
-        wanted.out,
-        wanted.states is not None,
-    )
+    """Plays the runs that are not done yet, and writes everything. The keeper plays
+    what is kept once more."""
+    spec = grid.grid_of(work.text)
+    out = wanted.out
+    is_explored = wanted.states is not None
     check_rows(spec, cases, out)
     rows = every.SweepRows(out, spec)
     try:
@@ -225,7 +229,8 @@ def verified(
 
 
 def noted(results: Iterable[Result], folder: pathlib.Path) -> Iterator[Result]:
-    """The rows of results, of which it is written down first what their agents have read."""
+    """The rows of results, of which it is written down first what their agents have
+    read."""
     for result in results:
         if not result.fault:
             note_read(folder, result.found.read)
@@ -250,7 +255,9 @@ def write_summary(
     folder: pathlib.Path,
 ) -> int:
     """Writes the summary, the worst runs and the report."""
-    spec, rows, matches = grid.grid_of(work.text), rows_in(folder / RUNS), tried.rows()
+    spec = grid.grid_of(work.text)
+    rows = rows_in(folder / RUNS)
+    matches = tried.rows()
     every.check_runs(matches, rows)
     groups = report.groups_of(rows, spec, matches)
     (folder / SUMMARY).write_text(summary_text(groups), encoding="utf-8")
@@ -276,8 +283,8 @@ def write_summary(
 def kept(
     work: SweepJob, spec: Grid, case: Case, row: report.Row, folder: pathlib.Path
 ) -> str:
-    """Writes a run with its schedule, its replay and its page; gives the page, or else the schedule, from the folder of
-    the report."""
+    """Writes a run with its schedule, its replay and its page; gives the page, or else
+    the schedule, from the folder of the report."""
     schedule, played = played_case(work, spec, case)
     if hashlib.sha256(played.replay).hexdigest() != row["replay"]:
         raise Differs(
@@ -303,9 +310,12 @@ def summary_text(groups: List[report.RunGroup]) -> str:
 
 
 def other_texts(spec: Grid, folder: pathlib.Path) -> List[str]:
-    """Which of the summary and the report are not what is made of the rows. The report may name any engine."""
-    rows, matches = rows_in(folder / RUNS), every.SweepRows(folder, spec).rows()
-    groups, tried = report.groups_of(rows, spec, matches), report.matches(rows, matches)
+    """Which of the summary and the report are not what is made of the rows. The report
+    may name any engine."""
+    rows = rows_in(folder / RUNS)
+    matches = every.SweepRows(folder, spec).rows()
+    groups = report.groups_of(rows, spec, matches)
+    tried = report.matches(rows, matches)
     pages = [
         report.KeptRun(row, link_to(int(row["run"]), folder))
         for row in report.worst_runs(rows)

@@ -1,4 +1,5 @@
-"""What the tests of halls share: a hall of this process, without servers, and halls that are served."""
+"""What the tests of halls share: a hall of this process, without servers, and halls
+that are served."""
 import atexit
 import contextlib
 import csv
@@ -20,7 +21,7 @@ from typing import Any, Callable, Dict, Iterator, List, Optional
 
 from arena_lab.hall.place import HallFolder
 from arena_lab.rules.engines import TOP
-from arena_lab.sandbox import cells
+from arena_lab.sandbox import sandboxes
 from arena_lab.sandbox.processes import listed, words_of
 from arena_lab.support.ports import free_port
 from tests.support.matches import program
@@ -71,7 +72,8 @@ _place: List[HallFolder] = []
 
 
 def begun() -> HallFolder:
-    """The hall of this process, which is made once: its database, its teams, and nobody who serves it."""
+    """The hall of this process, which is made once: its database, its teams, and nobody
+    who serves it."""
     if not _place:
         folder = pathlib.Path(tempfile.mkdtemp(prefix="hall-"))
         atexit.register(shutil.rmtree, folder, True)
@@ -92,7 +94,8 @@ def begun() -> HallFolder:
 
         call_command("migrate", verbosity=0, interactive=False)
         setup_test_environment()
-        # tests change what tables have, and look at once; and each client of a test would list all files
+        # tests change what tables have, and look at once; and each client of a test
+        # would list all files
         dummy = {"BACKEND": "django.core.cache.backends.dummy.DummyCache"}
         override_settings(CACHES={**settings.CACHES, "default": dummy}).enable()
         settings.WHITENOISE_AUTOREFRESH = True
@@ -108,7 +111,9 @@ class Told:
     """An answer of a hall."""
 
     def __init__(self, status: int, headers: Any, body: bytes) -> None:
-        self.status, self.headers, self.body = status, headers, body
+        self.status = status
+        self.headers = headers
+        self.body = body
 
     def json(self) -> Any:
         return json.loads(self.body)
@@ -158,9 +163,10 @@ class Served:
         return [sys.executable, "-m", "arena_lab", "hall", *map(str, words)]
 
     def start(self) -> None:
-        """Serves the hall, which takes hand-ins: where programs have no walls, the test is skipped."""
-        if cells.weakness():
-            raise unittest.SkipTest(f"no walls here: {cells.weakness()}")
+        """Serves the hall, which takes hand-ins: where programs have no walls, the test
+        is skipped."""
+        if sandboxes.weakness():
+            raise unittest.SkipTest(f"no walls here: {sandboxes.weakness()}")
         with self._said.open("a") as said:
             self.child = subprocess.Popen(
                 [
@@ -280,7 +286,8 @@ class Served:
         return dict(self.wait(found, f"attempt {number} is over"))
 
     def processes(self) -> Dict[str, int]:
-        """The numbers of the hall's processes by their names: `web`, `worker 0` and so on."""
+        """The numbers of the hall's processes by their names: `web`, `worker 0` and so
+        on."""
         found = {}
         for process in listed():
             words = words_of(process)
@@ -291,7 +298,8 @@ class Served:
         return found
 
     def kill(self, name: str) -> None:
-        """Kills a process of the hall, as the system does where memory is short, and waits for the next."""
+        """Kills a process of the hall, as the system does where memory is short, and
+        waits for the next."""
         before = self.processes()[name]
         os.kill(before, signal.SIGKILL)
         self.wait(
@@ -301,7 +309,8 @@ class Served:
         self.wait(self.answers, "the hall answers again")
 
     def servers(self, attempt: Any = "") -> List[int]:
-        """The numbers of all servers of matches of this hall, or of an attempt, that go on."""
+        """The numbers of all servers of matches of this hall, or of an attempt, that go
+        on."""
         place = (
             str(self.folder / "attempts" / f"{attempt}/")
             if attempt

@@ -1,7 +1,8 @@
-"""Plays the kits of all languages: their own tests, one conversation with a server of the tests, and rings of eight
-nodes on the program.
+"""Plays the kits of all languages: their own tests, one conversation with a server of
+the tests, and rings of eight nodes on the program.
 
-The conversation is the same for all. The server wants each line that it expects, as JSON, and answers by these lines.
+The conversation is the same for all. The server wants each line that it expects, as
+JSON, and answers by these lines.
 """
 import json
 import os
@@ -16,8 +17,8 @@ import time
 from typing import Any, Dict, Optional, Sequence, Tuple
 
 from arena_lab.play.kits import KITS, Kit, played, write_kit
-from arena_lab.sandbox import cells
-from arena_lab.sandbox.cells import Isolation
+from arena_lab.sandbox import sandboxes
+from arena_lab.sandbox.sandboxes import Isolation
 from arena_lab.support.built import TOP
 from arena_lab.support.missing import DEBIANS_PYTHON
 
@@ -56,8 +57,9 @@ def changed(board: str) -> str:
     return json.dumps({"board": board, "ok": "changed"}, separators=(",", ":"))
 
 
-# of each connection what is said, on a ring of five nodes: the first is not let in; the second comes after the other
-# agent, meets labels that do not agree, a text of other characters, and a whiteboard that changes as it writes
+# of each connection what is said, on a ring of five nodes: the first is not let in; the
+# second comes after the other agent, meets labels that do not agree, a text of other
+# characters, and a whiteboard that changes as it writes
 NO_ROOM: Talk = [(ENTER, ('{"no":"late"}',))]
 SEARCH: Talk = [
     (ENTER, (here("", None),)),
@@ -78,7 +80,8 @@ UNKNOWN: Talk = [(ENTER, ('{"no":"key"}',))]
 
 
 class Server:
-    """Talks with clients one after the other, and keeps the first thing that was said otherwise."""
+    """Talks with clients one after the other, and keeps the first thing that was said
+    otherwise."""
 
     def __init__(self, talks: Sequence[Talk]) -> None:
         self._listener = socket.create_server(("127.0.0.1", 0))
@@ -144,7 +147,8 @@ class Played:
 
     def __init__(self, language: str, folder: pathlib.Path, program: str) -> None:
         self.kit: Kit = KITS[language]
-        self._folder, self._program = folder / language, program
+        self._folder = folder / language
+        self._program = program
         self._home = folder / "cargo"
         self._home.mkdir(exist_ok=True)
         (self._home / "config.toml").write_text(CARGO)
@@ -168,8 +172,8 @@ class Played:
             want(self.run(self.kit.test))
 
     def talk(self) -> None:
-        """The search, an end that comes early and a wrong key, by words and by the environment. The player of modules
-        has tests of its own."""
+        """The search, an end that comes early and a wrong key, by words and by the
+        environment. The player of modules has tests of its own."""
         if self.kit.is_module:
             return
         for talks, status in (((NO_ROOM, SEARCH), 0), ((OVER,), 0), ((UNKNOWN,), 1)):
@@ -196,7 +200,8 @@ class Played:
         want(found)
 
     def solve(self) -> None:
-        """The black hole of a ring of eight nodes is beside the home base, on either side, or far from it."""
+        """The black hole of a ring of eight nodes is beside the home base, on either
+        side, or far from it."""
         for hole in (1, 4, 7):
             words = f"{sys.executable} -m arena_lab run --network ring:8 --hole {hole}"
             words += f" --program {self._program} --command"
@@ -225,14 +230,12 @@ class Played:
                 raise AssertionError(f"{self.kit.name}: {said}")
 
     def grade(self) -> None:
-        """As a hand-in of a course, where programs may make the calls of the system that their language needs. It has
-        to repeat too."""
-        if cells.strongest() is not Isolation.ALL:
+        """As a hand-in of a course, where programs may make the calls of the system
+        that their language needs. It has to repeat too."""
+        if sandboxes.strongest() is not Isolation.ALL:
             return
-        handed_in, file = (
-            self._folder.parent / f"in-{self._folder.name}",
-            self._folder.parent / "course.toml",
-        )
+        handed_in = self._folder.parent / f"in-{self._folder.name}"
+        file = self._folder.parent / "course.toml"
         shutil.copytree(
             self._folder, handed_in, ignore=shutil.ignore_patterns(*NOT_HANDED_IN)
         )

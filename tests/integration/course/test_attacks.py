@@ -1,8 +1,9 @@
-"""Programs that want to win, or to stop a course, by other ways than by playing: as root with walls between programs,
-as root without, and as a user without rights.
+"""Programs that want to win, or to stop a course, by other ways than by playing: as
+root with walls between programs, as root without, and as a user without rights.
 
-These attacks were played with walls. How many of their matches counted: before matches had to repeat; with repetition
-alone; now. test_repeating.py, test_repeat.py and tests/hostile/hostile_course.py play some of them too.
+These attacks were played with walls. How many of their matches counted: before matches
+had to repeat; with repetition alone; now. test_repeating.py, test_repeat.py and
+tests/hostile/hostile_course.py play some of them too.
 
     two agents say by pauses how much they have explored            15 of 15; 4 of 15; 1 of 10, and 5 of 15
     the same by a counter of the machine (aio-max-nr)               10 of 10; 0 of 10; 0 of 5, refused
@@ -19,10 +20,12 @@ alone; now. test_repeating.py, test_repeat.py and tests/hostile/hostile_course.p
       its secret                                                    8 of 8; 8 of 8; 0 of 8
     files that are changed while they are graded                    new files are graded; the same; what was read is
 
-In the one match with pauses of ten that counts now the black hole is next to the home base: an agent is destroyed at
-once, and the other explores alone, in silence too. The five of fifteen were not looked at.
+In the one match with pauses of ten that counts now the black hole is next to the home
+base: an agent is destroyed at once, and the other explores alone, in silence too. The
+five of fifteen were not looked at.
 
-These stopped the command, took more than their bound, or had the lab say what it did not mean. Now:
+These stopped the command, took more than their bound, or had the lab say what it did
+not mean. Now:
 
     a name of 128,000 parts that is imported (the command ended)    graded
     700 modules, each of which imports the next (the lab failed)    graded
@@ -52,16 +55,16 @@ from arena_lab.course.grading import GradingRun
 from arena_lab.play import schedulers
 from arena_lab.play.matches import PlayedMatch
 from arena_lab.rules.engines import TOP
-from arena_lab.sandbox import calls, cells, kernel_traces, system_copy, watch
-from arena_lab.sandbox.cells import Isolation, Sandbox
+from arena_lab.sandbox import calls, sandboxes, kernel_traces, system_copy, watch
+from arena_lab.sandbox.sandboxes import Isolation, SandboxOptions
 from arena_lab.sandbox.isolation import NoCell
 from arena_lab.support.missing import DEBIANS_PYTHON
-from tests.support.courses import HEAD, HONEST, rows_of_teams, team
 from tests.integration.play.test_programs import running
+from tests.support.courses import HEAD, HONEST, rows_of_teams, team
 from tests.support.matches import AGENTS
 from tests.support.output import ran
 
-HAS_WALLS = cells.strongest() is Isolation.ALL
+HAS_WALLS = sandboxes.strongest() is Isolation.ALL
 IS_ROOT = os.geteuid() == 0
 # all that can keep programs apart for the user who runs the tests
 ALL_WALLS = (
@@ -70,9 +73,10 @@ ALL_WALLS = (
     + [Isolation.NONE] * (not IS_ROOT)
 )
 SECRET = "a secret of the tests"
-WALLED = unittest.skipUnless(HAS_WALLS, f"no walls here: {cells.weakness()}")
+WALLED = unittest.skipUnless(HAS_WALLS, f"no walls here: {sandboxes.weakness()}")
 
-# begins an agent's program: `ask` plays, by the port and the key that stand first in the command
+# begins an agent's program: `ask` plays, by the port and the key that stand first in
+# the command
 BEGINS = """import json, os, socket, sys, time
 def connect():
     server = socket.create_connection(("127.0.0.1", int(sys.argv[1])))
@@ -114,31 +118,37 @@ class Course(unittest.TestCase):
 
     def grading(
         self,
-        walls: Isolation,
+        isolation: Isolation,
         code: str,
         agents: int = 1,
         head: str = HEAD,
-        **yard: Any,
+        **sandbox: Any,
     ) -> GradingRun:
         """A grading of the team, which has written nothing yet."""
         (self.team / "evil.py").write_text(code)
-        cells.remove(self.folder / "out")
+        sandboxes.remove(self.folder / "out")
         text = head + team("evil", ["evil"], EVIL, agents)
         return GradingRun(
-            text, self.folder, SECRET, None, Sandbox(walls, **yard), self.folder / "out"
+            text,
+            self.folder,
+            SECRET,
+            None,
+            SandboxOptions(isolation, **sandbox),
+            self.folder / "out",
         )
 
     def played(
-        self, walls: Isolation, code: str, *agents: int, **more: Any
+        self, isolation: Isolation, code: str, *agents: int, **more: Any
     ) -> PlayedMatch:
         """A match of the team."""
-        return first_match(self.grading(walls, code, *agents, **more))
+        return first_match(self.grading(isolation, code, *agents, **more))
 
     def said(
-        self, walls: Isolation, code: str, agents: int = 1, **more: Any
+        self, isolation: Isolation, code: str, agents: int = 1, **more: Any
     ) -> List[str]:
-        """The last words of the team's programs, each of which ends before it connects."""
-        faults = self.played(walls, code, agents, **more).faults
+        """The last words of the team's programs, each of which ends before it
+        connects."""
+        faults = self.played(isolation, code, agents, **more).faults
         return [fault.partition("before it connected: ")[2] for fault in faults]
 
     def graded(self, text: str, out: str = "out", status: int = 0) -> Dict[str, Any]:
@@ -174,7 +184,8 @@ def number_of_a_pipe() -> int:
 
 
 def number_of_memory() -> int:
-    """The number that the kernel gives to memory that processes share, which a program with /proc finds in its maps."""
+    """The number that the kernel gives to memory that processes share, which a program
+    with /proc finds in its maps."""
     with mmap.mmap(-1, mmap.PAGESIZE):
         lines = pathlib.Path("/proc/self/maps").read_text().splitlines()
         return int(next(line.split()[4] for line in lines if watch.SHARED in line))
@@ -195,19 +206,22 @@ class Stopping(Course):
     """Nothing that a team does or hands in ends the command."""
 
     def test_folders_in_folders(self) -> None:
-        """1,200 of them were not removed by a call that goes down into each, and no course went on after that."""
-        own = self.folder / "cells"
+        """1,200 of them were not removed by a call that goes down into each, and no
+        course went on after that."""
+        own = self.folder / "sandboxes"
         own.mkdir()
-        for walls in ALL_WALLS:
-            with self.subTest(walls), mock.patch.object(tempfile, "tempdir", str(own)):
+        for isolation in ALL_WALLS:
+            with self.subTest(isolation), mock.patch.object(
+                tempfile, "tempdir", str(own)
+            ):
                 said = self.said(
-                    walls,
+                    isolation,
                     "import os, sys\nfor _ in range(1200):\n    os.mkdir('d')\n    os.chdir('d')\n"
                     "sys.exit('has made them')",
                 )
                 self.assertEqual(said, ["has made them"])
         self.assertEqual(
-            [name for name in os.listdir(own) if name.startswith("lab-cell")], []
+            [name for name in os.listdir(own) if name.startswith("lab-sandbox")], []
         )
 
     def test_hand_ins(self) -> None:
@@ -238,7 +252,8 @@ class Stopping(Course):
         )
 
     def test_a_match_that_the_lab_cannot_play(self) -> None:
-        """Whatever it is, the others are graded; the status says that something is wrong."""
+        """Whatever it is, the others are graded; the status says that something is
+        wrong."""
         (self.team / "evil.py").write_text("pass")
         play = GradingRun.match
 
@@ -262,12 +277,14 @@ class TwoCommands(Course):
     @unittest.skipUnless(IS_ROOT, "only root can let programs be other users")
     def test_they_do_not_end_each_others_programs(self) -> None:
         """The same match twice at a time: whoever kills by user must not share it."""
-        for walls in {Isolation.USER, cells.strongest()}:
-            with self.subTest(walls):
+        for isolation in {Isolation.USER, sandboxes.strongest()}:
+            with self.subTest(isolation):
                 graded = self.grading(
-                    walls, ENTERS + "time.sleep(0.5)\nask(do='look')\nask(do='leave')\n"
+                    isolation,
+                    ENTERS + "time.sleep(0.5)\nask(do='look')\nask(do='leave')\n",
                 )
-                # the first match takes what the team hands in, and the others begin while one is played
+                # the first match takes what the team hands in, and the others begin
+                # while one is played
                 self.assertEqual(first_match(graded).faults, [])
                 with concurrent.futures.ThreadPoolExecutor(3) as pool:
                     found: "List[concurrent.futures.Future[PlayedMatch]]" = []
@@ -289,7 +306,8 @@ class Guessing(Course):
             self.assertEqual(len(told), 3)
 
 
-# tries one way after another by which programs that share files of the system may talk, and says which are open
+# tries one way after another by which programs that share files of the system may talk,
+# and says which are open
 WAYS = r"""import ctypes, fcntl, os, signal, socket, struct, sys
 signal.signal(signal.SIGIO, signal.SIG_IGN)
 libc = ctypes.CDLL(None, use_errno=True)
@@ -403,7 +421,8 @@ def port_of(place):
 
 @WALLED
 class Talking(Course):
-    """Agents of a team, each behind walls, have nothing in common by which they could talk."""
+    """Agents of a team, each behind walls, have nothing in common by which they could
+    talk."""
 
     def test_ways_are_closed(self) -> None:
         for has_proc in (False, True):
@@ -447,7 +466,8 @@ class Talking(Course):
                 ("agent.py", str(AGENTS / "ring.py")),
             ):
                 command = command.replace(name, path)
-            # on a busy machine a program that is traced may take longer than its match waits
+            # on a busy machine a program that is traced may take longer than its match
+            # waits
             ran = subprocess.run(
                 command, shell=True, text=True, capture_output=True, cwd=TOP
             )
@@ -465,7 +485,8 @@ class Talking(Course):
             )
 
     def test_the_ways_are_good_ones(self) -> None:
-        """Without walls they are open, so that the test above would show it if one were."""
+        """Without walls they are open, so that the test above would show it if one
+        were."""
         said = self.said(Isolation.USER if IS_ROOT else Isolation.NONE, WAYS)[0]
         self.assertRegex(said, "^[3-6][0-9] open")
         shut = set(said.partition("shut are ")[2].split(", "))
@@ -489,21 +510,23 @@ class Talking(Course):
         )
 
     def test_what_programs_see_of_the_system_is_in_memory(self) -> None:
-        """There the kernel keeps no names of files that do not exist, which a later program could ask for."""
+        """There the kernel keeps no names of files that do not exist, which a later
+        program could ask for."""
         code = """import os, subprocess, sys
 said = [subprocess.run(["stat", "-f", "-c", "%T", path], capture_output=True, text=True).stdout.strip()
         for path in ("/", "/usr", "/usr/lib/python3", "/etc", "/tmp", "/agent", "/bin/sh", "/etc/alternatives")]
 sys.exit(f"{set(said)} {os.path.exists('/usr/share/doc/bash')} {len(os.listdir('/usr/bin')) > 50}")
 """
-        with cells.furnished(Sandbox(Isolation.ALL), [EVIL], []) as yard:
-            self.assertNotEqual(yard.root, "")
+        with sandboxes.furnished(SandboxOptions(Isolation.ALL), [EVIL], []) as sandbox:
+            self.assertNotEqual(sandbox.root, "")
             self.assertEqual(
-                self.said(Isolation.ALL, code, root=yard.root), ["{'tmpfs'} False True"]
+                self.said(Isolation.ALL, code, root=sandbox.root),
+                ["{'tmpfs'} False True"],
             )
             self.assertEqual(
-                self.said(Isolation.ALL, WAYS, root=yard.root), ["all are shut"]
+                self.said(Isolation.ALL, WAYS, root=sandbox.root), ["all are shut"]
             )
-        self.assertFalse(os.path.exists(yard.root))
+        self.assertFalse(os.path.exists(sandbox.root))
 
     def test_tools_are_seen_in_memory_too(self) -> None:
         """Also by a command that begins with one of them, which is of no package."""
@@ -521,12 +544,14 @@ sys.exit(f"{{kind}} {{open('{tools}/bin/it').read()}} {{os.path.isfile('{tools}/
             err = io.StringIO()
             with mock.patch.object(
                 system_copy, "MOST", most
-            ), contextlib.redirect_stderr(err), cells.furnished(
-                Sandbox(Isolation.ALL, (str(tools),)), [EVIL, f"{tools}/bin/it"], []
-            ) as yard:
-                said = self.said(Isolation.ALL, code, tools=yard.tools, root=yard.root)[
-                    0
-                ]
+            ), contextlib.redirect_stderr(err), sandboxes.furnished(
+                SandboxOptions(Isolation.ALL, (str(tools),)),
+                [EVIL, f"{tools}/bin/it"],
+                [],
+            ) as sandbox:
+                said = self.said(
+                    Isolation.ALL, code, tools=sandbox.tools, root=sandbox.root
+                )[0]
             self.assertEqual(
                 (said.startswith("tmpfs"), said.endswith("of the course False")),
                 (bool(kind), True),
@@ -539,21 +564,26 @@ sys.exit(f"{{kind}} {{open('{tools}/bin/it').read()}} {{os.path.isfile('{tools}/
     def test_packages_that_the_course_names_are_seen(self) -> None:
         code = "import os, sys\nsys.exit(str(os.path.exists('/usr/lib/python3/dist-packages/yaml')))"
         for packages, expected in (([], "False"), (["python3-yaml"], "True")):
-            with cells.furnished(Sandbox(Isolation.ALL), [EVIL], packages) as yard:
+            with sandboxes.furnished(
+                SandboxOptions(Isolation.ALL), [EVIL], packages
+            ) as sandbox:
                 self.assertEqual(
-                    self.said(Isolation.ALL, code, root=yard.root), [expected]
+                    self.said(Isolation.ALL, code, root=sandbox.root), [expected]
                 )
         with self.assertRaisesRegex(
             NoCell,
             "packages: the package no-such-one is not installed: `apt-get install no",
         ):
-            with cells.furnished(Sandbox(Isolation.ALL), [EVIL], ["no-such-one"]):
+            with sandboxes.furnished(
+                SandboxOptions(Isolation.ALL), [EVIL], ["no-such-one"]
+            ):
                 pass
 
     def test_numbers_of_pipes_and_of_memory_go_on_by_chance_between_rounds(
         self,
     ) -> None:
-        """On each processor by another number each time, and by more than what programs make by the way."""
+        """On each processor by another number each time, and by more than what programs
+        make by the way."""
         for processor in os.sched_getaffinity(0):
             with one_processor(processor):
                 found = []
@@ -570,8 +600,8 @@ sys.exit(f"{{kind}} {{open('{tools}/bin/it').read()}} {{os.path.isfile('{tools}/
         self.assertEqual(stir.call_count, 2)
 
     def test_ports_of_connections_tell_nothing_of_other_programs(self) -> None:
-        """Where a range is free, the kernel goes on from one network to the next, so that what an agent has set the
-        number to is there for the other agent."""
+        """Where a range is free, the kernel goes on from one network to the next, so
+        that what an agent has set the number to is there for the other agent."""
         code = (
             PORTS + "sys.exit(str({port_of(('127.0.0.1', 5555)) for _ in range(40)}))"
         )
@@ -621,18 +651,19 @@ except OSError as fault:
             self.said(
                 Isolation.ALL, "import socket, sys; sys.exit(socket.gethostname())"
             ),
-            ["cell"],
+            ["sandbox"],
         )
 
     def test_the_environment_of_the_teacher_is_not_that_of_programs(self) -> None:
         code = "import os, sys; sys.exit(str('swordfish' in str(os.environ)))"
         with mock.patch.dict(os.environ, {"TEACHERS_SECRET": "swordfish"}):
-            for walls in ALL_WALLS:
-                with self.subTest(walls):
-                    self.assertEqual(self.said(walls, code), ["False"])
+            for isolation in ALL_WALLS:
+                with self.subTest(isolation):
+                    self.assertEqual(self.said(isolation, code), ["False"])
 
     def test_programs_of_a_match_have_no_file_in_common(self) -> None:
-        """Each leaves a file where it may write, waits for the other, and looks for files of others."""
+        """Each leaves a file where it may write, waits for the other, and looks for
+        files of others."""
         code = """import os, sys, time
 for place in (".", "/tmp", "/dev/shm"):
     open(f"{place}/{sys.argv[2]}", "w").close()
@@ -645,10 +676,10 @@ sys.exit(str([len(os.listdir(place)) for place in (".", "/tmp", "/dev/shm")]))
 class Stalling(Course):
     def test_a_match_has_a_time(self) -> None:
         code = ENTERS + "while True:\n    time.sleep(0.3)\n    ask(do='look')\n"
-        for walls in ALL_WALLS:
-            with self.subTest(walls):
+        for isolation in ALL_WALLS:
+            with self.subTest(isolation):
                 began = time.monotonic()
-                played = self.played(walls, code, head=HEAD + "match_limit = 2\n")
+                played = self.played(isolation, code, head=HEAD + "match_limit = 2\n")
                 self.assertEqual(
                     played.faults,
                     [
@@ -695,16 +726,18 @@ time.sleep(100)
 """
         )
         with mock.patch.object(watch, "MOST", 200 << 20):
-            for walls in ALL_WALLS:
-                with self.subTest(walls):
+            for isolation in ALL_WALLS:
+                with self.subTest(isolation):
                     began = time.monotonic()
                     self.assertEqual(
-                        self.played(walls, code).faults, [f"agent 0: {watch.TOO_MUCH}"]
+                        self.played(isolation, code).faults,
+                        [f"agent 0: {watch.TOO_MUCH}"],
                     )
                     self.assertLess(time.monotonic() - began, 30)
 
     def test_memory_that_is_given_back_and_taken_all_the_same(self) -> None:
-        """Shared memory whose pages the program no longer has, though it could read them again."""
+        """Shared memory whose pages the program no longer has, though it could read
+        them again."""
         code = (
             BEGINS
             + """import mmap
@@ -719,7 +752,8 @@ time.sleep(100)
         self.check_taken(code)
 
     def test_tables_of_pages(self) -> None:
-        """A page in two megabytes is read, and is the same one; the tables that say so take memory."""
+        """A page in two megabytes is read, and is the same one; the tables that say so
+        take memory."""
         code = (
             BEGINS
             + """import ctypes, mmap
@@ -740,10 +774,12 @@ time.sleep(100)
     def check_taken(self, code: str) -> None:
         """The program is ended as one that has taken too much."""
         with mock.patch.object(watch, "MOST", 200 << 20):
-            for walls in ALL_WALLS:
-                with self.subTest(walls):
+            for isolation in ALL_WALLS:
+                with self.subTest(isolation):
                     self.assertEqual(
-                        self.played(walls, code, head=HEAD.replace("60", "8")).faults,
+                        self.played(
+                            isolation, code, head=HEAD.replace("60", "8")
+                        ).faults,
                         [f"agent 0: {watch.TOO_MUCH}"],
                     )
 
@@ -776,7 +812,8 @@ except OSError as fault:
 
 class Timing(Course):
     def test_who_does_not_read_and_ends_is_heard_to_the_end(self) -> None:
-        """It sends all its commands at once: to node 1, back, to node 3, and its accusation."""
+        """It sends all its commands at once: to node 1, back, to node 3, and its
+        accusation."""
         code = (
             BEGINS
             + """server = socket.create_connection(("127.0.0.1", int(sys.argv[1])))
@@ -786,18 +823,18 @@ server.sendall("".join(json.dumps(command) + "\\n" for command in said).encode()
 os._exit(0)
 """
         )
-        for walls in ALL_WALLS:
-            with self.subTest(walls):
+        for isolation in ALL_WALLS:
+            with self.subTest(isolation):
                 for _ in range(3):
-                    played = self.played(walls, code)
+                    played = self.played(isolation, code)
                     self.assertEqual(
                         (played.faults, tuple(played.verdict())), ([], ("solved", 3, 0))
                     )
 
     def test_sets_have_the_same_order_on_each_run(self) -> None:
         code = "import sys\nsys.exit(str({'a', 'b', 'c', 'd', 'e', 'f', 'g'}))"
-        for walls in ALL_WALLS:
-            self.assertEqual(len({self.said(walls, code)[0] for _ in range(3)}), 1)
+        for isolation in ALL_WALLS:
+            self.assertEqual(len({self.said(isolation, code)[0] for _ in range(3)}), 1)
         (self.folder / "it.py").write_text(code + "\n")
         told = set()
         for _ in range(3):
@@ -843,7 +880,7 @@ class Saying(Course):
             with self.subTest(said):
                 (self.team / "go.sh").write_text(text, newline="")
                 (self.team / "go.sh").chmod(mode)
-                cells.remove(self.folder / "out")
+                sandboxes.remove(self.folder / "out")
                 found = self.graded(
                     HEAD + team("evil", ["evil"], "./go.sh {port} {key}", 1),
                     f"out-{mode}-{len(text)}",
@@ -912,9 +949,9 @@ while not os.path.exists("still-there"):
 open("/tmp/left-by-a-program", "w").close()
 sys.exit(f"has left one {sys.argv[2]}")
 """
-        for walls in set(ALL_WALLS) - {Isolation.NONE}:
-            with self.subTest(walls):
-                said, _, key = self.said(walls, code)[0].rpartition(" ")
+        for isolation in set(ALL_WALLS) - {Isolation.NONE}:
+            with self.subTest(isolation):
+                said, _, key = self.said(isolation, code)[0].rpartition(" ")
                 self.assertEqual(said, "has left one")
                 self.assertEqual(running(key), [])
                 self.assertFalse(os.path.exists("/tmp/left-by-a-program"))

@@ -1,5 +1,5 @@
-"""A grading that a signal ends, SIGTERM once or more often or SIGKILL, leaves no process behind, whether or not walls
-keep programs in."""
+"""A grading that a signal ends, SIGTERM once or more often or SIGKILL, leaves no
+process behind, whether or not walls keep programs in."""
 import os
 import signal
 import subprocess
@@ -26,13 +26,14 @@ command = "python3 agent.py {host} {port} {key} {nodes}"
 AGENT = ["python3", "agent.py"]
 # the lab, as where programs have no walls
 WITHOUT_WALLS = """
-from arena_lab.sandbox import cells
-cells.strongest = lambda: cells.Isolation.USER if cells.os.geteuid() == 0 else cells.Isolation.NONE
+from arena_lab.sandbox import sandboxes
+sandboxes.strongest = lambda: sandboxes.Isolation.USER if sandboxes.os.geteuid() == 0 else sandboxes.Isolation.NONE
 from arena_lab.__main__ import main
 raise SystemExit(main())
 """
 # seconds within which agents have begun, and the grading ends
-BEGUN, ENDED = 120, 60
+BEGUN = 120
+ENDED = 60
 
 
 class Ended(InTemporary):

@@ -1,4 +1,5 @@
-"""A course is graded alike on every run; no program meets another team's files, and a wrong one fails alone."""
+"""A course is graded alike on every run; no program meets another team's files, and a
+wrong one fails alone."""
 import contextlib
 import csv
 import os
@@ -16,12 +17,12 @@ from arena_lab.course.hand_in import HandIn
 from arena_lab.play import schedulers
 from arena_lab.rules import engines
 from arena_lab.rules.engines import TOP
-from arena_lab.sandbox import cells
-from arena_lab.sandbox.cells import Cell, ProgramFiles, Isolation, Sandbox
+from arena_lab.sandbox import sandboxes
+from arena_lab.sandbox.sandboxes import Sandbox, Isolation, ProgramFiles, SandboxOptions
 from arena_lab.support import fields
 from arena_lab.sweep import tables
-from tests.support.courses import HEAD, HONEST, rows_of_teams, team
 from tests.integration.play.test_programs import running
+from tests.support.courses import HEAD, HONEST, rows_of_teams, team
 from tests.support.matches import AGENTS, InFolder, program
 from tests.support.output import ran
 
@@ -29,7 +30,7 @@ EXAMPLE = TOP / "examples" / "course" / "course.toml"
 # from which the league table of the page of the examples comes
 SECRET = ["--secret", str(EXAMPLE.parent / "secret.txt")]
 MUTANT = TOP / "arena_lab" / "mutants" / "reads_once.py"
-TESTS = TOP / "arena_lab" / "tests"
+AGENTS_OF_TESTS = TOP / "tests" / "support" / "agents"
 RUDE = "python3 rude.py {how} {{host}} {{port}} {{key}}"
 # of each team how it breaks the rules, and what is said of its agent 1
 FAULTS = {
@@ -71,7 +72,8 @@ def league_in(page: pathlib.Path) -> List[str]:
 class Grading(InFolder):
     def setUp(self) -> None:
         super().setUp()
-        # however slow the machine is, the lab has time to make the schedules of failed matches small
+        # however slow the machine is, the lab has time to make the schedules of failed
+        # matches small
         slow = {
             name: fields.count(36_000, "seconds")
             for name in ("match_limit", "team_limit")
@@ -87,7 +89,8 @@ class Grading(InFolder):
         return said
 
     def check_same(self, one: Dict[str, bytes], other: Dict[str, bytes]) -> None:
-        """That two folders have the same files; names those that differ, since how pages differ takes long to say."""
+        """That two folders have the same files; names those that differ, since how
+        pages differ takes long to say."""
         self.assertEqual(
             [
                 name
@@ -137,7 +140,8 @@ class Grading(InFolder):
             )
 
     def check_pages(self, folder: pathlib.Path) -> None:
-        """The wrong team's page leads to its failed matches and their smallest schedules."""
+        """The wrong team's page leads to its failed matches and their smallest
+        schedules."""
         page = (folder / "team-cedar.html").read_text()
         self.assertIn("then always the first", page)
         for place in ("failed/cedar-10", "failed/cedar-10/smallest", "failed/cedar-11"):
@@ -167,11 +171,11 @@ class Grading(InFolder):
 
     def test_who_breaks_the_rules_fails_alone(self) -> None:
         teams = [
-            team(how, [TESTS / "play" / "rude.py"], RUDE.format(how=how))
+            team(how, [AGENTS_OF_TESTS / "rude.py"], RUDE.format(how=how))
             for how in FAULTS
         ]
         absent = team(
-            "absent", [TESTS / "play" / "rude.py"], "no-such-program {port} {key}"
+            "absent", [AGENTS_OF_TESTS / "rude.py"], "no-such-program {port} {key}"
         )
         file = self.folder / "course.toml"
         file.write_text(HEAD + "".join([*teams, HONEST, absent]))
@@ -196,7 +200,7 @@ class Grading(InFolder):
             HEAD.replace("limit = 60", "limit = 1")
             + team(
                 "silent",
-                [TESTS / "play" / "rude.py"],
+                [AGENTS_OF_TESTS / "rude.py"],
                 RUDE.format(how=f"silent:{self.folder.name}"),
                 1,
             )
@@ -283,8 +287,9 @@ class Grading(InFolder):
         )
 
     def test_a_signal_of_a_living_agent_wins_nothing(self) -> None:
-        """Without walls agents meet at a socket, and their match is solved. Repeated alone nobody meets them there; a
-        body that repeats them together would let them win."""
+        """Without walls agents meet at a socket, and their match is solved. Repeated
+        alone nobody meets them there; a body that repeats them together would let them
+        win."""
         (self.folder / "meets.py").write_text(MEETS)
         file = self.folder / "course.toml"
         file.write_text(
@@ -295,7 +300,7 @@ class Grading(InFolder):
                 f"python3 meets.py {{port}} {{key}} {self.folder.name}",
             )
         )
-        with mock.patch.object(cells, "strongest", return_value=Isolation.NONE):
+        with mock.patch.object(sandboxes, "strongest", return_value=Isolation.NONE):
             for out, solved, more in (
                 ("alone", "0", []),
                 ("trusted", "1", ["--no-repeat"]),
@@ -319,7 +324,8 @@ for command in ({"do": "enter", "key": sys.argv[2]}, {"do": "write", "expect": "
     if "gone" in server.readline():
         server.readline()
 """
-# two agents that solve a ring of four nodes, if the second one meets the first one at a socket
+# two agents that solve a ring of four nodes, if the second one meets the first one at a
+# socket
 MEETS = """import json, socket, sys
 server = socket.create_connection(("127.0.0.1", int(sys.argv[1]))).makefile("rw")
 place = socket.socket(socket.AF_UNIX)
@@ -359,11 +365,11 @@ class Spies(unittest.TestCase):
         self.folder = pathlib.Path(folder.name) / "course"
         (self.folder / "rich").mkdir(parents=True)
         (self.folder / "rich" / "plan.txt").write_text("TREASURE-plan")
-        shutil.copy(TESTS / "course" / "spy.py", self.folder)
+        shutil.copy(AGENTS_OF_TESTS / "spy.py", self.folder)
         for path in [self.folder, *self.folder.rglob("*")]:
             path.chmod(0o755 if path.is_dir() else 0o644)
 
-    def found(self, walls: Isolation, *places: str) -> List[str]:
+    def found(self, isolation: Isolation, *places: str) -> List[str]:
         """What each program of the spies says that it has found there."""
         text = (
             HEAD
@@ -379,7 +385,7 @@ class Spies(unittest.TestCase):
             self.folder,
             "a secret of the tests",
             None,
-            Sandbox(walls),
+            SandboxOptions(isolation),
             self.folder / "out",
         )
         case = next(case for case in graded.course.cases() if case.team.name == "spy")
@@ -387,7 +393,7 @@ class Spies(unittest.TestCase):
         return [fault.rpartition(": ")[2] for fault in played.faults]
 
     @unittest.skipUnless(
-        cells.strongest() is Isolation.ALL, f"no walls here: {cells.weakness()}"
+        sandboxes.strongest() is Isolation.ALL, f"no walls here: {sandboxes.weakness()}"
     )
     def test_behind_walls_they_find_nothing(self) -> None:
         self.assertEqual(
@@ -403,20 +409,23 @@ class Spies(unittest.TestCase):
             self.assertNotIn("TREASURE", said)
 
     def test_in_one_folder_they_find_all(self) -> None:
-        """The spies are good ones: in a body that runs all teams in one folder they find what they look for."""
+        """The spies are good ones: in a body that runs all teams in one folder they
+        find what they look for."""
         shutil.copy(self.folder / "rich" / "plan.txt", self.folder)
-        shared = Cell(
-            Sandbox(Isolation.NONE),
+        shared = Sandbox(
+            SandboxOptions(Isolation.NONE),
             ProgramFiles(HandIn({}).archive()),
             None,
             self.folder,
         )
-        with mock.patch.object(grounds, "cells_for", lambda *_: in_one_folder(shared)):
+        with mock.patch.object(
+            grounds, "sandboxes_for", lambda *_: in_one_folder(shared)
+        ):
             for said in self.found(Isolation.NONE):
                 self.assertIn("TREASURE-plan", said)
 
 
 @contextlib.contextmanager
-def in_one_folder(cell: Cell) -> Iterator[List[Cell]]:
+def in_one_folder(shared: Sandbox) -> Iterator[List[Sandbox]]:
     """Cells as a careless body would make them."""
-    yield [cell, cell]
+    yield [shared, shared]

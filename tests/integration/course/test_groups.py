@@ -1,5 +1,6 @@
-"""Control groups for programs: in a folder that looks like one, which files are written and in which order, and that
-nothing is left; and in a real one, where this machine has one that may be divided."""
+"""Control groups for programs: in a folder that looks like one, which files are written
+and in which order, and that nothing is left; and in a real one, where this machine has
+one that may be divided."""
 import contextlib
 import os
 import pathlib
@@ -14,8 +15,8 @@ from arena_lab.course import rounds
 from arena_lab.course.course import course_of
 from arena_lab.course.grading import GradingRun
 from arena_lab.course.hand_in import HandIn
-from arena_lab.sandbox import calls, cells, groups, watch
-from arena_lab.sandbox.cells import ProgramFiles, Isolation, Sandbox
+from arena_lab.sandbox import calls, sandboxes, groups, watch
+from arena_lab.sandbox.sandboxes import ProgramFiles, Isolation, SandboxOptions
 from arena_lab.sandbox.groups import ControlGroup
 from arena_lab.support.built import TOP
 from arena_lab.sweep import tables
@@ -110,7 +111,8 @@ class TestDividing(Fake):
         self.assertEqual(list(self.own.glob("arena-*")), [])
 
     def test_there_is_none(self) -> None:
-        """With processes of others, without the bounds, in another version of groups, where nobody may write."""
+        """With processes of others, without the bounds, in another version of groups,
+        where nobody may write."""
         for name, text in (
             ("cgroup.procs", f"{os.getpid()}\n1\n"),
             ("cgroup.controllers", "hugetlb\n"),
@@ -200,8 +202,8 @@ class TestPrograms(Fake):
 
     def test_what_is_said_of_a_program_that_the_kernel_has_ended(self) -> None:
         kept = ProgramFiles(HandIn({}).archive(), {}, calls.ANY)
-        with mock.patch.object(watch, "MOST", 200 << 20), cells.cells_for(
-            Sandbox(Isolation.NONE, groups=str(self.own)), kept, 1
+        with mock.patch.object(watch, "MOST", 200 << 20), sandboxes.sandboxes_for(
+            SandboxOptions(Isolation.NONE, groups=str(self.own)), kept, 1
         ) as made, tempfile.TemporaryFile() as errors:
             child, listener_of = made[0].start(["true"], 0, errors)
             listener_of().close()
@@ -232,14 +234,16 @@ class TestPrograms(Fake):
         )
         course = course_of((self.top / "course.toml").read_text(), self.top, SECRET)
         copied = mock.patch.object(
-            cells.system_copy, "copied", lambda *given: contextlib.nullcontext("")
+            sandboxes.system_copy, "copied", lambda *given: contextlib.nullcontext("")
         )
-        with copied, mock.patch.object(ControlGroup, "bound", noted), cells.furnished(
-            Sandbox(cells.strongest()), [], []
-        ) as yard:
-            self.assertEqual(yard.groups, str(self.own))
+        with copied, mock.patch.object(
+            ControlGroup, "bound", noted
+        ), sandboxes.furnished(
+            SandboxOptions(sandboxes.strongest()), [], []
+        ) as sandbox:
+            self.assertEqual(sandbox.groups, str(self.own))
             graded = GradingRun(
-                course.text, self.top, SECRET, None, yard, self.top / "out"
+                course.text, self.top, SECRET, None, sandbox, self.top / "out"
             )
             row = graded.play(course.cases()[0]).found
             self.assertIn("solved", row)

@@ -1,4 +1,5 @@
-"""Programs over loopback: a schedule gives the same match whoever plays it, and who keeps to no rule is named."""
+"""Programs over loopback: a schedule gives the same match whoever plays it, and who
+keeps to no rule is named."""
 import pathlib
 import shutil
 import subprocess
@@ -20,7 +21,7 @@ PYTHON = AgentWords(
     OUTSIDE,
     f"{sys.executable} {AGENTS / 'ring.py'} {{host}} {{port}} {{key}} {{nodes}}",
 )
-RUDE = pathlib.Path(__file__).resolve().parent / "rude.py"
+RUDE = pathlib.Path(__file__).resolve().parents[2] / "support" / "agents" / "rude.py"
 FAULTS = {
     "dies": "agent 1: has ended with status 1 before it connected: no such map",
     "silent": "agent 1: has sent no line for 1 s; does it flush after each line?",
@@ -33,7 +34,9 @@ FAULTS = {
     "blank": "agent 1: has sent no line for 1 s; does it flush after each line?",
 }
 # who is waited for, and how many seconds: a machine may be slow to start the others
-WAITED_FOR, SHORT, LONG = ("silent", "endless", "blank"), 1, 30
+WAITED_FOR = ("silent", "endless", "blank")
+SHORT = 1
+LONG = 30
 
 
 def running(words: str) -> List[str]:

@@ -1,4 +1,5 @@
-"""A course's file and its secret, the league, schedules that are made small, and what is said of programs."""
+"""A course's file and its secret, the league, schedules that are made small, and what
+is said of programs."""
 import concurrent.futures
 import contextlib
 import errno
@@ -17,7 +18,7 @@ from arena_lab.play.schedulers import ANSWER, Choice, in_runs
 from arena_lab.search.minimising import Cut, Runs, in_words, runs_of, tidy
 from arena_lab.rules import networks
 from arena_lab.sandbox import processes, users
-from arena_lab.sandbox.cells import Isolation
+from arena_lab.sandbox.sandboxes import Isolation
 from arena_lab.support.fields import WrongFile
 from arena_lab.sweep import tables
 from tests.support.output import InTemporary
@@ -88,7 +89,8 @@ class Files(Folder):
         self.assertEqual(orders, {"a" * 8 + "b" * 8, "b" * 8 + "a" * 8})
 
     def test_keys_are_those_of_this_course_and_no_two_are_the_same(self) -> None:
-        one, other = self.course(), self.course("seeds = 2\n")
+        one = self.course()
+        other = self.course("seeds = 2\n")
         keys = [key for case in one.cases() for key in one.fixture(case).keys]
         self.assertEqual(len(set(keys)), 4)
         self.assertFalse(
@@ -187,7 +189,8 @@ class Files(Folder):
             course.read(path, SECRET)
 
     def test_results_and_a_course_where_programs_look(self) -> None:
-        """Results that programs can read show them the black holes and other teams' rows."""
+        """Results that programs can read show them the black holes and other teams'
+        rows."""
         tools = [str(self.folder)]
         for path in ("/usr/share/course", "/lib/course", self.folder / "out"):
             with self.subTest(path), self.assertRaisesRegex(
@@ -209,10 +212,12 @@ class Files(Folder):
 
 
 class Places(Folder):
-    """What is drawn for each match, so that what a program keeps of one tells nothing of another."""
+    """What is drawn for each match, so that what a program keeps of one tells nothing
+    of another."""
 
     def places(self, middle: str) -> List[tuple]:
-        """The black hole, the home base and the links of each match, by the numbers of their seeds."""
+        """The black hole, the home base and the links of each match, by the numbers of
+        their seeds."""
         text = 'title = "T"\nnetworks = ["ring:64"]\nseeds = 12\n' + middle + TEAM
         found = course_of(text, self.folder, SECRET)
         cases = sorted(found.cases(), key=lambda case: case.seed)
@@ -243,7 +248,8 @@ class Places(Folder):
 
 
 class Secrets(Folder):
-    """What a team that knows the course's file could work out, if it were not drawn from a secret."""
+    """What a team that knows the course's file could work out, if it were not drawn
+    from a secret."""
 
     def drawn(self, secret: str, holes: str) -> List[int]:
         text = (
@@ -288,7 +294,8 @@ class Secrets(Folder):
         self.assertEqual(sorted(seeds[0]), sorted(seeds[1]))
 
     def test_it_is_kept_where_the_teacher_alone_reads_it(self) -> None:
-        out, other = self.folder / "out", self.folder / "other"
+        out = self.folder / "out"
+        other = self.folder / "other"
         secret = course.secret_in(out, None)
         self.assertEqual(stat.S_IMODE((out / course.SECRET).stat().st_mode), 0o600)
         self.assertEqual(course.secret_in(out, None), secret)
@@ -303,7 +310,8 @@ class Secrets(Folder):
             course.secret_in(self.folder / "new", self.folder / "short")
 
     def test_it_is_another_once_a_team_has_handed_in_something_else(self) -> None:
-        """So who was shown the places of an earlier grading cannot use them. New teams change nothing."""
+        """So who was shown the places of an earlier grading cannot use them. New teams
+        change nothing."""
         first = self.folder / "first"
         secret = course.secret_in(first, None)
         digests = {"team a": "1", "team b": "2"}
@@ -365,10 +373,8 @@ class Leagues(Folder):
         )
 
     def test_moves_count_before_lost_agents_and_these_before_nothing(self) -> None:
-        few_lost, few_moves = {**row(0, "a", 9), "lost": "0"}, {
-            **row(0, "b", 8),
-            "lost": "5",
-        }
+        few_lost = {**row(0, "a", 9), "lost": "0"}
+        few_moves = {**row(0, "b", 8), "lost": "5"}
         rows = [
             few_lost,
             few_moves,
@@ -559,7 +565,8 @@ class Words(unittest.TestCase):
 
 class Budgets(unittest.TestCase):
     def test_the_seconds_of_a_team_add_up_over_its_matches(self) -> None:
-        """Four matches of six seconds each, and ten seconds in all: the third and fourth come too late."""
+        """Four matches of six seconds each, and ten seconds in all: the third and
+        fourth come too late."""
         limited = pool.Limited(
             pool.Budget(10, {"red": 0.0}), lambda _: "red", lambda _: "late"
         )
@@ -575,7 +582,8 @@ class Budgets(unittest.TestCase):
         self.assertIn("have taken the 5 MB of disk", limited.budget.says("red"))
 
     def test_a_team_whose_time_is_up_stops_no_other(self) -> None:
-        """The matches of all teams are played by the same processes, and come in their order."""
+        """The matches of all teams are played by the same processes, and come in their
+        order."""
         teams = "red", "blue"
         limited = pool.Limited(
             pool.Budget(10, dict.fromkeys(teams, 0.0)),
@@ -588,7 +596,8 @@ class Budgets(unittest.TestCase):
         )
 
     def played(self, matches: Any, workers: int, limited: pool.Limited) -> List[Any]:
-        """The results of matches, each of which takes six seconds and two megabytes, by threads."""
+        """The results of matches, each of which takes six seconds and two megabytes, by
+        threads."""
         job: Any = mock.Mock(play=lambda match: pool.TimedResult(match, 6.0, 2 << 20))
         with concurrent.futures.ThreadPoolExecutor(workers) as executor:
             return [

@@ -1,14 +1,17 @@
-"""Cells: where programs of strangers play, each apart from all others.
+"""Sandboxes: where programs of strangers play, each apart from all others.
 
-A program in a cell runs in a folder of its own, which has a copy of its files and nothing else. What else keeps
-it apart depends on the machine and on who starts the lab:
+A program in a sandbox runs in a folder of its own, which has a copy of its files and
+nothing else. What else keeps it apart depends on the machine and on who starts the lab:
 
-- With Debian's bubblewrap and python3-seccomp, where the machine lets its users make namespaces (as Linux does outside
-  containers): the program sees no network but the lab, no processes but its own, and of the disk the system's programs
-  and its folder, which is in memory. A filter refuses the calls of the system by which it could meet other programs,
-  also those of its own team. If root starts the lab, it is besides a user of its own, who has no name.
-- Otherwise, if root starts the lab: the program is a user of its own. It can read what every user of the machine may
-  read, and programs can talk to each other behind the whiteboards' back.
+- With Debian's bubblewrap and python3-seccomp, where the machine lets its users make
+  namespaces (as Linux does outside containers): the program sees no network but the
+  lab, no processes but its own, and of the disk the system's programs and its folder,
+  which is in memory. A filter refuses the calls of the system by which it could meet
+  other programs, also those of its own team. If root starts the lab, it is besides a
+  user of its own, who has no name.
+- Otherwise, if root starts the lab: the program is a user of its own. It can read what
+  every user of the machine may read, and programs can talk to each other behind the
+  whiteboards' back.
 - Otherwise: the program can read and write what this user can.
 """
 import contextlib
@@ -57,7 +60,7 @@ from arena_lab.support.missing import DEBIANS_PYTHON
 from arena_lab.support.waiting import is_ready
 
 STARTER = pathlib.Path(__file__).resolve().parent / "start.py"
-# how long a machine with much other work may take to begin a cell
+# how long a machine with much other work may take to begin a sandbox
 SECONDS_TO_BEGIN = 60
 PACKAGES = "apt-get install bubblewrap python3-seccomp"
 # an archive of no files
@@ -75,7 +78,8 @@ HINTS = {
     "No space left on device": "a program's folder, /tmp and /dev/shm take 64 MB each",
 }
 
-# last words of programs that make a call of the system which is refused; what is said of it
+# last words of programs that make a call of the system which is refused; what is said
+# of it
 NO_CALL = re.compile(
     "function not implemented|operation not permitted|bad system call|ENOSYS|EPERM",
     re.IGNORECASE,
@@ -100,13 +104,13 @@ class Isolation(enum.Enum):
     )
 
 
-class Sandbox(NamedTuple):
-    """What cells share. `walls` keep programs apart. Besides the system's folders programs see `tools`, and /proc if
-    `has_proc`. `root` has the copy of the system that they see, or is empty. They may make `calls` of the system
-    besides those of their languages. `groups` has the control groups of programs, or is empty.
-    """
+class SandboxOptions(NamedTuple):
+    """What sandboxes share. `isolation` keeps programs apart. Besides the system's
+    folders programs see `tools`, and /proc if `has_proc`. `root` has the copy of the
+    system that they see, or is empty. They may make `calls` of the system besides those
+    of their languages. `groups` has the control groups of programs, or is empty."""
 
-    walls: Isolation
+    isolation: Isolation
     tools: Tuple[str, ...] = ()
     has_proc: bool = False
     root: str = ""
@@ -115,30 +119,33 @@ class Sandbox(NamedTuple):
 
 
 class ProgramFiles(NamedTuple):
-    """A program's files as an archive, the facts of the network in its command, and its language."""
+    """A program's files as an archive, the facts of the network in its command, and its
+    language."""
 
     files: bytes
     facts: Dict[str, str] = {}
     language: str = calls.ANY
 
 
-class Cell:
-    """A place in which one program runs, apart from others, with its files and perhaps a user of its own."""
+class Sandbox:
+    """A place in which one program runs, apart from others, with its files and perhaps
+    a user of its own."""
 
     def __init__(
         self,
-        yard: Sandbox,
+        options: SandboxOptions,
         kept: ProgramFiles,
         user: Optional[int],
         place: Optional[pathlib.Path],
         group: Optional[ControlGroup] = None,
     ) -> None:
-        self.yard = yard
+        self.options = options
         self._group = group
         self.user = user
         self.place = place
         self.facts = kept.facts
-        self._files, self._language = kept.files, kept.language
+        self._files = kept.files
+        self._language = kept.language
         self._child: Optional["subprocess.Popen[bytes]"] = None
         # the first process behind walls, as a file
         self._first: Optional[int] = None
@@ -149,18 +156,20 @@ class Cell:
         ours, theirs = socket.socketpair()
         with theirs, contextlib.ExitStack() as held:
             files = held.enter_context(in_memory(self._files))
-            given, command, port = [theirs.fileno(), files], self._before(), 0
+            given = [theirs.fileno(), files]
+            command = self._before()
+            port = 0
             if self.place is None:
                 port = PORT
                 given.append(
                     held.enter_context(
                         in_memory(
-                            isolation.system_filter(self._language, self.yard.calls)
+                            isolation.system_filter(self._language, self.options.calls)
                         )
                     )
                 )
                 command += isolation.words(
-                    self.yard.tools, self.yard.has_proc, self.yard.root
+                    self.options.tools, self.options.has_proc, self.options.root
                 )
                 command += ["--seccomp", str(given[-1])]
             command += [
@@ -189,8 +198,9 @@ class Cell:
         return child, functools.partial(self._listener_of, child, ours, errors)
 
     def _before(self) -> List[str]:
-        """The words that make a program the first that is ended if memory is short, and another user. Where no walls
-        end it with the process that plays it, the system does."""
+        """The words that make a program the first that is ended if memory is short, and
+        another user. Where no walls end it with the process that plays it, the system
+        does."""
         first = [
             *(self._group.words() if self._group else []),
             "choom",
@@ -230,17 +240,18 @@ class Cell:
             self.kill(child)
             errors.seek(0)
             said = errors.read().decode(errors="replace").strip()
-            why = f"a cell for a program cannot be made: {said or fault}"
+            why = f"a sandbox for a program cannot be made: {said or fault}"
         if self._files == NOTHING:
             raise NoCell(why)
         # if others can be started, it is this program's files or words
-        try_out(self.yard)
+        try_out(self.options)
         raise NoStart(why)
 
     def kill(self, child: "subprocess.Popen[bytes]") -> None:
         """Ends the program, and all that it has started."""
         if self._first is not None:
-            # the first process behind walls takes all others with it, and has ended when they have
+            # the first process behind walls takes all others with it, and has ended
+            # when they have
             with contextlib.suppress(ProcessLookupError):
                 signal.pidfd_send_signal(self._first, signal.SIGKILL)
             is_ready(self._first, SECONDS_TO_BEGIN)
@@ -260,7 +271,8 @@ class Cell:
             os.killpg(child.pid, signal.SIGKILL)
 
     def told(self, text: str) -> str:
-        """What a program says, without the name of its folder, which is another one on each run."""
+        """What a program says, without the name of its folder, which is another one on
+        each run."""
         return text.replace(f"{self.place or HOME}/", "")
 
     def hint(self, words: str) -> str:
@@ -279,7 +291,8 @@ class Cell:
         return self._fault
 
     def takes_too_much(self) -> bool:
-        """Whether the program has more memory than it may. In a group of its own the kernel sees to that."""
+        """Whether the program has more memory than it may. In a group of its own the
+        kernel sees to that."""
         return (
             self._group.has_met_its_bound() if self._group else self.used() > watch.MOST
         )
@@ -317,30 +330,33 @@ def opened(running: Sequence[int]) -> Optional[int]:
 
 
 @contextlib.contextmanager
-def cells_for(yard: Sandbox, kept: ProgramFiles, count: int) -> Iterator[List[Cell]]:
-    """Cells of programs, each with a copy of the files of an archive."""
+def sandboxes_for(
+    options: SandboxOptions, kept: ProgramFiles, count: int
+) -> Iterator[List[Sandbox]]:
+    """Sandboxes of programs, each with a copy of the files of an archive."""
     with contextlib.ExitStack() as left:
         made = []
         for _ in range(count):
-            has_user = os.geteuid() == 0 and yard.walls is not Isolation.NONE
+            has_user = os.geteuid() == 0 and options.isolation is not Isolation.NONE
             user = left.enter_context(users.claimed()) if has_user else None
             place = (
                 None
-                if yard.walls is Isolation.ALL
+                if options.isolation is Isolation.ALL
                 else left.enter_context(folder_for(user))
             )
             made.append(
-                Cell(
-                    yard,
+                Sandbox(
+                    options,
                     kept,
                     user,
                     place,
-                    left.enter_context(groups.group_in(yard.groups)),
+                    left.enter_context(groups.group_in(options.groups)),
                 )
             )
         left.enter_context(
             MemoryWatch(
-                [cell.takes_too_much for cell in made], [cell.end_for for cell in made]
+                [sandbox.takes_too_much for sandbox in made],
+                [sandbox.end_for for sandbox in made],
             )
         )
         yield made
@@ -348,21 +364,24 @@ def cells_for(yard: Sandbox, kept: ProgramFiles, count: int) -> Iterator[List[Ce
 
 @contextlib.contextmanager
 def furnished(
-    yard: Sandbox, commands: Collection[str], packages: Sequence[str]
-) -> Iterator[Sandbox]:
-    """The yard with control groups, and with a copy of the system for these commands, and these packages besides, if
-    there can be one. If not, a line says why."""
+    options: SandboxOptions, commands: Collection[str], packages: Sequence[str]
+) -> Iterator[SandboxOptions]:
+    """The options with control groups, and with a copy of the system for these
+    commands, and these packages besides, if there can be one. If not, a line says
+    why."""
     if any(map(is_module, commands)):
         # it may be compiled first, and nobody is timed yet
         player()
     with contextlib.ExitStack() as held:
-        if yard.walls is Isolation.ALL and yard.calls:
+        if options.isolation is Isolation.ALL and options.calls:
             # so that a name which is none is told before the first match
-            isolation.system_filter(calls.ANY, yard.calls)
+            isolation.system_filter(calls.ANY, options.calls)
         try:
             folder = (
-                held.enter_context(system_copy.copied(commands, packages, yard.tools))
-                if yard.walls is Isolation.ALL
+                held.enter_context(
+                    system_copy.copied(commands, packages, options.tools)
+                )
+                if options.isolation is Isolation.ALL
                 else ""
             )
         except system_copy.NoCopy as fault:
@@ -374,13 +393,14 @@ def furnished(
                 file=sys.stderr,
             )
             folder = ""
-        yield yard._replace(root=folder, groups=held.enter_context(groups.divided()))
+        yield options._replace(root=folder, groups=held.enter_context(groups.divided()))
 
 
-def try_out(yard: Sandbox) -> None:
-    """Starts a program that does nothing; if even that cannot be started, NoCell says why."""
-    with cells_for(
-        yard, ProgramFiles(NOTHING), 1
+def try_out(options: SandboxOptions) -> None:
+    """Starts a program that does nothing; if even that cannot be started, NoCell says
+    why."""
+    with sandboxes_for(
+        options, ProgramFiles(NOTHING), 1
     ) as made, tempfile.TemporaryFile() as errors:
         child, listener_of = made[0].start(["true"], 0, errors)
         listener_of().close()
@@ -396,7 +416,7 @@ def folder_for(user: Optional[int]) -> Iterator[pathlib.Path]:
     if user is not None:
         # a command that was killed may have left it
         users.end_and_remove(user)
-    above = pathlib.Path(tempfile.mkdtemp(prefix="lab-cell-"))
+    above = pathlib.Path(tempfile.mkdtemp(prefix="lab-sandbox-"))
     try:
         # a program may rename its folder, if it may write to the one above
         above.chmod(0o711)
@@ -443,7 +463,7 @@ def weakness() -> str:
     ):
         return f"there are no walls between programs: `{PACKAGES}` installs what makes them"
     try:
-        try_out(Sandbox(Isolation.ALL))
+        try_out(SandboxOptions(Isolation.ALL))
         return ""
     except NoCell as fault:
         return (
