@@ -1,29 +1,32 @@
-"""Lines of agents that were refused: how many, the first, and the likeliest mistake behind it.
+"""Lines of agents that were refused: how many, the first, and the likeliest mistake
+behind it.
 
-A refusal says as little as the rules do, such as `{"no":"line"}`. Here stands what a student reads beside it.
+A refusal says as little as the rules do, such as `{"no":"line"}`. Here stands what a
+student reads beside it.
 """
 import difflib
 import json
 import re
 from typing import Any, Callable, Dict, List, NamedTuple, Optional, Sequence, Tuple
 
-from arena_lab.rules.model import MAX_LINE, SHAPES
+from arena_lab.rules.limits import MOST_LINE
+from arena_lab.rules.model import SHAPES
 
 # characters of a line that are shown
 SHOWN = 80
 MARK = b"\xef\xbb\xbf"
 HTTP = re.compile(r"[A-Z]+ \S+ HTTP/\d")
-# members of an object whose names have no quotes, as JavaScript, Java and Rust print them; and the middle of an object
-# that was printed over several lines
-UNQUOTED, MIDDLE = re.compile(r"[\w.$]*\s*\{\s*[A-Za-z_]\w*\s*[:=]"), re.compile(
-    r'[{}]|"\w+"\s*:.*,?'
-)
+# members of an object whose names have no quotes, as JavaScript, Java and Rust print
+# them; and the middle of an object that was printed over several lines
+UNQUOTED = re.compile(r"[\w.$]*\s*\{\s*[A-Za-z_]\w*\s*[:=]")
+MIDDLE = re.compile(r'[{}]|"\w+"\s*:.*,?')
 NOTHING = object()
 DECODER = json.JSONDecoder()
 
 
 class RefusedLine:
-    """A line that was refused: its bytes, its text, and the JSON value at its beginning with what follows."""
+    """A line that was refused: its bytes, its text, and the JSON value at its beginning
+    with what follows."""
 
     def __init__(self, raw: bytes) -> None:
         self.raw = raw
@@ -56,7 +59,8 @@ class RefusedLine:
         ]
 
     def port(self) -> Any:
-        """The port that the line names, if its command has one and the line has that member."""
+        """The port that the line names, if its command has one and the line has that
+        member."""
         return self.members.get("port", NOTHING) if "port" in self.of(int) else NOTHING
 
 
@@ -141,8 +145,8 @@ MISTAKES: Dict[str, Mistake] = {
         "it has bytes of zero, as UTF-16 has: send UTF-8",
     ),
     "too_long": when(
-        lambda line: len(line.raw) > MAX_LINE,
-        f"it is longer than {MAX_LINE:,} bytes: end each command "
+        lambda line: len(line.raw) > MOST_LINE,
+        f"it is longer than {MOST_LINE:,} bytes: end each command "
         "with a line feed, and write shorter texts",
     ),
     "not_utf8": when(
@@ -223,9 +227,9 @@ def likely(raw: bytes) -> str:
 
 
 def plain(text: str) -> str:
-    """A text without characters that are not seen but do something, such as those that colour a terminal, hide what
-    stands before them or turn the direction of writing: the code of each stands in its place.
-    """
+    """A text without characters that are not seen but do something, such as those that
+    colour a terminal, hide what stands before them or turn the direction of writing:
+    the code of each stands in its place."""
     return "".join(
         char if char.isprintable() else char.encode("unicode_escape").decode()
         for char in text
@@ -245,7 +249,11 @@ def shown(raw: bytes, most: int = SHOWN) -> str:
 
 
 # of each refusal what one line, and what several lines have done
-LINE, PORT, LONG, ENTER, UNENDED = "line", "port", "long", "enter", "unended"
+LINE = "line"
+PORT = "port"
+LONG = "long"
+ENTER = "enter"
+UNENDED = "unended"
 KINDS: Dict[str, Tuple[str, str]] = {
     LINE: ("1 line was no command", "{} lines were no commands"),
     PORT: (
@@ -274,7 +282,8 @@ class First(NamedTuple):
 
 
 class Refusals:
-    """The lines of a match that were refused: of each agent and kind how many, and the first."""
+    """The lines of a match that were refused: of each agent and kind how many, and the
+    first."""
 
     def __init__(self, keys: Sequence[str]) -> None:
         self._keys = [key.encode() for key in keys]
@@ -289,8 +298,8 @@ class Refusals:
         told: Callable[[str], str],
         fact: str = "",
     ) -> None:
-        """Notes a line that was refused. A fact says of the node what the line missed. What is another on each run is
-        taken away, and so are keys."""
+        """Notes a line that was refused. A fact says of the node what the line missed.
+        What is another on each run is taken away, and so are keys."""
         if why not in KINDS:
             return
         place = agent, why

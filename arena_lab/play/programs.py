@@ -1,12 +1,15 @@
 """Players that are programs of their own, in any language, as a team would bring them.
 
-The lab starts each program by its command line with host, port and key. The program connects over loopback and plays as
-in a contest. It has a port of its own, so the lab knows whose each connection is. The lab takes a step once each
-program has sent a line, waits for its arrival, or has ended, however long that takes, up to a limit. So a seed gives
-the same match on every run and every machine, as long as each program is a function of its replies. A program that
-breaks the rules ends its own play, and a line names it.
+The lab starts each program by its command line with host, port and key. The program
+connects over loopback and plays as in a contest. It has a port of its own, so the lab
+knows whose each connection is. The lab takes a step once each program has sent a line,
+waits for its arrival, or has ended, however long that takes, up to a limit. So a seed
+gives the same match on every run and every machine, as long as each program is a
+function of its replies. A program that breaks the rules ends its own play, and a line
+names it.
 
-What a program has sent counts, also if it ends before it is answered, as for `arena serve`.
+What a program has sent counts, also if it ends before it is answered, as for `arena
+serve`.
 """
 import contextlib
 import hashlib
@@ -41,7 +44,7 @@ from arena_lab.play.last_words import asked_behind, error_in, usage_in
 from arena_lab.play.mistakes import plain, shown
 from arena_lab.play.players import DENIALS, DONE, LAST_LINES, TRAVELS, WAITS
 from arena_lab.rules.fixtures import Fixture
-from arena_lab.rules.model import MAX_LINE
+from arena_lab.rules.limits import MOST_LINE
 from arena_lab.support.built import without_warning
 
 HOST = "127.0.0.1"
@@ -49,9 +52,11 @@ GONE = '{"ok":"gone"}'
 PIECE = 65_536
 # bytes that are kept of what a program sends before they are due
 AHEAD = 8 << 20
-# seconds that a program has to end by itself when it has been told that the match is over
+# seconds that a program has to end by itself when it has been told that the match is
+# over
 GRACE = 0.5
-# seconds after which the lab looks whether a program that says nothing has ended, or has connected twice
+# seconds after which the lab looks whether a program that says nothing has ended, or
+# has connected twice
 SLICE = 0.02
 # characters of a program's last words that are told
 WORDS = 200
@@ -66,25 +71,29 @@ class NoStart(Exception):
     """A program cannot be started, and its team is to blame; says why."""
 
 
-# a program that was started, and what waits until it begins and gives the listener to which it is to connect
+# a program that was started, and what waits until it begins and gives the listener to
+# which it is to connect
 Started = Tuple["subprocess.Popen[bytes]", Callable[[], socket.socket]]
 
 
 class Ground(Protocol):
-    """Where a program runs. Its facts are what stands there for words of a command, by name."""
+    """Where a program runs. Its facts are what stands there for words of a command, by
+    name."""
 
     @property
     def facts(self) -> Mapping[str, str]:
         ...
 
     def start(self, words: Sequence[str], seed: int, errors: Any) -> Started:
-        """Starts a program, which finds the seed in ARENA_SEED. The port of its listener stands for `{port}`."""
+        """Starts a program, which finds the seed in ARENA_SEED. The port of its
+        listener stands for `{port}`."""
 
     def kill(self, child: "subprocess.Popen[bytes]") -> None:
         """Ends a program that was started, and all that it has started."""
 
     def hurry(self, child: "subprocess.Popen[bytes]") -> None:
-        """Tells a program to end that is going to be ended, so that those of a match end at the same time."""
+        """Tells a program to end that is going to be ended, so that those of a match
+        end at the same time."""
 
     def told(self, text: str) -> str:
         """What a program has said, without what is another on each run."""
@@ -97,7 +106,8 @@ class Ground(Protocol):
 
 
 class LocalRunner:
-    """A program runs as the user who starts the lab, in the same folder or in one that is named."""
+    """A program runs as the user who starts the lab, in the same folder or in one that
+    is named."""
 
     facts: Mapping[str, str] = {}
 
@@ -158,7 +168,8 @@ class Nowhere(LocalRunner):
 
 
 class Lines:
-    """The lines that a program sends, which are read as they come: so what it has sent before it ended is not lost."""
+    """The lines that a program sends, which are read as they come: so what it has sent
+    before it ended is not lost."""
 
     def __init__(self, connection: socket.socket) -> None:
         self._connection = connection
@@ -172,7 +183,8 @@ class Lines:
         threading.Thread(target=self._read, daemon=True).start()
 
     def next(self, seconds: float) -> Optional[bytes]:
-        """The next line, or None at the end. If there is neither within this time, TimeoutError."""
+        """The next line, or None at the end. If there is neither within this time,
+        TimeoutError."""
         with self._changed:
             if not self._changed.wait_for(
                 lambda: self._lines or self._is_over, seconds
@@ -205,12 +217,15 @@ class Lines:
             pass
 
     def _read(self) -> None:
-        """Reads to the end. Of a line that is too long no more is kept than shows that it is."""
+        """Reads to the end. Of a line that is too long no more is kept than shows that
+        it is."""
         left = b""
         while piece := self._piece():
             *whole, left = (left + piece).split(b"\n")
-            self.rest = left = left[: MAX_LINE + 1]
-            self._keep([line[: MAX_LINE + 1] for line in whole if line.strip(b" \t\r")])
+            self.rest = left = left[: MOST_LINE + 1]
+            self._keep(
+                [line[: MOST_LINE + 1] for line in whole if line.strip(b" \t\r")]
+            )
         with self._changed:
             self._is_over = True
             self._changed.notify()
@@ -254,7 +269,8 @@ class Player:
         self._errors = open(os.memfd_create("errors"), "w+b")
 
     def start(self) -> None:
-        """Starts the program. It is the first of a group of its own, so that all that it starts can be ended."""
+        """Starts the program. It is the first of a group of its own, so that all that
+        it starts can be ended."""
         words = command_of(
             self.words, self._team.fixture, self.number, self._ground.facts
         )
@@ -292,8 +308,8 @@ class Player:
                 self._note_status(until)
 
     def hear(self, line: str) -> None:
-        """Tells the program a line, and waits for its next one if it is due. A program that has gone hears nothing, but
-        what it sent before is taken."""
+        """Tells the program a line, and waits for its next one if it is due. A program
+        that has gone hears nothing, but what it sent before is taken."""
         self.line = None
         self.state = TRAVELS if line == GONE else DONE if line in LAST_LINES else WAITS
         if line in DENIALS:
@@ -304,7 +320,8 @@ class Player:
         if self._connection is not None and not self._has_ended:
             with self._team.clock as until:
                 seconds, part = divmod(max(SLICE, until - time.monotonic()), 1)
-                # for sending alone: a timeout of the socket would be one of the thread that reads, too
+                # for sending alone: a timeout of the socket would be one of the thread
+                # that reads, too
                 self._connection.setsockopt(
                     socket.SOL_SOCKET,
                     socket.SO_SNDTIMEO,
@@ -345,7 +362,8 @@ class Player:
         return self._lines.count if self._lines else 0
 
     def stirs(self, before: int) -> Optional[str]:
-        """What the program has done, if more lines than so many have come of it or its input has ended."""
+        """What the program has done, if more lines than so many have come of it or its
+        input has ended."""
         if self._lines is None:
             return None
         if self._lines.count > before:
@@ -441,7 +459,8 @@ class Player:
             self.fault = f"has ended with status {as_in_a_shell(status)} in the middle of its match{self._last_words()}"
 
     def _errors_of(self) -> str:
-        """The end of what the program wrote to standard error, without what is another on each run."""
+        """The end of what the program wrote to standard error, without what is another
+        on each run."""
         if self._errors.closed:
             return self.errors
         return "\n".join(
@@ -449,18 +468,18 @@ class Player:
         )
 
     def _end_of_errors(self) -> str:
-        """The same as it was written. A player of modules may have said besides that it is not proved."""
+        """The same as it was written. A player of modules may have said besides that it
+        is not proved."""
         size = self._errors.seek(0, os.SEEK_END)
         self._errors.seek(max(0, size - PIECE))
         return without_warning(self._errors.read().decode(errors="replace"))
 
     def _last_words(self) -> str:
-        """The line that names the error in what the program wrote to standard error, as one that changes nothing where
-        it is shown."""
+        """The line that names the error in what the program wrote to standard error, as
+        one that changes nothing where it is shown."""
         text = self._end_of_errors()
-        words, usage = self._ground.told(error_in(text)), self._ground.told(
-            usage_in(text)
-        )
+        words = self._ground.told(error_in(text))
+        usage = self._ground.told(usage_in(text))
         if usage:
             return f": an argument is missing, or there is one too many: it is called as `{plain(usage)[:WORDS]}`"
         if not words:
@@ -473,8 +492,10 @@ class Player:
         return f": {plain(words)[:WORDS]}{hint}"
 
     def _hung(self) -> str:
-        """What is said of the program once the lab waits for it no more, with what it may have forgotten."""
-        said, words = self._team.clock.says(SENT_NOTHING), self._last_words()
+        """What is said of the program once the lab waits for it no more, with what it
+        may have forgotten."""
+        said = self._team.clock.says(SENT_NOTHING)
+        words = self._last_words()
         if words or not said.startswith(SENT_NOTHING):
             return f"{said}{words}"
         asks = (
@@ -487,20 +508,22 @@ class Player:
     def _end(self, fault: str) -> None:
         """Ends the program's play; its agent leaves the match if it is in it."""
         self.fault = self.fault or fault
-        self._has_ended, self.line = True, None
+        self._has_ended = True
+        self.line = None
         if self._child is not None:
             self._ground.kill(self._child)
 
 
 def as_in_a_shell(status: Optional[int]) -> Optional[int]:
-    """A status as a shell has it, and walls around a program: 128 and the number of the signal that ended it."""
+    """A status as a shell has it, and walls around a program: 128 and the number of the
+    signal that ended it."""
     return 128 - status if status is not None and status < 0 else status
 
 
 def seed_of(key: str) -> int:
-    """The number from which a program may draw its chance. It comes from the agent's key, so it is the same when a
-    match is played again. It fits in an int of C, and Python takes it as the seed of its hashes.
-    """
+    """The number from which a program may draw its chance. It comes from the agent's
+    key, so it is the same when a match is played again. It fits in an int of C, and
+    Python takes it as the seed of its hashes."""
     return int(hashlib.sha256(key.encode(errors="replace")).hexdigest()[:7], 16)
 
 
@@ -510,16 +533,16 @@ def seeds_of(fixture: Fixture) -> List[int]:
 
 
 def seeds(seed: int) -> Dict[str, str]:
-    """The variables that tell a program its seed. With them Python goes through sets of texts in the same order on each
-    run."""
+    """The variables that tell a program its seed. With them Python goes through sets of
+    texts in the same order on each run."""
     return {"ARENA_SEED": str(seed), "PYTHONHASHSEED": str(seed)}
 
 
 def command_of(
     words: str, fixture: Fixture, number: int, others: Mapping[str, str]
 ) -> List[str]:
-    """The words of a command that starts an agent's program, or the player of a module, but for the port, which is not
-    known yet."""
+    """The words of a command that starts an agent's program, or the player of a module,
+    but for the port, which is not known yet."""
     facts: Dict[str, object] = {
         "host": HOST,
         "port": "{port}",
@@ -542,7 +565,8 @@ def command_of(
 
 
 class Team:
-    """The programs of a match, with a limit of seconds for each line and one for the whole match."""
+    """The programs of a match, with a limit of seconds for each line and one for the
+    whole match."""
 
     def __init__(
         self,
@@ -554,8 +578,8 @@ class Team:
         seeds: Optional[Sequence[int]] = None,
         room: float = math.inf,
     ) -> None:
-        """The commands are by the numbers of agents, and the grounds too. Seeds are those of the keys unless others are
-        given."""
+        """The commands are by the numbers of agents, and the grounds too. Seeds are
+        those of the keys unless others are given."""
         self.fixture = fixture
         self.room = Room(room)
         self.seeds = seeds_of(fixture) if seeds is None else seeds
@@ -566,7 +590,8 @@ class Team:
         ]
 
     def start(self) -> None:
-        """Starts all programs, and waits for their first lines, for all of them together."""
+        """Starts all programs, and waits for their first lines, for all of them
+        together."""
         for step in (Player.start, Player.begin):
             for player in self.players:
                 step(player)
@@ -576,7 +601,8 @@ class Team:
         self.clock.begin(False)
 
     def stop(self) -> None:
-        """Ends all programs; those that have been told that the match is over may end by themselves."""
+        """Ends all programs; those that have been told that the match is over may end
+        by themselves."""
         until = time.monotonic() + GRACE
         while (
             any(player.is_alive() for player in self.players)

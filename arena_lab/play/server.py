@@ -1,4 +1,5 @@
-"""A stand-in for `arena serve`: sessions over TCP on the Python model, and turns by the tournament's schedule."""
+"""A stand-in for `arena serve`: sessions over TCP on the Python model, and turns by the
+tournament's schedule."""
 import contextlib
 import pathlib
 import socket
@@ -9,10 +10,10 @@ from typing import Deque, Dict, Iterator, List, NamedTuple, Tuple
 
 from arena_lab.rules.delays import Turns
 from arena_lab.rules.fixtures import Tournament, read_tournament
+from arena_lab.rules.limits import MOST_LINE
 from arena_lab.rules.model import (
     ENDED,
     GONE,
-    MAX_LINE,
     OUTSIDE,
     Match,
     Object,
@@ -25,8 +26,9 @@ from arena_lab.rules.rehearsal import Item, Ready, Sent, Sessions
 
 
 class ServeOptions(NamedTuple):
-    """How a contest goes: its turns, the seconds before each, how long it waits for agents and for sessions that have
-    not ended, and whether a match closes once all is decided."""
+    """How a contest goes: its turns, the seconds before each, how long it waits for
+    agents and for sessions that have not ended, and whether a match closes once all is
+    decided."""
 
     turns: int
     pause: float
@@ -36,7 +38,8 @@ class ServeOptions(NamedTuple):
 
 
 class Contest:
-    """The sessions of a tournament's matches under one lock, and the replies that were not sent yet."""
+    """The sessions of a tournament's matches under one lock, and the replies that were
+    not sent yet."""
 
     def __init__(self, tournament: Tournament) -> None:
         self.teams = [fixture.team for fixture in tournament.fixtures]
@@ -52,7 +55,8 @@ class Contest:
         self._unsent: Dict[int, Deque[Object]] = defaultdict(deque)
 
     def take(self, conn: int, item: Item) -> None:
-        """Takes a line of a client, or the end of its input. An agent that departs is given its delay."""
+        """Takes a line of a client, or the end of its input. An agent that departs is
+        given its delay."""
         with self.changed:
             sent = self.sessions.line(conn, item)
             seat = self.sessions.connections[conn].seat
@@ -111,8 +115,8 @@ class Contest:
         self.changed.notify_all()
 
     def _replies(self, conn: int) -> Iterator[Object]:
-        """What a client is to be sent until its next line is taken. It is sent without the lock, so that a client that
-        does not read keeps nobody waiting."""
+        """What a client is to be sent until its next line is taken. It is sent without
+        the lock, so that a client that does not read keeps nobody waiting."""
         unsent = self._unsent[conn]
         while True:
             with self.changed:
@@ -125,8 +129,9 @@ class Contest:
 
 def lines_of(client: socket.socket) -> Iterator[bytes]:
     """A client's lines. Of one that is too long no more is kept than shows it."""
-    reader, line = client.makefile("rb"), b""
-    while piece := reader.readline(MAX_LINE + 2):
+    reader = client.makefile("rb")
+    line = b""
+    while piece := reader.readline(MOST_LINE + 2):
         line = line or piece
         if piece.endswith(b"\n"):
             yield line.removesuffix(b"\n")
@@ -161,7 +166,8 @@ def host(listener: socket.socket, sessions: int, contest: Contest) -> None:
 def served(
     tournament: str, port: int, sessions: int, prefix: str, course: ServeOptions
 ) -> None:
-    """Serves a contest: writes its replays, and prints its table. The files must be right: ask `arena check`."""
+    """Serves a contest: writes its replays, and prints its table. The files must be
+    right: ask `arena check`."""
     contest = Contest(read_tournament(tournament))
     with socket.create_server(("127.0.0.1", port), backlog=sessions) as listener:
         print(f"listening {port}", flush=True)

@@ -1,7 +1,9 @@
-"""The rules of a match in Python, after docs/MODEL.md and apart from the proved code, to try agents without a build.
+"""The rules of a match in Python, after docs/MODEL.md and apart from the proved code,
+to try agents without a build.
 
-Nothing is proved of it, and no result of a contest rests on it. Commands are the objects that clients send, replies
-those that they are sent, and a match's log is a list of the objects that stand in a replay.
+Nothing is proved of it, and no result of a contest rests on it. Commands are the
+objects that clients send, replies those that they are sent, and a match's log is a list
+of the objects that stand in a replay.
 """
 import json
 from typing import (
@@ -16,7 +18,7 @@ from typing import (
     Tuple,
 )
 
-from arena_lab.rules.limits import is_small
+from arena_lab.rules.limits import MOST_LINE, is_small
 
 Object = Dict[str, Any]
 Place = Tuple[int, int]
@@ -26,7 +28,10 @@ OVER: Object = {"ok": "over"}
 GONE: Object = {"ok": "gone"}
 BYE: Object = {"ok": "bye"}
 NOTED: Object = {"ok": "noted"}
-OUTSIDE, PRESENT, AWAY, ENDED = "outside", "present", "away", "ended"
+OUTSIDE = "outside"
+PRESENT = "present"
+AWAY = "away"
+ENDED = "ended"
 # what each command names
 SHAPES: Dict[str, Dict[str, type]] = {
     "enter": {"key": str},
@@ -38,8 +43,8 @@ SHAPES: Dict[str, Dict[str, type]] = {
 }
 # what a client is told last
 LAST = (BYE, NOTED, OVER)
-# a line of more bytes is read as a bad command, and so is one with objects and lists as deep as this
-MAX_LINE = 65_536
+# a line of more bytes is read as a bad command, and so is one with objects and lists as
+# deep as this
 TOO_DEEP = 128
 # a number of more digits is read as a fraction is
 LONG = 20
@@ -48,14 +53,16 @@ ENCODER = json.JSONEncoder(sort_keys=True, separators=(",", ":"), ensure_ascii=F
 
 
 def spelled(value: Any) -> str:
-    """JSON as the arena spells it: keys in order, no spaces, characters past ASCII as they are."""
+    """JSON as the arena spells it: keys in order, no spaces, characters past ASCII as
+    they are."""
     return ENCODER.encode(value)
 
 
 def text_of(line: bytes) -> str:
-    """A line as a text, or an empty one, which is no command, if it is too long or is not UTF-8."""
+    """A line as a text, or an empty one, which is no command, if it is too long or is
+    not UTF-8."""
     try:
-        return line.decode("utf-8") if len(line) <= MAX_LINE else ""
+        return line.decode("utf-8") if len(line) <= MOST_LINE else ""
     except UnicodeDecodeError:
         return ""
 
@@ -90,8 +97,8 @@ DECODER = json.JSONDecoder(
 
 
 def value_of(line: str) -> Any:
-    """The JSON value of a line, by the arena's rules: -0 is no whole number, NaN and Infinity are nothing, and half a
-    surrogate pair is no text."""
+    """The JSON value of a line, by the arena's rules: -0 is no whole number, NaN and
+    Infinity are nothing, and half a surrogate pair is no text."""
     value = DECODER.decode(line)
     if "\\" in line:
         spelled(value).encode()
@@ -129,7 +136,8 @@ def denial(
 
 
 class Setup(NamedTuple):
-    """A match before it begins. Each link is (node, port, node, port), each dark link (node, port) of either end."""
+    """A match before it begins. Each link is (node, port, node, port), each dark link
+    (node, port) of either end."""
 
     nodes: int
     links: List[Tuple[int, int, int, int]]
@@ -154,7 +162,8 @@ class AgentState:
 
 
 class Match:
-    """A match: commands are told, agents on links are delivered, and in the end it is closed."""
+    """A match: commands are told, agents on links are delivered, and in the end it is
+    closed."""
 
     def __init__(self, setup: Setup) -> None:
         self.setup = setup
@@ -172,11 +181,15 @@ class Match:
         self.reached: Set[int] = set()
 
     def set_alone(self, number: int, agent: AgentState, board: str) -> None:
-        """Sets the match to one agent, with this text on the whiteboard at its node, as if nothing had happened yet."""
+        """Sets the match to one agent, with this text on the whiteboard at its node, as
+        if nothing had happened yet."""
         self.agents[number] = agent
         self.boards[agent.node] = board
         self.pool = [number] if agent.standing == AWAY else []
-        self.log, self.accused, self.reached, self.closed = [], [], set(), False
+        self.log = []
+        self.accused = []
+        self.reached = set()
+        self.closed = False
 
     def _here(self, agent: AgentState) -> Object:
         board = self.boards[agent.node]
@@ -220,7 +233,8 @@ class Match:
     def _heard(self, number: int, agent: AgentState, command: Object) -> Object:
         do = command["do"]
         if do == "enter":
-            agent.standing, agent.node = PRESENT, self.setup.home
+            agent.standing = PRESENT
+            agent.node = self.setup.home
             return self._here(agent)
         if do == "leave":
             if agent.standing == AWAY:
@@ -351,8 +365,9 @@ def place_of(values: Sequence[int]) -> Place:
 
 
 def played(text: str) -> Match:
-    """The match that a replay is of, played anew: its setup, and the commands and deliveries of its events. The text is
-    a replay by these rules if the match has that replay too."""
+    """The match that a replay is of, played anew: its setup, and the commands and
+    deliveries of its events. The text is a replay by these rules if the match has that
+    replay too."""
     head, *events = objects_of(text)
     match = begun(head)
     for event in events:
@@ -361,7 +376,8 @@ def played(text: str) -> Match:
 
 
 class Verdict(NamedTuple):
-    """What a match came to: the outcome as `judge` prints it, the moves that were made, the agents lost."""
+    """What a match came to: the outcome as `judge` prints it, the moves that were made,
+    the agents lost."""
 
     outcome: str
     moves: int
@@ -399,7 +415,8 @@ RANKS = SOLVED, GUESS, UNFINISHED, SILENT, WRONG = (
 
 
 def rank(verdict: Verdict, team: str) -> Tuple[int, int, int, str]:
-    """Where a verdict stands in the table: by its kind, then by few moves, few lost agents, and the team's name."""
+    """Where a verdict stands in the table: by its kind, then by few moves, few lost
+    agents, and the team's name."""
     return RANKS.index(verdict.kind), verdict.moves, verdict.lost, team
 
 
@@ -413,7 +430,8 @@ def judge(match: Match) -> Verdict:
 
 def outcome_of(match: Match) -> str:
     """The first rule that holds."""
-    setup, accused = match.setup, match.accused
+    setup = match.setup
+    accused = match.accused
     if any(not match.doomed(v, p) for v, p in accused):
         return "wrong"
     links = set(accused) | {match.far[v][p] for v, p in accused}

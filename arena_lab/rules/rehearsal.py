@@ -1,17 +1,18 @@
-"""Sessions on the Python model: connections, keys and queues of the matches of a tournament, played as `arena rehearse`
-plays a script. Nothing is proved of it.
+"""Sessions on the Python model: connections, keys and queues of the matches of a
+tournament, played as `arena rehearse` plays a script. Nothing is proved of it.
 
-`Sessions` has any number of matches and takes bytes as they come. `Rehearsal` is the engine that needs no build: one
-match, whose lines come whole, and the script that does the same.
+`Sessions` has any number of matches and takes bytes as they come. `Rehearsal` is the
+engine that needs no build: one match, whose lines come whole, and the script that does
+the same.
 """
 from collections import deque
 from typing import Collection, Deque, Dict, List, NamedTuple, Optional, Sequence, Tuple
 
 from arena_lab.rules.fixtures import Fixture
+from arena_lab.rules.limits import MOST_LINE
 from arena_lab.rules.model import (
     AWAY,
     LAST,
-    MAX_LINE,
     OVER,
     AgentState,
     Match,
@@ -28,7 +29,8 @@ Seat = Tuple[int, int]
 # what came out: connections, each with the reply or the line that it is sent
 Sent = List[Tuple[int, Object]]
 Said = Tuple[int, str]
-# what a connection's input holds that was not taken yet: lines, and then None if it has ended
+# what a connection's input holds that was not taken yet: lines, and then None if it has
+# ended
 Item = Optional[bytes]
 BLANK = b" \t\r"
 
@@ -42,7 +44,8 @@ class Ready(NamedTuple):
 
 
 class Connection:
-    """One client: the agent that it plays, what it sent, and whether it is to be sent anything more."""
+    """One client: the agent that it plays, what it sent, and whether it is to be sent
+    anything more."""
 
     def __init__(self) -> None:
         self.seat: Optional[Seat] = None
@@ -52,7 +55,8 @@ class Connection:
 
 
 class Sessions:
-    """Connections to matches. Each call gives the replies that are sent, with the connections that are sent them."""
+    """Connections to matches. Each call gives the replies that are sent, with the
+    connections that are sent them."""
 
     def __init__(self, ready: Sequence[Ready]) -> None:
         self.ready = ready
@@ -74,7 +78,7 @@ class Sessions:
     def line(self, conn: int, item: Item) -> Sent:
         """What comes of a line that a client sends, or of the end of its input."""
         connection = self._connection(conn)
-        is_blank = item is not None and len(item) <= MAX_LINE and not item.strip(BLANK)
+        is_blank = item is not None and len(item) <= MOST_LINE and not item.strip(BLANK)
         if not is_blank and not connection.has_ended:
             connection.items.append(item)
             connection.has_ended = item is None
@@ -131,7 +135,8 @@ class Sessions:
 
     def _taken_by(self, conn: int) -> Sent:
         """Takes what a connection sent, until its agent is on a link."""
-        connection, sent = self.connections[conn], []
+        connection = self.connections[conn]
+        sent = []
         while connection.items and not connection.is_done and not self.waits(conn):
             reply = self._answer(conn, connection.items.popleft())
             if reply is not None:
@@ -162,8 +167,9 @@ class Sessions:
 
 
 class Rehearsal:
-    """An engine: lines are fed to connections, deliveries are drawn, and the match is closed. Each call gives what came
-    out, and `script` has the lines of the script that does the same."""
+    """An engine: lines are fed to connections, deliveries are drawn, and the match is
+    closed. Each call gives what came out, and `script` has the lines of the script that
+    does the same."""
 
     def __init__(self, fixture: Fixture) -> None:
         self.fixture = fixture
@@ -201,8 +207,9 @@ class Rehearsal:
     def set_alone(
         self, number: int, agent: AgentState, is_seated: bool, board: str
     ) -> None:
-        """Sets the match to one agent, which plays over the connection of its number, with this text on the whiteboard
-        in front of it; of the other agents and nodes nothing is kept."""
+        """Sets the match to one agent, which plays over the connection of its number,
+        with this text on the whiteboard in front of it; of the other agents and nodes
+        nothing is kept."""
         self.match.set_alone(number, agent, board)
         self._sessions = Sessions(self._sessions.ready)
         if is_seated:

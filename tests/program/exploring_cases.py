@@ -1,26 +1,32 @@
-"""Cases of `arena explore` in which a host plays agents that are functions of what has happened to them: which
-schedules are drawn, which one is told, and what is said of naps, of rounds and of quotas."""
+"""Cases of `arena explore` in which a host plays agents that are functions of what has
+happened to them: which schedules are drawn, which one is told, and what is said of
+naps, of rounds and of quotas."""
 import functools
 import json
 import subprocess
 import threading
 from typing import Any, Callable, Dict, List, NamedTuple, Sequence, Tuple, Union
 
+from arena_lab.rules.limits import MOST_TEXT
+from tests.program.program_cases import SEED, TRIANGLE, case, writes
 from tests.support.counts import require
-from tests.program.program_cases import MAX_TEXT, SEED, TRIANGLE, case, writes
 from tests.support.program_rows import DONE, PATIENCE, REFUSED_TEXT, Stage, expect
 
 FAILING = 1
 WAKES = "wakes"
 # a line to send, or one of the words below
 Step = Union[bytes, str]
-STOPS, SLEEPS, FAILS = "stops", "sleeps", "fails"
-# what an agent does next, by all that has happened to it: the replies that it heard, and its wakings
+STOPS = "stops"
+SLEEPS = "sleeps"
+FAILS = "fails"
+# what an agent does next, by all that has happened to it: the replies that it heard,
+# and its wakings
 Agent = Callable[[List[str]], Step]
 
 
 class Answer(NamedTuple):
-    """The exit status of an exploration, what was found, what was counted, and the fault that ended it."""
+    """The exit status of an exploration, what was found, what was counted, and the
+    fault that ended it."""
 
     status: int
     found: Dict[str, Any]
@@ -42,17 +48,19 @@ def heard(news: str) -> Dict[str, Any]:
 
 
 class Host:
-    """Answers the questions of one exploration. An agent holds all that has happened to it, or the newest things
-    alone."""
+    """Answers the questions of one exploration. An agent holds all that has happened to
+    it, or the newest things alone."""
 
     def __init__(self, agents: Sequence[Agent], keeps: int) -> None:
-        self._agents, self._keeps = agents, keeps
+        self._agents = agents
+        self._keeps = keeps
         self._numbers: Dict[Tuple[int, Tuple[str, ...]], int] = {}
         self._back: List[Tuple[int, Tuple[str, ...]]] = []
 
     def answer(self, question: Dict[str, Any]) -> bytes:
         if "begin" in question:
-            agent, history = question["begin"], ()
+            agent = question["begin"]
+            history = ()
         else:
             agent, before = self._back[question["ask"]]
             news = WAKES if "wakes" in question else json.dumps(question["hears"])
@@ -69,7 +77,8 @@ class Host:
 
 
 def writes_team(stage: Stage, agents: int, quota: int = 200) -> None:
-    """Writes a tournament of one match on the triangle, whose black hole is node 2, from node 0."""
+    """Writes a tournament of one match on the triangle, whose black hole is node 2,
+    from node 0."""
     keys = ", ".join(f'"k{agent}"' for agent in range(agents))
     writes(
         stage,
@@ -98,7 +107,8 @@ def explored(
     assert child.stdin and child.stdout and child.stderr
     patience = threading.Timer(PATIENCE, child.kill)
     patience.start()
-    host, last = Host(agents, keeps), []
+    host = Host(agents, keeps)
+    last = []
     try:
         for line in child.stdout:
             told = json.loads(line)
@@ -121,20 +131,22 @@ def explored(
 
 
 def in_turn(history: List[str], *steps: Step) -> Step:
-    """Of these steps the one after all that has happened; an agent that has done all of them stops."""
+    """Of these steps the one after all that has happened; an agent that has done all of
+    them stops."""
     return steps[len(history)] if len(history) < len(steps) else STOPS
 
 
 def solves(agent: int, history: List[str]) -> Step:
-    """Enters, goes to node 1 and accuses the link to node 2: the match is solved in one move."""
+    """Enters, goes to node 1 and accuses the link to node 2: the match is solved in one
+    move."""
     return in_turn(
         history, enter(agent), say("depart", port=0), STOPS, say("accuse", port=1)
     )
 
 
 def races(agent: int, history: List[str]) -> Step:
-    """Whoever writes first decides. If that is agent 0, it solves the match with one move; else it accuses a safe link
-    at once."""
+    """Whoever writes first decides. If that is agent 0, it solves the match with one
+    move; else it accuses a safe link at once."""
     if not history:
         return enter(agent)
     if len(history) == 1:
@@ -167,7 +179,8 @@ def as_agent(number: int, of: Callable[[int, List[str]], Step]) -> Agent:
     return functools.partial(of, number)
 
 
-SOLVER, RACE = as_agent(0, solves), [as_agent(0, races), as_agent(1, races)]
+SOLVER = as_agent(0, solves)
+RACE = [as_agent(0, races), as_agent(1, races)]
 
 
 # Which schedule is told.
@@ -218,7 +231,8 @@ def two_lost(stage: Stage) -> None:
 
 
 def walks_or_is_lost(history: List[str]) -> Step:
-    """It enters the black hole if it enters before agent 0 has written; else it walks six times and leaves."""
+    """It enters the black hole if it enters before agent 0 has written; else it walks
+    six times and leaves."""
     if not history:
         return enter(1)
     if not heard(history[0])["board"]:
@@ -347,7 +361,8 @@ def last_departed(stage: Stage) -> None:
 
 
 def looks_and_solves(history: List[str]) -> Step:
-    """It looks four times, and solves the match unless agent 1 has written until then."""
+    """It looks four times, and solves the match unless agent 1 has written until
+    then."""
     if not history:
         return enter(0)
     if len(history) < 6:
@@ -380,7 +395,8 @@ def sleepers_wake_seldom(stage: Stage) -> None:
         "--spurious-wakeups",
         10,
     )
-    # with weight 10 in all schedules it would be some 420 of them, with weight 1 some 60
+    # with weight 10 in all schedules it would be some 420 of them, with weight 1 some
+    # 60
     require(150 < told.counts["failed"] < 320, told.counts)
 
 
@@ -423,7 +439,7 @@ def longest_answer(stage: Stage) -> None:
         (0, 2, b'{"begin":0}\n{"begin":1}\n'),
         (1, 1, b'{"begin":0}\n'),
     ):
-        answer = b" stops".rjust(MAX_TEXT + more, b"0") + b"\n"
+        answer = b" stops".rjust(MOST_TEXT + more, b"0") + b"\n"
         expect(
             stage.run(["explore", "team.toml", "0"], answer),
             asked,
@@ -432,7 +448,8 @@ def longest_answer(stage: Stage) -> None:
         )
 
 
-# Rounds, quotas and naps. These agents hold the newest thing alone that has happened to them.
+# Rounds, quotas and naps. These agents hold the newest thing alone that has happened to
+# them.
 
 
 def enters_again(agent: int, _history: List[str]) -> Step:
@@ -474,11 +491,13 @@ def rounds_that_end(stage: Stage) -> None:
 
 
 def waits(patience: int, history: List[str]) -> Step:
-    """Agent 1 sleeps until agent 0 has written, and looks each time when it wakes. After more naps than its patience it
-    takes agent 0 for lost, and accuses a safe link."""
+    """Agent 1 sleeps until agent 0 has written, and looks each time when it wakes.
+    After more naps than its patience it takes agent 0 for lost, and accuses a safe
+    link."""
     if not history:
         return enter(1)
-    last, naps = heard(history[-1]), history.count(WAKES)
+    last = heard(history[-1])
+    naps = history.count(WAKES)
     if history[-1] == WAKES:
         return say("look")
     if last.get("ok") != "here":
@@ -517,7 +536,8 @@ def naps(stage: Stage) -> None:
     ]
     for count, found in enumerate(told[:9]):
         require(found["found"] == "solves" and found["naps"] == count, count, found)
-        # each nap is a waking and a look more, before agent 0 has written; to leave is not counted
+        # each nap is a waking and a look more, before agent 0 has written; to leave is
+        # not counted
         require(found["commands"] == [4, count + 2], count, found)
         require(found["turns"] == told[0]["turns"] + 2 * count, count, found, told[0])
     require(told[9]["found"] == "fails", told[9])

@@ -1,4 +1,5 @@
-"""Cases of `arena rehearse --interactive`: what a batch prints comes line by line, each answer before more is sent."""
+"""Cases of `arena rehearse --interactive`: what a batch prints comes line by line, each
+answer before more is sent."""
 import functools
 import os
 import subprocess
@@ -6,17 +7,17 @@ import sys
 import threading
 from typing import List, Sequence
 
-from tests.support.counts import require
+from arena_lab.rules.limits import MOST_TEXT
 from tests.program.program_cases import (
     CASES,
     ENTER,
     HERE,
     LOOK,
-    MAX_TEXT,
     TOP,
     case,
     drawn_script,
 )
+from tests.support.counts import require
 from tests.support.program_rows import (
     DONE,
     PATIENCE,
@@ -36,8 +37,9 @@ def without_ends(printed: bytes) -> bytes:
 
 
 def lockstep(stage: Stage, lines: Sequence[str]) -> List[bytes]:
-    """Sends each line once the answer to the one before it has ended: gives the answers. A program that keeps an answer
-    back until more is sent is stopped, and the read ends."""
+    """Sends each line once the answer to the one before it has ended: gives the
+    answers. A program that keeps an answer back until more is sent is stopped, and the
+    read ends."""
     player = subprocess.Popen(
         [stage.program, *INTERACTIVE],
         cwd=stage.folder,
@@ -68,7 +70,8 @@ def lockstep(stage: Stage, lines: Sequence[str]) -> List[bytes]:
 
 
 def answers_at_once(seeds: Sequence[int], stage: Stage) -> None:
-    """Scripts drawn from these seeds are answered in lockstep, in one piece and in one batch by the same texts."""
+    """Scripts drawn from these seeds are answered in lockstep, in one piece and in one
+    batch by the same texts."""
     for seed in seeds:
         script = drawn_script(seed)[0]
         batch = stage.run(["rehearse"], script.encode())
@@ -94,7 +97,7 @@ for first_seed in range(0, 40, 10):
 
 @case("an interactive script may be longer than a batch, its lines not")
 def longest_line(stage: Stage) -> None:
-    comment = "#" * MAX_TEXT + "\n"
+    comment = "#" * MOST_TEXT + "\n"
     script = f"0 {ENTER}\n{comment}{comment}0 {LOOK}\n"
     expect(
         stage.run(INTERACTIVE, script.encode()),

@@ -1,12 +1,15 @@
-"""Compares what the program says of lists of links with what the rules say, worked out here in a plain way.
+"""Compares what the program says of lists of links with what the rules say, worked out
+here in a plain way.
 
     python3 -m tests.program.network_faults PROGRAM [OTHER] [--lists N]
 
-Makes N lists of links by a seeded generator, 10,000 by default. Half of them make a network. Of the
-others most are broken in one to three places, and some join two networks at a node or not at all. Runs `PROGRAM check`
-on each, and OTHER, another build, if it is named, and compares the fault line and the status. The tournament is
-of version 1, so that older builds take it too. Prints how many lists had each fault, and a line for each difference.
-The exit status is 1 if there is one.
+Makes N lists of links by a seeded generator, 10,000 by default. Half of them make a
+network. Of the others most are broken in one to three places, and some join two
+networks at a node or not at all. Runs `PROGRAM check` on each, and OTHER, another
+build, if it is named, and compares the fault line and the status. The tournament is of
+version 1, so that older builds take it too. Prints how many lists had each fault, and a
+line for each difference. The last line reads `N passed, M failed`, and the exit status
+is 1 if a list made a difference.
 """
 import argparse
 import collections
@@ -18,11 +21,14 @@ import sys
 import tempfile
 from typing import Callable, Dict, List, Optional, Sequence, Set, Tuple
 
+from arena_lab.rules.limits import SMALL_NODES
 from bench.inputs import tournament
+from tests.support.counts import concluded
 
 TOP = pathlib.Path(__file__).resolve().parents[2]
-LISTS, WORKERS = 10_000, 4
-MIN_NODES, MAX_NODES = 3, 256
+LISTS = 10_000
+WORKERS = 4
+MIN_NODES = 3
 REFUSED = 3
 
 Link = List[int]
@@ -42,7 +48,8 @@ def is_joined(nodes: int, links: Sequence[Link], without: Optional[int] = None) 
             neighbours[one].add(two)
             neighbours[two].add(one)
     start = next(iter(neighbours))
-    reached, todo = {start}, [start]
+    reached = {start}
+    todo = [start]
     while todo:
         for other in neighbours[todo.pop()] - reached:
             reached.add(other)
@@ -80,7 +87,7 @@ def first(places: Sequence[bool]) -> Optional[int]:
 
 def fault_of(nodes: int, links: Sequence[Link]) -> str:
     """The fault that is told, or none."""
-    if not MIN_NODES <= nodes <= MAX_NODES:
+    if not MIN_NODES <= nodes <= SMALL_NODES:
         return "nodes"
     for name, place in (
         (
@@ -113,7 +120,8 @@ def fault_of(nodes: int, links: Sequence[Link]) -> str:
 
 
 def whole(chance: random.Random) -> Made:
-    """A network of a ring and further links, in any order and direction, with any numbers of nodes and ports."""
+    """A network of a ring and further links, in any order and direction, with any
+    numbers of nodes and ports."""
     nodes = chance.choice((3, 4, 5, 6, 8, 12, 20))
     pairs = {frozenset((node, (node + 1) % nodes)) for node in range(nodes)}
     for _ in range(chance.choice((0, 1, nodes, nodes * nodes))):
@@ -133,7 +141,8 @@ def whole(chance: random.Random) -> Made:
 
 def two_parts(chance: random.Random) -> Made:
     """Two networks that stand apart, or that share a node."""
-    (size, links), (other, more) = whole(chance), whole(chance)
+    (size, links) = whole(chance)
+    (other, more) = whole(chance)
     if chance.random() < 0.5:
         return size + other, links + [
             [one + size, p, two + size, q] for one, p, two, q in more
@@ -237,11 +246,10 @@ def main() -> int:
         )
     counts = collections.Counter(fault.rstrip("0123456789 ") for fault, _ in found)
     print(", ".join(f"{name} {count}" for name, count in counts.most_common()))
-    differences = [line for _, lines in found for line in lines]
-    for line in differences:
+    for line in [line for _, lines in found for line in lines]:
         print(line)
-    print(f"{given.lists} lists, {len(differences)} differences")
-    return 1 if differences else 0
+    differ = sum(bool(lines) for _, lines in found)
+    return concluded(len(found) - differ, differ)
 
 
 if __name__ == "__main__":

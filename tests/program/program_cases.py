@@ -1,5 +1,5 @@
-"""Cases that play the program on what is made by rules: long texts, scripts drawn from a seed, streams that fail, the
-examples, and contests over TCP."""
+"""Cases that play the program on what is made by rules: long texts, scripts drawn from
+a seed, streams that fail, the examples, and contests over TCP."""
 import functools
 import os
 import pathlib
@@ -9,8 +9,8 @@ import socket
 import sys
 from typing import Callable, Dict, NamedTuple, Sequence, Tuple
 
+from arena_lab.rules.limits import MOST_LINE, MOST_TEXT
 from tests.support.counts import require
-from tests.support.servers import enter, serve
 from tests.support.program_rows import (
     DONE,
     FAILED_STREAM,
@@ -20,13 +20,14 @@ from tests.support.program_rows import (
     difference,
     expect,
 )
+from tests.support.servers import enter, serve
 
 TOP = pathlib.Path(__file__).resolve().parents[2]
-MAX_LINE = 65_536
-MAX_TEXT = 1_048_576
 # the bytes of the longest line of a turn, with its line feed
 LONGEST_TURN = 11
-REFUSED_WORDS, REFUSED_MATCH, NO_MEMORY = 2, 4, 5
+REFUSED_WORDS = 2
+REFUSED_MATCH = 4
+NO_MEMORY = 5
 
 ENTER = '{"do":"enter","key":"ka"}'
 LOOK = '{"do":"look"}'
@@ -88,7 +89,8 @@ def writes(stage: Stage, **texts: str) -> None:
 
 
 def spends(stage: Stage, first: Sequence[Tuple[str, str]], looks: int) -> None:
-    """An agent enters, is answered so, looks this many times, and has then spent its quota."""
+    """An agent enters, is answered so, looks this many times, and has then spent its
+    quota."""
     told = [
         (ENTER, HERE),
         *first,
@@ -204,7 +206,7 @@ def quota_and_port(stage: Stage) -> None:
 
 @case("wrong lines use up a quota")
 def quota_and_lines(stage: Stage) -> None:
-    spends(stage, [('{"do":"jump"}', BAD), ("x" * (MAX_LINE + 1), BAD)], 8)
+    spends(stage, [('{"do":"jump"}', BAD), ("x" * (MOST_LINE + 1), BAD)], 8)
 
 
 @case("bytes may come one by one")
@@ -216,7 +218,8 @@ def one_by_one(stage: Stage) -> None:
 
 
 # of a script, and how many bytes the longest of some scripts prints at least
-INSTRUCTIONS, LONG = 60, 400
+INSTRUCTIONS = 60
+LONG = 400
 DRAWN = [
     ENTER,
     '{"do":"enter","key":"kb"}',
@@ -257,7 +260,8 @@ def instruction(dice: random.Random) -> Tuple[str, str]:
 
 
 def drawn_script(seed: int) -> Tuple[str, str]:
-    """A script, and the same with its feeds cut: two agents enter, and then anything is drawn."""
+    """A script, and the same with its feeds cut: two agents enter, and then anything is
+    drawn."""
     dice = random.Random(seed)
     pairs = [feeds(dice, conn, DRAWN[conn]) for conn in (0, 1)]
     pairs += [instruction(dice) for _ in range(INSTRUCTIONS)]
@@ -265,7 +269,8 @@ def drawn_script(seed: int) -> Tuple[str, str]:
 
 
 def feeds_are_cut(seeds: Sequence[int], stage: Stage) -> None:
-    """Scripts that are drawn from these seeds print the same with their feeds cut, and some print much."""
+    """Scripts that are drawn from these seeds print the same with their feeds cut, and
+    some print much."""
     longest = 0
     for seed in seeds:
         whole, cut = drawn_script(seed)
@@ -292,15 +297,17 @@ for first_seed in range(0, 200, 25):
 @case("long lines are answered")
 def long_lines(stage: Stage) -> None:
     lines = [ENTER, "a" * 70_000]
-    lines += [LOOK + " " * (length - len(LOOK)) for length in (MAX_LINE, MAX_LINE + 1)]
+    lines += [
+        LOOK + " " * (length - len(LOOK)) for length in (MOST_LINE, MOST_LINE + 1)
+    ]
     lines += [f'{{"do":"look","x":{"[" * depth}{"]" * depth}}}' for depth in (10, 200)]
     rehearses(stage, "".join(f"0 {line}\n" for line in lines), (HERE + BAD) * 3)
 
 
 @case("a script of the greatest length, and one byte more")
 def longest_script(stage: Stage) -> None:
-    rehearses(stage, "\n" * MAX_TEXT, "")
-    rehearses(stage, "\n" * (MAX_TEXT + 1), "", "script: text\n", REFUSED_TEXT)
+    rehearses(stage, "\n" * MOST_TEXT, "")
+    rehearses(stage, "\n" * (MOST_TEXT + 1), "", "script: text\n", REFUSED_TEXT)
 
 
 @case("a file of the greatest length, and one byte more")
@@ -309,7 +316,7 @@ def longest_file(stage: Stage) -> None:
         (0, "version\n  version: 1, 2 or 3; of a network 1 or 2"),
         (1, "text"),
     ):
-        writes(stage, long="#" * (MAX_TEXT + more))
+        writes(stage, long="#" * (MOST_TEXT + more))
         expect(
             stage.run(["check", "long.toml"]),
             b"",
@@ -323,8 +330,9 @@ def longest_file(stage: Stage) -> None:
 )
 def longest_turns(stage: Stage) -> None:
     (stage.folder / "examples").symlink_to(TOP / "examples")
-    turns, events = stage.folder / "long.turns", 69
-    longest = LONGEST_TURN * events + MAX_TEXT
+    turns = stage.folder / "long.turns"
+    events = 69
+    longest = LONGEST_TURN * events + MOST_TEXT
     words = "judge examples/appeal0.jsonl --turns long.turns --tournament examples/appeal.toml --match 0".split()
     turns.write_text("0\n" * (longest // 2))
     told = f"long.turns: {longest // 2} turns, {events} events\n"
@@ -456,7 +464,8 @@ def full_output(stage: Stage) -> None:
         fails_on(stage, output.fileno())
 
 
-# Runs a command whose files may have this many bytes. A write beyond them fails, since Python ignores the signal of it.
+# Runs a command whose files may have this many bytes. A write beyond them fails, since
+# Python ignores the signal of it.
 NARROW = """import os, resource, sys
 resource.setrlimit(resource.RLIMIT_FSIZE, (int(sys.argv[1]),) * 2)
 os.execv(sys.argv[2], sys.argv[2:])"""
@@ -479,7 +488,8 @@ def narrow_output(stage: Stage) -> None:
                 expect(ran, whole.printed)
 
 
-# The examples: the words, the script, what is printed (a file or the text itself), what is told, the file written.
+# The examples: the words, the script, what is printed (a file or the text itself), what
+# is told, the file written.
 
 
 class Example(NamedTuple):
@@ -534,7 +544,8 @@ EXAMPLES = [
 
 
 def plays_example(example: Example, stage: Stage) -> None:
-    """Plays an example on a copy of the folder, from which the file that it writes is taken."""
+    """Plays an example on a copy of the folder, from which the file that it writes is
+    taken."""
     folder = stage.folder / "examples"
     shutil.copytree(
         TOP / "examples", folder, ignore=shutil.ignore_patterns("agents", "__pycache__")
@@ -588,7 +599,8 @@ def refused_contests(stage: Stage) -> None:
 
 
 # what an agent is answered that enters before the close, and after it
-SIGHT, OVER = HERE.partition(" ")[2].encode(), b'{"ok":"over"}\n'
+SIGHT = HERE.partition(" ")[2].encode()
+OVER = b'{"ok":"over"}\n'
 
 
 @case("a contest is hosted")
@@ -597,7 +609,8 @@ def contest(stage: Stage) -> None:
     with serve(
         stage.program, stage.folder, turns=0, pause=0, sessions=1, prefix="hosted"
     ) as server:
-        heard, run = server.hears(enter("ka")), server.ended()
+        heard = server.hears(enter("ka"))
+        run = server.ended()
     row = "  1 red              silent          0    0"
     expect(run, f"{TABLE_HEAD}\n{row}\n".encode())
     require(heard in (SIGHT, OVER), f"the client heard {heard!r}")

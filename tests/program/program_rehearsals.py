@@ -1,13 +1,14 @@
-"""Rehearsals that are drawn, of each number of agents, and played on the program: it prints what
-tests/support/drawn_rehearsals.py says, also when it answers each line as it comes. No call wants memory."""
+"""Rehearsals that are drawn, of each number of agents, and played on the program: it
+prints what tests/support/drawn_rehearsals.py says, also when it answers each line as it
+comes. No call wants memory."""
 import functools
 from typing import Sequence
 
-from tests.support.drawn_rehearsals import drawn
+from arena_lab.rules.limits import MOST_AGENTS
 from tests.program.program_cases import CASES
+from tests.support.drawn_rehearsals import drawn
 from tests.support.program_rows import Stage, difference, expect
 
-MOST_AGENTS = 64
 OF_A_CASE = 16
 
 
