@@ -2,13 +2,16 @@
 
     python3 -m bench.compare [--keep] PROGRAM OTHER
 
-Makes tournaments, networks and scripts by a seeded generator, and runs both programs on each of them in turn, 21
-times. Prints for each input the median time of both, the least time that a processor took for them, which other work
-on the machine changes less, of each the time of PROGRAM divided by that of OTHER, and the median of the most memory
-that they held. What they print goes to nobody while they are timed. With --keep it is kept in memory, which takes the
-system the same time for both. The tournaments are of version 1, so that older builds take them too. Both programs must
-print the same bytes, in one more run of each; an input on which they do not is told, and the exit status is then 1.
-Nothing is written outside a temporary folder. It needs cc, since a small program in C takes the times (bench/c/timer.c).
+Makes tournaments, networks and scripts by a seeded generator, and runs both programs on
+each of them in turn, 21 times. Prints for each input the median time of both, the least
+time that a processor took for them, which other work on the machine changes less, of
+each the time of PROGRAM divided by that of OTHER, and the median of the most memory
+that they held. What they print goes to nobody while they are timed. With --keep it is
+kept in memory, which takes the system the same time for both. The tournaments are of
+version 1, so that older builds take them too. Both programs must print the same bytes,
+in one more run of each; an input on which they do not is told, and the exit status is
+then 1. Nothing is written outside a temporary folder. It needs cc, since a small
+program in C takes the times (bench/c/timer.c).
 """
 import pathlib
 import statistics
@@ -16,9 +19,10 @@ import sys
 import tempfile
 from typing import Callable, Iterable, Iterator, List, Sequence, Tuple
 
-from bench import rehearse
+from arena_lab.rules.limits import MOST_TEXT
 from arena_lab.rules.networks import Network, text_of, torus
-from bench.inputs import MAX_SCRIPT, Run, key, printed_by, run, tournament
+from bench import rehearse
+from bench.inputs import Run, key, printed_by, run, tournament
 
 ROUNDS = 21
 BOARD = 1000
@@ -28,7 +32,8 @@ Input = Tuple[str, List[str], pathlib.Path]
 
 
 def by_ports(nodes: int, pairs: Iterable[Pair]) -> str:
-    """The links between these pairs of nodes: a node's ports are numbered in the order in which its pairs come."""
+    """The links between these pairs of nodes: a node's ports are numbered in the order
+    in which its pairs come."""
     used = [0] * nodes
     links = []
     for one, two in pairs:
@@ -46,7 +51,8 @@ def complete(nodes: int) -> str:
 
 def sparse(nodes: int) -> str:
     """A torus of 16 columns, its ports in the order in which its links come."""
-    rows, columns = nodes // 16, 16
+    rows = nodes // 16
+    columns = 16
     pairs = []
     for row in range(rows):
         for column in range(columns):
@@ -57,21 +63,24 @@ def sparse(nodes: int) -> str:
 
 
 def worst_dense(nodes: int) -> str:
-    """All but two nodes are linked each to each, and two more hang on the last two of them."""
+    """All but two nodes are linked each to each, and two more hang on the last two of
+    them."""
     pairs = [
         (one, two) for one in range(nodes - 2) for two in range(one + 1, nodes - 2)
     ]
-    last, other = nodes - 4, nodes - 3
+    last = nodes - 4
+    other = nodes - 3
     pairs += [(last, nodes - 2), (other, nodes - 1), (nodes - 2, nodes - 1)]
     return by_ports(nodes, pairs)
 
 
 def filled(lines: Iterable[str]) -> str:
     """These lines, as long as a script may be."""
-    text, size = [], 0
+    text = []
+    size = 0
     for line in lines:
         size += len(line) + 1
-        if size > MAX_SCRIPT:
+        if size > MOST_TEXT:
             break
         text.append(line)
     return "\n".join(text) + "\n"
@@ -105,15 +114,17 @@ def texts() -> Iterator[str]:
         yield '0 {"do":"write","expect":"%s","put":"%s"}' % (before, put)
         for conn in range(1, 16):
             yield '%d {"do":"look"}' % conn
-        before, put = put, ("y" if put[0] == "x" else "x") * BOARD
+        before = put
+        put = ("y" if put[0] == "x" else "x") * BOARD
 
 
 def made(folder: pathlib.Path) -> List[Input]:
-    """Writes the inputs, and answers for each its title, words and what stands on standard input."""
+    """Writes the inputs, and answers for each its title, words and what stands on
+    standard input."""
     inputs = []
     (folder / "torus.toml").write_text(text_of(torus(rehearse.SIDE, rehearse.SIDE)))
     scripts = [
-        ("lines by chance", 64, 4, 64, rehearse.script(MAX_SCRIPT)[0]),
+        ("lines by chance", 64, 4, 64, rehearse.script(MOST_TEXT)[0]),
         ("moves", 64, 4, 64, filled(moves())),
         ("longest texts", 1, 16, BOARD, filled(texts())),
     ]
@@ -154,7 +165,8 @@ def compared(
 
 
 def line_of(title: str, runs: List[List[Run]]) -> str:
-    """What is printed of an input, by the runs of both programs. bench/figures.py reads it."""
+    """What is printed of an input, by the runs of both programs. bench/figures.py reads
+    it."""
     times = compared(statistics.median, [[it.seconds for it in both] for both in runs])
     processors = compared(min, [[it.processor for it in both] for both in runs])
     one, two = (statistics.median(it.peak for it in each) for each in zip(*runs))

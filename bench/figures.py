@@ -3,15 +3,17 @@
     python3 -m bench.figures [--only NAME ..] [--program PATH] [--other PATH] [--peer PATH] [--benchmark PATH]
         [--out FILE]
 
-Each benchmark has a section of the page: the commit, day, build and machine, the command, and the figures. A run
-replaces the sections of the benchmarks that it ran and leaves the others as they are. The table at the head of the page
-is made of the sections; a section of another name is left out. Standard error tells which benchmark is running; the
-exit status is 1 if one failed.
+Each benchmark has a section of the page: the commit, day, build and machine, the
+command, and the figures. A run replaces the sections of the benchmarks that it ran and
+leaves the others as they are. The table at the head of the page is made of the
+sections; a section of another name is left out. Standard error tells which benchmark is
+running; the exit status is 1 if one failed.
 
-Without --only all of them run, which takes about two hours, half of it for the gate. `steps`, `submit` and `stages`
-need the proved program bhs_bench, and `compare` a build that --other names; `instructions` counts those of --other and
---peer too. The others, except `gate`, run on the proved arena if it is built, else on a build without a proof, and the
-page says on which. Nothing else should run on the machine meanwhile.
+Without --only all of them run, which takes about two hours, half of it for the gate.
+`steps`, `submit` and `stages` need the proved program bhs_bench, and `compare` a build
+that --other names; `instructions` counts those of --other and --peer too. The others,
+except `gate`, run on the proved arena if it is built, else on a build without a proof,
+and the page says on which. Nothing else should run on the machine meanwhile.
 """
 import argparse
 import datetime
@@ -26,9 +28,10 @@ import textwrap
 import time
 from typing import Callable, Dict, Iterable, List, NamedTuple, Optional, Sequence, Tuple
 
-from bench import instructions
-from bench import promela
+from arena_lab.rules.limits import MOST_QUOTA, SMALL_QUOTA
 from arena_lab.support import built
+from bench import instructions, promela
+from bench.replays import events_at_most
 
 TOP = pathlib.Path(__file__).resolve().parent.parent
 PAGE = TOP / "bench" / "FIGURES.md"
@@ -68,9 +71,9 @@ class Setting(NamedTuple):
 
 
 class Benchmark(NamedTuple):
-    """A benchmark: the title of its section, its command, and the text that its output gives. `needs` says what is
-    missing, if anything is; `build` names the build, if it is not that of the setting.
-    """
+    """A benchmark: the title of its section, its command, and the text that its output
+    gives. `needs` says what is missing, if anything is; `build` names the build, if it
+    is not that of the setting."""
 
     title: str
     words: Callable[[Setting], List[str]]
@@ -94,7 +97,8 @@ def found_in(pattern: str, printed: str) -> List[Cells]:
 
 
 def gate_text(printed: str) -> str:
-    """The table of tools/prove/gate_times, which stands behind the lines of the gate."""
+    """The table of tools/prove/gate_times, which stands behind the lines of the
+    gate."""
     _, _, last = printed.partition("\nProcessor seconds by crate and stage; ")
     said, _, rows = last.partition(":\n\n")
     if not rows:
@@ -159,7 +163,8 @@ def compare_text(printed: str) -> str:
 
 
 def replays_text(printed: str) -> str:
-    """A row for each command on each whole replay, with how many times longer it takes than on a tenth of it."""
+    """A row for each command on each whole replay, with how many times longer it takes
+    than on a tenth of it."""
     rows: List[List[str]] = []
     for part in re.split(r"^(?=\S)", printed, flags=re.MULTILINE):
         kind = re.match(r"(.+): (\d+) events, (\d+) bytes\n", part)
@@ -198,7 +203,8 @@ def replays_text(printed: str) -> str:
 
 
 def serve_text(printed: str) -> str:
-    """Two tables, of commands one at a time and of many at once, and the lines below them."""
+    """Two tables, of commands one at a time and of many at once, and the lines below
+    them."""
     lines = [
         line.split()
         for line in printed.splitlines()
@@ -292,7 +298,7 @@ of each state twice: in the search, and in the check of its result.
 """
 SPIN_NOTE = """\
 All schedules of two agents of `examples/agents/ring_step.py`, each black hole in turn, in seconds of one processor.
-SPIN searches two models of `experiments/models`, written by hand; its start takes some 0.1 s. The merged model has
+SPIN searches two models of `bench/models`, written by hand; its start takes some 0.1 s. The merged model has
 fewer states: it joins a step that no agent can observe with the step before. `./arena-lab explore` asks the step, and
 `arena explore` alone reads the answers from a file. All find the same moves.
 """
@@ -320,6 +326,10 @@ A hundred agents of 50 teams search a ring of 16 nodes while strangers connect, 
 half a line, and a third a wrong key. Without strangers the first enters are slower, since all agents begin at once with
 the server.
 """
+REPLAYS_NOTE = f"""\
+A replay may have {events_at_most(MOST_QUOTA):,} events at most, and one of the earlier versions \
+{events_at_most(SMALL_QUOTA):,}.
+"""
 LOOKS_NOTE = """\
 The most memory that a server has held while one agent looks at a whiteboard of 65,490 bytes as often as a quota allows.
 """
@@ -335,7 +345,8 @@ connections.
 
 
 def noted_text(note: str, text: Callable[[str], str] = str) -> Callable[[str], str]:
-    """The figures below a note that says what they mean; without `text` the benchmark prints a table itself."""
+    """The figures below a note that says what they mean; without `text` the benchmark
+    prints a table itself."""
     return lambda printed: f"{note}\n{text(printed)}"
 
 
@@ -431,7 +442,9 @@ BENCHMARKS: Dict[str, Benchmark] = {
         lambda at: "" if instructions.has_valgrind() else "valgrind is not installed",
     ),
     "replays": Benchmark(
-        "Replays", lambda at: of_python("bench.replays", str(at.program)), replays_text
+        "Replays",
+        lambda at: of_python("bench.replays", str(at.program)),
+        noted_text(REPLAYS_NOTE, replays_text),
     ),
     "serve": Benchmark(
         "The server's speed", lambda at: of_python("bench.serve"), serve_text
@@ -516,11 +529,13 @@ def section(name: str, printed: str, setting: Setting) -> str:
 
 
 def page(sections: Dict[str, str]) -> str:
-    """The whole page: a table of the sections, and then these, in the order of BENCHMARKS."""
+    """The whole page: a table of the sections, and then these, in the order of
+    BENCHMARKS."""
     names = [name for name in BENCHMARKS if name in sections]
     rows = []
     for name in names:
-        title, measured = TITLE.search(sections[name]), MEASURED.findall(sections[name])
+        title = TITLE.search(sections[name])
+        measured = MEASURED.findall(sections[name])
         rows += [
             [title[1] if title else name, *(cell.replace("\n", " ") for cell in cells)]
             for cells in measured
@@ -542,8 +557,8 @@ def say(text: str) -> None:
 
 
 def run(words: Sequence[str], setting: Setting) -> Tuple[int, str]:
-    """Runs a command, and gives its status and what it printed. Its standard error is passed on, except that a build
-    without a proof says so at each start."""
+    """Runs a command, and gives its status and what it printed. Its standard error is
+    passed on, except that a build without a proof says so at each start."""
     with tempfile.TemporaryFile("w+") as printed:
         with subprocess.Popen(
             words,

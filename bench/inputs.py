@@ -1,4 +1,5 @@
-"""What the benchmarks share: tournaments as texts, and how long and how large one run of a program is."""
+"""What the benchmarks share: tournaments as texts, and how long and how large one run
+of a program is."""
 import atexit
 import functools
 import os
@@ -8,12 +9,13 @@ import tempfile
 import time
 from typing import NamedTuple, Sequence
 
+from arena_lab.rules.limits import MOST_LINE, MOST_QUOTA, SMALL_QUOTA
+
 MIB = 1024 * 1024
-MAX_SCRIPT = 1_048_576
-MAX_QUOTA = 1000
-MAX_AGENTS = 64
-MAX_BOARD = 4096
 PAUSE = 0.0005
+# the bytes of the longest text that a client can write: with the command it is as long
+# as a line may be
+LONGEST_TEXT = MOST_LINE - len('{"do":"write","expect":"","put":""}')
 
 
 def key(game: int, agent: int) -> str:
@@ -28,23 +30,25 @@ def tournament(
     version: int = 2,
     holes: Sequence[Sequence[int]] = (),
 ) -> str:
-    """A tournament of matches on one network, each of its own team, with the largest quota. The first of them have
-    these black holes, which takes version 2; the others are practice matches."""
+    """A tournament of matches on one network, each of its own team, with the largest
+    quota of its version. The first of them have these black holes, which takes version
+    2; the others are practice matches."""
     parts = [f'version = {version}\nseed = "{"0" * 64}"\n']
+    quota = MOST_QUOTA if version == 3 else SMALL_QUOTA
     for game in range(matches):
         found = list(holes[game]) if game < len(holes) else []
-        hole = f"holes = {found}" if version == 2 else 'hole = "none"'
+        hole = 'hole = "none"' if version == 1 else f"holes = {found}"
         keys = ", ".join(f'"{key(game, agent)}"' for agent in range(agents))
         parts.append(
             f'[[match]]\nteam = "team-{game}"\nnetwork = "{name}"\nhome = 0\n{hole}\n'
-            f"quota = {MAX_QUOTA}\nboard = {board}\nkeys = [{keys}]\n"
+            f"quota = {quota}\nboard = {board}\nkeys = [{keys}]\n"
         )
     return "".join(parts)
 
 
 class Run(NamedTuple):
-    """One run of a program: the seconds that it took, those that a processor worked for it, and the most memory, in
-    KiB, that it held."""
+    """One run of a program: the seconds that it took, those that a processor worked for
+    it, and the most memory, in KiB, that it held."""
 
     seconds: float
     processor: float
@@ -53,11 +57,11 @@ class Run(NamedTuple):
 
 @functools.lru_cache(maxsize=None)
 def timer() -> str:
-    """The program that times others, compiled of timer.c."""
+    """The program that times others, compiled of c/timer.c."""
     folder = tempfile.TemporaryDirectory()
     atexit.register(folder.cleanup)
     made = str(pathlib.Path(folder.name) / "timer")
-    source = str(pathlib.Path(__file__).resolve().parent / "timer.c")
+    source = str(pathlib.Path(__file__).resolve().parent / "c" / "timer.c")
     subprocess.run(
         ["cc", "-O2", "-Wall", "-Wextra", "-Werror", "-o", made, source], check=True
     )
@@ -71,8 +75,8 @@ def run(
     folder: pathlib.Path,
     keeps: bool = False,
 ) -> Run:
-    """One run of a program. What it prints goes to nobody, or is kept in memory, so that no reader and no disk is
-    timed."""
+    """One run of a program. What it prints goes to nobody, or is kept in memory, so
+    that no reader and no disk is timed."""
     told, teller = os.pipe()
     with open(told) as figures, open(teller, "w") as tells, open(
         source, "rb"
@@ -108,7 +112,8 @@ def printed_by(
 
 
 def peak_so_far(child: subprocess.Popen) -> int:
-    """The most memory, in KiB, that a program has held since it began; 0 if it has ended."""
+    """The most memory, in KiB, that a program has held since it began; 0 if it has
+    ended."""
     for line in pathlib.Path(f"/proc/{child.pid}/status").read_text().splitlines():
         if line.startswith("VmHWM:"):
             return int(line.split()[1])
@@ -116,9 +121,9 @@ def peak_so_far(child: subprocess.Popen) -> int:
 
 
 def peak_of_child(child: subprocess.Popen) -> int:
-    """The most memory, in KiB, that a program holds until it ends: what the system said last before that, asked every
-    half millisecond. What the system says afterwards counts the memory of the one that started it as well.
-    """
+    """The most memory, in KiB, that a program holds until it ends: what the system said
+    last before that, asked every half millisecond. What the system says afterwards
+    counts the memory of the one that started it as well."""
     peak = 0
     while child.poll() is None:
         peak = max(peak, peak_so_far(child))

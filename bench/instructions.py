@@ -1,4 +1,5 @@
-"""Counts the instructions that programs run on the same inputs. Other work on the machine does not change the counts.
+"""Counts the instructions that programs run on the same inputs. Other work on the
+machine does not change the counts.
 
     python3 -m bench.instructions [PROGRAM [OTHER]] [--peer PATH] [--small]
     python3 -m bench.instructions --kept [PROGRAM]
@@ -7,18 +8,21 @@ A seeded generator makes inputs of version 1, which older builds and a peer take
 
 - A script of 16 matches of 16 agents has some 30,000 commands and draws.
 - A complete network has 256 nodes.
-- The replay `moves` has the most events that version 1 allows, 32,033, of 16 agents that walk by chance.
+- The replay `moves` has the most events that version 1 allows, 32,033, of 16 agents
+  that walk by chance.
 - In the replay `texts` 16 agents look at a whiteboard of 1,024 bytes, not all ASCII.
 
-Valgrind's callgrind counts the instructions of `rehearse` on the script, of `check` on the network, and of `judge`,
-`explain` and `twin` on both replays. A row has the millions of instructions of PROGRAM. If an older build OTHER is
-named, or by --peer a plain program with the same commands, the row has their millions too, and PROGRAM divided by each.
-With --small the script is a tenth as long, the network has 64 nodes, and an agent has a tenth of the commands. The
-program must be built by tools/build, as Valgrind runs no build without a proof; it is Debian's package valgrind.
+Valgrind's callgrind counts the instructions of `rehearse` on the script, of `check` on
+the network, and of `judge`, `explain` and `twin` on both replays. A row has the
+millions of instructions of PROGRAM. If an older build OTHER is named, or by --peer a
+plain program with the same commands, the row has their millions too, and PROGRAM
+divided by each. With --small the script is a tenth as long, the network has 64 nodes,
+and an agent has a tenth of the commands. The program must be built by tools/build, as
+Valgrind runs no build without a proof; it is Debian's package valgrind.
 
-With --kept the small inputs are counted and compared with bench/instructions.toml. A run that takes 3 % more
-instructions than are kept there fails: make it faster, or raise the number and say why. The last line reads
-`N passed, M failed`.
+With --kept the small inputs are counted and compared with bench/instructions.toml. A
+run that takes 3 % more instructions than are kept there fails: make it faster, or raise
+the number and say why. The last line reads `N passed, M failed`.
 """
 import argparse
 import pathlib
@@ -32,24 +36,28 @@ import tempfile
 import tomllib
 from typing import Callable, Dict, Iterator, List, NamedTuple, Sequence
 
+from arena_lab.rules.limits import MOST_TEXT, SMALL_QUOTA
 from arena_lab.rules.model import AWAY, Match, Object, Setup, spelled
 from arena_lab.rules.networks import text_of, torus
 from bench import compare, rehearse
-from bench.inputs import MAX_QUOTA, MAX_SCRIPT, tournament
-from tests.support.counts import concluded
-from tests.runners.python_tests import SKIPPED
+from bench.inputs import tournament
+from tests.support.counts import SKIPPED, concluded
 
 TOP = pathlib.Path(__file__).resolve().parent.parent
 PROGRAM = TOP / "crates" / "bhs_main" / "out" / "bhs_main"
 VALGRIND = "valgrind"
-# the millions of instructions that are kept of each run on small inputs, and how many times as many pass
-KEPT, MOST = pathlib.Path(__file__).with_name("instructions.toml"), 1.03
+# the millions of instructions that are kept of each run on small inputs, and how many
+# times as many pass
+KEPT = pathlib.Path(__file__).with_name("instructions.toml")
+MOST = 1.03
 COUNTED = re.compile(r"^==\d+== Collected : (\d+)$", re.MULTILINE)
 SEED = 20_261_128
 MATCHES = AGENTS = 16
-SIDE, BOARD = 8, 1024
+SIDE = 8
+BOARD = 1024
 # the black hole of the replays, and that of their twins; nobody goes to either
-HOLE, TWIN = SIDE * SIDE - 2, SIDE * SIDE - 1
+HOLE = SIDE * SIDE - 2
+TWIN = SIDE * SIDE - 1
 EXPLAINED = 3
 TEXT = "x" * 1000 + "é" * 12
 
@@ -57,16 +65,16 @@ Play = Callable[[Match, int], None]
 
 
 class Size(NamedTuple):
-    """How large the inputs are: the bytes of the script, the nodes of the network, and the commands of an agent."""
+    """How large the inputs are: the bytes of the script, the nodes of the network, and
+    the commands of an agent."""
 
     script: int
     nodes: int
     commands: int
 
 
-WHOLE, SMALL = Size(MAX_SCRIPT * 3 // 4, 256, MAX_QUOTA), Size(
-    MAX_SCRIPT * 3 // 40, 64, MAX_QUOTA // 10
-)
+WHOLE = Size(MOST_TEXT * 3 // 4, 256, SMALL_QUOTA)
+SMALL = Size(MOST_TEXT * 3 // 40, 64, SMALL_QUOTA // 10)
 
 
 class Work(NamedTuple):
@@ -86,7 +94,7 @@ def entered() -> Match:
             0,
             [HOLE],
             AGENTS,
-            MAX_QUOTA,
+            SMALL_QUOTA,
             BOARD,
             [],
         )
@@ -109,7 +117,8 @@ def moves(match: Match, commands: int) -> None:
 
 
 def texts(match: Match, commands: int) -> None:
-    """One agent writes, and then all look; of 50 commands one is a write that comes too late."""
+    """One agent writes, and then all look; of 50 commands one is a write that comes too
+    late."""
     chance = random.Random(SEED)
     match.tell(0, {"do": "write", "expect": "", "put": TEXT})
     for number in range(commands - 1):
@@ -194,7 +203,8 @@ def counted(program: str, work: Work, folder: pathlib.Path) -> int:
 
 
 def row(work: Work, counts: Sequence[int]) -> str:
-    """A row of the table: the count of the program, and of each other program the count and the ratio."""
+    """A row of the table: the count of the program, and of each other program the count
+    and the ratio."""
     others = [
         cell
         for other in counts[1:]
@@ -204,7 +214,8 @@ def row(work: Work, counts: Sequence[int]) -> str:
 
 
 def risen(counts: Dict[str, float], kept: Dict[str, float]) -> List[str]:
-    """What is wrong with the millions of instructions of some runs, by those that are kept."""
+    """What is wrong with the millions of instructions of some runs, by those that are
+    kept."""
     return [
         f"{title} takes {count:.2f} million instructions, and {kept.get(title, 0):.2f} are kept: see {KEPT.name}"
         for title, count in counts.items()

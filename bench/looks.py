@@ -1,11 +1,13 @@
-"""Measures the memory that a server takes for the looks of one agent at a long whiteboard.
+"""Measures the memory that a server takes for the looks of one agent at a long
+whiteboard.
 
     tools/build               # proves and builds the program, if that is not done yet
     python3 -m bench.looks [--looks N] [--size N]
 
-One agent writes a text of 65,490 bytes (--size) on the whiteboard of its home base. Then it looks at it as often as its
-quota of 65,535 lets it (--looks), ten at a time. The most memory that the server has held is printed before the first
-look and after each quarter of them. The program is ./arena, or what ARENA names.
+One agent writes a text of 65,490 bytes (--size) on the whiteboard of its home base.
+Then it looks at it as often as its quota of 65,535 lets it (--looks), ten at a time.
+The most memory that the server has held is printed before the first look and after each
+quarter of them. The program is ./arena, or what ARENA names.
 """
 import argparse
 import json
@@ -16,20 +18,18 @@ import tempfile
 import time
 from typing import Iterator, Tuple
 
+from arena_lab.rules.limits import MOST_BOARD, MOST_QUOTA
 from arena_lab.rules.networks import ring
-from bench.inputs import peak_so_far
+from bench.inputs import LONGEST_TEXT, peak_so_far
 from bench.servers import serving
 from tests.support.counts import Wrong, require
 from tests.support.tournaments import match, write_cup
 
-# the largest quota and whiteboard
-MOST = 65_535
-# about the longest text that fits into a line
-SIZE = 65_490
 # looks are said this many at a time
 TOGETHER = 10
 # the match takes longer than the looks
-TURNS, PAUSE = 4_000_000, 1000
+TURNS = 4_000_000
+PAUSE = 1000
 
 
 class Agent:
@@ -50,11 +50,13 @@ class Agent:
 
 
 def measured(looks: int, size: int) -> Iterator[Tuple[str, float, float]]:
-    """What was done, the most memory in MB that the server has held then, and the seconds since the first look."""
+    """What was done, the most memory in MB that the server has held then, and the
+    seconds since the first look."""
     with tempfile.TemporaryDirectory() as name:
         folder = pathlib.Path(name)
         write_cup(
-            folder, [match("red", ring(3), [2], agents=1, quota=MOST, board=MOST)]
+            folder,
+            [match("red", ring(3), [2], agents=1, quota=MOST_QUOTA, board=MOST_BOARD)],
         )
         with serving(folder, 1, TURNS, PAUSE) as server:
             agent = Agent(server.port)
@@ -63,7 +65,8 @@ def measured(looks: int, size: int) -> Iterator[Tuple[str, float, float]]:
                 {"do": "write", "expect": "", "put": "x" * size}, wanted="written"
             )
             yield "before the looks", peak_so_far(server.child) / 1024, 0.0
-            begun, said = time.monotonic(), 0
+            begun = time.monotonic()
+            said = 0
             for quarter in range(1, 5):
                 while said < looks * quarter // 4:
                     together = min(TOGETHER, looks * quarter // 4 - said)
@@ -83,14 +86,14 @@ def main(words_given: list) -> int:
     parser.add_argument(
         "--looks",
         type=int,
-        default=MOST - 1,
+        default=MOST_QUOTA - 1,
         metavar="N",
         help="how many looks (%(default)s)",
     )
     parser.add_argument(
         "--size",
         type=int,
-        default=SIZE,
+        default=LONGEST_TEXT,
         metavar="N",
         help="bytes of the text (%(default)s)",
     )

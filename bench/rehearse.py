@@ -3,10 +3,12 @@
     tools/build               # proves and builds the program, if that is not done yet
     python3 -m bench.rehearse [PROGRAM]
 
-Makes a tournament of 64 matches of 16 agents each on a torus of 25 nodes, and two scripts of commands and draws by a
-seeded generator: one as long as a script may be, and one of a tenth of that. Plays both, five times each, and prints
-for each the median time, lines per second, and the peak memory of that run; then the ratios, and the median time of a
-script without a line, which is what a start costs. Nothing is written outside a temporary folder.
+Makes a tournament of 64 matches of 16 agents each on a torus of 25 nodes, and two
+scripts of commands and draws by a seeded generator: one as long as a script may be, and
+one of a tenth of that. Plays both, five times each, and prints for each the median
+time, lines per second, and the peak memory of that run; then the ratios, and the median
+time of a script without a line, which is what a start costs. Nothing is written outside
+a temporary folder.
 """
 import pathlib
 import random
@@ -14,8 +16,9 @@ import sys
 import tempfile
 from typing import Tuple
 
+from arena_lab.rules.limits import MOST_TEXT
 from arena_lab.rules.networks import text_of, torus
-from bench.inputs import MAX_SCRIPT, key, median_run, tournament
+from bench.inputs import key, median_run, tournament
 
 TOP = pathlib.Path(__file__).resolve().parent.parent
 PROGRAM = TOP / "crates" / "bhs_main" / "out" / "bhs_main"
@@ -29,8 +32,8 @@ SEED = 20_261_122
 
 
 def script(length: int, matches: int = MATCHES) -> Tuple[str, int]:
-    """A script of at most this many bytes for this many matches, and its number of lines: every connection enters, and
-    then commands and draws come by chance."""
+    """A script of at most this many bytes for this many matches, and its number of
+    lines: every connection enters, and then commands and draws come by chance."""
     chance = random.Random(SEED)
     lines = []
     size = 0
@@ -85,7 +88,7 @@ def main() -> None:
         words = ["rehearse", "long.toml"]
         figures = []
         for part in (1, 10):
-            text, lines = script(MAX_SCRIPT // part)
+            text, lines = script(MOST_TEXT // part)
             source = folder / f"script{part}"
             source.write_text(text)
             seconds, _, peak = median_run(RUNS, program, words, source, folder)

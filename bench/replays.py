@@ -5,23 +5,30 @@
 
 Writes replays of matches that have ended:
 
-- moves: the largest log that the limits allow, 128,129 events: 64 agents that walk until their quotas are used up;
-- whiteboards: 64 agents that write texts as long as a whiteboard holds, and look at them, until their quotas are used
-  up;
-- long lines: writes as long as a line may be, which are refused and kept in the log. A match may have ten times as
-  many.
+- small moves: the largest log that files of the earlier versions allow, 128,129 events:
+  64 agents that walk until their quotas are used up;
+- moves: the same with the largest quota, 8,388,609 events, the largest log that the
+  limits allow;
+- whiteboards: 64 agents that write the longest texts, as long as a line may be, look at
+  them, and wipe them;
+- long lines: writes as long as a line may be onto small whiteboards, which are refused
+  and kept in the log. Of these two a match may have some 650 times as many commands,
+  and a replay of 250 GB.
 
-On each it runs `judge`, `table`, `explain` and `twin`. What `judge` says is compared with what the replay was made to
-give, and the exit status is 1 where it is something else. Nothing is written outside a temporary folder, which takes
-up to 1 GB.
+On each it runs `judge`, `table`, `explain` and `twin`. What `judge` says is compared
+with what the replay was made to give, and the exit status is 1 where it is something
+else. Nothing is written outside a temporary folder, which takes up to 2 GB.
 
-With one program, the one that was built here if none is named, each replay is written whole and at a tenth of its
-commands. For each command it prints the median time of three runs, the peak memory of that run and the size of the
-replay; then how the whole replay compares with its tenth: a program that is linear takes about ten times as long.
+With one program, the one that was built here if none is named, each replay is written
+whole and at a tenth of its commands. For each command it prints the median time of
+three runs, the peak memory of that run and the size of the replay; then how the whole
+replay compares with its tenth: a program that is linear takes about ten times as long.
 
-With two programs both run on each whole replay in turn, 7 times. For each command it prints the median time of both,
-the least time that a processor took for them, which other work on the machine changes less, and the time of PROGRAM
-divided by that of OTHER. Both must print the same bytes; where they do not, that is told, and the exit status is 1.
+With two programs both run on each whole replay in turn, 7 times. For each command it
+prints the median time of both, the least time that a processor took for them, which
+other work on the machine changes less, and the time of PROGRAM divided by that of
+OTHER. Both must print the same bytes; where they do not, that is told, and the exit
+status is 1.
 """
 import argparse
 import pathlib
@@ -42,7 +49,14 @@ from typing import (
 )
 
 from bench.compare import line_of
-from bench.inputs import MAX_AGENTS, MAX_BOARD, MAX_QUOTA, median_run, run
+from bench.inputs import LONGEST_TEXT, median_run, run
+from arena_lab.rules.limits import (
+    MOST_AGENTS,
+    MOST_BOARD,
+    MOST_QUOTA,
+    SMALL_BOARD,
+    SMALL_QUOTA,
+)
 from arena_lab.rules.model import spelled
 from arena_lab.rules.networks import torus
 
@@ -50,13 +64,22 @@ TOP = pathlib.Path(__file__).resolve().parent.parent
 PROGRAM = TOP / "crates" / "bhs_main" / "out" / "bhs_main"
 SIDE = 16
 NODES = SIDE * SIDE
-EAST, SOUTH = 0, 2
+EAST = 0
+SOUTH = 2
 FROM_WEST = 1
 NEVER_REACHED = NODES - 1
-MAX_LINE = 65_536
-RUNS, ROUNDS = 3, 7
+# commands of an agent with the longest text, so that a replay has some 400 MB
+LONG_TEXTS = 100
+RUNS = 3
+ROUNDS = 7
 
 Event = Dict[str, Any]
+
+
+def events_at_most(quota: int) -> int:
+    """The events of the largest log: each agent enters, departs and arrives with each
+    command, and leaves; the close is last."""
+    return MOST_AGENTS * (2 * quota + 2) + 1
 
 
 def here(came: Optional[int], board: str) -> Event:
@@ -68,54 +91,58 @@ def event(agent: int, do: str, reply: Optional[Event], **more: Any) -> Event:
 
 
 def hole_of_moves(commands: int) -> int:
-    """Where the last step of agent 0 leads: south of where it stands after all steps but one to the east."""
+    """Where the last step of agent 0 leads: south of where it stands after all steps
+    but one to the east."""
     return SIDE + (commands - 1) % SIDE
 
 
 def moves(commands: int) -> Iterator[Event]:
-    """All agents walk east round row 0, side by side; at last agent 0 steps south, into the black hole."""
-    for agent in range(MAX_AGENTS):
+    """All agents walk east round row 0, side by side; at last agent 0 steps south, into
+    the black hole."""
+    for agent in range(MOST_AGENTS):
         yield event(agent, "enter", here(None, ""))
     for step in range(commands):
-        for agent in range(MAX_AGENTS):
+        for agent in range(MOST_AGENTS):
             falls = agent == 0 and step == commands - 1
             yield event(agent, "depart", {"ok": "gone"}, port=SOUTH if falls else EAST)
             yield event(agent, "deliver", None if falls else here(FROM_WEST, ""))
-    for agent in range(MAX_AGENTS):
+    for agent in range(MOST_AGENTS):
         yield event(agent, "leave", {"ok": "bye"})
 
 
 def whiteboards(commands: int) -> Iterator[Event]:
-    """All agents stay at the home base; of two commands one writes a text as long as may be, and one looks at it."""
+    """All agents stay at the home base; of four commands one writes the longest text,
+    one wipes it, and after each of them one looks."""
     board = ""
-    for agent in range(MAX_AGENTS):
+    for agent in range(MOST_AGENTS):
         yield event(agent, "enter", here(None, board))
     for step in range(commands):
-        for agent in range(MAX_AGENTS):
+        for agent in range(MOST_AGENTS):
             if (step + agent) % 2 == 0:
-                put = "ab"[board.startswith("a")] * MAX_BOARD
+                put = "" if board else "a" * LONGEST_TEXT
                 yield event(agent, "write", {"ok": "written"}, expect=board, put=put)
                 board = put
             else:
                 yield event(agent, "look", here(None, board))
-    for agent in range(MAX_AGENTS):
+    for agent in range(MOST_AGENTS):
         yield event(agent, "leave", {"ok": "bye"})
 
 
 def long_lines(commands: int) -> Iterator[Event]:
-    """All agents write texts as long as a line may be: longer than a whiteboard takes."""
-    put = "a" * (MAX_LINE - len(spelled({"do": "write", "expect": "", "put": ""})))
-    for agent in range(MAX_AGENTS):
+    """All agents write the longest texts: longer than a small whiteboard takes."""
+    put = "a" * LONGEST_TEXT
+    for agent in range(MOST_AGENTS):
         yield event(agent, "enter", here(None, ""))
     for _ in range(commands):
-        for agent in range(MAX_AGENTS):
+        for agent in range(MOST_AGENTS):
             yield event(agent, "write", {"no": "long"}, expect="", put=put)
-    for agent in range(MAX_AGENTS):
+    for agent in range(MOST_AGENTS):
         yield event(agent, "leave", {"ok": "bye"})
 
 
 class Kind(NamedTuple):
-    """A kind of replay: its events by the commands of an agent, how many those are, the black hole, the moves."""
+    """A kind of replay: its events by the commands of an agent, how many those are, the
+    black hole, the moves, the lost agents, and the bytes of a whiteboard."""
 
     title: str
     events: Callable[[int], Iterator[Event]]
@@ -123,35 +150,51 @@ class Kind(NamedTuple):
     hole: Callable[[int], int]
     moves: Callable[[int], int]
     lost: int
+    board: int = MOST_BOARD
 
 
 KINDS = [
     Kind(
-        "moves",
+        "small moves",
         moves,
-        MAX_QUOTA,
+        SMALL_QUOTA,
         hole_of_moves,
-        lambda commands: MAX_AGENTS * commands,
+        lambda commands: MOST_AGENTS * commands,
         1,
     ),
-    Kind("whiteboards", whiteboards, MAX_QUOTA, lambda _: NODES // 2, lambda _: 0, 0),
     Kind(
-        "long lines", long_lines, MAX_QUOTA // 10, lambda _: NODES // 2, lambda _: 0, 0
+        "moves",
+        moves,
+        MOST_QUOTA,
+        hole_of_moves,
+        lambda commands: MOST_AGENTS * commands,
+        1,
+    ),
+    Kind("whiteboards", whiteboards, LONG_TEXTS, lambda _: NODES // 2, lambda _: 0, 0),
+    Kind(
+        "long lines",
+        long_lines,
+        LONG_TEXTS,
+        lambda _: NODES // 2,
+        lambda _: 0,
+        0,
+        SMALL_BOARD,
     ),
 ]
 
 
-def head(hole: int) -> Event:
-    """The head of a replay on the torus: each link from its lesser node, in order of that node and its port there."""
+def head(hole: int, board: int = MOST_BOARD) -> Event:
+    """The head of a replay on the torus: each link from its lesser node, in order of
+    that node and its port there."""
     links = [
         (v, p, w, q) if v < w else (w, q, v, p)
         for v, p, w, q in torus(SIDE, SIDE).links
     ]
     return {
-        "replay": 2,
-        "agents": MAX_AGENTS,
-        "quota": MAX_QUOTA,
-        "board": MAX_BOARD,
+        "replay": 3,
+        "agents": MOST_AGENTS,
+        "quota": MOST_QUOTA,
+        "board": board,
         "home": 0,
         "holes": [hole],
         "dark": [],
@@ -160,9 +203,11 @@ def head(hole: int) -> Event:
     }
 
 
-def write_replay(out: TextIO, hole: int, events: Iterator[Event]) -> int:
+def write_replay(
+    out: TextIO, hole: int, events: Iterator[Event], board: int = MOST_BOARD
+) -> int:
     """Writes a whole replay, the close last; answers the number of its events."""
-    out.write(spelled(head(hole)) + "\n")
+    out.write(spelled(head(hole, board)) + "\n")
     count = 0
     for each in events:
         out.write(spelled(each) + "\n")
@@ -195,7 +240,8 @@ def measured(
 def is_judged(
     program: str, kind: Kind, commands: int, name: str, folder: pathlib.Path
 ) -> bool:
-    """Whether `judge` says what the replay was made to give. Where it does not, that is told."""
+    """Whether `judge` says what the replay was made to give. Where it does not, that is
+    told."""
     verdict = f"silent moves {kind.moves(commands)} lost {kind.lost}"
     ran = subprocess.run(
         [program, "judge", name],
@@ -210,21 +256,27 @@ def is_judged(
 
 
 def figure_line(word: str, seconds: float, count: int, peak: int) -> str:
-    """What is printed of a command on a replay with this number of events. bench/figures.py reads it."""
+    """What is printed of a command on a replay with this number of events.
+    bench/figures.py reads it."""
     return f"  {word}: {seconds:.3f} s, {seconds / count * 1e6:.2f} us an event, peak {peak} KiB"
 
 
 def written(kind: Kind, commands: int, path: pathlib.Path) -> int:
-    """Writes a replay of this many commands of an agent, and says how large it is: gives the number of its events."""
+    """Writes a replay of this many commands of an agent, and says how large it is:
+    gives the number of its events."""
     with open(path, "w", encoding="utf-8") as out:
-        count = write_replay(out, kind.hole(commands), kind.events(commands))
+        count = write_replay(
+            out, kind.hole(commands), kind.events(commands), kind.board
+        )
     print(f"{kind.title}: {count} events, {path.stat().st_size} bytes", flush=True)
     return count
 
 
 def alone(program: str, kind: Kind, folder: pathlib.Path) -> bool:
-    """Times one kind, whole and at a tenth; answers whether `judge` said what it should."""
-    right, whole = True, []
+    """Times one kind, whole and at a tenth; answers whether `judge` said what it
+    should."""
+    right = True
+    whole = []
     for part in (1, 10):
         commands = kind.commands // part
         name = f"replay{part}.jsonl"
@@ -247,7 +299,8 @@ def alone(program: str, kind: Kind, folder: pathlib.Path) -> bool:
 def print_the_same(
     programs: Sequence[str], words: Sequence[str], folder: pathlib.Path
 ) -> bool:
-    """Whether the programs print the same bytes. They go to files, since they may be many."""
+    """Whether the programs print the same bytes. They go to files, since they may be
+    many."""
     paths = [folder / f"printed{place}" for place in range(len(programs))]
     for program, path in zip(programs, paths):
         with open(path, "wb") as out:
@@ -268,7 +321,8 @@ def print_the_same(
 def beside(
     programs: Sequence[str], kind: Kind, rounds: int, folder: pathlib.Path
 ) -> bool:
-    """Times two programs on one kind, in turn; answers whether they print the same, and `judge` what it should."""
+    """Times two programs on one kind, in turn; answers whether they print the same, and
+    `judge` what it should."""
     name = "replay.jsonl"
     written(kind, kind.commands, folder / name)
     right = all(

@@ -3,26 +3,34 @@
     tools/build               # proves and builds the program, if that is not done yet
     python3 -m bench.serve [--rounds N] [--active A,B,..] [--part N] [--open N]
 
-Compiles bench/c/load.c, which plays the clients, and bench/c/echo.c, which answers their lines by lines like
-those of the arena, with a thread for each connection. Each load is looks, moves or writes, by 1, 16 and 256 sessions
-at a time, `one` command after the other or as `many` in one go as a session sends. It runs on the arena and on the echo
-in turn, three times each (--rounds), on a new arena each time, and the median is printed: commands a second, the
-arena's rate divided by the echo's, and in the mode `one` the median and 99th percentile of the answer times in
-microseconds. A line is printed when its load is done.
+Compiles bench/c/load.c, which plays the clients, and bench/c/echo.c, which answers
+their lines by lines like those of the arena, with a thread for each connection. Each
+load is looks, moves or writes, by 1, 16 and 256 sessions at a time, `one` command after
+the other or as `many` in one go as a session sends. It runs on the arena and on the
+echo in turn, three times each (--rounds), on a new arena each time, and the median is
+printed: commands a second, the arena's rate divided by the echo's, and in the mode
+`one` the median and 99th percentile of the answer times in microseconds. A line is
+printed when its load is done.
 
-- A session sends fewer than 1000 commands, as its quota is; when it has sent them, the next one begins. All of them
-  have entered before the clock starts. --part 10 measures a tenth of the commands.
-- Sessions that are active at the same time are of different matches as far as there are matches, which is 64, and
-  write on whiteboards of their own, the two texts of 64 bytes in turn.
-- The echo sends the answers to all lines that it has read by one write. In the mode `many` an echo that writes each
-  answer by itself is timed as well: its rate stands under `each`.
-- A move is answered `gone` at once, and its answer time is the time to that. The next move waits for the arrival, so
-  the arena's rate of moves is bounded by turns: one arrival in each match every millisecond. The echo has no turns.
+- A session sends fewer than 1000 commands, as its quota is; when it has sent them, the
+  next one begins. All of them have entered before the clock starts. --part 10 measures
+  a tenth of the commands.
+- Sessions that are active at the same time are of different matches as far as there are
+  matches, which is 64, and write on whiteboards of their own, the two texts of 64 bytes
+  in turn.
+- The echo sends the answers to all lines that it has read by one write. In the mode
+  `many` an echo that writes each answer by itself is timed as well: its rate stands
+  under `each`.
+- A move is answered `gone` at once, and its answer time is the time to that. The next
+  move waits for the arrival, so the arena's rate of moves is bounded by turns: one
+  arrival in each match every millisecond. The echo has no turns.
 
-At last the peak memory of new servers is printed with 1024 sessions open (--open) that have entered and looked once,
-and whether the rate of looks is what is wanted: one by one at least half of the echo's, many at once at least a fifth.
-The exit status is 1 if something could not be measured; it says nothing of the figures. ARENA in the environment
-names another program than ./arena, as ARENA="./arena-lab". It takes about two minutes.
+At last the peak memory of new servers is printed with 1024 sessions open (--open) that
+have entered and looked once, and whether the rate of looks is what is wanted: one by
+one at least half of the echo's, many at once at least a fifth. The exit status is 1 if
+something could not be measured; it says nothing of the figures. ARENA in the
+environment names another program than ./arena, as ARENA="./arena-lab". It takes about
+two minutes.
 """
 import argparse
 import json
@@ -34,15 +42,15 @@ import sys
 import tempfile
 from typing import Dict, List, NamedTuple, Optional
 
-from bench.inputs import key, peak_so_far, tournament
 from arena_lab.rules.networks import text_of, torus
+from arena_lab.support.built import TOP
 from arena_lab.support.ports import free_port
+from bench.inputs import key, peak_so_far, tournament
 from bench.servers import MAX_SESSIONS, prepare, serving
-from tests import TOP
 from tests.support.counts import Wrong, require
 from tests.support.servers import Server
 
-SOURCES = TOP / "bench" / "serve"
+SOURCES = TOP / "bench" / "c"
 MATCHES = 64
 AGENTS = MAX_SESSIONS // MATCHES
 SIDE = 4
@@ -52,12 +60,14 @@ ACTIVE = [1, 16, 256]
 ROUNDS = 3
 # a quota is 1000, and what comes before the clock starts uses some of it
 MOST_COMMANDS = 990
-# how many commands are measured for each of up to four active sessions; moves are bounded by turns
+# how many commands are measured for each of up to four active sessions; moves are
+# bounded by turns
 TOTALS = {"one": 20_000, "many": 200_000}
 MOVES = 600
 # writers first walk to whiteboards of their own
 BOARDS = 4
-# milliseconds before each turn: lookers need none, writers need some before the clock starts
+# milliseconds before each turn: lookers need none, writers need some before the clock
+# starts
 PAUSES = {"looks": 1000, "writes": 20, "moves": 1}
 MATCH_SECONDS = 600
 LIMIT = 60
@@ -67,8 +77,8 @@ WANTED = {"one": 0.5, "many": 0.2}
 
 
 class Load(NamedTuple):
-    """A load: what is sent, in which mode, how many sessions are active at a time, how many there are in all, and how
-    many commands each of them sends."""
+    """A load: what is sent, in which mode, how many sessions are active at a time, how
+    many there are in all, and how many commands each of them sends."""
 
     kind: str
     mode: str
@@ -82,7 +92,8 @@ class Load(NamedTuple):
 
 
 class Figures(NamedTuple):
-    """Commands a second, and the median and the 99th percentile of the answer times in microseconds."""
+    """Commands a second, and the median and the 99th percentile of the answer times in
+    microseconds."""
 
     rate: float
     p50: float
@@ -153,7 +164,8 @@ class Bench(NamedTuple):
             return self.figures(server.port, load)
 
     def peaks(self, server: Server, load: Load) -> List[int]:
-        """The peak memory of a server in KiB, before anybody has come and while all sessions are open."""
+        """The peak memory of a server in KiB, before anybody has come and while all
+        sessions are open."""
         with server:
             before = peak_so_far(server.child)
             holder = subprocess.Popen(
@@ -178,7 +190,8 @@ class Bench(NamedTuple):
 
 
 def load_of(kind: str, mode: str, active: int, part: int) -> Load:
-    """The load of this kind: as many sessions and commands as make up what is to be measured."""
+    """The load of this kind: as many sessions and commands as make up what is to be
+    measured."""
     if kind == "moves":
         agents = -(-active // MATCHES)
         return Load(kind, mode, active, active, max(1, MOVES // agents // part))
@@ -213,7 +226,9 @@ HEAD = (
 
 def row(load: Load, found: Dict[str, Figures]) -> str:
     """The line of a load; what was not timed is left out."""
-    arena, echo, each = found["arena"], found["all"], found.get("each")
+    arena = found["arena"]
+    echo = found["all"]
+    each = found.get("each")
     line = f"{load.kind:<7}{load.mode:<5}{load.active:>8}{load.sessions * load.commands:>10}{arena.rate:>11.0f}"
     line += f"{echo.rate:>11.0f}{arena.rate / echo.rate:>7.3f}"
     if each:
@@ -248,7 +263,8 @@ def judged(load: Load, found: Dict[str, Figures]) -> Optional[str]:
 
 def memory(bench: Bench, count: int) -> List[str]:
     """The peak memory of both servers with this many sessions open."""
-    load, lines = Load("looks", "hold", 1, count, 1), []
+    load = Load("looks", "hold", 1, count, 1)
+    lines = []
     for name, start in (
         ("arena", lambda: bench.arena(load)),
         ("echo", lambda: bench.echo("all")),
@@ -262,8 +278,10 @@ def memory(bench: Bench, count: int) -> List[str]:
 
 
 def run(bench: Bench, loads: List[Load], rounds: int, count: int) -> int:
-    """Runs all loads, and prints what was found; answers how much could not be measured."""
-    failed, verdicts = 0, []
+    """Runs all loads, and prints what was found; answers how much could not be
+    measured."""
+    failed = 0
+    verdicts = []
     print(HEAD, flush=True)
     with bench.echo("all") as together, bench.echo("each") as apart:
         for load in loads:

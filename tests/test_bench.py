@@ -1,4 +1,5 @@
-"""The inputs of the benchmarks, the words of deliveries, and the table that the contest reads."""
+"""The inputs of the benchmarks, the words of deliveries, and the table that the contest
+reads."""
 import subprocess
 import sys
 import tomllib
@@ -8,6 +9,7 @@ from tests import needs
 from tests.support.output import InTemporary
 from bench import compare
 from bench import figures
+from arena_lab.rules.limits import MOST_TEXT
 from bench import inputs
 from bench import rehearse
 from examples import contest
@@ -40,9 +42,7 @@ class Inputs(InTemporary):
         self.assertLessEqual(len(text), 20_000)
         self.assertGreater(len(text), 19_900)
         self.assertEqual(text.count("\n"), lines)
-        self.assertGreater(
-            len(compare.filled(compare.moves())), inputs.MAX_SCRIPT - 100
-        )
+        self.assertGreater(len(compare.filled(compare.moves())), MOST_TEXT - 100)
 
     def test_times_are_compared(self) -> None:
         self.assertEqual(
@@ -86,7 +86,8 @@ class Figures(unittest.TestCase):
                 self.assertIn(f"\n## {figures.BENCHMARKS[name].title}\n", section)
 
     def test_a_section_of_a_long_machine_is_wrapped_and_read_again(self) -> None:
-        name, place = "waits", "`abc1234` with changes, 2026-01-02"
+        name = "waits"
+        place = "`abc1234` with changes, 2026-01-02"
         machine = f"4 processors, {'fast ' * 20}ones"
         setting = figures.Setting(figures.TOP, None, figures.TOP, place, machine)
         page = figures.page({name: figures.section(name, "| a |\n", setting)})

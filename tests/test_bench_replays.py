@@ -3,9 +3,9 @@ import io
 import unittest
 from typing import Iterator
 
-from tests import needs
-from bench import inputs
+from tests import TOP, needs
 from bench import replays
+from arena_lab.rules.limits import MOST_LINE
 from arena_lab.rules.model import judge, played
 from tests.support.output import InTemporary, ran, write
 
@@ -15,7 +15,9 @@ class LargeReplays(unittest.TestCase):
 
     def plays(self, kind: replays.Kind, commands: int) -> None:
         out = io.StringIO()
-        count = replays.write_replay(out, kind.hole(commands), kind.events(commands))
+        count = replays.write_replay(
+            out, kind.hole(commands), kind.events(commands), kind.board
+        )
         match = played(out.getvalue())
         self.assertEqual(match.replay(), out.getvalue())
         self.assertEqual(judge(match), ("silent", kind.moves(commands), kind.lost))
@@ -27,15 +29,29 @@ class LargeReplays(unittest.TestCase):
                 self.plays(kind, 3)
 
     def test_the_largest_log(self) -> None:
-        count = sum(1 for _ in replays.moves(inputs.MAX_QUOTA)) + 1
-        self.assertEqual(count, inputs.MAX_AGENTS * (2 * inputs.MAX_QUOTA + 2) + 1)
-        self.assertEqual(count, 128_129)
+        """It has this many events, of which FIGURES speaks: counted with a small
+        quota."""
+        self.assertEqual(
+            sum(1 for _ in replays.moves(9)) + 1, replays.events_at_most(9)
+        )
+        self.assertEqual(
+            [
+                replays.events_at_most(it.commands)
+                for it in replays.KINDS
+                if it.events == replays.moves
+            ],
+            [128_129, 8_388_609],
+        )
+        told = (TOP / "bench" / "FIGURES.md").read_text(encoding="utf-8")
+        self.assertTrue(
+            "8,388,609 events at most" in told and "128,129 events at most" not in told
+        )
 
     def test_the_longest_line(self) -> None:
         lines: Iterator[dict] = replays.long_lines(1)
         write = next(event for event in lines if event["do"] == "write")
         sent = {name: write[name] for name in ("do", "expect", "put")}
-        self.assertEqual(len(replays.spelled(sent)), replays.MAX_LINE)
+        self.assertEqual(len(replays.spelled(sent)), MOST_LINE)
 
 
 @needs("cc", "gcc")

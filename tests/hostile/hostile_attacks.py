@@ -1,7 +1,9 @@
-"""The attacks of tests/hostile/hostile_clients.py: clients that keep to no rule, and what each of them should see.
+"""The attacks of tests/hostile/hostile_clients.py: clients that keep to no rule, and
+what each of them should see.
 
-Each attack opens sessions of a `Siege`, and answers what was seen, as a text; it raises `Wrong` if that is not as it
-should be. Sockets that are to stay open until the matches have ended are kept with the siege.
+Each attack opens sessions of a `Siege`, and answers what was seen, as a text; it raises
+`Wrong` if that is not as it should be. Sockets that are to stay open until the matches
+have ended are kept with the siege.
 """
 import contextlib
 import pathlib
@@ -12,9 +14,10 @@ import threading
 import time
 from typing import Callable, Dict, List, NamedTuple, Optional, Sequence
 
-from bench.inputs import MAX_AGENTS, MAX_BOARD, MIB, key
-from bench.servers import MAX_SESSIONS
+from arena_lab.rules.limits import MOST_AGENTS
 from arena_lab.rules.model import spelled
+from bench.inputs import LONGEST_TEXT, MIB, key
+from bench.servers import MAX_SESSIONS
 from tests.support.counts import Wrong, require
 from tests.support.servers import Server, enter
 from tests.support.session_lines import (
@@ -34,11 +37,17 @@ from tests.support.session_lines import (
 
 TOP = pathlib.Path(__file__).resolve().parents[2]
 HOST = "127.0.0.1"
-POLITE, HOSTILE = 0, 1
-STRANGER = MAX_AGENTS - 1
+POLITE = 0
+HOSTILE = 1
+STRANGER = MOST_AGENTS - 1
 # seconds: within which answers come, and for which a client waits at all
-PROMPT, PATIENCE = 2.0, 10.0
-HALF_OPEN, RESETS, FLOODS, DEAF, BURST = 8, 8, 20, 4, 32
+PROMPT = 2.0
+PATIENCE = 10.0
+HALF_OPEN = 8
+RESETS = 8
+FLOODS = 20
+DEAF = 4
+BURST = 32
 # clients that may wait beside each other to be let in, with some to spare
 WAITING = 200
 SMALL_BUFFER = 4096
@@ -61,14 +70,16 @@ GARBAGE = [
     b'{"do":"enter"}',
     b"GET / HTTP/1.1\r",
 ]
-# how many sessions the attacks take that come after the silent clients, apart from wrong keys
+# how many sessions the attacks take that come after the silent clients, apart from
+# wrong keys
 LATER = len(GARBAGE) + 1 + FLOODS + DEAF
 
 
 class Sizes(NamedTuple):
-    """How large an attack is: the sessions; the turns of a match and the milliseconds before each; the seconds between
-    the bytes of a slow client, between the steps of a polite one, and until a server that takes nothing is said to take
-    no more; the bytes of a line without an end."""
+    """How large an attack is: the sessions; the turns of a match and the milliseconds
+    before each; the seconds between the bytes of a slow client, between the steps of a
+    polite one, and until a server that takes nothing is said to take no more; the bytes
+    of a line without an end."""
 
     sessions: int = MAX_SESSIONS
     turns: int = 2500
@@ -81,7 +92,8 @@ class Sizes(NamedTuple):
 
 def hear(client: socket.socket, expected: bytes, limit: float = PROMPT) -> None:
     """Reads as much as is expected, which is to come within this many seconds."""
-    heard, begin = b"", time.monotonic()
+    heard = b""
+    begin = time.monotonic()
     try:
         while len(heard) < len(expected):
             piece = client.recv(len(expected) - len(heard))
@@ -128,11 +140,13 @@ def reset(client: socket.socket) -> None:
 
 
 class Siege:
-    """A server under attack: how many sessions and hostile agents there were, the agents whose clients vanish before
-    the match ends, and the sockets that stay open."""
+    """A server under attack: how many sessions and hostile agents there were, the
+    agents whose clients vanish before the match ends, and the sockets that stay
+    open."""
 
     def __init__(self, server: Server, sizes: Sizes) -> None:
-        self.server, self.port = server, server.port
+        self.server = server
+        self.port = server.port
         self.sizes = sizes
         self.sessions = 0
         self.agents = 0
@@ -214,7 +228,8 @@ def slow_end(siege: Siege) -> str:
 
 
 def half_open(siege: Siege) -> str:
-    """Half of them are on the link to the black hole, where the session waits for news."""
+    """Half of them are on the link to the black hole, where the session waits for
+    news."""
     for number in range(HALF_OPEN):
         client = siege.enter()
         if number % 2:
@@ -257,8 +272,8 @@ def silent_all(siege: Siege) -> str:
 
 
 def garbage(siege: Siege) -> str:
-    """Each line comes as the first of a session, and all of them from one that has entered, with blank lines between
-    them."""
+    """Each line comes as the first of a session, and all of them from one that has
+    entered, with blank lines between them."""
     for line in GARBAGE:
         with siege.connect() as client:
             client.sendall(line + b"\n")
@@ -272,7 +287,8 @@ def garbage(siege: Siege) -> str:
 
 
 def is_cut_off(client: socket.socket, piece: bytes, count: int) -> None:
-    """A client that has not entered is cut off, since its first line is too long, whatever it hears of that."""
+    """A client that has not entered is cut off, since its first line is too long,
+    whatever it hears of that."""
     heard = b""
     with contextlib.suppress(OSError):
         for _ in range(count):
@@ -287,7 +303,8 @@ def is_cut_off(client: socket.socket, piece: bytes, count: int) -> None:
 
 
 def flood(siege: Siege) -> str:
-    """Every second of them has entered. Half of those end their lines, when all lines are there."""
+    """Every second of them has entered. Half of those end their lines, when all lines
+    are there."""
     clients = [siege.enter(vanishes=True) for _ in range(FLOODS // 2)]
     piece = b"a" * min(MIB, siege.sizes.flood)
     count = siege.sizes.flood // len(piece)
@@ -305,12 +322,11 @@ def flood(siege: Siege) -> str:
 
 
 def taken_unread(clients: Sequence[socket.socket], still: float) -> List[int]:
-    """Sends looks without an end; answers how many bytes were taken of each client until no more are taken."""
-    numbered, sent, poll = (
-        {client.fileno(): client for client in clients},
-        [0] * len(clients),
-        select.poll(),
-    )
+    """Sends looks without an end; answers how many bytes were taken of each client
+    until no more are taken."""
+    numbered = {client.fileno(): client for client in clients}
+    sent = [0] * len(clients)
+    poll = select.poll()
     places = {number: place for place, number in enumerate(numbered)}
     for number, client in numbered.items():
         client.setblocking(False)
@@ -328,13 +344,14 @@ def taken_unread(clients: Sequence[socket.socket], still: float) -> List[int]:
 
 
 def deaf(siege: Siege) -> str:
-    """Clients with small buffers that look at a whiteboard with the longest text, and read nothing. Half of them then
-    vanish, the others stay."""
+    """Clients with small buffers that look at a whiteboard with the longest text, and
+    read nothing. Half of them then vanish, the others stay."""
     clients = [
         siege.enter(SMALL_BUFFER, vanishes=number < DEAF // 2) for number in range(DEAF)
     ]
     clients[0].sendall(
-        spelled({"do": "write", "expect": "", "put": "x" * MAX_BOARD}).encode() + b"\n"
+        spelled({"do": "write", "expect": "", "put": "x" * LONGEST_TEXT}).encode()
+        + b"\n"
     )
     hear(clients[0], HERE + WRITTEN)
     taken = taken_unread(clients, siege.sizes.still)
@@ -359,7 +376,8 @@ def wrong_keys(siege: Siege) -> str:
 
 
 def beyond(siege: Siege) -> str:
-    """Twice as many clients as there are sessions connect and close, and then one enters."""
+    """Twice as many clients as there are sessions connect and close, and then one
+    enters."""
     count = 2 * siege.sizes.sessions
     for _ in range(count):
         socket.create_connection((HOST, siege.port), PATIENCE).close()
@@ -375,7 +393,8 @@ def beyond(siege: Siege) -> str:
 
 
 Attack = Callable[[Siege], str]
-# the attacks on one server: each in turn, or one by as many clients as there are sessions left
+# the attacks on one server: each in turn, or one by as many clients as there are
+# sessions left
 ATTACKS: Dict[str, List[Attack]] = {
     "each": [
         slow_begin,

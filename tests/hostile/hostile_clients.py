@@ -2,29 +2,35 @@
 
     python3 -m tests.hostile.hostile_clients [--sessions N] [--attack each|silent|keys] [--quick]
 
-Starts `./arena serve` on a tournament of four matches in a temporary folder, with N sessions, or 1024 by default. Two
-polite clients play the first match from the first attack to the last: on a ring of 8 nodes they walk to and fro, look
-and write, and then accuse the black hole. The others attack (tests/hostile/hostile_attacks.py); those that have a key
-attack in the second match. With `each`, the default, they attack in each way in turn. With `silent` or `keys` as many
-clients as there are sessions left send nothing or have wrong keys. A line for each attack says what was seen and the
-peak memory of the server until then, a line for each check at the end says how it went, and the last line counts. The
-exit status is 1 if one of these fails:
+Starts `./arena serve` on a tournament of four matches in a temporary folder, with N
+sessions, or 1024 by default. Two polite clients play the first match from the first
+attack to the last: on a ring of 8 nodes they walk to and fro, look and write, and then
+accuse the black hole. The others attack (tests/hostile/hostile_attacks.py); those that
+have a key attack in the second match. With `each`, the default, they attack in each way
+in turn. With `silent` or `keys` as many clients as there are sessions left send nothing
+or have wrong keys. A line for each attack says what was seen and the peak memory of the
+server until then, a line for each check at the end says how it went, and the last line
+counts. The exit status is 1 if one of these fails:
 
-- Each attack is answered as docs/FORMATS.md says, and each answer comes within 2 seconds. Clients that do not enter use
-  up nothing: one that comes after twice N of them is let in. When answers are not read, the server soon takes no more
-  lines.
-- Once the matches have ended and all clients have gone, the server ends by itself within 15 seconds, with status 0; the
-  sessions that never began do not hold it up.
-- It never holds more than 64 MiB and 96 KiB for each session: 64 KiB for the longest line, the rest for its stack and
-  what else a session has. The 64 MiB are for the program, the matches and their logs, and for what is kept of answers
-  to 4000 looks at a whiteboard of 4 KiB, twice 16 MiB at most.
-- It has written the replay of each match, which the Python model plays to the same replies.
-- Each polite client was answered what the replay says, within 2 seconds each time, and their team solved its network.
+- Each attack is answered as docs/FORMATS.md says, and each answer comes within 2
+  seconds. Clients that do not enter use up nothing: one that comes after twice N of
+  them is let in. When answers are not read, the server soon takes no more lines.
+- Once the matches have ended and all clients have gone, the server ends by itself
+  within 15 seconds, with status 0; the sessions that never began do not hold it up.
+- It never holds more than 64 MiB and 96 KiB for each session: 64 KiB for the longest
+  line, the rest for its stack and what else a session has. The 64 MiB are for the
+  program, the matches and their logs, and for the answers that nobody reads, which
+  share the texts of whiteboards.
+- It has written the replay of each match, which the Python model plays to the same
+  replies.
+- Each polite client was answered what the replay says, within 2 seconds each time, and
+  their team solved its network.
 - The agents of clients that vanished have left their match.
 - The table is that of the verdicts on the replays.
 
-ARENA in the environment names another program than ./arena: ARENA="./arena-lab" tries it without the build. A run
-takes half a minute, and with --quick a third of that: its matches and its attacks are shorter.
+ARENA in the environment names another program than ./arena: ARENA="./arena-lab" tries
+it without the build. A run takes half a minute, and with --quick a third of that: its
+matches and its attacks are shorter.
 """
 import argparse
 import contextlib
@@ -36,22 +42,13 @@ import threading
 import time
 from typing import Callable, Iterator, List, NamedTuple, Optional, Sequence
 
-from bench.inputs import (
-    MAX_AGENTS,
-    MAX_BOARD,
-    MAX_QUOTA,
-    MIB,
-    key,
-    peak_of_child,
-    peak_so_far,
-    tournament,
-)
-from bench.servers import MAX_SESSIONS, prepare, serving
-from examples.agents.client import Agent, Lines, Refused
 from arena_lab.play.server import table
+from arena_lab.rules.limits import MOST_AGENTS, MOST_BOARD, MOST_QUOTA
 from arena_lab.rules.model import ENDED, Match, judge, played, spelled
 from arena_lab.rules.networks import ring, text_of
-from tests.support.counts import Wrong, concluded, require
+from bench.inputs import MIB, key, peak_of_child, peak_so_far, tournament
+from bench.servers import MAX_SESSIONS, prepare, serving
+from examples.agents.client import Agent, Lines, Refused
 from tests.hostile.hostile_attacks import (
     ATTACKS,
     HOST,
@@ -66,11 +63,13 @@ from tests.hostile.hostile_attacks import (
     Sizes,
     hear,
 )
+from tests.support.counts import Wrong, concluded, require
 from tests.support.session_lines import DEPART, GONE, HERE, OVER
 
 MATCHES = 4
 NODES = 8
-# the black holes of the polite and the hostile match; the polite clients go to the nodes before it
+# the black holes of the polite and the hostile match; the polite clients go to the
+# nodes before it
 HOLES = [[4], [1]]
 REACH = 3
 BASE_KIB = 64 * 1024
@@ -85,7 +84,8 @@ FILES = 2 * MAX_SESSIONS
 
 
 class TimedLines(Lines):
-    """Lines of a polite client: the answers that came, and how many seconds the slowest took."""
+    """Lines of a polite client: the answers that came, and how many seconds the slowest
+    took."""
 
     def __init__(self, port: int) -> None:
         super().__init__(HOST, port)
@@ -101,9 +101,9 @@ class TimedLines(Lines):
 
 
 class Polite(threading.Thread):
-    """A client that keeps to the rules. It walks to and fro between the home base and the last node before the black
-    hole on its side, looks and writes, until the attacks are over; then it goes there and accuses.
-    """
+    """A client that keeps to the rules. It walks to and fro between the home base and
+    the last node before the black hole on its side, looks and writes, until the attacks
+    are over; then it goes there and accuses."""
 
     def __init__(self, siege: Siege, number: int) -> None:
         super().__init__(daemon=True)
@@ -124,11 +124,15 @@ class Polite(threading.Thread):
         self.agent.close()
 
     def play(self) -> None:
-        """One agent has the black hole ahead by port 0, the other by port 1. It keeps commands for its last way."""
-        ahead, back = self.number, 1 - self.number
-        place, is_outward, used = 0, True, 0
+        """One agent has the black hole ahead by port 0, the other by port 1. It keeps
+        commands for its last way."""
+        ahead = self.number
+        back = 1 - self.number
+        place = 0
+        is_outward = True
+        used = 0
         while not self.attacks_are_over.wait(self.between_steps):
-            if used + 3 > MAX_QUOTA - REACH - 1:
+            if used + 3 > MOST_QUOTA - REACH - 1:
                 continue
             board = self.agent.look().board
             self.agent.write(
@@ -162,8 +166,8 @@ class Witness:
 
 
 class Ending(NamedTuple):
-    """How a server ended: whether its matches did, its status, the seconds that it took from then on, the most memory
-    in KiB that it held, and what it printed."""
+    """How a server ended: whether its matches did, its status, the seconds that it took
+    from then on, the most memory in KiB that it held, and what it printed."""
 
     is_over: bool
     status: int
@@ -173,7 +177,8 @@ class Ending(NamedTuple):
 
 
 def ending_of(siege: Siege, witness: Witness) -> Ending:
-    """Waits for the end of the matches, lets all clients go, and waits a limited time for the end of the server."""
+    """Waits for the end of the matches, lets all clients go, and waits a limited time
+    for the end of the server."""
     is_over = witness.wait()
     siege.close()
     begin = time.monotonic()
@@ -247,9 +252,8 @@ def check_team(polite: Sequence[Polite], match: Match) -> str:
     verdict = judge(match)
     if verdict.outcome != "solved" or verdict.lost:
         raise Wrong(f"their team's verdict is {verdict}")
-    count, slowest = sum(len(one.lines.answers) for one in polite), max(
-        one.lines.slowest for one in polite
-    )
+    count = sum(len(one.lines.answers) for one in polite)
+    slowest = max(one.lines.slowest for one in polite)
     return f"{count} answers, the slowest after {slowest * 1000:.0f} ms; solved with {verdict.moves} moves"
 
 
@@ -331,7 +335,7 @@ def served(sizes: Sizes, folder: pathlib.Path) -> Iterator[Siege]:
     """A server on a tournament in this folder."""
     (folder / "ring.toml").write_text(text_of(ring(NODES)))
     matches = tournament(
-        str(folder / "ring.toml"), MATCHES, MAX_AGENTS, MAX_BOARD, holes=HOLES
+        str(folder / "ring.toml"), MATCHES, MOST_AGENTS, MOST_BOARD, 3, HOLES
     )
     (folder / "cup.toml").write_text(matches)
     with serving(
