@@ -1,21 +1,28 @@
-"""Shows a contest that goes on, for a projector: a web server whose pages update by themselves.
+"""Shows a contest that goes on, for a projector: a web server whose pages update by
+themselves.
 
-    ./arena-lab watch TOURNAMENT PREFIX [--port 8080] [--address A] [--turns K --pause MS] [--gather MS] [--open]
+    ./arena-lab watch TOURNAMENT PREFIX [--port 8080] [--address A] [--turns K] [--pause MS] [--gather MS] [--open]
 
-TOURNAMENT is the file that `arena serve` serves, and PREFIX what its --replay names. Start it before the contest or at
-any time in it; it reads the parts of the replays as they grow, and goes on when the server is started again.
+TOURNAMENT is the file that `arena serve` serves, and PREFIX what its --replay names.
+Start it before the contest or at any time in it; it reads the parts of the replays as
+they grow, and goes on when the server is started again.
 
-While a match goes on the page shows its team and network, whether it waits for its agents, since when its turns go on,
-and how many of its agents have entered, and nothing that would tell an agent more than it has met. Once it is closed
-its verdict is shown; once all are closed each match has its page, on which it is played from its start to its end at
-the speed that you choose. With --turns and --pause, as `serve` has them, the page says about how many turns are left;
-with --gather, as `serve` has it, also of a match whose agents do not all come.
+While a match goes on the page shows its team and network, whether it waits for its
+agents, since when its turns go on, and how many of its agents have entered, and nothing
+that would tell an agent more than it has met. Once it is closed its verdict is shown;
+once all are closed each match has its page, on which it is played from its start to its
+end at the speed that you choose. With --gather and --pause, as `serve` has them, the
+page knows since when the turns of a match go on whose agents do not all come, or that
+began before this program.
 
-With --open each match has its page at once, and the page follows it: everybody sees the black holes, so this is for
-practice and talks alone.
+With --open each match has its page at once, and the page follows it: everybody sees the
+black holes, so this is for practice and talks alone. The page then also says the last
+turn that the server wrote, which has them under the oblivious schedule; with --turns,
+as `serve` has it, of how many. Without --open it says no turn, since an agent cannot
+see when others act; the operator asks the server for `status`.
 
-It serves this machine alone, unless --address names another address. It needs Debian's package python3-aiohttp, and
-python3-networkx for the pages of matches.
+It serves this machine alone, unless --address names another address. It needs Debian's
+package python3-aiohttp, and python3-networkx for the pages of matches.
 """
 import argparse
 import pathlib
@@ -90,11 +97,7 @@ def add_words(parser: argparse.ArgumentParser) -> None:
 
 
 def run(words: argparse.Namespace) -> int:
-    turns = (
-        {"turns": words.turns, "pause": words.pause}
-        if words.turns and words.pause
-        else {}
-    )
+    turns = {"turns": words.turns} if words.turns else {}
     matches = matches_of(words.tournament)
     gather, pause = (
         None if it is None else it / 1000 for it in (words.gather, words.pause)

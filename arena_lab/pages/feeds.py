@@ -1,14 +1,19 @@
-"""Matches of a contest while it goes on, as the parts and replays of `arena serve` tell them.
+"""Matches of a contest while it goes on, as the parts and replays of `arena serve` tell
+them.
 
-A part, PREFIXM.jsonl.part, grows by whole lines; at the end it becomes the replay, PREFIXM.jsonl. Only what is new is
-read, and it is played by the Python model as it comes. A line that is not whole yet waits.
+A part, PREFIXM.jsonl.part, grows by whole lines; at the end it becomes the replay,
+PREFIXM.jsonl. Only what is new is read, and it is played by the Python model as it
+comes. A line that is not whole yet waits.
 
-Turns begin once all agents of a match have entered, or once it has gathered for as long as the server waits. Of a match
-with the oblivious schedule the server also says the turn of each event; of these only turns of enters are looked at
-while agents are missing, since all who play see who has entered.
+Turns begin once all agents of a match have entered, or once it has gathered for as long
+as the server waits. Of a match with the oblivious schedule the server also says the
+turn of each event; of these only turns of enters are looked at while agents are
+missing, since all who play see who has entered. The last turn that the server wrote
+tells that somebody has done something, so it is for matches that everybody may see.
 """
 import contextlib
 import json
+import os
 import pathlib
 import time
 from typing import Any, Dict, List, Optional
@@ -17,11 +22,14 @@ from arena_lab.rules.model import OUTSIDE, Match, begun
 
 # bytes of a part that are read at once, so that one match keeps no other waiting
 AT_ONCE = 1 << 20
+# more bytes than two lines of turns have
+LAST_LINES = 64
 
 
 class Feed:
-    """One match: what of it was read so far, and since when its turns go on. The seconds for which the server has it
-    gather, and between two turns, are as `serve` was told, or None."""
+    """One match: what of it was read so far, and since when its turns go on. The
+    seconds for which the server has it gather, and between two turns, are as `serve`
+    was told, or None."""
 
     def __init__(
         self,
@@ -32,7 +40,8 @@ class Feed:
     ) -> None:
         self.match: Optional[Match] = None
         self.since: Optional[float] = None
-        self._gather, self._pause = gather, pause
+        self._gather = gather
+        self._pause = pause
         self._replay = pathlib.Path(f"{prefix}{number}.jsonl")
         self._part = pathlib.Path(f"{prefix}{number}.jsonl.part")
         self._turns = [
@@ -41,18 +50,17 @@ class Feed:
         self._begin()
 
     def _begin(self) -> None:
-        self.match, self.since, self._file, self._read, self._rest = (
-            None,
-            None,
-            -1,
-            0,
-            b"",
-        )
+        self.match = None
+        self.since = None
+        self._file = -1
+        self._read = 0
+        self._rest = b""
         self._opened: Optional[float] = None
 
     def look(self) -> bool:
-        """Reads what is new; answers whether there was anything. A replay has what its part had, so reading goes on in
-        it; the part of another contest is read from its beginning."""
+        """Reads what is new; answers whether there was anything. A replay has what its
+        part had, so reading goes on in it; the part of another contest is read from its
+        beginning."""
         path = self._replay if self._replay.exists() else self._part
         try:
             with path.open("rb") as file:
@@ -61,13 +69,29 @@ class Feed:
             return False
         return self._turns_begin() or has_more
 
+    def turn(self) -> Optional[int]:
+        """The last turn that the server wrote, if it wrote one."""
+        with contextlib.suppress(OSError, ValueError), self._turns_path().open(
+            "rb"
+        ) as file:
+            file.seek(max(0, file.seek(0, os.SEEK_END) - LAST_LINES))
+            return next(
+                (int(line) for line in reversed(file.read().split(b"\n")[:-1])), None
+            )
+        return None
+
+    def _turns_path(self) -> pathlib.Path:
+        """The file of the turns: their part while they grow."""
+        return next((it for it in self._turns if it.exists()), self._turns[0])
+
     def _turns_begin(self) -> bool:
-        """Whether turns are found to go on now, and did not before. What the server says of turns tells since when, if
-        this was started later than they."""
+        """Whether turns are found to go on now, and did not before. What the server
+        says of turns tells since when, if this was started later than they."""
         match = self.match
         if match is None or self.since is not None or self._opened is None:
             return False
-        now, said = time.time(), self._said()
+        now = time.time()
+        said = self._said()
         count = sum(agent.standing != OUTSIDE for agent in match.agents)
         late = [
             turn
@@ -83,13 +107,10 @@ class Feed:
 
     def _said(self) -> List[int]:
         """The turns of the events, if the server says them."""
-        path = next((it for it in self._turns if it.exists()), None)
         with contextlib.suppress(OSError, ValueError):
-            return (
-                [int(line) for line in path.read_text().split("\n")[:-1]]
-                if path
-                else []
-            )
+            return [
+                int(line) for line in self._turns_path().read_text().split("\n")[:-1]
+            ]
         return []
 
     def _take(self, file: Any, is_replay: bool) -> bool:

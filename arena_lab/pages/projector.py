@@ -1,4 +1,5 @@
-"""A web server that shows a contest while it goes on, and tells no more than arena_lab/pages/screen.py allows."""
+"""A web server that shows a contest while it goes on, and tells no more than
+arena_lab/pages/screen.py allows."""
 import asyncio
 import contextlib
 import json
@@ -22,13 +23,15 @@ from arena_lab.pages.web_pages import (
 from arena_lab.rules.model import Match, judge
 
 # seconds between two looks at the files, and how many watchers there may be
-EVERY, MOST_WATCHERS = 0.5, 500
+EVERY = 0.5
+MOST_WATCHERS = 500
 # seconds after which a watcher that was told nothing new is asked whether it is there
 QUIET = 15
 
 
 class ContestView:
-    """The matches of a contest, and what of them may be shown. Whoever watches waits for the next version."""
+    """The matches of a contest, and what of them may be shown. Whoever watches waits
+    for the next version."""
 
     def __init__(self, matches: List[Shown], found: List[Feed], is_open: bool) -> None:
         self.is_open = is_open
@@ -64,7 +67,8 @@ class ContestView:
                 self.grown[number] += 1
             rows = self._standings() if changed else self.rows
             if rows != self.rows or changed and self.is_open:
-                self.rows, self.version = rows, self.version + 1
+                self.rows = rows
+                self.version = self.version + 1
                 async with self._changed:
                     self._changed.notify_all()
             await asyncio.sleep(EVERY)
@@ -82,6 +86,7 @@ class ContestView:
                     feed.match,
                     None if feed.since is None else int(feed.since),
                     match.name,
+                    feed.turn() if self.is_open else None,
                 )
                 for match, feed in zip(self._matches, self._feeds)
             ]
@@ -136,7 +141,8 @@ class ProjectorHandlers(Handlers):
         )
 
     async def _events(self, request: Any, told: Callable[[], Dict[str, Any]]) -> Any:
-        """A stream of what is told, which is sent when it has changed, with the time of this machine."""
+        """A stream of what is told, which is sent when it has changed, with the time of
+        this machine."""
         if self._watchers >= MOST_WATCHERS:
             raise self.web.HTTPServiceUnavailable(
                 text="too many watch this contest; try again later\n"
@@ -149,7 +155,8 @@ class ProjectorHandlers(Handlers):
             await response.prepare(request)
             last = None
             while True:
-                version, now = self._contest.version, told()
+                version = self._contest.version
+                now = told()
                 text = json.dumps({"now": int(time.time()), **now})
                 await response.write(
                     f"data: {text}\n\n".encode() if now != last else b": \n\n"
@@ -190,8 +197,8 @@ class ProjectorHandlers(Handlers):
 def application(
     contest: ContestView, title: str, turns: Dict[str, int], names: Collection[str] = ()
 ) -> Any:
-    """The web server's application, which looks at the files while it serves. It answers for this machine and for hosts
-    of these names."""
+    """The web server's application, which looks at the files while it serves. It
+    answers for this machine and for hosts of these names."""
 
     async def looking(_: Any) -> Any:
         task = asyncio.create_task(contest.watch())
@@ -210,8 +217,9 @@ def show(
     turns: Dict[str, int],
     names: Collection[str] = (),
 ) -> None:
-    """Shows a contest at an address and port until it is interrupted. Names of hosts are those by which it may be asked
-    for, besides addresses and this machine's name."""
+    """Shows a contest at an address and port until it is interrupted. Names of hosts
+    are those by which it may be asked for, besides addresses and this machine's
+    name."""
 
     async def made() -> Any:
         return application(contest, title, turns, names)

@@ -1,10 +1,12 @@
-"""Shows a contest of the sample agents in headless Chromium while it goes on, and looks at what the pages say.
+"""Shows a contest of the sample agents in headless Chromium while it goes on, and looks
+at what the pages say.
 
     /usr/bin/python3 -m tests.browser.watch_in_browser PROGRAM [FOLDER]
 
-Starts the server PROGRAM and `./arena-lab watch` on examples/contest.toml, plays the sample agents, and compares the
-standings with the server's table. Opens a page of a match once all are over, plays it to its end, and finds no error in
-the console. Screenshots go to the folder. `tools/nightly` installs what it needs.
+Starts the server PROGRAM and `./arena-lab watch` on examples/contest.toml, plays the
+sample agents, and compares the standings with the server's table. Opens a page of a
+match once all are over, plays it to its end, and finds no error in the console.
+Screenshots go to the folder. `tools/nightly` installs what it needs.
 """
 import contextlib
 import os
@@ -20,13 +22,16 @@ from selenium.common.exceptions import WebDriverException
 from selenium.webdriver.support.ui import WebDriverWait
 
 from examples import contest
+from tests.support.counts import concluded
 from tests.support.servers import Server
 
 TOP = pathlib.Path(__file__).resolve().parents[2]
 SIZES = {"wide": (1600, 1000), "tablet": (800, 1000), "phone": (400, 850)}
 # how long a page may take, and how often the browser is started
-SECONDS, STARTS = 180, 3
-# options of `arena serve` and of the page: the turns of a match, and the milliseconds between two turns
+SECONDS = 180
+STARTS = 3
+# options of `arena serve` and of the page: the turns of a match, and the milliseconds
+# between two turns
 PLAYED = ("--turns", "20000", "--pause", "2")
 
 
@@ -43,7 +48,8 @@ def browser(*more: str) -> webdriver.Chrome:
 
 
 def rows(page: webdriver.Chrome) -> List[List[str]]:
-    """The cells of each match: number, team, network, outcome, agents, moves, lost. Headings have fewer."""
+    """The cells of each match: number, team, network, outcome, agents, moves, lost.
+    Headings have fewer."""
     return page.execute_script(
         "return [...document.querySelectorAll('#rows tr')].map(line => "
         "[...line.children].map(cell => cell.textContent)).filter(row => row.length === 7)"
@@ -73,7 +79,8 @@ def main() -> int:
     shots = pathlib.Path(sys.argv[2] if len(sys.argv) == 3 else tempfile.mkdtemp())
     shots.mkdir(parents=True, exist_ok=True)
     with tempfile.TemporaryDirectory() as name:
-        folder, web = pathlib.Path(name), contest.free_port()
+        folder = pathlib.Path(name)
+        web = contest.free_port()
         subprocess.run(
             ["cc", "-O2", "-o", folder / "ring", contest.AGENTS / "ring.c"], check=True
         )
@@ -117,7 +124,8 @@ def main() -> int:
                 for number, agent in enumerate(members)
             ]
             agents = [*map(subprocess.Popen, commands[:-1])]
-            # the last match waits for its last agent, so that the page shows it however fast the others are
+            # the last match waits for its last agent, so that the page shows it however
+            # fast the others are
             size = len([*contest.TEAMS.values()][-1])
             WebDriverWait(page, SECONDS).until(
                 lambda it: any(row[4] == f"{size - 1} of {size}" for row in rows(it))
@@ -159,7 +167,7 @@ def main() -> int:
                 child.kill()
                 child.wait()
     print(f"the standings are those of the table; screenshots are in {shots}")
-    return 0
+    return concluded(1, 0)
 
 
 if __name__ == "__main__":

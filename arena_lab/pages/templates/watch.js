@@ -17,14 +17,14 @@ function cell(line, text, kind, link) {
   if (kind) made.className = kind;
   line.append(made);
 }
-function left(row) {
-  if (!told.turns) return "";
-  const turns = Math.max(0, Math.ceil(told.turns - (now() - row.since) * 1000 / told.pause));
-  return `, about ${turns} turns left`;
+// the last turn that the server wrote
+function turn(row) {
+  if (row.turn === undefined) return "";
+  return `, turn ${row.turn}${told.turns ? ` of ${told.turns}` : ""}`;
 }
 function words(row) {
   if (row.state === "is over") return row.outcome;
-  if (row.state === "runs") return `runs for ${minutes(Math.max(0, now() - row.since))}${left(row)}`;
+  if (row.state === "runs") return `runs for ${minutes(Math.max(0, now() - row.since))}${turn(row)}`;
   return row.agents ? `${row.state}: ${row.entered} of ${row.agents} entered` : row.state;
 }
 // one row a team; where each team has one match, its row says the same

@@ -1,6 +1,5 @@
-"""`./arena-lab watch` over files that grow as those of a server do: what its pages tell while matches run, and once
-they are
-over."""
+"""`./arena-lab watch` over files that grow as those of a server do: what its pages tell
+while matches run, and once they are over."""
 import http.client
 import json
 import os
@@ -10,10 +9,10 @@ import sys
 import time
 from typing import Any, Callable, Dict, List
 
-from examples.contest import free_port
 from arena_lab.rules.engines import TOP
 from arena_lab.rules.model import Match, spelled
 from arena_lab.rules.networks import ring
+from examples.contest import free_port
 from tests.support.matches import InFolder
 from tests.support.tournaments import match, write_cup
 
@@ -94,15 +93,21 @@ class Watching(InFolder):
     def told(
         self, holds: Callable[[List[Dict[str, Any]]], bool]
     ) -> List[Dict[str, Any]]:
-        """The rows of the first standings of which this holds, read as a page reads them."""
+        """The rows of the first standings of which this holds."""
+        return list(self.standings(holds)["rows"])
+
+    def standings(
+        self, holds: Callable[[List[Dict[str, Any]]], bool]
+    ) -> Dict[str, Any]:
+        """The first standings whose rows are so, read as a page reads them."""
         stream = self.asked("/standings")
         while True:
             line = stream.readline()
             self.assertTrue(line, "the standings have ended")
             if line.startswith(b"data: "):
-                rows = json.loads(line[6:])["rows"]
-                if holds(rows):
-                    return list(rows)
+                told: Dict[str, Any] = json.loads(line[6:])
+                if holds(told["rows"]):
+                    return told
 
     def test_a_contest_from_its_beginning_to_its_end(self) -> None:
         self.watch()
@@ -170,12 +175,14 @@ class Watching(InFolder):
         self.watch()
         self.told(lambda rows: any(row.get("entered") for row in rows))
         self.part(0).rename(self.folder / "m0.jsonl.part.old")
-        self.matches[0], self.written[0] = Match(self.matches[0].setup), 0
+        self.matches[0] = Match(self.matches[0].setup)
+        self.written[0] = 0
         self.write(0)
         self.told(lambda rows: any(row.get("entered") == 0 for row in rows))
 
     def test_pages_elsewhere_read_nothing(self) -> None:
-        """A page whose name leads to this machine, and one that asks from another origin."""
+        """A page whose name leads to this machine, and one that asks from another
+        origin."""
         self.matches[0].tell(0, {"do": "enter"})
         self.write(0)
         self.watch("--open", "--host", "Projector.example")
@@ -226,6 +233,27 @@ class Watching(InFolder):
         self.watch()
         self.told(lambda rows: any(row["state"] == "is over" for row in rows))
         self.assertEqual(self.status("/match/0"), 404)
+
+    def begin_with_turns(self, *more: str) -> Dict[str, Any]:
+        """The standings of a match of which the server has written turn 522, long after
+        its agents have entered."""
+        for agent in (0, 1):
+            self.matches[0].tell(agent, {"do": "enter"})
+        (self.folder / "m0.turns.part").write_text("0\n522\n")
+        for number in (0, 1):
+            self.write(number)
+        self.watch("--turns", "6000", "--pause", "10", *more)
+        return self.standings(lambda rows: any(row["state"] == "runs" for row in rows))
+
+    def test_a_turn_is_one_that_the_server_wrote(self) -> None:
+        told = self.begin_with_turns("--open")
+        self.assertEqual([row.get("turn") for row in told["rows"]], [522, None])
+        self.assertEqual((told["turns"], told.get("pause")), (6000, None))
+
+    def test_no_turn_is_shown_where_agents_must_not_see_when_others_act(self) -> None:
+        told = self.begin_with_turns()
+        self.assertEqual([row.get("turn") for row in told["rows"]], [None, None])
+        self.assertNotIn("pause", told)
 
     def test_news_are_those_of_the_match(self) -> None:
         for number in (0, 1):

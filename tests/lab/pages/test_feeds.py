@@ -1,4 +1,5 @@
-"""Parts of replays are read as they grow: whole lines alone, and since when a match runs."""
+"""Parts of replays are read as they grow: whole lines alone, and since when a match
+runs."""
 import os
 import time
 from typing import Optional
@@ -56,6 +57,16 @@ class Feeds(InTemporary):
         self.assertIsNone(self.read())
         self.part.with_name("m0.turns.part").write_text("2000\n")
         self.assertLess(abs((self.read() or 0) - time.time() + 1000), 60)
+
+    def test_the_last_turn_is_the_last_whole_line_that_the_server_wrote(self) -> None:
+        for name, text, turn in (
+            ("m1.turns", "7\n", None),
+            ("m0.turns", "", None),
+            ("m0.turns", "0\n4294967295\n12", 4294967295),
+            ("m0.turns.part", "0\n" * 99 + "522\n", 522),
+        ):
+            self.part.with_name(name).write_text(text)
+            self.assertEqual(self.feed.turn(), turn)
 
     def test_another_contest_runs_since_it_began(self) -> None:
         self.feed = Feed(str(self.part.with_name("m")), 0, gather=0)
