@@ -1,1 +1,2 @@
-"""What every room uses, and the tools beside the lab: which program there is, which packages are missing, progress."""
+"""What every package uses, and the tools beside the lab: which program there is, which
+packages are missing, progress."""

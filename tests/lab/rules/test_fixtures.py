@@ -1,14 +1,17 @@
 """What the lab refuses of a match, as the program does."""
+import contextlib
 import os
 import unittest
 
 from arena_lab.rules.fixtures import (
     SEED,
+    Fixture,
     NoMatch,
     checked,
     fixture_of,
     read_tournament,
     tournament_text,
+    write_tournament,
 )
 from arena_lab.rules.model import Match, Setup
 from arena_lab.rules.networks import NoNetwork, in_file, ring, text_of
@@ -90,9 +93,8 @@ class Files(InTemporary):
 
     def test_a_key_that_is_missing_and_one_that_version_3_does_not_have(self) -> None:
         (self.folder / "four.toml").write_text(text_of(NETWORK))
-        cup, text = self.folder / "cup.toml", tournament_text(
-            SEED, [(fixture_of(RIGHT), "four.toml")]
-        )
+        cup = self.folder / "cup.toml"
+        text = tournament_text(SEED, [(fixture_of(RIGHT), "four.toml")])
         # a match without black holes lacks the key of later versions
         cup.write_text(text.replace("holes", "hloes"))
         with self.assertRaisesRegex(NoMatch, "it has no key 'holes'"):
@@ -109,7 +111,8 @@ class Files(InTemporary):
                     read_tournament(str(cup))
 
     def test_a_network_is_looked_for_as_the_program_does(self) -> None:
-        folder, elsewhere = self.folder / "week", self.folder / "elsewhere"
+        folder = self.folder / "week"
+        elsewhere = self.folder / "elsewhere"
         for place, nodes in ((folder, 5), (elsewhere, 4)):
             place.mkdir()
             (place / "net.toml").write_text(text_of(ring(nodes)), encoding="utf-8")
@@ -125,3 +128,12 @@ class Files(InTemporary):
                 read_tournament(str(tournament)).fixtures[0].setup.nodes, nodes
             )
         os.chdir(before)
+
+
+class Written(InTemporary):
+    def test_a_tournament_is_written_and_read(self) -> None:
+        setup = Setup(4, ring(4).links, 1, [0, 3], 2, 9, 7, [(1, 0)])
+        fixture = Fixture("red", setup, ['a "key"', "\u20ac"], [(2, 1)])
+        write_tournament(fixture, self.folder)
+        with contextlib.chdir(self.folder):
+            self.assertEqual(read_tournament("tournament.toml").fixtures, [fixture])
