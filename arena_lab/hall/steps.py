@@ -1,13 +1,13 @@
-"""Steps of the machine (arena_lab/hall/machine.py) in the database. Each is one UPDATE that names the state it
-leaves."""
+"""Steps of the machine (arena_lab/hall/machine.py) in the database. Each is one UPDATE
+that names the state it leaves."""
 import contextlib
-import datetime
+import math
 import os
 import secrets
 import shutil
 import threading
 import time
-from typing import Any, Dict, Iterator, List, Optional
+from typing import Any, Dict, Iterator, Optional, Set, Tuple
 
 from django.db import OperationalError, connection, models, transaction
 from django.utils import timezone
@@ -15,17 +15,23 @@ from django.utils.translation import gettext_lazy as _
 
 from arena_lab.hall import machine
 from arena_lab.hall.place import tell
+from arena_lab.hall.teams.models import note
 from arena_lab.support.faults import Fault
 
-# how long a worker may be silent, and how often it says that it is there; how long work may wait for its worker
-SECONDS = float(os.environ.get("ARENA_HALL_LEASE", "30"))
-LEASE, RENEWED = datetime.timedelta(seconds=SECONDS), SECONDS / 5
-TO_BEGIN = LEASE
+# how many seconds a worker may be silent, and how often it says that it is there
+LEASE = float(os.environ.get("ARENA_HALL_LEASE", "30"))
+RENEWED = LEASE / 5
+# after how many faults of the machine the teacher is told, and how many seconds pass at
+# most before work is begun again
+TOLD = 3
+LONGEST = 600.0
 # seconds between two looks at what does the work
 LOOK = 0.2
-# set once this process is told to end: what it does is given up, and done again by the next
+# set once this process is told to end: what it does is given up, and done again by the
+# next
 STOPPED = threading.Event()
 AGAIN = _("the hall was stopped meanwhile: it is done again, a match with other keys")
+MACHINE = _("the machine has a fault: it is done again, a match with other keys")
 
 
 def remove_folder(instance: Any, **_given: Any) -> None:
@@ -38,9 +44,11 @@ class Work(models.Model):
     """A piece of work that a worker does, and its state."""
 
     state = models.CharField(max_length=10, default=machine.WAITING, db_index=True)
-    runs = models.PositiveSmallIntegerField(default=0)
+    runs = models.PositiveIntegerField(default=0)
+    # how often the machine had a fault, and how far the workers have counted that hold it
+    faults = models.PositiveIntegerField(default=0)
+    beats = models.PositiveIntegerField(default=0)
     holder = models.CharField(max_length=40, blank=True, default="")
-    until = models.DateTimeField(null=True, blank=True)
     asked = models.DateTimeField(default=timezone.now)
     begun = models.DateTimeField(null=True, blank=True)
     ended = models.DateTimeField(null=True, blank=True)
@@ -66,34 +74,26 @@ def step(
     if event in machine.BY_HOLDER:
         rows = rows.filter(holder=holder)
     for row in machine.steps_of(event):
-        chosen = rows.filter(state=row.state)
-        if row.again is not None:
-            chosen = (
-                chosen.filter(runs__lt=machine.MOST_RUNS)
-                if row.again
-                else chosen.filter(runs__gte=machine.MOST_RUNS)
-            )
-        if chosen.update(**changed(row, holder), **changes):
+        if rows.filter(state=row.state).update(**{**changed(row, holder), **changes}):
             work.refresh_from_db()
-            # meanwhile the lease may have run out, and the row be another's
+            # meanwhile it may have been silent for long, and the row be another's
             return row.after not in machine.ACTIVE or work.holder == holder
     return False
 
 
 def changed(row: machine.Transition, holder: str) -> Dict[str, Any]:
     """What a step changes of the columns that all work has."""
-    now = timezone.now()
-    found: Dict[str, Any] = {"state": row.after}
+    found: Dict[str, Any] = {"state": row.after, "beats": models.F("beats") + 1}
     if row.event == machine.CLAIM:
-        found.update(holder=holder, until=now + TO_BEGIN)
-    elif row.event in (machine.BEGIN, machine.RENEW):
-        found.update(until=now + LEASE)
-    else:
-        found.update(holder="", until=None)
+        found.update(holder=holder)
+    elif row.after not in machine.ACTIVE:
+        found.update(holder="")
     if row.event == machine.BEGIN:
-        found.update(runs=models.F("runs") + 1, begun=now, fault="")
+        found.update(runs=models.F("runs") + 1, begun=timezone.now(), fault="")
+    if row.event == machine.LOSE:
+        found.update(faults=models.F("faults") + 1)
     if row.after in machine.ENDED:
-        found.update(ended=now)
+        found.update(ended=timezone.now(), fault="")
     return found
 
 
@@ -103,15 +103,50 @@ def claimed(work: Work) -> Optional[str]:
     return holder if step(work, machine.CLAIM, holder) else None
 
 
-def lose_late(kind: Any) -> List[Work]:
-    """Notes which work is lost to its worker, since its lease has run out; gives it."""
-    now = timezone.now()
-    late = models.Q(until__lt=now)
-    return [
-        work
-        for work in kind.objects.filter(late, state__in=machine.ACTIVE)
-        if step(work, machine.LOSE, "", late)
-    ]
+def lose(work: Work, only: models.Q, why: str) -> bool:
+    """Notes a fault of the machine, after which work is begun again; the teacher is
+    told of work that does not come to an end."""
+    is_lost = step(work, machine.LOSE, "", only, fault=why[:300])
+    if is_lost and work.faults == TOLD:
+        note("hall", f"{type(work).__name__} {work.pk}: {TOLD} faults of the machine")
+        tell(
+            f"{type(work).__name__} {work.pk}: {TOLD} faults, and is begun again: {why}"
+        )
+    return is_lost
+
+
+def pause(faults: int) -> float:
+    """How many seconds pass before work with this many faults is begun again."""
+    return min(LONGEST, 4.0 ** min(faults - 1, 9)) if faults else 0.0
+
+
+class Watch:
+    """What this process has seen of one kind of work, and since when it stands so, by a
+    clock that nobody sets."""
+
+    def __init__(self, kind: Any) -> None:
+        self._kind = kind
+        self._seen: Optional[Dict[int, Tuple[int, float]]] = None
+
+    def look(self) -> Set[int]:
+        """Notes which work is lost to a silent worker; gives the numbers of the work
+        that is not to begin yet. What waits at the first look has waited for a
+        start."""
+        now = time.monotonic()
+        before = {} if self._seen is None else self._seen
+        new = -math.inf if self._seen is None else now
+        self._seen = {}
+        resting = set()
+        for work in self._kind.objects.exclude(state__in=machine.ENDED):
+            beats, since = before.get(work.pk, (work.beats, new))
+            is_active = work.state in machine.ACTIVE
+            since = now if beats != work.beats or is_active and since < 0 else since
+            self._seen[work.pk] = work.beats, since
+            if is_active and now - since > LEASE:
+                lose(work, models.Q(beats=work.beats), str(MACHINE))
+            if is_active or now - since < pause(work.faults):
+                resting.add(work.pk)
+        return resting
 
 
 class WorkerStopped(Exception):
@@ -123,10 +158,12 @@ class WorkLost(Exception):
 
 
 class Lease:
-    """The hold that a worker has on the work that it does."""
+    """The hold that a worker has on the work that it does, as long as it counts on."""
 
     def __init__(self, work: Work, holder: str) -> None:
-        self._work, self._holder, self._renewed = work, holder, time.monotonic()
+        self._work = work
+        self._holder = holder
+        self._renewed = time.monotonic()
 
     def renew(self) -> None:
         if not step(self._work, machine.RENEW, self._holder):
@@ -134,8 +171,8 @@ class Lease:
         self._renewed = time.monotonic()
 
     def wait(self) -> None:
-        """Lets a moment pass, and renews the lease in time. A database that does not answer is asked again, as long as
-        the lease holds."""
+        """Lets a moment pass, and counts on in time. A database that does not answer is
+        asked again, as long as the lease holds."""
         time.sleep(LOOK)
         silent = time.monotonic() - self._renewed
         if STOPPED.is_set():
@@ -144,7 +181,7 @@ class Lease:
             try:
                 self.renew()
             except OperationalError:
-                if silent > LEASE.total_seconds():
+                if silent > LEASE:
                     raise WorkLost from None
             finally:
                 if not connection.in_atomic_block:
@@ -153,8 +190,8 @@ class Lease:
 
 @contextlib.contextmanager
 def begun(kind: Any, number: int, holder: str, *related: str) -> Iterator[Any]:
-    """Work of this number that begins, or nothing if this holder does not hold it. What ends it is noted, and work that
-    is given up is done again if it has a run left."""
+    """Work of this number that begins, or nothing if this holder does not hold it. What
+    ends it is noted; after a fault of the machine it is begun again."""
     work = kind.objects.filter(pk=number).select_related(*related).first()
     if work is None or not step(work, machine.BEGIN, holder):
         yield None
@@ -163,21 +200,11 @@ def begun(kind: Any, number: int, holder: str, *related: str) -> Iterator[Any]:
         yield work
     except WorkLost:
         pass
-    except (WorkerStopped, machine.TryAgain) as fault:
-        step(
-            work,
-            machine.LOSE,
-            "",
-            models.Q(holder=holder),
-            fault=(str(fault) or str(AGAIN))[:300],
-        )
-    except (Fault, OSError) as fault:
-        step(work, machine.FAIL, holder, fault=told_of(fault, work))
-
-
-def told_of(fault: Exception, work: Work) -> str:
-    """What a team is told of a fault: those of the machine, which name files, stand in the worker's log."""
-    if isinstance(fault, Fault):
-        return str(fault)[:300]
-    tell(f"{type(work).__name__} {work}: {fault}")
-    return "the machine has a fault: tell your teacher"
+    except WorkerStopped:
+        lose(work, models.Q(holder=holder), str(AGAIN))
+    except (machine.MachineFault, OSError) as fault:
+        # it may name files, which teams are not told
+        tell(f"{type(work).__name__} {work.pk}: {fault}")
+        lose(work, models.Q(holder=holder), str(MACHINE))
+    except Fault as fault:
+        step(work, machine.FAIL, holder, fault=str(fault)[:300])

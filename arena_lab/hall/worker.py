@@ -1,11 +1,11 @@
-"""A worker claims work that waits in the database, under a lease, and does each piece in a thread. There may be any
-number of workers, also on other machines. They keep nothing in mind, so each may be killed and started again at any
-moment."""
+"""A worker claims work that waits in the database, and does each piece in a thread.
+There may be any number of workers, also on other machines. They keep in mind only since
+when work stands as it does, so each may be killed and started again at any moment."""
 import collections
 import signal
 import threading
 import time
-from typing import Any, Callable, List, Tuple
+from typing import Any, Callable, Collection, Dict, List, Set, Tuple
 
 from django.conf import settings
 from django.contrib.contenttypes.models import ContentType
@@ -19,52 +19,65 @@ from arena_lab.hall.handins import grading
 from arena_lab.hall.handins.models import Grading
 from arena_lab.hall.handins.taking import grade_secretly
 from arena_lab.hall.place import tell
-from arena_lab.hall.steps import STOPPED, claimed, lose_late
+from arena_lab.hall.steps import STOPPED, Watch, claimed
 
+KINDS = (Attempt, Pages, Grading)
 # seconds between two looks, and between two that ask for gradings by the secret draw
-LOOK, SECRETLY = 0.25, 2.0
+LOOK = 0.25
+SECRETLY = 2.0
 
 Job = Tuple[Callable[[int, str], None], Any]
 
 
-def due() -> List[Job]:
+def watches() -> List[Watch]:
+    """What a worker that has just begun has seen: nothing."""
+    return [Watch(kind) for kind in KINDS]
+
+
+def due(resting: Dict[Any, Set[int]]) -> List[Job]:
     """What may begin now."""
     limits = settings.HALL.limits
     pages = Pages.objects.filter(state__in=machine.ACTIVE).count()
     return [
-        *((playing.play, it) for it in due_attempts(limits.matches)),
+        *((playing.play, it) for it in due_attempts(limits.matches, resting[Attempt])),
         *(
             (playing.make_pages, it)
-            for it in Pages.objects.filter(state=machine.WAITING).order_by("pk")[
-                : max(0, 2 - pages)
-            ]
+            for it in Pages.objects.filter(state=machine.WAITING)
+            .exclude(pk__in=resting[Pages])
+            .order_by("pk")[: max(0, 2 - pages)]
         ),
-        *((grading.grade, it) for it in grading.due(limits.gradings)),
+        *((grading.grade, it) for it in grading.due(limits.gradings, resting[Grading])),
     ]
 
 
-def due_attempts(most: int) -> List[Any]:
-    """The attempts that may begin, fairly: first those of teams with the fewest that run, up to this number."""
+def due_attempts(most: int, resting: Collection[int] = ()) -> List[Any]:
+    """The attempts that may begin, fairly: first those of teams with the fewest that
+    run, up to this number, and none that rests."""
     running = Attempt.objects.filter(state__in=machine.ACTIVE).order_by()
     busy = collections.Counter(running.values_list("team", flat=True))
-    free, waiting = max(0, most - sum(busy.values())), []
+    free = max(0, most - sum(busy.values()))
+    waiting = []
     for attempt in Attempt.objects.filter(state=machine.WAITING).order_by("pk"):
+        if attempt.pk in resting:
+            continue
         waiting.append((busy[attempt.team_id], attempt.pk, attempt))
         busy[attempt.team_id] += 1
     return [attempt for _, _, attempt in sorted(waiting)[:free]]
 
 
-def claim() -> List[Tuple[Job, str]]:
-    """Claims what may begin now, with the holder of each piece. Workers take turns, so that no two of them count what
-    runs at the same time: a row that always is there stands for the queue, and SQLite lets one write at a time.
-    """
+def claim(seen: List[Watch]) -> List[Tuple[Job, str]]:
+    """Claims what may begin now, with the holder of each piece. Workers take turns, so
+    that no two of them count what runs at the same time: a row that always is there
+    stands for the queue, and SQLite lets one write at a time. Who has waited for its
+    turn may be told to end meanwhile, and claims nothing then."""
     with transaction.atomic():
         queue = ContentType.objects.filter(app_label="attempts", model="attempt")
         if queue.select_for_update(skip_locked=True).first() is None:
             return []
-        for kind in (Attempt, Pages, Grading):
-            lose_late(kind)
-        return [(job, holder) for job in due() if (holder := claimed(job[1]))]
+        if STOPPED.is_set():
+            return []
+        resting = {kind: watch.look() for kind, watch in zip(KINDS, seen)}
+        return [(job, holder) for job in due(resting) if (holder := claimed(job[1]))]
 
 
 def run(job: Job, holder: str) -> None:
@@ -79,12 +92,13 @@ def run(job: Job, holder: str) -> None:
 def work(is_over: threading.Event) -> None:
     """Works until it is ended. A fault of the database is told, and it looks again."""
     asked = 0.0
+    seen = watches()
     while not is_over.is_set():
         try:
             if time.monotonic() - asked > SECRETLY:
                 grade_secretly(timezone.now())
                 asked = time.monotonic()
-            jobs = claim()
+            jobs = claim(seen)
         except (DatabaseError, OSError) as fault:
             tell(f"worker: {fault}")
             connection.close()

@@ -1,12 +1,15 @@
-"""Kills processes of a hall at drawn moments while teams play, and looks whether anything is lost, left or stuck.
+"""Kills processes of a hall at drawn moments while teams play, and looks whether
+anything is lost, left or stuck.
 
     /usr/bin/python3 -m tests.hostile.killed_halls PROGRAM [--seconds 120] [--seed S] [--workers 2]
 
-Three teams ask for attempts again and again and play them with the sample agents. Meanwhile the web server, workers and
-servers of matches are killed by a signal that nobody can catch, one every second or two.
-Then the killing stops. Each attempt must come to an end; what was over when it was first seen so must be the same then;
-each replay must be a match by the rules with the verdict that the hall tells; and no server may be left. The last line
-reads `N passed, M failed`, and the exit status is 1 if one failed.
+Three teams ask for attempts again and again and play them with the sample agents.
+Meanwhile the web server, workers and servers of matches are killed by a signal that
+nobody can catch, one every second or two. Then the killing stops. Each attempt must be
+played to its end, and some at all; what was over when it was first seen so must be the
+same then; each replay must be a match by the rules with the verdict that the hall
+tells; and no server may be left. The last line reads `N passed, M failed`, and the exit
+status is 1 if one failed.
 """
 import argparse
 import contextlib
@@ -23,8 +26,8 @@ from typing import Any, Dict, List
 
 from arena_lab.rules.model import judge, played
 from tests.support import halls
-from tests.support.halls import Served, play
 from tests.support.counts import concluded
+from tests.support.halls import Served, play
 
 ENDED = ("over", "lost", "cancelled")
 NAMES = ("web", "worker 0", "worker 1")
@@ -34,7 +37,8 @@ class Team:
     """A team that asks for attempts and plays them, whatever happens to the hall."""
 
     def __init__(self, hall: Served, token: str) -> None:
-        self._hall, self._token = hall, token
+        self._hall = hall
+        self._token = token
         self.numbers: List[int] = []
         self.over: Dict[int, Any] = {}
 
@@ -85,10 +89,11 @@ class Team:
                 match = played(replay.decode())
                 verdict = judge(match)._asdict()
                 told_of_it = {name: it["verdict"][name] for name in verdict}
-                is_absent = it["verdict"]["outcome"] == "absent"
+                # of a match that nobody has entered, or not after a fault
+                is_empty = it["verdict"]["outcome"] in ("absent", "cut")
                 if (
                     match.replay().encode() != replay
-                    or not is_absent
+                    or not is_empty
                     and verdict != told_of_it
                 ):
                     found.append(
@@ -122,7 +127,9 @@ def main() -> int:
     parser.add_argument("--seed", metavar="S", type=int, default=1)
     words = parser.parse_args()
     os.environ["ARENA_PROGRAM"] = str(pathlib.Path(words.program).resolve())
-    chance, killed, is_over = random.Random(words.seed), Counter(), threading.Event()
+    chance = random.Random(words.seed)
+    killed = Counter()
+    is_over = threading.Event()
     with halls.served(workers=2) as hall:
         teams = [Team(hall, token) for token in hall.tokens().values()]
         threads = [
@@ -145,6 +152,8 @@ def main() -> int:
             for number in team.numbers
         )
         hall.wait(lambda: not hall.servers(), "all servers have ended", 30)
+    if not states["over"] or states["lost"]:
+        faults.append(f"matches were lost, or none was played: {dict(states)}")
     for fault in faults:
         print(f"FAILED {fault}")
     print(f"killed {dict(killed)}; attempts {dict(states)}")

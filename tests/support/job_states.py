@@ -3,14 +3,11 @@ from typing import Dict, List, NamedTuple, Optional
 
 from arena_lab.hall.machine import (
     ACTIVE,
-    BEGIN,
     BY_HOLDER,
     CLAIM,
     ENDED,
-    MOST_RUNS,
     TABLE,
     WAITING,
-    Transition,
     steps_of,
 )
 
@@ -19,25 +16,19 @@ EVENTS = sorted({row.event for row in TABLE})
 
 
 class JobState(NamedTuple):
-    """A piece of work as the machine sees it: its state, how many runs have begun, and who holds it."""
+    """A piece of work as the machine sees it: its state, and who holds it."""
 
     state: str = WAITING
-    runs: int = 0
     holder: str = ""
 
 
-def fits(step: Transition, work: JobState) -> bool:
-    """Whether a row of the table is about work that stands so."""
-    return step.state == work.state and step.again in (None, work.runs < MOST_RUNS)
-
-
 def after(work: JobState, event: str, holder: str = "") -> Optional[JobState]:
-    """The work after an event, or None if the event changes nothing. A claim names the new holder."""
+    """The work after an event, or None if the event changes nothing. A claim names the
+    new holder."""
     if event in BY_HOLDER and holder != work.holder:
         return None
     for step in steps_of(event):
-        if fits(step, work):
-            runs = work.runs + (event == BEGIN)
+        if step.state == work.state:
             kept = (
                 holder
                 if event == CLAIM
@@ -45,7 +36,7 @@ def after(work: JobState, event: str, holder: str = "") -> Optional[JobState]:
                 if step.after in ACTIVE
                 else ""
             )
-            return JobState(step.after, runs, kept)
+            return JobState(step.after, kept)
     return None
 
 

@@ -1,5 +1,5 @@
-"""Matches that teams practise. Nothing here says where black holes are: only the files of a match do, until it is
-closed."""
+"""Matches that teams practise. Nothing here says where black holes are: only the files
+of a match do, until it is closed."""
 import pathlib
 from typing import Any, Dict
 
@@ -12,8 +12,10 @@ from django.utils.translation import gettext_lazy as _
 from arena_lab.hall.steps import Work, remove_folder
 from arena_lab.hall.teams.models import Team
 
-# what came of a match: the verdict of the program, or that nobody has entered
+# what came of a match: the verdict of the program, or that nobody has entered; after a
+# fault of the machine, such as a full disk, agents may have entered before it
 ABSENT = "absent"
+CUT = "cut"
 
 
 class Attempt(Work):
@@ -27,7 +29,8 @@ class Attempt(Work):
     size = models.BigIntegerField(default=0)
 
     class Meta:
-        verbose_name, verbose_name_plural = _("match"), _("matches")
+        verbose_name = _("match")
+        verbose_name_plural = _("matches")
         ordering = ["-pk"]
         indexes = [models.Index(fields=["team", "asked"], name="attempts_of_team")]
 
@@ -41,7 +44,8 @@ post_delete.connect(remove_folder, Attempt)
 
 
 class Match(models.Model):
-    """A match of an attempt: where its server listens, its keys, and once it is over what came of it."""
+    """A match of an attempt: where its server listens, its keys, and once it is over
+    what came of it."""
 
     attempt = models.ForeignKey(Attempt, models.CASCADE, related_name="matches")
     number = models.PositiveSmallIntegerField()
@@ -57,7 +61,8 @@ class Match(models.Model):
     lost = models.PositiveIntegerField(default=0)
 
     class Meta:
-        verbose_name, verbose_name_plural = _("match"), _("matches")
+        verbose_name = _("match")
+        verbose_name_plural = _("matches")
         ordering = ["number"]
         unique_together = [("attempt", "number")]
 

@@ -1,8 +1,10 @@
-"""Plays an attempt: a worker starts the server of its match, and notes what came of it once it is closed.
+"""Plays an attempt: a worker starts the server of its match, and notes what came of it
+once it is closed.
 
-Nothing of a match is noted in the database before it is over, but where its server listens and its keys. If the worker
-is killed its server ends with it. The attempt is then played again, with another black hole and other keys, unless the
-replay was whole already.
+Nothing of a match is noted in the database before it is over, but where its server
+listens and its keys. If the worker is killed its server ends with it. The attempt is
+then played again, with another black hole and other keys, unless the replay was whole
+already.
 """
 import contextlib
 import os
@@ -13,9 +15,9 @@ import time
 from django.conf import settings
 from django.db import transaction
 
-from arena_lab.hall import machine
+from arena_lab.hall import machine, packing
 from arena_lab.hall.attempts import draws, servers
-from arena_lab.hall.attempts.models import ABSENT, Attempt, Match, Pages
+from arena_lab.hall.attempts.models import ABSENT, CUT, Attempt, Match, Pages
 from arena_lab.hall.attempts.servers import Server, Times
 from arena_lab.hall.steps import Lease, WorkLost, begun, step
 from arena_lab.pages import page
@@ -47,12 +49,15 @@ class Playing:
         self._came = False
 
     def play(self) -> None:
-        """Plays the match, unless an earlier run has made its replay whole, and notes what came of it."""
+        """Plays the match, unless an earlier run has made its replay whole, and notes
+        what came of it."""
         if self._net is None:
             raise Fault(f"the hall has no network {self._attempt.network} any more")
         if not any(it.replay.exists() for it in self._attempt.matches.all()):
-            shutil.rmtree(self._folder, ignore_errors=True)
-            draw, hall = draws.drawn(self._net, self._attempt.team.name), settings.HALL
+            # of an earlier run, which came to nothing
+            shutil.rmtree(self._attempt.folder, ignore_errors=True)
+            draw = draws.drawn(self._net, self._attempt.team.name)
+            hall = settings.HALL
             draws.write(draw, self._folder)
             server = servers.start(
                 settings.PLACE.program,
@@ -84,7 +89,8 @@ class Playing:
 
     def _wait(self, server: Server, match: Match) -> None:
         """Waits until the server has ended."""
-        began, is_closing = time.monotonic(), False
+        began = time.monotonic()
+        is_closing = False
         while not server.has_ended():
             self._lease.wait()
             if not is_closing and (
@@ -111,11 +117,13 @@ class Playing:
                 self._attempt,
                 machine.FINISH,
                 self._holder,
-                size=size_of(self._attempt.folder),
+                size=packing.size_of(self._attempt.folder),
             ):
                 raise WorkLost
             for match, verdict in verdicts.items():
-                outcome = verdict.outcome if has_entered(match.replay) else ABSENT
+                outcome = verdict.outcome
+                if not has_entered(match.replay):
+                    outcome = CUT if self._attempt.faults else ABSENT
                 Match.objects.filter(pk=match.pk).update(
                     outcome=outcome, moves=verdict.moves, lost=verdict.lost
                 )
@@ -131,11 +139,6 @@ def has_entered(replay: pathlib.Path) -> bool:
     return False
 
 
-def size_of(folder: pathlib.Path) -> int:
-    """The bytes of all files of a folder."""
-    return sum(path.stat().st_size for path in folder.rglob("*") if path.is_file())
-
-
 def make_pages(number: int, holder: str) -> None:
     """Makes the pages of an attempt that is over."""
     with begun(Pages, number, holder, "attempt") as work:
@@ -147,7 +150,7 @@ def make_pages(number: int, holder: str) -> None:
                 )
         if work:
             Attempt.objects.filter(pk=work.attempt_id).update(
-                size=size_of(work.attempt.folder)
+                size=packing.pack(work.attempt.folder)
             )
             step(work, machine.FINISH, holder)
 

@@ -1,4 +1,5 @@
-"""The server of a match: the program, on a port of the worker's range, with one match."""
+"""The server of a match: the program, on a port of the worker's range, with one
+match."""
 import contextlib
 import os
 import pathlib
@@ -8,23 +9,26 @@ import subprocess
 from typing import IO, List, NamedTuple, Optional, Sequence, Tuple, cast
 
 from arena_lab.hall.attempts.draws import TOURNAMENT
-from arena_lab.hall.machine import TryAgain
+from arena_lab.hall.machine import MachineFault
 from arena_lab.hall.place import tell
 from arena_lab.support.waiting import is_ready
 
-# ends a program with the process that started it, also where that is killed; one that is late to hear it ends itself
+# ends a program with the process that started it, also where that is killed; one that
+# is late to hear it ends itself
 BOUND = ["--", "sh", "-c", 'test "$PPID" = "$0" || exit 1; exec "$@"']
 # of the program: the port is in use
 NO_PORT = 6
-SECONDS_TO_BEGIN, GRACE = 30.0, 3_000
+SECONDS_TO_BEGIN = 30.0
+GRACE = 3_000
 
 
-class NoServer(TryAgain):
+class NoServer(MachineFault):
     """The server of a match did not begin, or ended by a fault; says how."""
 
 
 class Times(NamedTuple):
-    """How long a match goes on at most: its turns, the milliseconds before each, and those it waits for its agents."""
+    """How long a match goes on at most: its turns, the milliseconds before each, and
+    those it waits for its agents."""
 
     turns: int
     pause: int
@@ -69,8 +73,8 @@ class Server:
 
 
 def tell_log(folder: pathlib.Path) -> None:
-    """Writes a server's last line to the worker's log, for the teacher. Teams never see it: it counts events that no
-    agent can observe."""
+    """Writes a server's last line to the worker's log, for the teacher. Teams never see
+    it: it counts events that no agent can observe."""
     with contextlib.suppress(OSError, IndexError):
         last = (
             (folder / "log.txt")
@@ -95,7 +99,8 @@ def bound(words: Sequence[object]) -> List[str]:
 def start(
     program: str, folder: pathlib.Path, times: Times, place: Tuple[str, Tuple[int, int]]
 ) -> Server:
-    """Starts the server of the match of a folder, on an address and on a port of a range that nobody uses."""
+    """Starts the server of the match of a folder, on an address and on a port of a
+    range that nobody uses."""
     address, (first, last) = place
     for port in random.sample(range(first, last + 1), last + 1 - first):
         if is_free(address, port):

@@ -1,8 +1,8 @@
-"""Grades a hand-in: `grade` plays it in its cells, as a command of its own, so that nothing of a team's program is in a
-process of the hall.
+"""Grades a hand-in: `grade` plays it in its cells, as a command of its own, so that
+nothing of a team's program is in a process of the hall.
 
-A grading at once has draws of its own, since a team hands in again and again and must not learn where the black holes
-are. The secret one has the same draws for all teams.
+A grading at once has draws of its own, since a team hands in again and again and must
+not learn where the black holes are. The secret one has the same draws for all teams.
 """
 import contextlib
 import csv
@@ -13,26 +13,36 @@ import pathlib
 import shutil
 import subprocess
 import sys
-from typing import Any, Dict, List
+import tempfile
+from typing import Any, Collection, Dict, List
 
 from django.conf import settings
 from django.db import transaction
 from django.utils import timezone
 
-from arena_lab.hall import machine
+from arena_lab.hall import machine, packing
+from arena_lab.hall.attempts.asking import bytes_of, own_bytes
 from arena_lab.hall.attempts.servers import bound
 from arena_lab.hall.handins.models import Grading
 from arena_lab.hall.handins.windows import window_of
-from arena_lab.hall.place import SECRET, write_whole
+from arena_lab.hall.place import SECRET, temporary_of, write_whole
 from arena_lab.hall.steps import Lease, WorkLost, begun, step
 from arena_lab.rules.fixtures import toml_of
+from arena_lab.sandbox import sandboxes
 from arena_lab.support.built import TOP
 from arena_lab.support.faults import Fault
 
 # for how long it is known how long a team's programs took
 RECENT = datetime.timedelta(days=1)
-COURSE, FILES, OUT, LOG = "course.toml", "files", "out", "log.txt"
+COURSE = "course.toml"
+FILES = "files"
+OUT = "out"
+LOG = "log.txt"
 TEAM_PAGE = "team-{team}.html"
+# of matches: failed and solved ones
+MATCHES = ("failed", "solved")
+# MB that a grading at once may write in any case
+LEAST_SPACE = 16
 SOLVED = "solved"
 
 
@@ -47,17 +57,16 @@ def grade(number: int, holder: str) -> None:
             prepare(work, folder)
             run(work, holder, folder)
             finish(work, holder, folder)
-        except WorkLost:
+        finally:
             shutil.rmtree(folder, ignore_errors=True)
 
 
 def prepare(work: Grading, folder: pathlib.Path) -> None:
-    """Writes the file of a course that has this team alone, and the secret of its draws."""
-    given, team, window = (
-        settings.HALL.hand_ins,
-        work.hand_in.team,
-        window_of(work.hand_in.contest),
-    )
+    """Writes the file of a course that has this team alone, and the secret of its
+    draws."""
+    given = settings.HALL.hand_ins
+    team = work.hand_in.team
+    window = window_of(work.hand_in.contest)
     names = window and (window.secret if work.is_secret else window.public)
     if not names:
         raise Fault(
@@ -72,6 +81,10 @@ def prepare(work: Grading, folder: pathlib.Path) -> None:
         "schedulers": given.schedulers,
         "seeds": given.seeds,
     }
+    if not work.is_secret:
+        # what decides in the end has all the room that a course gives it
+        left = bytes_of(team) - own_bytes(team) >> 20
+        rows["team_space"] = max(LEAST_SPACE, left)
     own = {
         "name": team.name,
         "agents": given.agents,
@@ -90,15 +103,22 @@ def prepare(work: Grading, folder: pathlib.Path) -> None:
 
 def drawn_from(work: Grading) -> str:
     """Of what the draws of a grading are made."""
-    secret, contest = settings.PLACE.secret(SECRET), work.hand_in.contest_id
+    secret = settings.PLACE.secret(SECRET)
+    contest = work.hand_in.contest_id
     if not work.is_secret:
         return f"{secret} {work.pk}"
     return secret if contest is None else f"{secret} contest {contest}"
 
 
 def run(work: Grading, holder: str, folder: pathlib.Path) -> None:
-    """Runs `grade`. It ends with this worker, and its cells with it. One that was killed is run again, once."""
+    """Runs `grade`. It ends with this worker, and its cells with it. Whatever a program
+    does, `grade` tells it in its rows: if it fails itself, the machine has a fault."""
     words = [
+        # if memory is short, it ends before the hall's own processes
+        "choom",
+        "-n",
+        "1000",
+        "--",
         sys.executable,
         "-m",
         "arena_lab",
@@ -118,6 +138,11 @@ def run(work: Grading, holder: str, folder: pathlib.Path) -> None:
         "PYTHONPATH": str(TOP),
         "PYTHONHASHSEED": "0",
     }
+    # of which nothing is left, whatever ends the worker: place.remove_left
+    temporary = tempfile.mkdtemp(prefix=temporary_of(settings.PLACE.folder))
+    # programs have users of their own where there are no walls
+    os.chmod(temporary, 0o711)
+    variables["TMPDIR"] = temporary
     with (folder / LOG).open("wb") as log:
         child = subprocess.Popen(
             bound(words),
@@ -134,10 +159,11 @@ def run(work: Grading, holder: str, folder: pathlib.Path) -> None:
     finally:
         child.kill()
         child.wait()
-    if child.returncode < 0:
-        raise machine.TryAgain(f"the grading was killed by signal {-child.returncode}")
+        sandboxes.remove(pathlib.Path(temporary))
     if child.returncode != 0:
-        raise Fault(f"the hall could not grade: {last_line(folder / LOG)}")
+        raise machine.MachineFault(
+            f"`grade` ended with status {child.returncode}: {last_line(folder / LOG)}"
+        )
 
 
 def last_line(path: pathlib.Path) -> str:
@@ -147,13 +173,18 @@ def last_line(path: pathlib.Path) -> str:
 
 
 def finish(work: Grading, holder: str, folder: pathlib.Path) -> None:
-    """Notes what came of a grading, and puts its files where they are looked at, both or neither."""
+    """Notes what came of a grading, and puts its files where they are looked at, both
+    or neither."""
     rows = rows_of(folder / OUT, work.hand_in.team.name)
     solved = [row for row in rows if row["solved"]]
     networks = {row["network"]: [0, 0] for row in rows}
     for row in rows:
         networks[row["network"]][0] += row["solved"]
         networks[row["network"]][1] += 1
+    # the hand-in has them
+    shutil.rmtree(folder / FILES)
+    for name in MATCHES:
+        packing.pack(folder / OUT / name)
     with transaction.atomic():
         if not step(
             work,
@@ -162,6 +193,7 @@ def finish(work: Grading, holder: str, folder: pathlib.Path) -> None:
             solved=len(solved),
             matches=len(rows),
             networks=networks,
+            size=packing.size_of(folder),
             moves=sum(row["moves"] for row in solved),
             lost=sum(row["lost"] for row in solved),
         ):
@@ -193,11 +225,11 @@ def rows_of(out: pathlib.Path, team: str) -> List[Dict[str, Any]]:
         ]
 
 
-def due(most: int) -> List[Grading]:
-    """The gradings that may begin, up to this number: of each team one at a time, first those of teams whose last
-    grading took the shortest time, so that a program that hangs keeps few waiting, and then the least lately graded.
-    """
-    waiting = Grading.objects.filter(state=machine.WAITING)
+def due(most: int, resting: Collection[int] = ()) -> List[Grading]:
+    """The gradings that may begin, up to this number, and none that rests: of each team
+    one at a time, first those of teams whose last grading took the shortest time, so
+    that a program that hangs keeps few waiting, and then the least lately graded."""
+    waiting = Grading.objects.filter(state=machine.WAITING).exclude(pk__in=resting)
     busy = set(
         Grading.objects.filter(state__in=machine.ACTIVE).values_list(
             "hand_in__team", flat=True

@@ -1,8 +1,10 @@
 """Steps of the hall's machine in the database are those of its table."""
+import contextlib
 import datetime
 import itertools
 import shutil
-from typing import Any
+import time
+from typing import Any, Iterator
 from unittest import mock
 
 from arena_lab.hall import machine
@@ -12,7 +14,6 @@ from arena_lab.hall.machine import (
     FINISH,
     HELD,
     LOST,
-    MOST_RUNS,
     RUNNING,
     WAITING,
 )
@@ -21,6 +22,7 @@ from tests.support.job_states import EVENTS, STATES, JobState, after
 
 halls.begun()
 
+from django.conf import settings as django_settings  # noqa: E402
 from django.core.management import call_command  # noqa: E402
 from django.db import models  # noqa: E402
 from django.test import TestCase  # noqa: E402
@@ -31,8 +33,28 @@ from arena_lab.hall.attempts import asking, playing  # noqa: E402
 from arena_lab.hall.attempts.models import Attempt  # noqa: E402
 from arena_lab.hall.handins import grading  # noqa: E402
 from arena_lab.hall.handins.models import Grading, HandIn  # noqa: E402
-from arena_lab.hall.steps import claimed, lose_late, step  # noqa: E402
-from arena_lab.hall.teams.models import Team  # noqa: E402
+from arena_lab.hall import steps  # noqa: E402
+from arena_lab.hall.steps import Watch, claimed, lose, step  # noqa: E402
+from arena_lab.hall.teams.models import Entry, Team  # noqa: E402
+
+
+def at(now: float) -> Any:
+    """A clock that stands."""
+    return mock.Mock(monotonic=lambda: now)
+
+
+def after_seconds(seconds: float, since: float = time.monotonic()) -> Any:
+    """A clock that stands so many seconds after these tests began."""
+    return at(since + seconds)
+
+
+@contextlib.contextmanager
+def runs(program: Any) -> Iterator[None]:
+    """Another program in the place of `grade`, while the block goes on."""
+    with mock.patch.object(grading.subprocess, "Popen", program), mock.patch.object(
+        grading.cells, "remove", shutil.rmtree
+    ):
+        yield
 
 
 def of(team: str) -> Any:
@@ -45,48 +67,89 @@ def attempt(team: str = "amber", **given: Any) -> Any:
 
 class Steps(TestCase):
     def test_each_step_is_that_of_the_table(self) -> None:
-        """Whatever state work is in, whoever acts: the database does what the table says, and else nothing."""
+        """Whatever state work is in, whoever acts: the database does what the table
+        says, and else nothing."""
         work = attempt()
         count = 0
-        for state, runs, event in itertools.product(
-            STATES, range(MOST_RUNS + 1), EVENTS
-        ):
+        for state, event in itertools.product(STATES, EVENTS):
             holder = "one" if state in ACTIVE else ""
             for actor in ("one", "two", ""):
-                with self.subTest(state=state, runs=runs, event=event, actor=actor):
+                with self.subTest(state=state, event=event, actor=actor):
                     Attempt.objects.filter(pk=work.pk).update(
-                        state=state, runs=runs, holder=holder
+                        state=state, holder=holder
                     )
-                    before = JobState(state, runs, holder)
+                    before = JobState(state, holder)
                     wanted = after(before, event, actor)
                     self.assertEqual(step(work, event, actor), wanted is not None)
                     work.refresh_from_db()
                     self.assertEqual(
-                        JobState(work.state, work.runs, work.holder), wanted or before
+                        JobState(work.state, work.holder), wanted or before
                     )
                     count += 1
-        self.assertGreater(count, 300)
+        self.assertGreater(count, 100)
 
     def test_one_of_two_workers_claims(self) -> None:
-        one, other = attempt(), None
+        one = attempt()
+        other = None
         other = Attempt.objects.get(pk=one.pk)
         self.assertTrue(claimed(one))
         self.assertIsNone(claimed(other))
 
-    def test_work_is_lost_once_its_lease_has_run_out_and_not_before(self) -> None:
+    def test_work_is_lost_once_its_worker_is_silent_and_not_before(self) -> None:
+        """However the clock of the machine is set meanwhile."""
         work = attempt()
-        holder = claimed(work)
-        step(work, machine.BEGIN, str(holder))
-        self.assertEqual(lose_late(Attempt), [])
-        for wanted in (WAITING, LOST):
-            past = timezone.now() - datetime.timedelta(seconds=1)
-            Attempt.objects.filter(pk=work.pk).update(until=past)
-            self.assertEqual([it.state for it in lose_late(Attempt)], [wanted])
-            holder = claimed(work)
-            if holder:
-                step(work, machine.BEGIN, holder)
+        holder = str(claimed(work))
+        step(work, machine.BEGIN, holder)
+        watch = Watch(Attempt)
+        for seconds, event, wanted in (
+            (0.0, "", RUNNING),
+            (0.9, machine.RENEW, RUNNING),
+            (1.8, "", RUNNING),
+            (2.9, "", WAITING),
+        ):
+            day = timezone.now() + datetime.timedelta(days=1)
+            with mock.patch.object(steps, "time", after_seconds(seconds * steps.LEASE)):
+                with mock.patch.object(timezone, "now", lambda: day):
+                    self.assertEqual(watch.look(), {work.pk})
+            work.refresh_from_db()
+            self.assertEqual(work.state, wanted)
+            self.assertTrue(not event or step(work, event, holder))
         # one that comes back too late
-        self.assertFalse(step(work, FINISH, "one"))
+        self.assertFalse(step(work, FINISH, holder))
+
+    def test_work_is_begun_again_after_pauses_that_grow_without_end(self) -> None:
+        """And the teacher is told once."""
+        work = attempt()
+        watch = Watch(Attempt)
+        watch.look()
+        pauses = [steps.pause(faults) for faults in (0, 1, 2, 3, 4, 9, 99)]
+        self.assertEqual(pauses, [0, 1, 4, 16, 64, steps.LONGEST, steps.LONGEST])
+        begun = time.monotonic()
+        for faults in range(1, 6):
+            holder = str(claimed(work))
+            step(work, machine.BEGIN, holder)
+            lose(work, models.Q(holder=holder), "no room")
+            self.assertEqual((work.state, work.fault), (WAITING, "no room"))
+            for seconds in (0.0, 0.9, 1.1):
+                now = begun + seconds * steps.pause(faults)
+                with mock.patch.object(steps, "time", at(now)):
+                    rests = watch.look()
+                self.assertEqual(rests, {work.pk} if seconds < 1 else set())
+            begun = now
+            # what waits when a worker begins has waited for a start
+            self.assertEqual(Watch(Attempt).look(), set())
+            self.assertEqual(worker.due_attempts(9, {work.pk}), [])
+        told = Entry.objects.filter(what__contains=f"Attempt {work.pk}")
+        self.assertEqual(told.count(), 1)
+
+    def test_a_worker_that_is_told_to_end_claims_nothing(self) -> None:
+        """Also one that was told while it waited for its turn."""
+        attempt()
+        self.addCleanup(steps.STOPPED.clear)
+        steps.STOPPED.set()
+        self.assertEqual(worker.claim(worker.watches()), [])
+        steps.STOPPED.clear()
+        self.assertEqual(len(worker.claim(worker.watches())), 1)
 
     def test_a_worker_whose_work_was_given_to_another_plays_nothing(self) -> None:
         work = attempt()
@@ -96,9 +159,11 @@ class Steps(TestCase):
         self.assertEqual((work.state, work.runs), (HELD, 0))
 
     def test_a_worker_that_hears_late_of_its_step_has_not_taken_it(self) -> None:
-        """Its lease ran out between the step and the look at the row, which another worker has begun meanwhile."""
+        """Its lease ran out between the step and the look at the row, which another
+        worker has begun meanwhile."""
         work = attempt()
-        holder, refresh = str(claimed(work)), Attempt.refresh_from_db
+        holder = str(claimed(work))
+        refresh = Attempt.refresh_from_db
 
         def late(row: Any) -> None:
             Attempt.objects.filter(pk=work.pk).update(holder="two", runs=2)
@@ -110,8 +175,8 @@ class Steps(TestCase):
     def test_a_grading_that_comes_back_late_leaves_the_files_of_the_newer_one(
         self,
     ) -> None:
-        """A worker sleeps before it prepares, while it grades, or before it notes what came; another grades meanwhile,
-        and is over or not."""
+        """A worker sleeps before it prepares, while it grades, or before it notes what
+        came; another grades meanwhile, and is over or not."""
         for where in ("prepare", "run", "finish"):
             with self.subTest(where):
                 made = HandIn.objects.create(
@@ -124,10 +189,7 @@ class Steps(TestCase):
 
                 def slept(*given: Any) -> Any:
                     with mock.patch.object(grading, where, before):
-                        Grading.objects.filter(pk=work.pk).update(
-                            until=timezone.now() - datetime.timedelta(1)
-                        )
-                        lose_late(Grading)
+                        lose(Grading.objects.get(pk=work.pk), models.Q(), "silent")
                         self.graded(work.pk, 7)
                         return before(*given)
 
@@ -156,7 +218,7 @@ class Steps(TestCase):
             return mock.Mock(returncode=0, poll=mock.Mock(return_value=0))
 
         work = Grading.objects.get(pk=number)
-        with mock.patch.object(grading.subprocess, "Popen", program):
+        with runs(program):
             grading.grade(number, str(claimed(work)))
 
     def test_a_network_that_is_gone_is_told(self) -> None:
@@ -165,6 +227,31 @@ class Steps(TestCase):
         work.refresh_from_db()
         self.assertEqual(work.state, LOST)
         self.assertIn("no network gone any more", work.fault)
+
+    def test_what_fails_by_itself_is_not_begun_again(self) -> None:
+        """And what `grade` itself fails in is a fault of the machine, whatever it is."""
+        for status, wanted in ((1, WAITING), (2, WAITING), (-9, WAITING), (0, LOST)):
+            work = Grading.objects.create(
+                hand_in=HandIn.objects.create(
+                    team=of("amber"), name="a", size=1, files=1, digest=""
+                )
+            )
+            (work.hand_in.folder / "files").mkdir(parents=True)
+            self.addCleanup(shutil.rmtree, work.hand_in.folder, True)
+            given = django_settings.HALL.hand_ins._replace(
+                **({} if status else {"networks": []})
+            )
+            hall = django_settings.HALL._replace(hand_ins=given)
+            child = mock.Mock(returncode=status, poll=lambda: status)
+            with runs(lambda *_, **__: child), mock.patch.object(
+                django_settings, "HALL", hall
+            ):
+                grading.grade(work.pk, str(claimed(work)))
+            work.refresh_from_db()
+            self.assertEqual((work.state, work.runs), (wanted, 1))
+            self.assertEqual(
+                [it.name for it in work.hand_in.folder.iterdir()], ["files"]
+            )
 
 
 class Tables(TestCase):
@@ -178,7 +265,8 @@ class Tables(TestCase):
 class Queues(TestCase):
     def test_a_team_with_many_attempts_waits_for_others(self) -> None:
         many = [attempt() for _ in range(5)]
-        one, two = attempt("birch"), attempt("cedar")
+        one = attempt("birch")
+        two = attempt("cedar")
         order = [work.pk for work in worker.due_attempts(64)]
         self.assertEqual(order[:3], [many[0].pk, one.pk, two.pk])
         self.assertEqual(len(worker.due_attempts(2)), 2)
@@ -197,7 +285,9 @@ class Queues(TestCase):
             )
             return Grading.objects.create(hand_in=made)
 
-        first, second, other = handed("amber"), handed("amber"), handed("birch")
+        first = handed("amber")
+        second = handed("amber")
+        other = handed("birch")
         self.assertEqual([it.pk for it in grading.due(9)], [first.pk, other.pk])
         self.assertEqual([it.pk for it in grading.due(1)], [first.pk])
         Grading.objects.filter(pk=first.pk).update(state=RUNNING, begun=timezone.now())
