@@ -1,17 +1,17 @@
 """Takes hand-ins, within the limits of a team."""
 import datetime
-import hashlib
 import pathlib
+import secrets
 import shutil
 from typing import Any, Dict, List, Optional
 
 from django.conf import settings
-from django.db import models, transaction
+from django.db import transaction
 from django.utils import timezone
 from django.utils.translation import gettext as _
 
 from arena_lab.hall import machine
-from arena_lab.hall.attempts.asking import RequestRefused, own_bytes
+from arena_lab.hall.attempts.asking import RequestRefused, make_room
 from arena_lab.hall.attempts.shown import time_of
 from arena_lab.hall.handins import unpacking
 from arena_lab.hall.handins.grading import FILES
@@ -28,13 +28,18 @@ from arena_lab.hall.teams.guards import Buckets
 from arena_lab.hall.teams.models import Team, note, today
 from arena_lab.play.mistakes import plain
 
-# how many of a team may wait to be graded, and how often a team may send something in a minute, taken or not
-MOST_WAITING, A_MINUTE = 3, 12
+# how many of a team may wait to be graded, and how often a team may send something in a
+# minute, taken or not
+MOST_WAITING = 3
+A_MINUTE = 12
+# with what the folder of files that are not taken yet begins
+NEW = "new-"
 sent = Buckets(60)
 
 
 def take(team: Team, name: str, file: Any, number: Optional[int] = None) -> HandIn:
-    """Takes a file that a team hands in, for the course or for the contest of a number, or refuses it."""
+    """Takes a file that a team hands in, for the course or for the contest of a number,
+    or refuses it."""
     contest = None if number is None else Contest.objects.filter(pk=number).first()
     window = None if contest is None and number is not None else window_of(contest)
     check(team, file.size, window)
@@ -46,47 +51,49 @@ def take(team: Team, name: str, file: Any, number: Optional[int] = None) -> Hand
             )
             % {"count": A_MINUTE},
         )
+    new = settings.PLACE.folder / "hand-ins" / f"{NEW}{secrets.token_hex(8)}"
     try:
-        files = unpacking.files_of(
-            file.read(unpacking.MOST_SENT + 1), settings.HALL.hand_ins.file
+        found = unpacking.unpacked(
+            file.read(unpacking.MOST_SENT + 1), settings.HALL.hand_ins.file, new / FILES
         )
+        return kept(team, plain(name)[:80], found, window, new)
     except unpacking.NoHandIn as fault:
         raise RequestRefused(400, str(fault)) from None
-    digest = hashlib.sha256()
-    for path, content in sorted(files.items()):
-        digest.update(f"{len(path.encode())}:{path}{len(content)}:".encode() + content)
+    except OSError as fault:
+        tell(f"{new}: {fault}")
+        raise RequestRefused(
+            503, _("the hall cannot write this now: tell your teacher")
+        ) from None
+    finally:
+        shutil.rmtree(new, ignore_errors=True)
+
+
+def kept(
+    team: Team,
+    name: str,
+    found: unpacking.Unpacked,
+    window: Optional[Window],
+    new: pathlib.Path,
+) -> HandIn:
+    """A hand-in whose files a folder has, which becomes its own; wholly or not at
+    all."""
     with transaction.atomic():
         team = Team.objects.select_for_update().get(pk=team.pk)
-        check(team, file.size, window)
+        check(team, found.size, window)
         made = HandIn.objects.create(
-            team=team,
-            contest=contest,
-            name=plain(name)[:80],
-            size=sum(map(len, files.values())),
-            files=len(files),
-            digest=digest.hexdigest(),
+            team=team, contest=window and window.contest, name=name, **found._asdict()
         )
-        write(files, made.folder)
+        # of a hand-in that was not kept, whose number comes again
+        shutil.rmtree(made.folder, ignore_errors=True)
+        new.rename(made.folder)
         Grading.objects.create(hand_in=made)
         note(team.name, f"hands in {made.pk}: {made.files} files, {made.size} bytes")
     return made
 
 
-def write(files: Dict[str, bytes], folder: pathlib.Path) -> None:
-    """Writes what was handed in, wholly or not at all: the next hand-in would get the same folder."""
-    try:
-        unpacking.write(files, folder / FILES)
-    except OSError as fault:
-        shutil.rmtree(folder, ignore_errors=True)
-        tell(f"{folder}: {fault}")
-        raise RequestRefused(
-            503, _("the hall cannot write this now: tell your teacher")
-        ) from None
-
-
 def check(team: Team, size: int, window: Optional[Window]) -> None:
-    """Refuses what is more than a team may hand in now. A contest takes any number of hand-ins, the course some a
-    day."""
+    """Refuses what is more than a team may hand in now. A contest takes any number of
+    hand-ins, the course some a day."""
     if window is None:
         raise RequestRefused(404, _("nothing is handed in here"))
     if not window.has_begun():
@@ -117,20 +124,7 @@ def check(team: Team, size: int, window: Optional[Window]) -> None:
             _("%(count)s hand-ins of your team wait to be graded: wait for one")
             % {"count": MOST_WAITING},
         )
-    used = (
-        own_bytes(team)
-        + int(
-            HandIn.objects.filter(team=team).aggregate(all=models.Sum("size"))["all"]
-            or 0
-        )
-        * 2
-    )
-    if used + size > settings.HALL.limits.disk << 20:
-        raise RequestRefused(
-            429,
-            _("the files of your team take more than %(count)s MB: ask your teacher")
-            % {"count": settings.HALL.limits.disk},
-        )
+    make_room(team, size)
 
 
 def left_today(team: Team) -> int:
@@ -140,7 +134,8 @@ def left_today(team: Team) -> int:
 
 
 def shown(hand_in: HandIn) -> Dict[str, Any]:
-    """What a team is told of a hand-in. What came of the secret draw is told when the teacher shows it."""
+    """What a team is told of a hand-in. What came of the secret draw is told when the
+    teacher shows it."""
     public = next((it for it in hand_in.gradings.all() if not it.is_secret), None)
     return {
         "id": hand_in.pk,
@@ -160,25 +155,28 @@ def result_of(grading: Optional[Grading]) -> Optional[Dict[str, Any]]:
     """What came of a grading, once it is over."""
     if grading is None or not grading.is_over:
         return None
+    window = window_of(grading.hand_in.contest)
+    names = {**window.secret, **window.public} if window else {}
     return {
         "solved": grading.solved,
         "matches": grading.matches,
         "moves": grading.moves,
         "lost": grading.lost,
-        "networks": grading.networks,
+        "networks": {names.get(it, it): of for it, of in grading.networks.items()},
     }
 
 
 def grade_secretly(now: datetime.datetime) -> int:
-    """Asks for the grading of each team's last hand-in by the secret draw, once the window has ended for that team;
-    gives how many were asked for."""
+    """Asks for the grading of each team's last hand-in by the secret draw, once the
+    window has ended for that team; gives how many were asked for."""
     teams = list(Team.objects.all())
     graded = set(
         Grading.objects.filter(is_secret=True).values_list("hand_in", flat=True)
     )
     new: List[int] = []
     for window in windows():
-        last, until = last_of_teams(window), ends(window, teams)
+        last = last_of_teams(window)
+        until = ends(window, teams)
         new += [
             pk
             for team, pk in last.items()

@@ -1,4 +1,5 @@
-"""A hall that is served: matches from the request to the page, hand-ins, and processes that are killed."""
+"""A hall that is served: matches from the request to the page, hand-ins, and processes
+that are killed."""
 import concurrent.futures
 import contextlib
 import os
@@ -55,7 +56,8 @@ class Halls(halls.Playing):
     tokens: Dict[str, str]
 
     def setUp(self) -> None:
-        self.hall, self.tokens = HALL[0], HALL[0].tokens()
+        self.hall = HALL[0]
+        self.tokens = HALL[0].tokens()
 
 
 class Matches(Halls):
@@ -157,7 +159,8 @@ class Matches(Halls):
 
 class HandIns(Halls):
     def test_a_program_is_graded_and_meets_nobody(self) -> None:
-        token, agents = self.tokens["amber"], TOP / "examples" / "agents"
+        token = self.tokens["amber"]
+        agents = TOP / "examples" / "agents"
         nosy = NOSY.format(
             agents=agents,
             ports=f"{self.hall.port}, 5432, 8786",
@@ -199,6 +202,8 @@ class HandIns(Halls):
                 place = self.hall.folder / "hand-ins" / str(number)
                 self.hall.wait(lambda: within(place), "it is graded")
                 before = within(place)
+                score = pathlib.Path(f"/proc/{before[0]}/oom_score_adj").read_text()
+                self.assertEqual(score, "1000\n")
                 os.kill(
                     before[0] if name == "a grading" else self.hall.processes()[name],
                     signal.SIGKILL,
@@ -212,15 +217,18 @@ class HandIns(Halls):
                 self.hall.stop()
                 self.assertFalse(any(map(is_alive, told)))
                 self.hall.start()
-                self.hall.wait(
-                    lambda: self.state(token, number) != "running", "it is given up"
-                )
-                self.assertEqual(self.state(token, number), "lost")
-
-    def state(self, token: str, number: int) -> str:
-        return str(
-            self.hall.ask("GET", f"/api/hand-ins/{number}", token).json()["state"]
-        )
+                again = self.hall.wait(lambda: within(place), "it is graded again")
+                self.assertFalse(set(again) & set(told))
+                # its program never ends: another one that does takes its place
+                self.hall.stop()
+                with contextlib.closing(
+                    sqlite3.connect(self.hall.folder / "hall.sqlite3")
+                ) as database, database:
+                    database.execute(
+                        "UPDATE handins_grading SET state = 'lost' WHERE hand_in_id = ?",
+                        (number,),
+                    )
+                self.hall.start()
 
     def hand_in(self, token: str, sent: bytes) -> int:
         return int(self.hall.hand_in(token, sent).json()["id"])
@@ -235,7 +243,8 @@ class HandIns(Halls):
 
 
 class Processes(Halls):
-    """Whatever is killed: no attempt that is over is lost, no server is left, and no work is stuck."""
+    """Whatever is killed: no attempt that is over is lost, no server is left, and no
+    work is stuck."""
 
     def test_each_process_is_killed_while_a_match_goes_on(self) -> None:
         token = self.tokens["amber"]
@@ -262,23 +271,22 @@ class Processes(Halls):
                 self.assertFalse(self.hall.is_left(number))
         self.assertEqual(halls.came(self.hall.over(token, first)), halls.came(before))
 
-    def test_a_match_that_is_lost_twice_is_given_up(self) -> None:
+    def test_a_match_is_played_however_often_its_worker_is_killed(self) -> None:
         token = self.tokens["birch"]
-        number = self.hall.asked(token, "torus with a map")
+        number = self.hall.asked(token)
         keys: Any = None
-        for _ in range(2):
+        for _ in range(3):
             told = self.hall.begins(token, number, keys)
             keys = [it["keys"] for it in told["matches"]]
             self.hall.kill("worker 0")
-        self.assertEqual(self.hall.over(token, number)["state"], "lost")
+        self.ended(play(self.hall.begins(token, number, keys)))
+        self.assertEqual(self.hall.over(token, number)["solved"], 1)
         self.assertFalse(self.hall.is_left(number))
 
     def test_a_script_goes_on_when_the_hall_is_stopped_and_started_again(self) -> None:
         """A stop gives matches back: they are played again, with other keys."""
-        agents, address = (
-            str(TOP / "examples" / "agents" / "ring.py"),
-            f"http://127.0.0.1:{self.hall.port}",
-        )
+        agents = str(TOP / "examples" / "agents" / "ring.py")
+        address = f"http://127.0.0.1:{self.hall.port}"
         script = subprocess.Popen(
             [
                 sys.executable,
@@ -392,8 +400,10 @@ class Commands(Halls):
         self.assertTrue((place / "trial.hall" / "key.txt").exists())
 
     def test_a_hall_that_was_killed_is_restored_as_it_stood(self) -> None:
-        """What came after the archive is put aside, with the hand-ins whose folders would be in the way."""
-        archive, token = self.hall.folder.parent / "before.tar.gz", self.tokens["cedar"]
+        """What came after the archive is put aside, with the hand-ins whose folders
+        would be in the way."""
+        archive = self.hall.folder.parent / "before.tar.gz"
+        token = self.tokens["cedar"]
         other = self.hall.folder.parent / "other"
         self.ran("backup", self.hall.course, archive)
         self.assertIn(
@@ -521,7 +531,8 @@ class Commands(Halls):
         self.assertEqual(self.hall.ask("GET", "/hall.json").status, 404)
 
     def test_connections_that_say_nothing_or_little_keep_nobody_waiting(self) -> None:
-        """Browsers open connections for later; and a stranger may say a request byte by byte."""
+        """Browsers open connections for later; and a stranger may say a request byte by
+        byte."""
         place = ("127.0.0.1", self.hall.port)
         with contextlib.ExitStack() as held:
             for count in range(60):

@@ -1,24 +1,29 @@
-"""The parts of a hall that need no Django: its state machine, its file, the rules of its standings, the unpacking of
-hand-ins, and what a team sees of a running match."""
+"""The parts of a hall that need no Django: its state machine, its file, the rules of
+its standings, the unpacking of hand-ins, and what a team sees of a running match."""
+import argparse
 import contextlib
+import hashlib
 import io
 import itertools
 import json
+import os
 import pathlib
 import random
+import shutil
 import tarfile
+import tempfile
 import unittest
 import zipfile
 from typing import Any, Dict, List, Optional, Set, Tuple
 from unittest import mock
 
 from arena_lab.commands import hall
-from arena_lab.hall import backup
+from arena_lab.hall import backup, serving
 from arena_lab.hall.attempts.draws import TOURNAMENT, drawn, write
 from arena_lab.hall.attempts.seen import Part, ended
-from arena_lab.hall.course import DRAWN, FIXED, Net, hall_of, read
+from arena_lab.hall.course import DRAWN, FIXED, Net, NoHall, hall_of, read
 from arena_lab.hall.handins import unpacking
-from arena_lab.hall.handins.unpacking import NoHandIn, files_of
+from arena_lab.hall.handins.unpacking import NoHandIn
 from arena_lab.hall.machine import (
     ACTIVE,
     BEGIN,
@@ -31,7 +36,6 @@ from arena_lab.hall.machine import (
     HELD,
     LOSE,
     LOST,
-    MOST_RUNS,
     OVER,
     RENEW,
     RUNNING,
@@ -40,8 +44,9 @@ from arena_lab.hall.machine import (
 from arena_lab.hall.place import HallFolder
 from arena_lab.hall.standings.rules import GradedTeam, league
 from arena_lab.rules.model import Match, Setup, spelled
-from arena_lab.rules.networks import ring
+from arena_lab.rules.networks import NoNetwork, ring, text_of
 from arena_lab.support.fields import WrongFile
+from tests.support.drawing import by_chance
 from tests.support.job_states import EVENTS, STATES, JobState, after, rows
 from tests.support.needing import needs
 from tests.support.output import InTemporary
@@ -69,7 +74,8 @@ class Machines(unittest.TestCase):
 
     def reached(self) -> Set[JobState]:
         """All work that any order of events leads to, with two holders."""
-        found, new = {JobState()}, [JobState()]
+        found = {JobState()}
+        new = [JobState()]
         while new:
             work = new.pop()
             for event, holder in itertools.product(EVENTS, ("one", "two")):
@@ -90,23 +96,18 @@ class Machines(unittest.TestCase):
                     [None] * len(EVENTS),
                 )
 
-    def test_work_begins_twice_at_most_and_ends_however_often_workers_are_lost(
-        self,
-    ) -> None:
-        for work in self.reached():
-            with self.subTest(work):
-                self.assertLessEqual(work.runs, MOST_RUNS)
-                if work.state not in ENDED:
-                    self.assertTrue(self.ends(work))
+    def test_no_fault_of_the_machine_ends_work(self) -> None:
+        for work in self.reached() - {JobState(state) for state in ENDED}:
+            made = after(work, LOSE)
+            self.assertEqual(made, JobState() if work.state in ACTIVE else None)
+            self.assertTrue(self.ends(work))
 
     def ends(self, work: Optional[JobState]) -> bool:
-        """Whether workers that are lost again and again leave no work that never ends."""
-        for _ in range(4 * MOST_RUNS):
-            if work is None or work.state in ENDED:
-                return work is not None
-            event = {WAITING: CLAIM, HELD: BEGIN, RUNNING: LOSE}[work.state]
+        """Whether work comes to an end once nothing disturbs it any more."""
+        while work is not None and work.state not in ENDED:
+            event = {WAITING: CLAIM, HELD: BEGIN, RUNNING: FINISH}[work.state]
             work = after(work, event, work.holder or "one")
-        return False
+        return work is not None
 
     def test_who_does_not_hold_the_work_changes_nothing(self) -> None:
         for work, event in itertools.product(
@@ -124,9 +125,9 @@ class Machines(unittest.TestCase):
                 self.assertEqual((work.state, event), (RUNNING, FINISH))
 
     def test_all_orders_of_claims_two_workers_and_a_team_with_crashes(self) -> None:
-        """Each process does its steps in order, and may stop before any of them. In each order the work is over at most
-        once, by a holder that had it then, and however it stands claims and losses bring it to an end.
-        """
+        """Each process does its steps in order, and may stop before any of them. In
+        each order the work is over at most once, by a holder that had it then, and
+        however it stands claims and losses bring it to an end."""
         seen: Set[Tuple[Tuple[int, ...], JobState, int]] = set()
         waiting: List[Tuple[Tuple[int, ...], JobState, int]] = [
             ((0,) * len(PROCESSES), JobState(), 0)
@@ -146,7 +147,7 @@ class Machines(unittest.TestCase):
                     self.assertTrue(not is_over or work.holder == holder)
                     next_done = (*done[:number], done[number] + 1, *done[number + 1 :])
                     waiting.append((next_done, made or work, ends + is_over))
-        self.assertGreater(len(seen), 1_000)
+        self.assertGreater(len(seen), 500)
 
     def test_the_table_reads_as_it_stands(self) -> None:
         self.assertEqual(rows()[WAITING], ["claim: held", "cancel: cancelled"])
@@ -157,14 +158,11 @@ class Machines(unittest.TestCase):
                 "finish: over",
                 "fail: lost",
                 "lose: waiting",
-                "lose: lost",
                 "cancel: cancelled",
             ],
         )
         self.assertIsNone(after(JobState(CANCELLED), CANCEL))
-        self.assertEqual(
-            after(JobState(RUNNING, 2, "one"), LOSE), JobState(LOST, 2, "")
-        )
+        self.assertEqual(after(JobState(RUNNING, "one"), FAIL, "one"), JobState(LOST))
 
 
 @needs("networkx")
@@ -201,7 +199,22 @@ class Courses(unittest.TestCase):
         self.assertIn("has no deadline", self.read(COURSE + HAND_INS).notes[0])
         given = self.read(COURSE + HAND_INS + 'deadline = "2099-01-01 12:00"\n')
         # by the secret draw programs play on the same networks, unless others are named
-        self.assertEqual((given.notes, given.hand_ins.secret), ([], ["ring:5"]))
+        self.assertEqual(
+            (given.notes, given.hand_ins.secret), ([], {"ring:5": "ring:5"})
+        )
+
+    def test_networks_of_hand_ins_may_be_files_beside_the_course(self) -> None:
+        with tempfile.TemporaryDirectory() as name:
+            course = pathlib.Path(name) / "course.toml"
+            text = COURSE + HAND_INS.replace("ring:5", "n.toml")
+            with self.assertRaisesRegex(
+                NoNetwork, "n.toml: there is no such file; a network is"
+            ):
+                hall_of(text, course)
+            course.with_name("n.toml").write_text(text_of(ring(5)))
+            given = hall_of(text, course).hand_ins
+            self.assertEqual(given.networks, {f"{name}/n.toml": "n.toml"})
+            self.assertEqual(given.secret, given.networks)
 
     def test_hand_ins_may_be_modules(self) -> None:
         words = "agent.wasm:{nodes}"
@@ -224,8 +237,8 @@ class Draws(InTemporary):
     """Each attempt has draws of its own."""
 
     def test_what_is_drawn_for_one_attempt_tells_nothing_of_another(self) -> None:
-        """Of many draws each node is the black hole, each is the home base, and no key, no labels and no seed come
-        twice."""
+        """Of many draws each node is the black hole, each is the home base, and no key,
+        no labels and no seed come twice."""
         net = Net("ring", "ring:6", ring(6), 2, 1, 100, 40, DRAWN, True)
         found = [drawn(net, "amber") for _ in range(200)]
         setups = [it.fixture.setup for it in found]
@@ -286,9 +299,11 @@ class Rules(unittest.TestCase):
         )
 
 
-def zipped(files: Dict[str, bytes], **links: str) -> bytes:
+def zipped(
+    files: Dict[str, bytes], method: int = zipfile.ZIP_DEFLATED, **links: str
+) -> bytes:
     made = io.BytesIO()
-    with zipfile.ZipFile(made, "w", zipfile.ZIP_DEFLATED) as archive:
+    with zipfile.ZipFile(made, "w", method) as archive:
         for name, content in files.items():
             archive.writestr(name, content)
         for name, target in links.items():
@@ -298,23 +313,51 @@ def zipped(files: Dict[str, bytes], **links: str) -> bytes:
     return made.getvalue()
 
 
-class Unpacking(unittest.TestCase):
+class Unpacking(InTemporary):
     """What is handed in is bounded, and stays in its folder."""
+
+    def files_of(self, sent: bytes, name: str = "agent.py") -> Dict[str, bytes]:
+        """The files that come of what is sent."""
+        place = self.folder / "files"
+        shutil.rmtree(place, ignore_errors=True)
+        found = unpacking.unpacked(sent, name, place)
+        paths = [path for path in sorted(place.rglob("*")) if path.is_file()]
+        self.assertEqual(
+            found[:2], (sum(path.stat().st_size for path in paths), len(paths))
+        )
+        return {str(path.relative_to(place)): path.read_bytes() for path in paths}
 
     def refused(self, sent: bytes, why: str) -> None:
         with self.assertRaisesRegex(NoHandIn, why):
-            files_of(sent, "agent.py")
+            self.files_of(sent)
 
     def test_a_file_and_a_zip(self) -> None:
-        self.assertEqual(files_of(b"print()", "agent.py"), {"agent.py": b"print()"})
+        self.assertEqual(self.files_of(b"print()"), {"agent.py": b"print()"})
+        for method in (zipfile.ZIP_STORED, zipfile.ZIP_DEFLATED):
+            self.assertEqual(
+                self.files_of(zipped({"agent.py": b"1", "a/b.py": b"2"}, method)),
+                {"agent.py": b"1", "a/b.py": b"2"},
+            )
         self.assertEqual(
-            files_of(zipped({"agent.py": b"1", "a/b.py": b"2"}), "x"),
-            {"agent.py": b"1", "a/b.py": b"2"},
-        )
-        self.assertEqual(
-            files_of(zipped({"top/agent.py": b"1", "top/b.py": b"2"}), "x"),
+            self.files_of(zipped({"top/agent.py": b"1", "top/b.py": b"2"})),
             {"agent.py": b"1", "b.py": b"2"},
         )
+
+    def test_the_digest_is_of_names_and_contents(self) -> None:
+        digests = {
+            unpacking.unpacked(sent, "a", self.folder / str(place)).digest
+            for place, sent in enumerate(
+                (
+                    zipped({"a": b"b", "b": b""}),
+                    zipped({"b": b"", "a": b"b"}),
+                    zipped({"a": b"", "b": b"b"}),
+                    b"b",
+                )
+            )
+        }
+        self.assertEqual(len(digests), 3)
+        told = unpacking.unpacked(b"b", "a", self.folder / "one").digest
+        self.assertEqual(told, hashlib.sha256(b"1:a1:b").hexdigest())
 
     def test_names_that_lead_elsewhere(self) -> None:
         for name in (
@@ -334,28 +377,55 @@ class Unpacking(unittest.TestCase):
         self.refused(zipped({"/".join(["d"] * 40): b""}), "more than 32 deep")
 
     def test_bombs(self) -> None:
-        self.refused(
-            zipped({"zeros": bytes(unpacking.MOST_BYTES + 1)}), "more than 32 MB"
-        )
+        """Of each method, with many entries, with long names and nested: each is
+        refused, or taken as it stands, by a process that has less than 100 MB."""
+        zeros = bytes(unpacking.MOST_BYTES + 1)
         half = bytes(unpacking.MOST_BYTES // 2 + 1)
-        self.refused(zipped({"one": half, "two": half}), "more than 32 MB")
-        self.refused(
-            zipped({f"f{number}": b"" for number in range(unpacking.MOST_FILES + 1)}),
-            "2000 files",
-        )
+        bomb = zipped({"zeros": zeros})
+        many = {f"f{number}": b"" for number in range(unpacking.MOST_FILES + 1)}
+        long = {f"{number:065000}": b"" for number in range(50)}
+        for method, sent, why in (
+            (zipfile.ZIP_DEFLATED, {"zeros": zeros}, "more than 32 MB"),
+            (zipfile.ZIP_DEFLATED, {"one": half, "two": half}, "more than 32 MB"),
+            (zipfile.ZIP_BZIP2, {"zeros": zeros}, "zeros is packed by another method"),
+            (zipfile.ZIP_LZMA, {"zeros": zeros}, "zeros is packed by another method"),
+            (zipfile.ZIP_STORED, many, "2000 files"),
+            (zipfile.ZIP_DEFLATED, long, "no name of a file inside"),
+        ):
+            self.refused(zipped(sent, method), why)
+        self.assertEqual(self.files_of(zipped({"a": bomb})), {"a": bomb})
+        large = {f"{number}": random.randbytes(7_900) for number in range(1_000)}
+        self.assertEqual(self.files_of(zipped(large)), large)
         self.refused(bytes(unpacking.MOST_SENT + 1), "more than 8 MB")
+        self.refused(unpacking.ENTRY * 1_000_000, "2000 files")
         self.refused(b"", "empty")
+        self.assertLessEqual(unpacking.MEMORY, 100 << 20)
 
     def test_zips_that_lie(self) -> None:
-        whole = bytearray(zipped({"agent.py": b"print()" * 50}))
-        for place in range(0, len(whole), 3):
-            broken = bytearray(whole)
-            broken[place] ^= 0xFF
-            try:
-                found = files_of(bytes(broken), "agent.py")
-                self.assertLessEqual(len(found), 1)
-            except NoHandIn:
-                pass
+        """Whatever is broken in a zip, and by whatever method it is packed, it is
+        refused or is one file."""
+        text = b"print()" * 50
+        for method in (zipfile.ZIP_DEFLATED, zipfile.ZIP_BZIP2, zipfile.ZIP_LZMA):
+            whole = bytearray(zipped({"agent.py": text}, method))
+            for place in range(0, len(whole), 3):
+                broken = bytearray(whole)
+                broken[place] ^= 0xFF
+                folder = self.folder / f"{method} {place}"
+                with contextlib.suppress(NoHandIn):
+                    unpacking.write(bytes(broken), "agent.py", folder)
+                    self.assertLessEqual(unpacking.measured(folder).files, 1)
+
+    def test_a_disk_that_is_full_is_no_fault_of_the_zip(self) -> None:
+        (self.folder / "files").write_text("")
+        with self.assertRaises(OSError):
+            unpacking.unpacked(b"x", "agent.py", self.folder / "files")
+
+    def test_who_takes_too_long_or_ends_is_refused(self) -> None:
+        for program in ("import time; time.sleep(9)", "import os; os.abort()", "x"):
+            with mock.patch.object(unpacking, "UNPACKS", program), mock.patch.object(
+                unpacking, "SECONDS", 0.5
+            ):
+                self.refused(b"x", "cannot be unpacked within")
 
 
 class Seen(InTemporary):
@@ -377,34 +447,36 @@ class Seen(InTemporary):
         self.write(match)
         return json.dumps(Part(self.path, 2).shown())
 
-    def test_two_matches_that_no_agent_can_tell_apart_look_alike(self) -> None:
-        """Agent 0 is destroyed in the one, and still on its link in the other; the black hole of the other is a node
-        that nobody reaches."""
-        for steps in range(40):
-            chance = random.Random(steps)
-            dead, alive = self.match(1), self.match(4)
-            for match in (dead, alive):
-                match.tell(0, {"do": "enter"})
-                match.tell(1, {"do": "enter"})
-                match.tell(0, {"do": "depart", "port": 0})
-            dead.deliver(0)
-            for _ in range(steps):
-                command: Dict[str, Any] = chance.choice(
-                    (
-                        {"do": "look"},
-                        {
-                            "do": "write",
-                            "expect": "",
-                            "put": "x" * chance.randint(0, 60),
-                        },
-                        {"do": "depart", "port": 9},
-                        {"do": "bad"},
-                    )
+    @by_chance(60)
+    def test_two_matches_that_no_agent_can_tell_apart_look_alike(
+        self, chance: random.Random
+    ) -> None:
+        """Agent 0 is destroyed in the one, and still on its link in the other; the
+        black hole of the other is a node that nobody reaches."""
+        dead = self.match(1)
+        alive = self.match(4)
+        for match in (dead, alive):
+            match.tell(0, {"do": "enter"})
+            match.tell(1, {"do": "enter"})
+            match.tell(0, {"do": "depart", "port": 0})
+        dead.deliver(0)
+        for _ in range(chance.randrange(40)):
+            command: Dict[str, Any] = chance.choice(
+                (
+                    {"do": "look"},
+                    {
+                        "do": "write",
+                        "expect": "",
+                        "put": "x" * chance.randint(0, 60),
+                    },
+                    {"do": "depart", "port": 9},
+                    {"do": "bad"},
                 )
-                for match in (dead, alive):
-                    match.tell(1, dict(command))
-            self.assertEqual(self.shown(dead), self.shown(alive))
-            self.assertNotEqual(dead.log, alive.log)
+            )
+            for match in (dead, alive):
+                match.tell(1, dict(command))
+        self.assertEqual(self.shown(dead), self.shown(alive))
+        self.assertNotEqual(dead.log, alive.log)
 
     def test_nothing_of_the_head_is_shown(self) -> None:
         match = self.match(3)
@@ -459,10 +531,8 @@ class Commands(InTemporary):
 
     @needs("networkx")
     def test_its_times_are_those_of_the_machine(self) -> None:
-        berlin, clock = (
-            self.folder / "zoneinfo/Europe/Berlin",
-            self.folder / "localtime",
-        )
+        berlin = self.folder / "zoneinfo/Europe/Berlin"
+        clock = self.folder / "localtime"
         berlin.parent.mkdir(parents=True)
         for place in (berlin, self.folder / "a-copy"):
             place.touch()
@@ -477,8 +547,34 @@ class Commands(InTemporary):
                 read(course).zone, "Europe/Berlin" if place == berlin else "UTC"
             )
 
+    @needs("networkx")
+    def test_a_start_that_is_refused_changes_nothing(self) -> None:
+        """Neither of a hall that is served, nor where nothing keeps programs apart."""
+        self.addCleanup(os.umask, os.umask(0o077))
+        course = self.folder / "it.toml"
+        course.write_text(COURSE)
+        other = self.folder / "other.toml"
+        other.write_text(COURSE.replace('"x"', '"y"'))
+        place = HallFolder(self.folder / "it.hall", course, None)
+        place.write(read(course))
+        words = argparse.Namespace(weak_walls=False)
+        with serving.alone(place):
+            before = {it.name: it.read_bytes() for it in place.folder.iterdir()}
+            with self.assertRaisesRegex(NoHall, "is served already"):
+                hall.serve(words, HallFolder(place.folder, other, "/bin/false"))
+        new = HallFolder(self.folder / "new.hall", other, None)
+        refuses = mock.patch.object(hall, "check_walls", side_effect=NoHall("no walls"))
+        for of in (place._replace(course=other), new):
+            with refuses, self.assertRaisesRegex(NoHall, "no walls"):
+                hall.serve(words, of)
+        self.assertFalse(new.folder.exists())
+        after = {it.name: it.read_bytes() for it in place.folder.iterdir()}
+        self.assertEqual(after, before)
+        self.assertEqual(sorted(before), ["course.toml", "hall.json", "lock"])
+
     def test_a_backup_goes_on_behind_files_that_are_gone_meanwhile(self) -> None:
-        """A part of a replay has become the replay, and the folder of a grading has its results' name."""
+        """A part of a replay has become the replay, and the folder of a grading has its
+        results' name."""
         place = HallFolder(self.folder / "it.hall", self.folder / "it.toml", None)
         place.write()
         place.course.write_text(COURSE)
