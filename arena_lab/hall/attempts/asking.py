@@ -10,12 +10,14 @@ from arena_lab.hall import machine
 from arena_lab.hall.attempts.models import Attempt
 from arena_lab.hall.attempts.playing import forget
 from arena_lab.hall.course import Net
+from arena_lab.hall.handins.models import Grading, HandIn
 from arena_lab.hall.steps import step
 from arena_lab.hall.teams.models import Switch, Team, note, today
 
 
 class RequestRefused(APIException):
-    """What is asked for is refused: the status of HTTP, and a line that says what to change."""
+    """What is asked for is refused: the status of HTTP, and a line that says what to
+    change."""
 
     def __init__(self, status: int, text: str) -> None:
         super().__init__(text)
@@ -78,10 +80,11 @@ def check_limits(team: Team) -> None:
         )
 
 
-def make_room(team: Team) -> None:
-    """Removes the oldest files of practice of a team that has too many; refuses if that is not enough."""
-    most = settings.HALL.limits.disk << 20
-    used = own_bytes(team)
+def make_room(team: Team, more: int = 0) -> None:
+    """Removes the oldest files of practice of a team that has too many, or is to get
+    more; refuses if that is not enough."""
+    most = bytes_of(team)
+    used = own_bytes(team) + more
     old = Attempt.objects.filter(team=team, size__gt=0, state=machine.OVER).order_by(
         "pk"
     )
@@ -93,23 +96,33 @@ def make_room(team: Team) -> None:
                 _(
                     "the files of your team take more than %(count)s MB: ask your teacher"
                 )
-                % {"count": settings.HALL.limits.disk},
+                % {"count": most >> 20},
             )
         used -= attempt.size
         forget(attempt)
 
 
+def bytes_of(team: Team) -> int:
+    """How many bytes all files of a team may have."""
+    most = settings.HALL.limits.disk if team.disk is None else team.disk
+    return int(most << 20)
+
+
 def own_bytes(team: Team) -> int:
-    """The bytes of all files of attempts of a team."""
-    found = Attempt.objects.filter(team=team).aggregate(found=models.Sum("size"))[
-        "found"
-    ]
-    return int(found or 0)
+    """The bytes of all files of a team: matches, hand-ins, and what came of grading
+    them."""
+    kinds = (
+        Attempt.objects.filter(team=team),
+        HandIn.objects.filter(team=team),
+        Grading.objects.filter(hand_in__team=team),
+    )
+    found = (rows.aggregate(all=models.Sum("size"))["all"] for rows in kinds)
+    return sum(it or 0 for it in found)
 
 
 def close(attempt: Attempt) -> bool:
-    """Closes the match of an attempt as it stands, or takes back what has not begun; gives whether there was anything
-    to do."""
+    """Closes the match of an attempt as it stands, or takes back what has not begun;
+    gives whether there was anything to do."""
     only = models.Q(state__in=(machine.WAITING, machine.HELD))
     if step(attempt, machine.CANCEL, "", only):
         return True

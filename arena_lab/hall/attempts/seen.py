@@ -1,8 +1,9 @@
 """What a team may see of a match that goes on: what its agents were told, and no more.
 
-The part of a replay has more than that: its head has the black holes, and a line says which agent is destroyed. Both
-are left out here, and what is shown does not depend on them. So two matches that no agent can tell apart look alike,
-byte for byte: an agent that is destroyed looks like one whose link is slow.
+The part of a replay has more than that: its head has the black holes, and a line says
+which agent is destroyed. Both are left out here, and what is shown does not depend on
+them. So two matches that no agent can tell apart look alike, byte for byte: an agent
+that is destroyed looks like one whose link is slow.
 """
 import collections
 import functools
@@ -11,8 +12,12 @@ import pathlib
 import threading
 from typing import Any, Deque, Dict, List, NamedTuple, Optional
 
+from arena_lab.hall import packing
+
 # of each agent the last lines, and of each text its beginning
-LINES, TEXT, MATCHES = 12, 200, 300
+LINES = 12
+TEXT = 200
+MATCHES = 300
 
 
 class Agent:
@@ -32,16 +37,20 @@ class Agent:
 
 
 class Part:
-    """What agents were told, as the part of a replay has it, which grows: what is new is read when it is asked for."""
+    """What agents were told, as the part of a replay has it, which grows: what is new
+    is read when it is asked for."""
 
     def __init__(self, path: pathlib.Path, agents: int) -> None:
         self._path = path
-        self._read, self._rest, self._has_head = 0, b"", False
+        self._read = 0
+        self._rest = b""
+        self._has_head = False
         self._agents = [Agent() for _ in range(agents)]
         self._lock = threading.Lock()
 
     def _new(self) -> List[Dict[str, Any]]:
-        """The events that stand there whole and were not read yet; none if the match is closed."""
+        """The events that stand there whole and were not read yet; none if the match is
+        closed."""
         try:
             with self._path.open("rb") as file:
                 file.seek(self._read)
@@ -91,8 +100,8 @@ MEANINGS = {
 
 
 class Ended(NamedTuple):
-    """What is told of a match that is closed, besides its verdict: which lines were refused, who was lost where, and
-    where black holes were."""
+    """What is told of a match that is closed, besides its verdict: which lines were
+    refused, who was lost where, and where black holes were."""
 
     refused: List[Dict[str, Any]]
     lost: List[Dict[str, int]]
@@ -102,14 +111,15 @@ class Ended(NamedTuple):
 def ended(replay: pathlib.Path) -> Optional[Ended]:
     """What a replay tells, if it is there."""
     try:
-        return kept_ended(replay, replay.stat().st_mtime_ns)
+        return kept_ended(replay, packing.place(replay).stat().st_mtime_ns)
     except FileNotFoundError:
         return None
 
 
 @functools.lru_cache(maxsize=MATCHES)
 def kept_ended(replay: pathlib.Path, written: int) -> Ended:
-    """What a replay tells that was written then: it is read once, as it may be long and be asked for often."""
+    """What a replay tells that was written then: it is read once, as it may be long and
+    be asked for often."""
     return read_ended(replay)
 
 
@@ -118,7 +128,7 @@ def read_ended(replay: pathlib.Path) -> Ended:
     refused: List[Dict[str, Any]] = []
     lost: List[Dict[str, int]] = []
     departed: Dict[int, int] = {}
-    with replay.open(encoding="utf-8", newline="\n") as lines:
+    with packing.opened(replay) as lines:
         holes = json.loads(next(lines)).get("holes", [])
         for place, line in enumerate(lines):
             event = json.loads(line)

@@ -1,5 +1,6 @@
-"""What a team is told of its attempts, as REST says it and as pages show it. Before the close that is what its agents
-were told, and nothing of black holes and of agents that are lost."""
+"""What a team is told of its attempts, as REST says it and as pages show it. Before the
+close that is what its agents were told, and nothing of black holes and of agents that
+are lost."""
 from typing import Any, Dict, List, Optional
 
 from django.conf import settings
@@ -8,6 +9,7 @@ from django.utils import timezone
 from arena_lab.hall import machine
 from arena_lab.hall.attempts import seen
 from arena_lab.hall.attempts.models import Attempt, Match, facts
+from arena_lab.hall.packing import place
 
 
 def attempt(it: Attempt) -> Dict[str, Any]:
@@ -47,7 +49,8 @@ def verdict(it: Match) -> Dict[str, Any]:
 
 
 def match(it: Match, of: Attempt) -> Dict[str, Any]:
-    """A match: how one plays it, what its agents were told, and once it is over what came of it."""
+    """A match: how one plays it, what its agents were told, and once it is over what
+    came of it."""
     found: Dict[str, Any] = {
         "number": it.number,
         "host": it.host,
@@ -61,7 +64,7 @@ def match(it: Match, of: Attempt) -> Dict[str, Any]:
     }
     if of.is_over:
         told = seen.ended(it.replay)
-        page = f"/matches/{of.pk}/{it.number}/page" if it.page.exists() else None
+        page = f"/matches/{of.pk}/{it.number}/page" if place(it.page).exists() else None
         found.update(verdict=verdict(it), after=told and told._asdict(), page=page)
     else:
         found.update(agents=seen.part(it.part, len(it.keys)).shown())

@@ -1,15 +1,19 @@
 """Pages of a team's attempts."""
+import functools
 from typing import Any
 
-from django.http import FileResponse, Http404, HttpResponse
+from django.http import FileResponse, Http404, HttpResponse, StreamingHttpResponse
 from django.shortcuts import redirect, render
 from django.views.decorators.http import require_POST
 
-from arena_lab.hall import machine
+from arena_lab.hall import machine, packing
 from arena_lab.hall.attempts import asking, shown
 from arena_lab.hall.attempts.models import Attempt, Match
 from arena_lab.hall.teams.guards import BOXED
 from arena_lab.hall.teams.views import for_teams, owned
+
+# bytes of a compressed file that are read at a time
+PIECE = 64 << 10
 
 
 def own(request: Any, number: int, right: str = "attempts.view_attempt") -> Attempt:
@@ -44,9 +48,8 @@ def one(request: Any, number: int) -> HttpResponse:
     """An attempt: how one plays it, and what came of it."""
     attempt = own(request, number)
     told = shown.attempt(attempt)
-    goes_on, pages = attempt.state not in machine.ENDED, sum(
-        it["page"] is not None for it in told["matches"]
-    )
+    goes_on = attempt.state not in machine.ENDED
+    pages = sum(it["page"] is not None for it in told["matches"])
     is_watched = (
         goes_on or attempt.is_over and pages < len(told["matches"]) and attempt.size > 0
     )
@@ -72,7 +75,7 @@ def match_of(request: Any, number: int, match: int) -> Match:
     return found
 
 
-def replay(request: Any, number: int, match: int) -> FileResponse:
+def replay(request: Any, number: int, match: int) -> StreamingHttpResponse:
     """The replay of a match that is over."""
     return sent(
         match_of(request, number, match).replay,
@@ -81,19 +84,26 @@ def replay(request: Any, number: int, match: int) -> FileResponse:
     )
 
 
-def page(request: Any, number: int, match: int) -> FileResponse:
-    """The page on which one watches a match that is over. What strangers said stands in it, so it may reach nothing."""
+def page(request: Any, number: int, match: int) -> StreamingHttpResponse:
+    """The page on which one watches a match that is over. What strangers said stands in
+    it, so it may reach nothing."""
     response = sent(match_of(request, number, match).page, "text/html; charset=utf-8")
     response["Content-Security-Policy"] = BOXED
     return response
 
 
-def sent(path: Any, kind: str, name: str = "") -> FileResponse:
+def sent(path: Any, kind: str, name: str = "") -> StreamingHttpResponse:
     """A file, which is kept under a name if there is one."""
     try:
-        response = FileResponse(path.open("rb"), content_type=kind)
+        file = packing.opened(path)
     except FileNotFoundError:
         raise Http404 from None
+    pieces = iter(functools.partial(file.read, PIECE), b"")
+    response = (
+        FileResponse(file, content_type=kind)
+        if path.is_file()
+        else StreamingHttpResponse(pieces, content_type=kind)
+    )
     if name:
         response["Content-Disposition"] = f'attachment; filename="{name}"'
     return response

@@ -19,7 +19,8 @@ LATE = datetime.timedelta(minutes=1)
 
 
 class Contest(models.Model):
-    """A window in which programs are handed in that are graded on networks of their own."""
+    """A window in which programs are handed in that are graded on networks of their
+    own."""
 
     name = models.CharField(_("name"), max_length=80)
     networks = models.JSONField(_("networks"))
@@ -35,7 +36,8 @@ class Contest(models.Model):
     )
 
     class Meta:
-        verbose_name, verbose_name_plural = _("contest"), _("contests")
+        verbose_name = _("contest")
+        verbose_name_plural = _("contests")
         ordering = ["-start"]
 
     def __str__(self) -> str:
@@ -81,9 +83,8 @@ class Extension(models.Model):
     until = models.DateTimeField(_("deadline"))
 
     class Meta:
-        verbose_name, verbose_name_plural = _("deadline of a team"), _(
-            "deadlines of teams"
-        )
+        verbose_name = _("deadline of a team")
+        verbose_name_plural = _("deadlines of teams")
         ordering = ["-until"]
 
     def __str__(self) -> str:
@@ -91,7 +92,8 @@ class Extension(models.Model):
 
 
 class HandIn(models.Model):
-    """A program that a team has handed in, for the course or for a contest. Its files never change."""
+    """A program that a team has handed in, for the course or for a contest. Its files
+    never change."""
 
     team = models.ForeignKey(Team, models.CASCADE, related_name="hand_ins")
     contest = models.ForeignKey(
@@ -104,7 +106,8 @@ class HandIn(models.Model):
     digest = models.CharField(max_length=64)
 
     class Meta:
-        verbose_name, verbose_name_plural = _("hand-in"), _("hand-ins")
+        verbose_name = _("hand-in")
+        verbose_name_plural = _("hand-ins")
         ordering = ["-pk"]
 
     def __str__(self) -> str:
@@ -119,8 +122,8 @@ post_delete.connect(remove_folder, HandIn)
 
 
 class Grading(Work):
-    """A hand-in is graded at once, by draws of its own, or after the deadline by the secret draw, which is the same for
-    all teams."""
+    """A hand-in is graded at once, by draws of its own, or after the deadline by the
+    secret draw, which is the same for all teams."""
 
     hand_in = models.ForeignKey(HandIn, models.CASCADE, related_name="gradings")
     is_secret = models.BooleanField(default=False)
@@ -128,11 +131,14 @@ class Grading(Work):
     matches = models.PositiveIntegerField(default=0)
     moves = models.PositiveIntegerField(default=0)
     lost = models.PositiveIntegerField(default=0)
+    # the bytes of its results
+    size = models.BigIntegerField(default=0)
     # of each network how many matches were solved, of how many
     networks = models.JSONField(default=dict)
 
     class Meta:
-        verbose_name, verbose_name_plural = _("grading"), _("gradings")
+        verbose_name = _("grading")
+        verbose_name_plural = _("gradings")
         ordering = ["-pk"]
         unique_together = [("hand_in", "is_secret")]
 

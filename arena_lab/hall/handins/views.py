@@ -4,10 +4,11 @@ import re
 from typing import Any, Dict, List
 
 from django.conf import settings
-from django.http import FileResponse, Http404, HttpResponse
+from django.http import Http404, HttpResponse, StreamingHttpResponse
 from django.shortcuts import redirect, render
 from django.utils import timezone
 
+from arena_lab.hall import packing
 from arena_lab.hall.attempts.asking import RequestRefused
 from arena_lab.hall.attempts.views import sent
 from arena_lab.hall.handins import taking
@@ -54,7 +55,8 @@ def listed(request: Any, refusal: str = "", status: int = 200) -> HttpResponse:
 @for_teams
 def take(request: Any) -> HttpResponse:
     """Takes a hand-in."""
-    file, contest = request.FILES.get("file"), request.POST.get("contest", "")
+    file = request.FILES.get("file")
+    contest = request.POST.get("contest", "")
     if request.method != "POST" or file is None:
         return redirect("/hand-ins")
     try:
@@ -83,11 +85,14 @@ def one(request: Any, number: int) -> HttpResponse:
 
 def sources(hand_in: HandIn) -> List[Dict[str, Any]]:
     """The files of a hand-in, each with its text."""
-    place, left, found = hand_in.folder / FILES, MOST_SHOWN, []
+    place = hand_in.folder / FILES
+    left = MOST_SHOWN
+    found = []
     for path in sorted(
         it for it in place.rglob("*") if it.is_file() and not it.is_symlink()
     ):
-        size, text = path.stat().st_size, None
+        size = path.stat().st_size
+        text = None
         if size <= left:
             with contextlib.suppress(UnicodeDecodeError):
                 text = as_seen(path.read_text(encoding="utf-8"))
@@ -99,13 +104,14 @@ def sources(hand_in: HandIn) -> List[Dict[str, Any]]:
 
 
 def as_seen(text: str) -> str:
-    """A text in which nothing hides: what turns the direction of writing, or is not seen, is shown by its code."""
+    """A text in which nothing hides: what turns the direction of writing, or is not
+    seen, is shown by its code."""
     return UNSEEN.sub(lambda found: plain(found[0]), text)
 
 
-def result(request: Any, number: int, path: str) -> FileResponse:
-    """The page of a team's results, or a file that it leads to. What programs said stands there, so it may reach
-    nothing."""
+def result(request: Any, number: int, path: str) -> StreamingHttpResponse:
+    """The page of a team's results, or a file that it leads to. What programs said
+    stands there, so it may reach nothing."""
     hand_in = own(request, number)
     grading = hand_in.gradings.filter(is_secret=False).first()
     if grading is None or not grading.is_over:
@@ -115,7 +121,7 @@ def result(request: Any, number: int, path: str) -> FileResponse:
         raise Http404
     out = (grading.folder / OUT).resolve()
     place = out / name
-    if place.resolve() != place or not place.is_file():
+    if place.resolve() != place or not packing.place(place).is_file():
         raise Http404
     response = sent(place, KINDS.get(place.suffix, "text/plain; charset=utf-8"))
     response["Content-Security-Policy"] = BOXED

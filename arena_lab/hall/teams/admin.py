@@ -7,6 +7,7 @@ from django.contrib.admin.models import LogEntry
 from django.http import HttpResponse
 from django.utils.translation import gettext_lazy as _
 
+from arena_lab.hall.attempts.asking import own_bytes
 from arena_lab.hall.keys import HEAD, new_tokens
 from arena_lab.hall.standings.views import as_csv, attached
 from arena_lab.hall.teams.models import Entry, Message, Switch, Team
@@ -26,10 +27,14 @@ class Made(admin.ModelAdmin):
 class Teams(admin.ModelAdmin):
     """Teams: new key sheets, hidden or not."""
 
-    list_display = ("name", "display", "hidden")
-    list_editable = ("display", "hidden")
+    list_display = ("name", "display", "hidden", "used", "disk")
+    list_editable = ("display", "hidden", "disk")
     search_fields = ("name", "display")
     actions = ("draw_tokens",)
+
+    @admin.display(description=_("MB used"))
+    def used(self, team: Team) -> int:
+        return own_bytes(team) >> 20
 
     @admin.action(
         description=_("New key sheets (earlier tokens end)"), permissions=["change"]

@@ -33,12 +33,19 @@ class Team(models.Model):
     hidden = models.BooleanField(
         _("hidden"), default=False, help_text=_("is in no standings that teams see")
     )
+    disk = models.PositiveIntegerField(
+        _("MB of files"),
+        null=True,
+        blank=True,
+        help_text=_("empty for what the course gives each team"),
+    )
     digest = models.CharField(max_length=64, blank=True, editable=False)
     # sessions of an earlier token are no sessions any more
     generation = models.PositiveIntegerField(default=0, editable=False)
 
     class Meta:
-        verbose_name, verbose_name_plural = _("team"), _("teams")
+        verbose_name = _("team")
+        verbose_name_plural = _("teams")
         ordering = ["name"]
 
     # what Django and its REST framework ask of who is logged in
@@ -49,22 +56,26 @@ class Team(models.Model):
         return str(self.display or self.name)
 
     def new_token(self) -> str:
-        """Draws a token, which no one can ask for again; earlier ones and their sessions end."""
+        """Draws a token, which no one can ask for again; earlier ones and their
+        sessions end."""
         token = f"{self.name}{DOT}{secrets.token_urlsafe(18)}"
-        self.digest, self.generation = digest_of(token), self.generation + 1
+        self.digest = digest_of(token)
+        self.generation = self.generation + 1
         self.save(update_fields=["digest", "generation"])
         return token
 
 
 def digest_of(token: str) -> str:
-    """What is kept of a token. It has 144 bits by chance, so nobody can try them all."""
+    """What is kept of a token. It has 144 bits by chance, so nobody can try them
+    all."""
     return hmac.new(
         settings.SECRET_KEY.encode(), token.encode(), hashlib.sha256
     ).hexdigest()
 
 
 def team_of(token: str) -> Optional[Team]:
-    """The team of a token, or nothing. How long the answer takes does not depend on how much of it is right."""
+    """The team of a token, or nothing. How long the answer takes does not depend on how
+    much of it is right."""
     name = token.partition(DOT)[0]
     team = (
         Team.objects.filter(name=name).first()
@@ -95,7 +106,8 @@ class Message(models.Model):
     )
 
     class Meta:
-        verbose_name, verbose_name_plural = _("message"), _("messages")
+        verbose_name = _("message")
+        verbose_name_plural = _("messages")
         ordering = ["-pk"]
 
     def __str__(self) -> str:
@@ -103,25 +115,29 @@ class Message(models.Model):
 
 
 class Entry(models.Model):
-    """A line of the hall's log: who did what. It has no token, no key and no password."""
+    """A line of the hall's log: who did what. It has no token, no key and no
+    password."""
 
     at = models.DateTimeField(default=timezone.now, db_index=True)
     who = models.CharField(max_length=40)
     what = models.CharField(max_length=300)
 
     class Meta:
-        verbose_name, verbose_name_plural = _("line of the log"), _("log")
+        verbose_name = _("line of the log")
+        verbose_name_plural = _("log")
         ordering = ["-at", "-pk"]
 
 
 class Switch(models.Model):
-    """A network that the teacher has closed, or opened again. A network without a switch is open."""
+    """A network that the teacher has closed, or opened again. A network without a
+    switch is open."""
 
     network = models.CharField(_("network"), max_length=60, unique=True)
     is_open = models.BooleanField(_("open"), default=True)
 
     class Meta:
-        verbose_name, verbose_name_plural = _("network"), _("networks")
+        verbose_name = _("network")
+        verbose_name_plural = _("networks")
         ordering = ["network"]
 
     def __str__(self) -> str:

@@ -3,33 +3,43 @@
 - a name of 400 bytes in a zip made every later hand-in of all teams end with status 500
 - guesses of tokens cost no try if a page was asked first, and REST then
 - a flood with a replaced token or session used up the team's requests
-- a zip of 180,000 entries, or a refused file without end, took seconds of the web server
+- a zip of 180,000 entries, or a refused file without end, took seconds of the web
+  server
 - the page of a long replay was made anew for each request
 - a fault of the disk named paths of the hall's folder
-- signs that turn the direction of writing in a source showed the teacher another program than was graded
+- signs that turn the direction of writing in a source showed the teacher another
+  program than was graded
 - a file's name with a byte 0, or a question without fields, ended in status 500
 - questions at the same time were more than are allowed
-- `/health` told after the freeze how long each program was graded, and programs that fail take long
+- `/health` told after the freeze how long each program was graded, and programs that
+  fail take long
 
 Other files try other attacks:
 
 - test_steps.py: a worker whose lease has run out
-- test_pages.py and test_rest.py: tokens from all addresses of an IPv6 network, another team's match or
-  replay, and the black hole before the close, by page, REST, size, header and error
+- test_pages.py and test_rest.py: tokens from all addresses of an IPv6 network, another
+  team's match or replay, and the black hole before the close, by page, REST, size,
+  header and error
 - test_nginx.py: X_Forwarded_For through Caddy, and many requests at once through nginx
-- test_hall.py and test_hall.py: paths, SQL, HTML, formulas, requests of other sites, and links and bombs in zips
+- test_hall.py and test_hall.py: paths, SQL, HTML, formulas, requests of other sites,
+  and links and bombs in zips
 
-Three attacks still win something. Wrong tokens from a team's own address make its members who have not logged in wait
-minutes there. The numbers of matches and hand-ins tell how many all teams have made. How long a hand-in waits tells how
-long others are graded, but not whose.
+Three attacks still win something. Wrong tokens from a team's own address make its
+members who have not logged in wait minutes there. The numbers of matches and hand-ins
+tell how many all teams have made. How long a hand-in waits tells how long others are
+graded, but not whose.
 """
+import pathlib
 import re
+import tempfile
 import zipfile
 from typing import Any, Dict, List, Tuple
 from unittest import mock
 
 from arena_lab.hall import machine
 from arena_lab.hall.attempts import seen
+from arena_lab.rules.model import Match as Played, Setup
+from arena_lab.rules.networks import ring
 from tests.integration.hall.hall_pages import (
     PLACE,
     Hall,
@@ -47,18 +57,22 @@ from django.db import OperationalError
 from django.test import Client
 from django.utils import timezone
 
+from arena_lab.hall import place
+from arena_lab.hall.attempts import playing
 from arena_lab.hall.attempts.models import Attempt
-from arena_lab.hall.handins import taking
+from arena_lab.hall.handins import taking, unpacking
 from arena_lab.hall.handins.models import Contest, Grading, HandIn
 from arena_lab.hall.teams.guards import TRIES
 from arena_lab.hall.teams.models import Message, Team
 from arena_lab.hall.teams.views import MOST_WAITING
 
-FEW, HOUR = 30, timezone.timedelta(hours=1)
+FEW = 30
+HOUR = timezone.timedelta(hours=1)
 
 
 class Requests(Hall):
-    """Who wants more requests or more tries than others, or wants a team to have none."""
+    """Who wants more requests or more tries than others, or wants a team to have
+    none."""
 
     def setUp(self) -> None:
         super().setUp()
@@ -75,7 +89,8 @@ class Requests(Hall):
 
     def test_a_guess_is_a_try_wherever_it_was_sent_before(self) -> None:
         """A page that a team may see does not make a header right that came with it."""
-        client, found = self.client_of("amber"), []
+        client = self.client_of("amber")
+        found = []
         for number in range(TRIES + 2):
             guess = {"HTTP_AUTHORIZATION": f"Bearer birch.{number}"}
             client.get("/matches", **guess)
@@ -84,7 +99,8 @@ class Requests(Hall):
 
     def test_a_token_that_was_replaced_spends_no_requests_of_its_team(self) -> None:
         self.assertEqual(self.rest("get", "/api/matches").status_code, 200)
-        page, old = self.client_of("amber"), self.tokens["amber"]
+        page = self.client_of("amber")
+        old = self.tokens["amber"]
         self.assertEqual(page.get("/matches").status_code, 200)
         self.tokens["amber"] = Team.objects.get(name="amber").new_token()
         for _ in range(2 * FEW):
@@ -108,20 +124,30 @@ class HandIns(Hall):
         for name in ("\U0001f600" * 100, "/".join(["ü" * 100] * 31)):
             told = self.hand_in(zipped({name: b"x"}))
             self.assertEqual((told.status_code, HandIn.objects.count()), (400, 0))
-        self.assertFalse((PLACE.folder / "hand-ins").exists())
+        self.assertEqual(list((PLACE.folder / "hand-ins").iterdir()), [])
         self.assertEqual(self.hand_in(b"print()", "birch").status_code, 201)
 
     def test_a_fault_of_the_disk_keeps_no_other_hand_in_out(self) -> None:
         """What was written is removed again: the next hand-in has the same number."""
 
-        def full(files: Any, folder: Any) -> None:
+        def full(sent: bytes, name: str, folder: Any) -> None:
             folder.mkdir(parents=True)
             raise OSError(28, "No space left on device", str(folder))
 
-        with mock.patch.object(taking.unpacking, "write", full):
+        with mock.patch.object(taking.unpacking, "unpacked", full):
             told = self.hand_in(b"print()")
         self.assertEqual((told.status_code, HandIn.objects.count()), (503, 0))
         self.assertNotIn(str(PLACE.folder), told.content.decode())
+        self.assertEqual(list((PLACE.folder / "hand-ins").iterdir()), [])
+        # a process that was killed has left a folder, and its number comes again
+        self.assertEqual(self.hand_in(b"print()", "birch").status_code, 201)
+        last = HandIn.objects.get()
+        (last.folder.with_name(str(last.pk + 1)) / "files").mkdir(parents=True)
+        left = PLACE.folder / "hand-ins" / "new-1"
+        left.mkdir()
+        temporary = tempfile.mkdtemp(prefix=place.temporary_of(PLACE.folder))
+        place.remove_left(PLACE.folder)
+        self.assertFalse(left.exists() or pathlib.Path(temporary).exists())
         self.assertEqual(self.hand_in(b"print()", "birch").status_code, 201)
 
     def test_a_zip_with_many_entries_is_refused_before_they_are_read(self) -> None:
@@ -129,8 +155,8 @@ class HandIns(Hall):
         many = zipped({f"{number}/": b"" for number in range(5_000)})
         with mock.patch.object(
             zipfile, "ZipFile", side_effect=AssertionError("it was read")
-        ):
-            self.assertEqual(self.hand_in(many).status_code, 400)
+        ), self.assertRaisesRegex(unpacking.NoHandIn, "more than 2000 files"):
+            unpacking.write(many, "agent.py", PLACE.folder / "hand-ins" / "many")
 
     def test_nothing_hides_in_a_source_or_a_name(self) -> None:
         source = "if True: # \u202e } \u2066 if is_right\u2069 \u2066 begin\n\tprint('\u200b\x1b[2Jé')\n"
@@ -222,8 +248,9 @@ class Looks(Hall):
         return found
 
     def test_nothing_tells_what_came_of_a_hand_in_after_the_freeze(self) -> None:
-        """Whatever came of it, all that other teams, strangers and tutors without that right may ask for is the same,
-        byte for byte, also where it has gone on from the one before the freeze."""
+        """Whatever came of it, all that other teams, strangers and tutors without that
+        right may ask for is the same, byte for byte, also where it has gone on from the
+        one before the freeze."""
         contest = Contest.objects.create(
             name="finale",
             networks=["ring of 5"],
@@ -292,7 +319,8 @@ class Looks(Hall):
         self.assertNotIn(b"Frozen since", teacher)
 
     def test_a_full_disk_is_told(self) -> None:
-        """Whatever is asked is answered by a sentence, which names no path of the hall."""
+        """Whatever is asked is answered by a sentence, which names no path of the
+        hall."""
         full = OperationalError("database or disk is full"), OSError(
             28, "No space left on device", str(PLACE.folder)
         )
@@ -312,9 +340,21 @@ class Looks(Hall):
                 )
             self.assertEqual((told.status_code, list(told.json())), (503, ["error"]))
 
+    def test_who_was_cut_off_by_the_machine_is_not_absent(self) -> None:
+        """Agents had entered, the disk was full, and nobody came to the next run."""
+        for faults, wanted in ((0, "absent"), (1, "cut")):
+            match = Played(Setup(5, ring(5).links, 0, [3], 2, 1000, 4096))
+            made = self.running(match)
+            match.close()
+            made.matches.get().replay.write_text(match.replay())
+            Attempt.objects.filter(pk=made.pk).update(faults=faults)
+            playing.Playing(Attempt.objects.get(pk=made.pk), "one").play()
+            told = self.rest("get", f"/api/matches/{made.pk}").json()
+            self.assertEqual(told["verdicts"][0]["outcome"], wanted)
+
     def test_a_fault_of_the_machine_tells_no_path(self) -> None:
-        """A team is told that an attempt was lost; where its files are, the log says."""
-        from arena_lab.hall.attempts import playing
+        """A team is told that its match is played again; where its files are, the log
+        says."""
         from arena_lab.hall.steps import claimed
 
         made = Attempt.objects.create(team=self.team("amber"), network="ring of 5")
@@ -325,7 +365,8 @@ class Looks(Hall):
         ):
             playing.play(made.pk, str(claimed(made)))
         told = self.rest("get", f"/api/matches/{made.pk}").json()
-        self.assertEqual(told["state"], machine.LOST)
+        self.assertEqual(told["state"], machine.WAITING)
+        self.assertIn("it is done again", told["fault"])
         self.assertNotIn(str(PLACE.folder), told["fault"])
         self.assertEqual(Grading.objects.count(), 0)
 

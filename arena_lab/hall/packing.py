@@ -1,0 +1,39 @@
+"""Files of matches that are over are kept compressed, and read as they were."""
+import gzip
+import pathlib
+import shutil
+from typing import IO, Any, cast
+
+SUFFIX = ".gz"
+# bytes of a file that is worth it
+LEAST = 4_096
+
+
+def size_of(folder: pathlib.Path) -> int:
+    """The bytes of all files of a folder."""
+    return sum(path.stat().st_size for path in folder.rglob("*") if path.is_file())
+
+
+def pack(folder: pathlib.Path) -> int:
+    """Compresses the files of a folder, to which nobody writes any more; gives the
+    bytes of all of them then. Whatever ends it, each file is there."""
+    for path in list(folder.rglob("*")):
+        is_packed = path.suffix == SUFFIX or path.is_symlink() or not path.is_file()
+        if not is_packed and path.stat().st_size > LEAST:
+            with path.open("rb") as plain, gzip.open(f"{path}{SUFFIX}", "wb") as packed:
+                shutil.copyfileobj(plain, packed)
+            path.unlink()
+    return size_of(folder)
+
+
+def place(path: pathlib.Path) -> pathlib.Path:
+    """Where a file is: by itself, or compressed."""
+    return path if path.is_file() else path.with_name(path.name + SUFFIX)
+
+
+def opened(path: pathlib.Path) -> IO[Any]:
+    """A file as it was, in bytes."""
+    found = place(path)
+    if found == path:
+        return path.open("rb")
+    return cast(IO[Any], gzip.open(found))
