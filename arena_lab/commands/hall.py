@@ -1,4 +1,5 @@
-"""Serves a hall, which stays up for a term: teams practise there, and hand in programs, by which they are ranked.
+"""Serves a hall, which stays up for a term: teams practise there, and hand in programs,
+by which they are ranked.
 
     ./arena-lab hall new COURSE.toml              writes the file of a course, to be changed
     ./arena-lab hall COURSE.toml                  serves its hall on http://127.0.0.1:8000/
@@ -10,13 +11,14 @@
     ./arena-lab hall backup COURSE.toml FILE      writes all that the hall has into an archive, while it is served
     ./arena-lab hall restore COURSE.toml FILE     puts the present hall aside, and an archive's hall in its place
 
-A team logs in by the token of its key sheet, or sends it with each request as a script. To practise it asks for a match
-on a network of the course, gets a host, a port and keys, and connects its agents from its own machine. Each match has a
-server of its own, `arena serve`. Programs that teams hand in are graded in sandboxes, and ranked. The hall keeps its
-folder, COURSE.hall, beside the file; nobody else may read it.
+A team logs in by the token of its key sheet, or sends it with each request as a script.
+To practise it asks for a match on a network of the course, gets a host, a port and
+keys, and connects its agents from its own machine. Each match has a server of its own,
+`arena serve`. Programs that teams hand in are graded in sandboxes, and ranked. The hall
+keeps its folder, COURSE.hall, beside the file; nobody else may read it.
 
-docs/HALL.md says more, for teachers. It needs Debian's packages python3-django, python3-djangorestframework,
-python3-waitress and python3-whitenoise.
+docs/HALL.md says more, for teachers. It needs Debian's packages python3-django,
+python3-djangorestframework, python3-waitress and python3-whitenoise.
 """
 import argparse
 import contextlib
@@ -32,13 +34,14 @@ from arena_lab.hall import backup, entry, place, serving
 from arena_lab.hall.course import Hall, NoHall, is_zone, read
 from arena_lab.hall.place import HallFolder, folder_of
 from arena_lab.rules.engines import program_at
-from arena_lab.sandbox import cells
-from arena_lab.sandbox.cells import Isolation
+from arena_lab.sandbox import sandboxes
+from arena_lab.sandbox.sandboxes import Isolation
 from arena_lab.support.missing import check
 
 NEEDED = ("django", "rest_framework", "waitress", "whitenoise")
 ACTIONS = ("new", "serve", "worker", "keys", "password", "contest", "backup", "restore")
-SHEET, LOCAL_TIME = "keys.csv", "/etc/localtime"
+SHEET = "keys.csv"
+LOCAL_TIME = "/etc/localtime"
 # how far off the deadline of a new course is
 A_TERM = datetime.timedelta(weeks=16)
 
@@ -203,13 +206,16 @@ def begin(of: HallFolder) -> None:
 
 def check_walls(words: argparse.Namespace, hall: Hall) -> None:
     """Refuses to take programs of strangers where nothing keeps them from the hall."""
-    if hall.hand_ins is not None and cells.strongest() is not Isolation.ALL:
+    if hall.hand_ins is not None and sandboxes.strongest() is not Isolation.ALL:
         if not words.weak_walls:
             raise NoHall(
-                f"{cells.weakness()}: programs that are handed in could read the hall. Remove [hand_ins], "
+                f"{sandboxes.weakness()}: programs that are handed in could read the hall. Remove [hand_ins], "
                 "or say --weak-walls if you trust all teams"
             )
-        print(f"hall: {cells.weakness()}; {cells.strongest().value}", file=sys.stderr)
+        print(
+            f"hall: {sandboxes.weakness()}; {sandboxes.strongest().value}",
+            file=sys.stderr,
+        )
 
 
 def restore(of: HallFolder, archive: pathlib.Path) -> int:
@@ -229,15 +235,15 @@ def restore(of: HallFolder, archive: pathlib.Path) -> int:
 
 def serve(words: argparse.Namespace, of: HallFolder) -> int:
     os.umask(0o077)
-    if not of.folder.exists():
-        read(of.course)
-    of.write()
+    hall = of.to_serve()
+    check_walls(words, hall)
+    of.make()
     with serving.alone(of):
-        hall = of.keep()
-        check_walls(words, hall)
+        of.write(hall)
         for line in hall.notes:
             place.tell(line)
         begin(of)
+        place.remove_left(of.folder)
         prepare(hall, of)
         print(
             f"hall http://{words.address}:{words.port}/ (the teacher's pages: /teacher/)",

@@ -1,4 +1,5 @@
-"""A hall's file has the teams of a course, the networks on which they practise, and how their programs are graded.
+"""A hall's file has the teams of a course, the networks on which they practise, and how
+their programs are graded.
 
     title = "Black hole search, autumn term"
     host = "arena.example.org"
@@ -87,7 +88,8 @@ from arena_lab.support.fields import (
 from arena_lab.sweep.grid import AGENTS, DEGREE, MAY_BE_TEXT
 
 LANGUAGES = ("en", "de", "fr")
-DRAWN, FIXED = "drawn", "fixed"
+DRAWN = "drawn"
+FIXED = "fixed"
 # a table of earlier files, which is passed over
 RATED = "rated"
 TEAM = re.compile("[a-z0-9][a-z0-9-]{0,15}")
@@ -195,7 +197,8 @@ class Member(NamedTuple):
 
 
 class Net(NamedTuple):
-    """A network of the hall: by which word or file it is named, and how matches on it are drawn."""
+    """A network of the hall: by which word or file it is named, and how matches on it
+    are drawn."""
 
     name: str
     word: str
@@ -224,8 +227,9 @@ class HandInRules(NamedTuple):
 
     command: str
     file: str
-    networks: List[str]
-    secret: List[str]
+    # the names of networks on pages, by the words that name them to `grade`
+    networks: Dict[str, str]
+    secret: Dict[str, str]
     deadline: Optional[datetime.datetime]
     a_day: int
     agents: int
@@ -238,6 +242,7 @@ class Hall(NamedTuple):
     """What a hall's file says."""
 
     path: pathlib.Path
+    text: str
     title: str
     host: str
     address: str
@@ -291,6 +296,7 @@ def hall_of(text: str, path: pathlib.Path) -> Hall:
     return Hall(
         **{name: said[name] for name in PLAIN},
         path=path,
+        text=text,
         ports=(said["ports"][0], said["ports"][1]),
         freeze=time_of(said, "freeze", zone),
         teams=teams_of(said["team"]),
@@ -298,7 +304,7 @@ def hall_of(text: str, path: pathlib.Path) -> Hall:
         limits=limits,
         hand_ins=None
         if said["hand_ins"] is None
-        else hand_ins_of(said["hand_ins"], zone),
+        else hand_ins_of(said["hand_ins"], zone, path.parent),
         notes=notes_of(found),
     )
 
@@ -363,8 +369,8 @@ def nets_of(tables: List[Dict[str, Any]], folder: pathlib.Path) -> Dict[str, Net
 
 def net_of(row: Dict[str, Any], folder: pathlib.Path) -> Net:
     """The network that a [[network]] table says."""
-    word, agents = row["network"], row["agents"]
-    word = word if ":" in word else str(folder / word)
+    word = word_of(row["network"], folder)
+    agents = row["agents"]
     network = networks.biconnected(word)
     if row["holes"] >= network.nodes:
         raise WrongFile(f"holes must be {HOLES}")
@@ -381,18 +387,26 @@ def net_of(row: Dict[str, Any], folder: pathlib.Path) -> Net:
     )
 
 
-def hand_ins_of(table: Dict[str, Any], zone: str) -> HandInRules:
+def word_of(name: str, folder: pathlib.Path) -> str:
+    """The word that names a network wherever one stands. Its file is looked for in the
+    folder of the course."""
+    return name if ":" in name else str(folder / name)
+
+
+def hand_ins_of(table: Dict[str, Any], zone: str, folder: pathlib.Path) -> HandInRules:
     """How programs are handed in."""
     command = str(table.get("command"))
     usual = {"file": file_in(command)} if is_module(command) else {}
     said = fields.values_of({**usual, **table}, HAND_INS, "hand_ins")
     check_command(said["command"], "of the hall")
-    for name in [*said["networks"], *said["secret"]]:
-        networks.biconnected(name)
-    return HandInRules(
-        **{
-            **said,
-            "secret": said["secret"] or said["networks"],
-            "deadline": time_of(said, "deadline", zone),
-        }
-    )
+    public = {word_of(name, folder): name for name in said["networks"]}
+    secret = {word_of(name, folder): name for name in said["secret"]}
+    for word in {**public, **secret}:
+        networks.biconnected(word)
+    given: Dict[str, Any] = {
+        **said,
+        "networks": public,
+        "secret": secret or public,
+        "deadline": time_of(said, "deadline", zone),
+    }
+    return HandInRules(**given)

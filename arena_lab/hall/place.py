@@ -1,38 +1,48 @@
-"""The folder of a hall: which course it is of, which program plays, its database, its secrets and all files of attempts
-and hand-ins. Only the user who runs the hall may look into it, since files of matches have their black holes."""
+"""The folder of a hall: which course it is of, which program plays, its database, its
+secrets and all files of attempts and hand-ins. Only the user who runs the hall may look
+into it, since files of matches have their black holes."""
 import contextlib
 import json
 import os
 import pathlib
 import secrets
+import shutil
 import sys
+import tempfile
+import zlib
 from typing import NamedTuple, Optional
 
 from arena_lab.hall.course import Hall, NoHall, read
 
 VARIABLE = "ARENA_HALL"
-PLACE, KEY, SECRET, PASSWORD = "hall.json", "key.txt", "secret.txt", "password.txt"
+PLACE = "hall.json"
+KEY = "key.txt"
+SECRET = "secret.txt"
+PASSWORD = "password.txt"
 # the course's file as it was when the hall was started last
 KEPT = "course.toml"
 
 
 class HallFolder(NamedTuple):
-    """A hall's folder, the file of its course, and the program, or None for the stand-in in Python."""
+    """A hall's folder, the file of its course, and the program, or None for the
+    stand-in in Python."""
 
     folder: pathlib.Path
     course: pathlib.Path
     program: Optional[str]
 
     def hall(self) -> Hall:
-        """The course as it was when the hall was started: what is saved meanwhile is read at the next start."""
+        """The course as it was when the hall was started: what is saved meanwhile is
+        read at the next start."""
         kept = self.folder / KEPT
         return read(self.course, kept if kept.exists() else None)
 
-    def keep(self) -> Hall:
-        """Reads the course's file for a start. If it has a mistake, that is said, and the file of the last start is
-        taken, so that a hall that was up comes up again."""
+    def to_serve(self) -> Hall:
+        """The course for a start, which writes nothing yet. If its file has a mistake,
+        that is said, and the file of the last start is taken, so that a hall that was
+        up comes up again."""
         try:
-            found = read(self.course)
+            return read(self.course)
         except NoHall as fault:
             if not (self.folder / KEPT).exists():
                 raise
@@ -40,15 +50,19 @@ class HallFolder(NamedTuple):
                 f"{fault}; until you mend it, the hall goes on by the file of its last start"
             )
             return self.hall()
-        write_whole(self.folder / KEPT, self.course.read_text(encoding="utf-8"))
-        return found
 
-    def write(self) -> None:
-        """Makes the folder, which nobody else may read, and notes what it is of."""
+    def make(self) -> None:
+        """Makes the folder, which nobody else may read."""
         self.folder.mkdir(mode=0o700, parents=True, exist_ok=True)
         self.folder.chmod(0o700)
+
+    def write(self, hall: Optional[Hall] = None) -> None:
+        """Makes the folder, and notes what it is of, and by what file it is served."""
+        self.make()
         found = {"course": str(self.course.resolve()), "program": self.program}
         write_whole(self.folder / PLACE, json.dumps(found) + "\n")
+        if hall is not None:
+            write_whole(self.folder / KEPT, hall.text)
 
     def secret(self, name: str) -> str:
         """A secret of the hall, which is drawn when it is first asked for."""
@@ -70,6 +84,22 @@ def leave(folder: pathlib.Path, owner: os.stat_result) -> None:
     if os.geteuid() == 0 and owner.st_uid != 0:
         for path in [folder, *folder.rglob("*")]:
             os.chown(path, owner.st_uid, owner.st_gid, follow_symlinks=False)
+
+
+def temporary_of(folder: pathlib.Path) -> str:
+    """With what the names of temporary folders of a hall begin."""
+    return f"lab-{zlib.crc32(str(folder).encode()):08x}-"
+
+
+def remove_left(folder: pathlib.Path) -> None:
+    """Removes what processes that were killed have left: hand-ins that are not taken
+    yet, and temporary files of gradings. Nobody serves the hall meanwhile."""
+    temporary = pathlib.Path(tempfile.gettempdir())
+    for left in (
+        *folder.glob("hand-ins/new-*"),
+        *temporary.glob(f"{temporary_of(folder)}*"),
+    ):
+        shutil.rmtree(left, ignore_errors=True)
 
 
 def folder_of(course: pathlib.Path) -> pathlib.Path:
@@ -97,7 +127,8 @@ def current() -> HallFolder:
 
 
 def tell(line: str) -> None:
-    """Says a line to whoever runs the hall. A full disk, which may not take it, ends nothing."""
+    """Says a line to whoever runs the hall. A full disk, which may not take it, ends
+    nothing."""
     with contextlib.suppress(OSError):
         print(f"hall: {line}", file=sys.stderr, flush=True)
 

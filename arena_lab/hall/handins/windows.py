@@ -1,5 +1,5 @@
-"""Windows: when programs are handed in, and on which networks they are graded. The course has one, until its deadline,
-and each contest has another."""
+"""Windows: when programs are handed in, and on which networks they are graded. The
+course has one, until its deadline, and each contest has another."""
 import datetime
 from typing import Dict, List, NamedTuple, Optional
 
@@ -13,9 +13,9 @@ Moment = Optional[datetime.datetime]
 
 
 class Window(NamedTuple):
-    """A window: the contest, or None for the course; the networks of a grading at once and of the last one, each by the
-    word that names it to `grade`, with its name on pages; and when it begins, ends and freezes, if ever.
-    """
+    """A window: the contest, or None for the course; the networks of a grading at once
+    and of the last one, each by the word that names it to `grade`, with its name on
+    pages; and when it begins, ends and freezes, if ever."""
 
     contest: Optional[Contest]
     public: Dict[str, str]
@@ -33,15 +33,20 @@ class Window(NamedTuple):
 
 
 def window_of(contest: Optional[Contest]) -> Optional[Window]:
-    """The window of a contest, or of the course if none is named; nothing if the hall takes no hand-ins."""
+    """The window of a contest, or of the course if none is named; nothing if the hall
+    takes no hand-ins."""
     given = settings.HALL.hand_ins
     if given is None:
         return None
     if contest is None:
-        public, secret = (
-            {name: name for name in names} for names in (given.networks, given.secret)
+        return Window(
+            None,
+            given.networks,
+            given.secret,
+            None,
+            given.deadline,
+            settings.HALL.freeze,
         )
-        return Window(None, public, secret, None, given.deadline, settings.HALL.freeze)
     nets = [
         settings.HALL.nets[name]
         for name in contest.networks
