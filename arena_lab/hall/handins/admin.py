@@ -4,14 +4,18 @@ from typing import Any, Sequence
 from django import forms
 from django.conf import settings
 from django.contrib import admin
+from django.core.exceptions import ValidationError
 from django.utils import timezone
 from django.utils.html import format_html
 from django.utils.translation import gettext_lazy as _
 
 from arena_lab.hall import machine
 from arena_lab.hall.handins.models import Contest, Extension, Grading, HandIn
+from arena_lab.hall.handins.windows import window_of
 from arena_lab.hall.standings.models import Reveal
+from arena_lab.hall.standings.tables import ungraded
 from arena_lab.hall.teams.admin import Made
+from arena_lab.hall.teams.models import Team
 
 
 @admin.register(Grading)
@@ -49,7 +53,8 @@ class Gradings(Made):
     @admin.action(description=_("Grade again"), permissions=["change"])
     def again(self, request: Any, chosen: Any) -> None:
         for grading in chosen.filter(state__in=machine.ENDED):
-            hand_in, is_secret = grading.hand_in, grading.is_secret
+            hand_in = grading.hand_in
+            is_secret = grading.is_secret
             grading.delete()
             made = Grading.objects.create(hand_in=hand_in, is_secret=is_secret)
             self.log_change(
@@ -118,8 +123,33 @@ class Extensions(admin.ModelAdmin):
     list_display = ("team", "contest", "until")
 
 
+class RevealForm(forms.ModelForm):
+    """The form of an unveiling. A table in which hand-ins are not graded is not unveiled
+    unawares."""
+
+    anyway = forms.BooleanField(
+        label=_("anyway"),
+        required=False,
+        help_text=_("unveil it also if hand-ins are not graded"),
+    )
+
+    def clean(self) -> Any:
+        found = super().clean()
+        window = window_of(found.get("contest"))
+        if found.get("what") != Reveal.SECRET or found.get("anyway") or window is None:
+            return found
+        left = Team.objects.filter(pk__in=ungraded(window), hidden=False)
+        if left:
+            raise ValidationError(
+                _("The last hand-ins of these teams are not graded: %(names)s")
+                % {"names": ", ".join(map(str, left))}
+            )
+        return found
+
+
 @admin.register(Reveal)
 class Reveals(admin.ModelAdmin):
     """Shows what a freeze hides, or what came of the secret draw."""
 
+    form = RevealForm
     list_display = ("contest", "what", "at")

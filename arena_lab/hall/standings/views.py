@@ -48,7 +48,8 @@ def begun(number: Optional[int]) -> Optional[Window]:
 
 
 def shown(window: Optional[Window], for_teacher: bool) -> List[tables.StandingsTable]:
-    """The tables of a window. Those of teams are made once in a while, however often they are asked for."""
+    """The tables of a window. Those of teams are made once in a while, however often
+    they are asked for."""
     if window is None or for_teacher:
         return [] if window is None else tables.tables(window, True)
     name = f"tables-{0 if window.contest is None else window.contest.pk}"
@@ -79,7 +80,8 @@ def page(request: Any, number: Optional[int] = None) -> HttpResponse:
 
 
 def screen(request: Any, number: Optional[int] = None) -> HttpResponse:
-    """The standings on a projector. Everybody sees it, so it hides what the freeze hides."""
+    """The standings on a projector. Everybody sees it, so it hides what the freeze
+    hides."""
     if not may_see(request):
         return redirect("/login")
     window = begun(number)
@@ -114,7 +116,8 @@ def as_rows(table: tables.StandingsTable) -> List[List[Any]]:
             for cell in row["cells"]
             for what in ("solved", "matches")
         ]
-        place = "absent" if row["absent"] else row["place"]
+        place = row["place"] if row["graded"] else "not graded"
+        place = "absent" if row["absent"] else place
         rows.append(
             [
                 place,

@@ -1,4 +1,5 @@
-"""Standings, hand-ins and the teacher's pages of a hall, and whether REST is as its file says."""
+"""Standings, hand-ins and the teacher's pages of a hall, and whether REST is as its
+file says."""
 import pathlib
 import re
 import tempfile
@@ -16,7 +17,7 @@ from django.core.files.uploadedfile import SimpleUploadedFile
 from django.test import Client
 from django.utils import timezone
 
-from arena_lab.hall import keys
+from arena_lab.hall import keys, packing
 from arena_lab.hall.attempts.models import Attempt
 from arena_lab.hall.handins import grading, taking
 from arena_lab.hall.handins.models import Contest, Extension, Grading, HandIn
@@ -76,7 +77,8 @@ class Standings(Hall):
             self.assertContains(self.teacher().get("/screen"), "Frozen since")
 
     def test_an_unveiling_shows_what_it_names(self) -> None:
-        """It ends the freezes before it and none after it, and shows nothing of a contest or of the secret draw."""
+        """It ends the freezes before it and none after it, and shows nothing of a
+        contest or of the secret draw."""
         graded("amber", 1)
         freeze = timezone.now()
         graded("amber", 2)
@@ -98,6 +100,40 @@ class Standings(Hall):
                 self.rows(), [(1, "birch", 1), (2, "amber", 0), (2, "cedar", 0)]
             )
             self.assertTrue(self.rest("get", "/api/standings").json()["secret"])
+
+    def test_a_final_table_says_which_hand_ins_are_not_graded(self) -> None:
+        """It is not unveiled unawares, and who is not graded is not absent."""
+        for name in ("amber", "birch"):
+            work = graded(name, is_secret=True)
+        Grading.objects.filter(pk=work.pk).update(state=machine.LOST)
+        client = self.teacher()
+        form = {"contest": "", "what": Reveal.SECRET}
+        name = "&lt;script&gt;alert(1)&lt;/script&gt; Łódź"
+        said = f"The last hand-ins of these teams are not graded: {name}"
+        told = client.post("/teacher/standings/reveal/add/", form)
+        self.assertContains(told, said)
+        self.assertFalse(Reveal.objects.exists())
+        client.post("/teacher/standings/reveal/add/", {**form, "anyway": "on"})
+        self.assertTrue(Reveal.objects.exists())
+        self.assertContains(
+            self.client_of("amber").get("/"),
+            f'<p class="refusal" role="alert">{said}</p>',
+        )
+        self.assertEqual(
+            [
+                (row["team"], row["place"], row["graded"], row["absent"])
+                for row in self.rest("get", "/api/standings").json()["teams"]
+            ],
+            [
+                ("amber", 1, True, False),
+                ("birch", 2, False, False),
+                ("cedar", 2, True, True),
+            ],
+        )
+        table = client.get("/teacher/standings.csv").content.decode().splitlines()
+        self.assertEqual(
+            [row.partition(",")[0] for row in table[1:]], ["1", "not graded", "absent"]
+        )
 
     def test_who_may_see_them(self) -> None:
         self.assertEqual(
@@ -223,7 +259,8 @@ class Contests(Hall):
             (self.status_of(contest.pk), self.status_of(contest.pk, "birch")),
             (201, 201),
         )
-        now, minute = timezone.now(), timezone.timedelta(minutes=1)
+        now = timezone.now()
+        minute = timezone.timedelta(minutes=1)
         Contest.objects.update(end=now - minute)
         Extension.objects.create(
             team=self.team("amber"), contest=contest, until=now + minute
@@ -251,7 +288,8 @@ class Contests(Hall):
     def test_all_teams_have_one_secret_draw_and_contests_have_different_ones(
         self,
     ) -> None:
-        one, other = contest_of(), contest_of()
+        one = contest_of()
+        other = contest_of()
         drawn = [
             grading.drawn_from(graded(name, is_secret=True, contest=contest))
             for contest in (one, other, None)
@@ -297,7 +335,8 @@ class Contests(Hall):
         )
 
     def test_the_form_refuses_what_cannot_be(self) -> None:
-        client, now = self.teacher(), timezone.localtime()
+        client = self.teacher()
+        now = timezone.localtime()
 
         def planned(networks: Any, hours: int, length: int, freeze: int = 0) -> int:
             row: Dict[str, Any] = {"name": "x", "networks": networks}
@@ -397,7 +436,7 @@ class HandIns(Hall):
     def test_a_zip_that_is_refused_leaves_nothing(self) -> None:
         told = self.hand_in(zipped({"../../evil.py": b"x"}))
         self.assertEqual((told.status_code, HandIn.objects.count()), (400, 0))
-        self.assertFalse((PLACE.folder / "hand-ins").exists())
+        self.assertEqual(list((PLACE.folder / "hand-ins").iterdir()), [])
         page = self.client_of("amber").post(
             "/hand-ins/take", {"file": SimpleUploadedFile("x", b"")}
         )
@@ -429,6 +468,73 @@ class HandIns(Hall):
         )
         Reveal.objects.create(what=Reveal.SECRET)
         self.assertContains(self.client_of("amber").get("/"), "77 of 77")
+
+    def test_a_network_of_a_file_is_called_by_its_name(self) -> None:
+        word = "/srv/course/n.toml"
+        given = settings.HALL.hand_ins._replace(networks={word: "n.toml"})
+        Grading.objects.filter(pk=graded("amber").pk).update(networks={word: [1, 2]})
+        with halled(hand_ins=given):
+            told = self.rest("get", "/api/hand-ins").json()[0]["result"]
+            table = self.rest("get", "/api/standings").json()
+        self.assertEqual(told["networks"], {"n.toml": [1, 2]})
+        self.assertEqual(table["networks"], ["n.toml"])
+        self.assertEqual(table["teams"][0]["cells"], [{"solved": 1, "matches": 2}])
+
+    def test_all_bytes_of_a_team_count(self) -> None:
+        """Sources, results and matches: who is over is told so before anything is
+        written, files of practice go first, and the teacher gives more."""
+        work = graded("amber")
+        Grading.objects.filter(pk=work.pk).update(size=(200 << 20) - 10)
+        told = self.hand_in(b"print('much more')")
+        self.assertEqual((told.status_code, HandIn.objects.count()), (429, 1))
+        self.assertIn("take more than 200 MB", told.json()["error"])
+        asked = self.rest("post", "/api/matches", body={"network": "ring of 5"})
+        self.assertEqual(asked.status_code, 201)
+        self.assertEqual(self.hand_in(b"print()", "birch").status_code, 201)
+        self.assertContains(
+            self.teacher().get("/teacher/teams/team/"),
+            '<td class="field-used">199</td>',
+        )
+        Team.objects.filter(name="amber").update(disk=201)
+        self.assertEqual(self.hand_in(b"print('much more')").status_code, 201)
+        Team.objects.filter(name="amber").update(disk=None)
+        over = self.over(played())
+        Attempt.objects.filter(pk=over.pk).update(size=5 << 20)
+        Grading.objects.filter(pk=work.pk).update(size=198 << 20)
+        self.assertEqual(self.hand_in(b"print()").status_code, 201)
+        self.assertFalse(over.folder.exists())
+
+    def test_matches_that_are_over_are_kept_compressed(self) -> None:
+        """And are read as they were."""
+        match = played()
+        for _ in range(200):
+            match.tell(0, {"do": "look"})
+        made = self.over(match)
+        place = made.matches.get().replay
+        text = place.read_bytes()
+        before = packing.size_of(made.folder)
+        self.assertLess(packing.pack(made.folder) * 5, before)
+        self.assertFalse(place.exists())
+        told = self.rest("get", f"/api/matches/{made.pk}").json()["matches"][0]
+        self.assertEqual(told["after"]["holes"], [3])
+        page = self.client_of("amber").get(f"/matches/{made.pk}/0/replay")
+        self.assertEqual(b"".join(page.streaming_content), text)
+
+    def test_a_grading_at_once_has_the_room_that_is_left(self) -> None:
+        """And one by the secret draw all that a course gives."""
+        self.hand_in(b"print()")
+        work = Grading.objects.get()
+        for used, is_secret, wanted in (
+            (100, False, "team_space = 99\n"),
+            (400, False, "team_space = 16\n"),
+            (400, True, ""),
+        ):
+            Grading.objects.filter(pk=work.pk).update(size=used << 20)
+            work.is_secret = is_secret
+            folder = work.hand_in.folder / f"{used}{is_secret}"
+            grading.prepare(work, folder)
+            found = re.findall("team_space.*\n", (folder / "course.toml").read_text())
+            self.assertEqual("".join(found), wanted)
 
     def test_results_are_those_of_ones_own_team(self) -> None:
         self.hand_in(b"x")
@@ -464,7 +570,8 @@ class Messages(Hall):
     """Announcements and questions."""
 
     def test_who_sees_what(self) -> None:
-        amber, birch = self.client_of("amber"), self.client_of("birch")
+        amber = self.client_of("amber")
+        birch = self.client_of("birch")
         self.assertEqual(
             amber.post("/messages", {"text": "<b>why</b>?"}).status_code, 302
         )
@@ -534,7 +641,8 @@ class Teachers(Hall):
         )
 
     def test_key_sheets(self) -> None:
-        client, team = self.teacher(), self.team("cedar")
+        client = self.teacher()
+        team = self.team("cedar")
         told = client.post(
             "/teacher/teams/team/",
             {"action": "draw_tokens", "_selected_action": [team.pk]},
@@ -548,7 +656,8 @@ class Teachers(Hall):
         self.assertTrue(Entry.objects.filter(what="draws a token for cedar").exists())
 
     def test_actions(self) -> None:
-        client, running = self.teacher(), self.running(played(), "birch")
+        client = self.teacher()
+        running = self.running(played(), "birch")
         client.post(
             "/teacher/attempts/attempt/",
             {"action": "close", "_selected_action": [running.pk]},
@@ -592,7 +701,8 @@ class Teachers(Hall):
     def test_forms_for_sixty_teams(self) -> None:
         for number in range(60):
             Team.objects.create(name=f"team{number}")
-        client, teams = self.teacher(), list(Team.objects.order_by("name"))
+        client = self.teacher()
+        teams = list(Team.objects.order_by("name"))
         row: Dict[str, Any] = {
             "form-TOTAL_FORMS": len(teams),
             "form-INITIAL_FORMS": len(teams),
