@@ -1,12 +1,15 @@
-"""The replays and scripts that tests/hostile/bent_inputs.py makes, and how it compares two programs."""
+"""The replays and scripts that tests/hostile/bent_inputs.py makes, and how it compares
+two programs."""
 import collections
 import random
 import unittest
 from unittest import mock
 
-from arena_lab.rules.model import MAX_LINE, played
-from tests.support.output import InTemporary, write
+from arena_lab.rules.limits import MOST_LINE
+from arena_lab.rules.model import played
 from tests.hostile import bent_inputs
+from tests.support.drawing import by_chance
+from tests.support.output import InTemporary, write
 
 REPLAY = b'{"nodes":3}\n{"agent":0,"do":"look","reply":{"no":"away"}}\n{"do":"close","reply":null}\n{"end":2}\n'
 PROGRAM = """#!/bin/sh
@@ -19,15 +22,14 @@ esac
 
 
 class Bends(unittest.TestCase):
-    def test_drawn_replays_are_replays(self) -> None:
-        for seed in range(20):
-            text = bent_inputs.drawn_replay(random.Random(seed)).decode()
-            self.assertEqual(played(text).replay(), text)
+    @by_chance(50)
+    def test_drawn_replays_are_replays(self, chance: random.Random) -> None:
+        text = bent_inputs.drawn_replay(chance).decode()
+        self.assertEqual(played(text).replay(), text)
 
     def test_each_bend_changes_most_texts(self) -> None:
-        replay, drawn = bent_inputs.drawn_replay(
-            random.Random(8)
-        ), bent_inputs.drawn_script(random.Random(8))
+        replay = bent_inputs.drawn_replay(random.Random(8))
+        drawn = bent_inputs.drawn_script(random.Random(8))
         for bends, long in (
             (bent_inputs.REPLAY_BENDS, replay),
             (bent_inputs.SCRIPT_BENDS, drawn.script),
@@ -69,7 +71,7 @@ class Bends(unittest.TestCase):
         for seed in range(20):
             lines = []
             bent_inputs.long_line(lines, 0, random.Random(seed))
-            sizes.add(len(lines[0]) - len(b"0 ") - MAX_LINE)
+            sizes.add(len(lines[0]) - len(b"0 ") - MOST_LINE)
         self.assertEqual(sizes, {-1, 0, 1})
 
     def test_the_same_seed_makes_the_same_inputs(self) -> None:
@@ -96,7 +98,8 @@ class Programs(InTemporary):
     def differing(self, other: str) -> collections.Counter:
         kept = self.folder / "kept"
         kept.mkdir(exist_ok=True)
-        one, two = self.program("one", "exit 3"), self.program("two", other)
+        one = self.program("one", "exit 3")
+        two = self.program("two", other)
         given = bent_inputs.words(
             [one, two, "--replays", "4", "--scripts", "2", "--keep", str(kept)]
         )

@@ -3,8 +3,9 @@
     python3 -m tests.hostile.bent_inputs PROGRAM OTHER [--replays N] [--scripts N] [--seed SEED] [--workers W]
         [--keep FOLDER]
 
-Makes 10,000 replays and 2,000 scripts, or as many as are asked for. They begin as replays and scripts of examples/, or
-as those of matches that the lab's model plays at random. Each is then bent at random in one to three places.
+Makes 10,000 replays and 2,000 scripts, or as many as are asked for. They begin as
+replays and scripts of examples/, or as those of matches that the lab's model plays at
+random. Each is then bent at random in one to three places.
 
 - Bytes are changed, deleted or doubled.
 - Numbers get a zero in front or are too large.
@@ -12,14 +13,17 @@ as those of matches that the lab's model plays at random. Each is then bent at r
 - A line gets the event or the reply of another line.
 - Lines are swapped, dropped, doubled or cut, or end with a carriage return.
 - Texts are no UTF-8, or long.
-- A script gets lines of another match or connection, bytes in hexadecimal, and lines that are too long.
+- A script gets lines of another match or connection, bytes in hexadecimal, and lines
+  that are too long.
 
-Both programs judge, explain and twin each replay, and rehearse each script, whole and line by line. Their exit statuses
-and their bytes on standard output and standard error must be the same.
+Both programs judge, explain and twin each replay, and rehearse each script, whole and
+line by line. Their exit statuses and their bytes on standard output and standard error
+must be the same.
 
-Prints how often each fault was told, and a line for each difference; with --keep the inputs that make one are written
-to FOLDER. The exit status is 1 where there is a difference. The same seed makes the same inputs. A run takes about
-a minute for 10,000 replays and two proved builds, and as long for 2,000 scripts.
+Prints how often each fault was told, and a line for each difference; with --keep the
+inputs that make one are written to FOLDER. The exit status is 1 where there is a
+difference. The same seed makes the same inputs. A run takes about a minute for 10,000
+replays and two proved builds, and as long for 2,000 scripts.
 """
 import argparse
 import collections
@@ -43,11 +47,15 @@ from typing import (
     Tuple,
 )
 
-from arena_lab.rules.model import MAX_LINE, PRESENT, Match, Object, spelled
+from arena_lab.rules.limits import MOST_LINE
+from arena_lab.rules.model import PRESENT, Match, Object, spelled
 from tests.support.drawn_rehearsals import ScriptMaker, files_of, ready_by_chance
 
 TOP = pathlib.Path(__file__).resolve().parents[2]
-REPLAYS, SCRIPTS, SEED, WORKERS = 10_000, 2000, 0, 2
+REPLAYS = 10_000
+SCRIPTS = 2000
+SEED = 0
+WORKERS = 2
 CUP = "cup.toml"
 LONG = 3000
 TEXTS = (
@@ -282,7 +290,8 @@ def delete(text: bytes, chance: random.Random) -> bytes:
 
 
 def double(text: bytes, chance: random.Random) -> bytes:
-    at, size = place_in(text, chance), chance.choice((1, 2, 20))
+    at = place_in(text, chance)
+    size = chance.choice((1, 2, 20))
     return text[: at + size] + text[at:]
 
 
@@ -417,7 +426,7 @@ def new_line(lines: List[bytes], at: int, chance: random.Random) -> None:
 def long_line(lines: List[bytes], at: int, chance: random.Random) -> None:
     """A line of a client that is as long as it may be, or about so."""
     front = b'{"do":"write","expect":"","put":"'
-    room = MAX_LINE - len(front) - 2 + chance.choice((-1, 0, 1))
+    room = MOST_LINE - len(front) - 2 + chance.choice((-1, 0, 1))
     lines.insert(at, b"%d %s%s" % (chance.randrange(4), front, b"a" * room + b'"}'))
 
 
@@ -499,8 +508,8 @@ def said(program: str, words: Sequence[str], given: bytes = b"") -> Said:
 
 
 class Compared(NamedTuple):
-    """An input, by kind and number, with the fault that the first program printed, and the commands whose results
-    differ."""
+    """An input, by kind and number, with the fault that the first program printed, and
+    the commands whose results differ."""
 
     kind: str
     number: int
@@ -527,7 +536,8 @@ def compared(
     given: bytes,
 ) -> Compared:
     """Runs all commands on an input by both programs."""
-    differing, fault = [], ""
+    differing = []
+    fault = ""
     for name, line in runs.items():
         one, other = (said(program, line, given) for program in programs)
         fault = fault or fault_of(one)
@@ -540,7 +550,8 @@ class Comparing:
     """Two programs that are compared, and where their inputs are written."""
 
     def __init__(self, given: argparse.Namespace, folder: pathlib.Path) -> None:
-        self.given, self.folder = given, folder
+        self.given = given
+        self.folder = folder
         self.programs = [
             str(pathlib.Path(name).resolve()) for name in (given.program, given.other)
         ]
@@ -556,7 +567,8 @@ class Comparing:
         return found
 
     def replay(self, number: int) -> Compared:
-        place, chance = self.folder / f"replay-{number}", random.Random(number)
+        place = self.folder / f"replay-{number}"
+        chance = random.Random(number)
         place.mkdir()
         path = place / "replay.jsonl"
         path.write_bytes(replay_of(number, self.given.seed, self.examples))
@@ -568,9 +580,8 @@ class Comparing:
         return self.settled(place, compared("replay", number, self.programs, runs, b""))
 
     def script(self, number: int) -> Compared:
-        place, (files, script) = self.folder / f"script-{number}", script_of(
-            number, self.given.seed
-        )
+        place = self.folder / f"script-{number}"
+        (files, script) = script_of(number, self.given.seed)
         place.mkdir()
         for name, text in files.items():
             (place / name).write_text(text)

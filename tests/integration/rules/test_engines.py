@@ -1,4 +1,5 @@
-"""The engines agree, what a schedule says is played again byte for byte, and a wrong engine is found out."""
+"""The engines agree, what a schedule says is played again byte for byte, and a wrong
+engine is found out."""
 import contextlib
 import random
 import re
@@ -13,6 +14,7 @@ from arena_lab.rules import model
 from arena_lab.rules.engines import Differs, Program
 from arena_lab.rules.networks import ring
 from arena_lab.rules.rehearsal import Rehearsal
+from tests.integration import compare
 from tests.support.matches import (
     AGENTS,
     MAP,
@@ -23,10 +25,10 @@ from tests.support.matches import (
     program,
 )
 from tests.support.output import InTemporary, ran
-from tests.integration import compare
 
-MATCHES = 60
-# changes of a find: the file, what is replaced in it by what, the status, and what is said
+MATCHES = 30
+# changes of a find: the file, what is replaced in it by what, the status, and what is
+# said
 CHANGES = (
     (
         "schedule.txt",

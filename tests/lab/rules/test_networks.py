@@ -11,6 +11,7 @@ from arena_lab.commands.tournament import file_of, number_or, team_name
 from arena_lab.rules import networks
 from arena_lab.support.built import TOP
 from arena_lab.support.missing import needed
+from tests.support.drawing import by_chance
 from tests.support.needing import needs
 from tests.support.output import InTemporary, ran
 
@@ -159,24 +160,30 @@ class Networks(InTemporary):
 
     def test_shuffled_ports_join_the_same_nodes_by_other_labels(self) -> None:
         network = networks.named("torus:4x4")
-        one, two = networks.shuffled(network, 1), networks.shuffled(network, 2)
+        one = networks.shuffled(network, 1)
+        two = networks.shuffled(network, 2)
         pairs = [[(v, w) for v, _, w, _ in it.links] for it in (network, one, two)]
         self.assertEqual(pairs[0], pairs[1])
         self.assertEqual(pairs[0], pairs[2])
         self.assertEqual(one, networks.shuffled(network, 1))
         self.assertEqual(len({tuple(it.links) for it in (network, one, two)}), 3)
 
-    def test_drawn_networks_join_two_nodes_once_and_have_few_ports(self) -> None:
-        for seed in range(300):
-            network = networks.drawn(random.Random(seed))
-            pairs = {frozenset((v, w)) for v, _, w, _ in network.links}
-            with self.subTest(seed):
-                self.assertEqual(len(pairs), len(network.links))
-                self.assertEqual({len(pair) for pair in pairs}, {2})
-                self.assertLessEqual(max(network.degrees()), networks.LARGEST_DEGREE)
-                self.assertGreaterEqual(min(network.degrees()), 2)
-                self.assertTrue(3 <= network.nodes <= networks.LARGEST)
-                self.assertEqual(network, networks.named(f"random:{seed}"))
+    @by_chance(200)
+    def test_drawn_networks_join_two_nodes_once_and_have_few_ports(
+        self, chance: random.Random
+    ) -> None:
+        network = networks.drawn(chance)
+        pairs = {frozenset((v, w)) for v, _, w, _ in network.links}
+        self.assertEqual(len(pairs), len(network.links))
+        self.assertEqual({len(pair) for pair in pairs}, {2})
+        self.assertLessEqual(max(network.degrees()), networks.LARGEST_DEGREE)
+        self.assertGreaterEqual(min(network.degrees()), 2)
+        self.assertTrue(3 <= network.nodes <= networks.LARGEST)
+
+    def test_a_seed_draws_the_network_of_its_name(self) -> None:
+        drawn = [networks.drawn(random.Random(seed)) for seed in range(9)]
+        named = [networks.named(f"random:{seed}") for seed in range(9)]
+        self.assertEqual(drawn, named)
 
     def test_names_that_name_none(self) -> None:
         for name, said in (
