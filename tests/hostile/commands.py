@@ -1,5 +1,5 @@
-"""The commands of the program on the examples, and what came of running them: what failing_machine.py and refusals.py
-share."""
+"""The commands of the program on the examples, and what came of running them: what
+failing_machine.py and refusals.py share."""
 import os
 import pathlib
 import re
@@ -8,6 +8,7 @@ import subprocess
 from typing import Any, Callable, Counter, List, NamedTuple, Optional, Sequence, Set
 
 from tests.support.program_rows import DONE, FAILED_STREAM, REFUSED_TEXT
+from tests.support.servers import without_notes
 
 TOP = pathlib.Path(__file__).resolve().parents[2]
 
@@ -30,14 +31,15 @@ __all__ = [
     "ended",
 ]
 
-NO_MEMORY, NO_THREADS = 5, 7
+NO_MEMORY = 5
+NO_THREADS = 7
 # seconds within which a run must end
 PATIENCE = 60
 
 
 class Command(NamedTuple):
-    """The words of a command, with what stands on its standard input, the file that it reads first, how its faults name
-    its standard input, and what else they may name."""
+    """The words of a command, with what stands on its standard input, the file that it
+    reads first, how its faults name its standard input, and what else they may name."""
 
     name: str
     words: Sequence[str]
@@ -47,8 +49,10 @@ class Command(NamedTuple):
     beside: Sequence[str] = ()
 
 
-# a replay of the examples without its last two lines, which each folder gets: what a server that was killed leaves
-PART, WHOLE_OF_PART = "examples/first0.jsonl.part", "examples/first0.jsonl"
+# a replay of the examples without its last two lines, which each folder gets: what a
+# server that was killed leaves
+PART = "examples/first0.jsonl.part"
+WHOLE_OF_PART = "examples/first0.jsonl"
 # a contest of one match by its tournament and its prefix, and the files of that match
 CONTEST = ["examples/appeal.toml", "--replay", "examples/appeal"]
 OF_CONTEST = ["examples/appeal0.jsonl", "examples/appeal0.jsonl.part"]
@@ -72,8 +76,8 @@ DRAWS = [
     "--objective",
     "moves",
 ]
-# each order of the program with each of its options, but `serve`, for which the tools have runs of their own:
-# tests/test_commands.py compares
+# each order of the program with each of its options, but `serve`, for which the tools
+# have runs of their own: tests/test_commands.py compares
 COMMANDS = [
     Command("check", ["check", "examples/first.toml"], "", "examples/first.toml"),
     Command(
@@ -179,7 +183,7 @@ def ended(child: subprocess.Popen) -> Run:
     return Run(
         child.returncode,
         printed or b"",
-        without_help((told or b"").decode(errors="replace")),
+        without_help(without_notes(told or b"").decode(errors="replace")),
     )
 
 
@@ -207,7 +211,8 @@ class Lab:
         limit: Optional[Callable[[], None]] = None,
         **streams: Any,
     ) -> Run:
-        """Runs a command, with a limit that is set before it begins, and other streams if some are given."""
+        """Runs a command, with a limit that is set before it begins, and other streams
+        if some are given."""
         self.runs += 1
         script = self.folder / command.script if command.script else os.devnull
         with open(script, "rb") as given:
@@ -233,7 +238,8 @@ class Lab:
         status: int,
         seen: Counter,
     ) -> None:
-        """Counts a run that ended as it should: as with nothing missing, or by one of these faults with this status."""
+        """Counts a run that ended as it should: as with nothing missing, or by one of
+        these faults with this status."""
         whole = self.whole[command.name]
         if found == whole:
             seen["as ever"] += 1
@@ -247,7 +253,8 @@ class Lab:
             )
 
     def part(self, trial: Callable[..., None], *given: Any) -> None:
-        """Carries out a part. One that dies is a fault with its name, and the others are carried out."""
+        """Carries out a part. One that dies is a fault with its name, and the others
+        are carried out."""
         try:
             trial(*given)
         except Exception as fault:

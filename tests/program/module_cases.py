@@ -1,5 +1,6 @@
-"""Cases of `arena explore --module`: a search that solves, files that are refused, agents that fail, files with changed
-bytes, and each instruction on integers as node's own WebAssembly has it."""
+"""Cases of `arena explore --module`: a search that solves, files that are refused,
+agents that fail, files with changed bytes, and each instruction on integers as node's
+own WebAssembly has it."""
 import hashlib
 import random
 import shutil
@@ -8,8 +9,6 @@ import sys
 import unittest
 from typing import Dict, List, Sequence
 
-from tests.support.counts import require
-from tests.support.servers import Run
 from tests.program.program_cases import (
     CRAMPED,
     CUP,
@@ -19,22 +18,22 @@ from tests.program.program_cases import (
     case,
     writes,
 )
+from tests.support.counts import require
 from tests.support.program_rows import DONE, REFUSED_TEXT, Stage, Wrong, expect
+from tests.support.servers import Run
 from tests.support.wasm_encoding import (
+    I32,
     Call,
     Function,
     checks,
     constant,
     in_memory,
-    module,
-    numeric,
-    told_by_node,
-)
-from tests.support.wasm_encoding import (
-    I32,
     joined,
+    module,
     name,
+    numeric,
     sections_of,
+    told_by_node,
     type_of,
     unsigned,
     vector,
@@ -45,15 +44,17 @@ RING = TOP / "examples" / "agents" / "wasm" / "ring.wasm"
 # how many changed files are explored
 CHANGED = 200
 DATA = bytes(range(7, 256, 5))
-CALL, DROP, TRAP, END = b"\x10", b"\x1a", b"\0", b"\x0b"
-LOOP, AGAIN = b"\x03\x40", b"\x0c\x00"
-SIZE, GROW, FILL, MULTIPLY, SUBTRACT = (
-    b"\x3f\x00",
-    b"\x40\x00",
-    b"\xfc\x0b\x00",
-    b"\x6c",
-    b"\x6b",
-)
+CALL = b"\x10"
+DROP = b"\x1a"
+TRAP = b"\0"
+END = b"\x0b"
+LOOP = b"\x03\x40"
+AGAIN = b"\x0c\x00"
+SIZE = b"\x3f\x00"
+GROW = b"\x40\x00"
+FILL = b"\xfc\x0b\x00"
+MULTIPLY = b"\x6c"
+SUBTRACT = b"\x6b"
 # where a module has the text of a whiteboard
 BOARD = 16
 LOAD64 = b"\x29\x00\x00"
@@ -69,7 +70,8 @@ TEXTS = [
         "\U00010000\U0010ffff",
     )
 ]
-# a byte that begins no character, too many bytes for a character, a surrogate, too large a character, a part of one
+# a byte that begins no character, too many bytes for a character, a surrogate, too
+# large a character, a part of one
 NOT_TEXTS = (
     b"\x80",
     b"\xc0\x80",
@@ -105,7 +107,8 @@ def explores(
     failure: str = "",
     arguments: str = "",
 ) -> None:
-    """Agents that run this module on a triangle come to this, and the module is named by its digest."""
+    """Agents that run this module on a triangle come to this, and the module is named
+    by its digest."""
     digest = hashlib.sha256(agent).hexdigest()
     line = f'{{"module":"{digest}","arguments":[{arguments}]{failure}}}\n'
     expect(
@@ -238,11 +241,10 @@ def for_each(stage: Stage) -> None:
     }
     for agent, file in agents.items():
         (stage.folder / f"{agent}.wasm").write_bytes(file)
-    solves, breaks = (
-        '{"found":"solves","moves":%d,"lost":%d,',
-        '{"found":"breaks","agent":%d,"failure":"program",',
-    )
-    draws, trap = ["--draws", "4"], ',"failure":"trap","function":6'
+    solves = '{"found":"solves","moves":%d,"lost":%d,'
+    breaks = '{"found":"breaks","agent":%d,"failure":"program",'
+    draws = ["--draws", "4"]
+    trap = ',"failure":"trap","function":6'
     for first, second, found, end, failures, more in (
         ("walks:0", "leaves", solves % (1, 0), '"commands":[2,0]}', ("", ""), []),
         ("leaves", "walks:0", solves % (1, 0), '"commands":[0,2]}', ("", ""), []),
@@ -293,7 +295,8 @@ def texts(stage: Stage) -> None:
 
 
 def writing(text: bytes) -> bytes:
-    """A module that writes a text, and traps if the whiteboard does not show it then."""
+    """A module that writes a text, and traps if the whiteboard does not show it
+    then."""
     enters, writes_it, looks, shows = (CALL + bytes([place]) for place in range(4))
     put = constant(I32, 0) * 3 + constant(I32, len(text)) + writes_it + DROP
     seen = (
@@ -352,7 +355,8 @@ def refused(stage: Stage) -> None:
 
 @case("a function has at most 1,000 parameters and 1,000 results")
 def many_parameters(stage: Stage) -> None:
-    run, values = Function([], [], b"", "run"), [I32] * 1000
+    run = Function([], [], b"", "run")
+    values = [I32] * 1000
     explores(stage, module([run, Function(values, values, TRAP)]), SILENT, FAILING)
     for own in ((values + [I32], []), ([], values + [I32])):
         agent = module([run, Function(*own, TRAP)])
@@ -363,7 +367,8 @@ def many_parameters(stage: Stage) -> None:
     "a file is refused whose exports, memory, data segments or types of blocks are not valid"
 )
 def invalid(stage: Stage) -> None:
-    run, largest = name("run") + b"\0\0", b"\1" + unsigned(1) + unsigned(65_537)
+    run = name("run") + b"\0\0"
+    largest = b"\1" + unsigned(1) + unsigned(65_537)
     lacking = [
         name("x") + item for item in (b"\0\1", b"\1\0", b"\2\1", b"\3\0", b"\4\0")
     ]
@@ -379,6 +384,50 @@ def invalid(stage: Stage) -> None:
     refuses(stage, agent, f"type at byte {agent.index(block)}")
 
 
+@case("a table of branches in code that is not reached leads to labels of any types")
+def unlike_labels(stage: Stage) -> None:
+    nested = b"\x02\x7f" + b"\x02\x7e" + TRAP + b"\x0e\x01\x00\x01" + END + DROP
+    agent = running(nested + constant(I32, 1) + END + DROP)
+    explores(stage, agent, BREAKS, FAILING, ',"failure":"trap","function":0')
+
+
+@case("an imported function stands in a table, by each kind of element segment")
+def imports_in_tables(stage: Stage) -> None:
+    first = constant(I32, 0)
+    direct = found_by(stage, running(CALL + b"\0" + DROP, "enter"))
+    called = running(first + b"\x11\0\0" + DROP, "enter")
+    for segment in (
+        b"\0" + first + END + vector([b"\0"]),
+        b"\2" + b"\0" + first + END + b"\0" + vector([b"\0"]),
+        b"\4" + first + END + vector([b"\xd2\0" + END]),
+    ):
+        require(found_by(stage, with_table(called, segment)) == direct, repr(segment))
+
+
+@case("an element segment lies in its table, also an empty one")
+def segments_in_tables(stage: Stage) -> None:
+    for place, count in ((2, 0), (1, 1), (-1, 0)):
+        segment = b"\0" + constant(I32, place) + END + vector([b"\0"] * count)
+        agent = with_table(running(b""), segment)
+        fault = tried(stage, agent)
+        require(fault.told.startswith(b"agent.wasm: segment at byte "), f"{fault}")
+    empty = b"\0" + constant(I32, 1) + END + vector([])
+    explores(stage, with_table(running(b""), empty), SILENT, FAILING)
+
+
+def with_table(file: bytes, segment: bytes) -> bytes:
+    """A module with a table of one element, and with this element segment."""
+    table = vector([b"\x70\0\1"])
+    return joined({**sections_of(file), 4: table, 9: vector([segment])})
+
+
+def found_by(stage: Stage, agent: bytes) -> bytes:
+    """What is found of agents that run this module, without the module's line."""
+    ran = tried(stage, agent)
+    require(ran.told == b"", f"{ran}")
+    return ran.printed[: ran.printed.index(b'{"module"')]
+
+
 def with_section(kind: int, body: bytes) -> bytes:
     """A module that ends at once, with this section instead of its own."""
     return joined({**sections_of(running(b"")), kind: body})
@@ -391,8 +440,10 @@ def changed(stage: Stage) -> None:
 
 
 def is_harmless(stage: Stage, seed: int) -> bool:
-    """Whether the sample module with bytes that are changed by a seed is explored, or refused in a line."""
-    draw, agent = random.Random(seed), bytearray(RING.read_bytes())
+    """Whether the sample module with bytes that are changed by a seed is explored, or
+    refused in a line."""
+    draw = random.Random(seed)
+    agent = bytearray(RING.read_bytes())
     for _ in range(draw.randrange(1, 4)):
         agent[draw.randrange(len(agent))] = draw.randrange(256)
     whole_or_cut = agent[: draw.randrange(len(agent))] if seed % 5 == 0 else agent

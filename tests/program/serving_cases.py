@@ -1,19 +1,21 @@
-"""Cases that play contests over TCP whose clients keep to the rules. Each catches a server that serves most contests
-well and does one thing wrong: for a match, an agent, a session or an address past the first, or past a limit."""
+"""Cases that play contests over TCP whose clients keep to the rules. Each catches a
+server that serves most contests well and does one thing wrong: for a match, an agent, a
+session or an address past the first, or past a limit."""
 import contextlib
 import os
 import re
 import resource
+import signal
 import socket
 import time
 from typing import Iterator, List
 
-from tests.support.counts import Wrong, require
-from tests.support.servers import Server, enter
-from tests.support.session_lines import BYE, DEPART, GONE, HERE, LEAVE, LOOK, OVER
 from tests.program.contest_cases import LONG, full_disk, served, wait_for
 from tests.program.program_cases import MATCH, SEED, case
+from tests.support.counts import Wrong, require
 from tests.support.program_rows import PATIENCE, Stage
+from tests.support.servers import Server, enter
+from tests.support.session_lines import BYE, DEPART, GONE, HERE, LEAVE, LOOK, OVER
 
 # one match on the triangle, whose agents may give many commands and write long texts
 ROOMY = SEED + MATCH.format(network="tri.toml", key="r").replace(
@@ -57,7 +59,8 @@ def closed_line(match: int) -> bytes:
 
 
 def begins_alone(stage: Stage, match: int, keys: str) -> None:
-    """The match whose agents enter takes its turns and is closed; the other one still waits for its agents."""
+    """The match whose agents enter takes its turns and is closed; the other one still
+    waits for its agents."""
     with served(
         stage, "--gather", str(1000 * PATIENCE), "--log", turns=1, grace=0
     ) as server:
@@ -82,6 +85,19 @@ def first_gathers(stage: Stage) -> None:
 @case("with --gather the second match waits for its own agents alone")
 def second_gathers(stage: Stage) -> None:
     begins_alone(stage, 1, "b")
+
+
+@case("--gather ends by the clock, also where the server has slept for longer")
+def gathers_by_the_clock(stage: Stage) -> None:
+    with served(stage, "--gather", "8000", turns=0, grace=0) as server:
+        time.sleep(1)
+        server.child.send_signal(signal.SIGSTOP)
+        time.sleep(8)
+        server.child.send_signal(signal.SIGCONT)
+        begun = time.monotonic()
+        server.child.wait(PATIENCE)
+    took = time.monotonic() - begun
+    require(took < 5, f"it gathered for {took:.1f} seconds more")
 
 
 @case("a match takes as many turns as it is given")
@@ -196,20 +212,17 @@ def long_session(stage: Stage) -> None:
 
 @case("more answers than a connection holds back come whole and in order")
 def answers_in_order(stage: Stage) -> None:
-    text, rounds = b"x" * 400, 300
-    wrong_port, wrong_write = (
-        b'{"do":"depart","port":9}\n',
-        b'{"do":"write","expect":"","put":""}\n',
-    )
+    text = b"x" * 400
+    rounds = 300
+    wrong_port = b'{"do":"depart","port":9}\n'
+    wrong_write = b'{"do":"write","expect":"","put":""}\n'
     lines = (
         enter("ra")
         + b'{"do":"write","expect":"","put":"%b"}\n' % text
         + (LOOK + wrong_port + wrong_write) * rounds
     )
-    sight, shown = (
-        HERE.replace(b'"board":""', b'"board":"%b"' % text),
-        b'{"board":"%b","ok":"changed"}\n' % text,
-    )
+    sight = HERE.replace(b'"board":""', b'"board":"%b"' % text)
+    shown = b'{"board":"%b","ok":"changed"}\n' % text
     with served(stage, cup=ROOMY, turns=LONG) as server, server.connect(
         lines + LEAVE
     ) as client:
@@ -285,7 +298,8 @@ def events_of_part(stage: Stage, match: int) -> int:
 
 @contextlib.contextmanager
 def playing_red(stage: Stage, lines: bytes) -> Iterator[Server]:
-    """A server that goes on after an agent of red has said this, and was answered each line."""
+    """A server that goes on after an agent of red has said this, and was answered each
+    line."""
     with served(stage, cup=ROOMY, turns=LONG) as server:
         server.hears(lines)
         yield server

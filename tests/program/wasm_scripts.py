@@ -2,17 +2,20 @@
 
     python3 -m tests.program.wasm_scripts PROGRAM [--scripts FOLDER] [SCRIPT ..]
 
-The scripts are those of Debian's source package binaryen, which apt-get fetches into a temporary folder, or those in
-FOLDER; SCRIPT, such as `i32`, plays these alone. Debian's wabt makes modules of them. A valid module must be read, and
-one that is malformed or invalid must be refused. A call that returns is made by a function that traps if the results
-are others than the script says, and a module's `run` calls all these functions. A call that must trap, behind those
-that return, has a module of its own.
+The scripts are those of Debian's source package binaryen, which apt-get fetches into a
+temporary folder, or those in FOLDER; SCRIPT, such as `i32`, plays these alone. Debian's
+wabt makes modules of them. A valid module must be read, and one that is malformed or
+invalid must be refused. A call that returns is made by a function that traps if the
+results are others than the script says, and a module's `run` calls all these functions.
+A call that must trap, behind those that return, has a module of its own.
 
-What agents' modules do without is outside, and counted: floating-point numbers, vectors, references, several tables,
-imports, segments that are not active, large memories, and the text format; of whole scripts those on floating-point
-numbers, and those that wabt does not read. In another script the functions that compute with such numbers are made to
-trap, and calls that reach one are outside. What a module imports of `spectest` is put into it, and its start function
-is called first. What is known to differ is named and counted, too.
+What agents' modules do without is outside, and counted: floating-point numbers,
+vectors, references, several tables, imports, segments that are not active, large
+memories, and the text format; of whole scripts those on floating-point numbers, and
+those that wabt does not read. In another script the functions that compute with such
+numbers are made to trap, and calls that reach one are outside. What a module imports of
+`spectest` is put into it, and its start function is called first. What is known to
+differ is named and counted, too.
 
 The last line reads `N passed, M failed`, and the exit status is 1 if one failed.
 """
@@ -27,21 +30,23 @@ import tarfile
 import tempfile
 from typing import Any, Counter, Dict, List, NamedTuple, Optional, Sequence
 
-from tools import packages
 from tests.program.module_cases import SILENT
 from tests.program.program_cases import CUP, TRIANGLE, writes
+from tests.support.counts import SKIPPED
 from tests.support.program_rows import REFUSED_TEXT, Stage, Wrong
-from tests.runners.python_tests import SKIPPED
 from tests.support.wasm_encoding import with_run
+from tools import packages
 
-PACKAGE, SCRIPTS = "binaryen", re.compile(r".*/test/spec/([\w.-]+\.wast)")
+PACKAGE = "binaryen"
+SCRIPTS = re.compile(r".*/test/spec/([\w.-]+\.wast)")
 OF_FLOATS = re.compile("f32|f64|float")
 FUNCTION = re.compile(r"^  (\(func \(;\d+;\).*)((?:\n    .*)*)", re.MULTILINE)
 EXPORT = re.compile(r'^  \(export "(.*)" \((\w+) (\d+)\)\)', re.MULTILINE)
 START = re.compile(r"^  \(start (\d+)\)", re.MULTILINE)
 FLOAT = re.compile(r"\bf(32|64)\b")
 COMPUTES = re.compile(r"\bf(?:32|64)\.|_f(?:32|64)")
-# how a text is changed before the functions in it that compute with floating-point numbers are, and behind that
+# how a text is changed before the functions in it that compute with floating-point
+# numbers are, and behind that
 IMPORTS = tuple(
     (re.compile(pattern, re.MULTILINE), put)
     for pattern, put in (
@@ -59,7 +64,8 @@ OTHERS = (
     (re.compile(r"^(  \(global .*\(f(?:32|64)\.const) .*", re.MULTILINE), r"\1 0))"),
     (FLOAT, r"i\1"),
 )
-# what the text of a valid module has if it is outside, and begins the fault of one that is refused as outside
+# what the text of a valid module has if it is outside, and begins the fault of one that
+# is refused as outside
 OUTSIDE = re.compile(
     r"\bf(?:32|64)\b|v128|externref|ref\.|\btable\.|memory\.init|data\.drop|\((?:import|start) |"
     r"\((?:param|result|local).* funcref|\(table \(;1;\)|\(elem \(;\d+;\) (?:declare )?func|"
@@ -72,12 +78,15 @@ REFUSALS = ("assert_malformed", "assert_invalid", "assert_uninstantiable")
 INTEGERS = ("i32", "i64")
 # what is known to differ: a memory has at most 1,024 pages
 KNOWN = re.compile(r"resizing:45 grow")
-PASSED, FAILED, DIFFERS = "passed", "failed", "known to differ"
+PASSED = "passed"
+FAILED = "failed"
+DIFFERS = "known to differ"
 Command = Dict[str, Any]
 
 
 class Told(NamedTuple):
-    """What the program says of a module: why it is refused, or how its agents fail, and in which function."""
+    """What the program says of a module: why it is refused, or how its agents fail, and
+    in which function."""
 
     fault: str = ""
     failure: str = ""
@@ -85,7 +94,8 @@ class Told(NamedTuple):
 
     @property
     def is_whole(self) -> bool:
-        """Whether all of a file is read, and nothing is wrong but that it exports no `run`."""
+        """Whether all of a file is read, and nothing is wrong but that it exports no
+        `run`."""
         return not self.fault or self.fault.startswith("run at ")
 
     def __str__(self) -> str:
@@ -97,7 +107,8 @@ class Told(NamedTuple):
 
 
 class Module:
-    """A module of a script: its text as agents can run it, and the calls that the script makes."""
+    """A module of a script: its text as agents can run it, and the calls that the
+    script makes."""
 
     def __init__(self, text: str) -> None:
         start = START.search(text)
@@ -121,13 +132,15 @@ class Module:
         )
         for pattern, put in OTHERS:
             text = pattern.sub(put, text)
-        self.text, self.functions = text, len(functions)
+        self.text = text
+        self.functions = len(functions)
         self.calls: List[Command] = []
         # whether other modules may change it
         self.is_shared = False
 
     def running(self, checks: Sequence[str]) -> str:
-        """The text of a module that makes these checks, each in a function behind those of the module."""
+        """The text of a module that makes these checks, each in a function behind those
+        of the module."""
         functions = "".join(f"  (func {check})\n" for check in checks)
         calls = " ".join(
             f"call {self.functions + place}" for place in range(len(checks))
@@ -135,8 +148,8 @@ class Module:
         return f'{self.text}\n{functions}  (func (export "run") {calls}))\n'
 
     def check(self, command: Command) -> Optional[str]:
-        """The instructions that make a call, and trap if it returns something else than the script says: none if it is
-        outside."""
+        """The instructions that make a call, and trap if it returns something else than
+        the script says: none if it is outside."""
         action = command["action"]
         given = action.get("args", ())
         if action["field"] not in self.exports or any(
@@ -178,7 +191,8 @@ class Scripts:
 
     def __init__(self, stage: Stage) -> None:
         self.stage = stage
-        self.made, self.text = stage.folder / "agent.wasm", stage.folder / "agent.wat"
+        self.made = stage.folder / "agent.wasm"
+        self.text = stage.folder / "agent.wat"
         self.counts: Counter[str] = collections.Counter()
 
     def told(self, file: pathlib.Path) -> Told:
@@ -204,7 +218,8 @@ class Scripts:
         said: object = "",
         is_outside: bool = False,
     ) -> None:
-        """Counts an assertion, and says which failed, with what the script says of it."""
+        """Counts an assertion, and says which failed, with what the script says of
+        it."""
         line = f"{place}: {command['type']} {command.get('text', '')}"
         kind = (
             f"{command['type']} outside"
@@ -270,8 +285,9 @@ class Scripts:
         return Module(text)
 
     def refuse(self, file: pathlib.Path, place: str, command: Command) -> None:
-        """A module that is malformed or invalid is refused, and not only since it has no `run`. Is it taken, and by
-        wabt too, then the script is older than what both know."""
+        """A module that is malformed or invalid is refused, and not only since it has
+        no `run`. Is it taken, and by wabt too, then the script is older than what both
+        know."""
         said = self.told(file)
         if said.is_whole:
             self.made.write_bytes(with_run(file.read_bytes()))
@@ -338,7 +354,8 @@ def scripts_in(archive: pathlib.Path, folder: pathlib.Path) -> pathlib.Path:
     """Writes the scripts in an archive to a folder."""
     with tarfile.open(archive) as members:
         for member in members:
-            named, content = SCRIPTS.fullmatch(member.name), members.extractfile(member)
+            named = SCRIPTS.fullmatch(member.name)
+            content = members.extractfile(member)
             if named and content:
                 (folder / named[1]).write_bytes(content.read())
     return folder

@@ -1,13 +1,16 @@
-"""Runs the tests of the libraries, the Rust files of tests/library, and passes their lines on.
+"""Runs the tests of the libraries, the Rust files of tests/library, and passes their
+lines on.
 
     python3 -m tests.runners.library_tests [--prove | --format | PROGRAM]
 
-They are compiled together with all crates that they use, into a program that stops at an index out of bounds, an
-overflow, a failed unwrap or a bad access. Neither they nor the crates are proved for it, so this takes two or three
-minutes. PROGRAM, the name of a file, is where that program is left, in such a form that tests/hostile/refusals.py can
-refuse its requests for memory; this needs gcc. With --prove the tests are proved too: that they stop nowhere, and that
-each call meets its contract's premises. That takes an hour or more, and the gate leaves it out. With --format the files
-are formatted, and nothing is run.
+They are compiled together with all crates that they use, into a program that stops at
+an index out of bounds, an overflow, a failed unwrap or a bad access. Neither they nor
+the crates are proved for it, so this takes two or three minutes. PROGRAM, the name of a
+file, is where that program is left, in such a form that tests/hostile/refusals.py can
+refuse its requests for memory; this needs gcc. With --prove the tests are proved too:
+that they stop nowhere, and that each call meets its contract's premises. That takes an
+hour or more, and the gate leaves it out. With --format the files are formatted, and
+nothing is run.
 
 The last line reads `N passed, M failed`.
 """
@@ -33,7 +36,7 @@ from tools.prove.prover import (
 
 TESTS = TOP / "tests" / "library"
 NAME = "library_tests"
-SHIM = TOP / "tools" / "hostile" / "refusals_shim.c"
+SHIM = TOP / "tests" / "hostile" / "refusals_shim.c"
 # one program runs all of them
 SECONDS = 600
 USED = re.compile(r"^\s*use (\w+)::", re.M)
@@ -41,13 +44,15 @@ RESULT = re.compile(r"test result: \w+\. (\d+) passed; (\d+) failed")
 
 
 def files() -> Iterator[Tuple[pathlib.Path, pathlib.Path]]:
-    """The files of the tests, and where each stands in the crate that is made of them."""
+    """The files of the tests, and where each stands in the crate that is made of
+    them."""
     for path in sorted(TESTS.rglob("*.rs")):
         yield path, pathlib.Path("src") / path.relative_to(TESTS).with_suffix(".rt")
 
 
 def make(folder: pathlib.Path) -> Libraries:
-    """Makes a crate of the tests in a folder, and gives what each crate stands on, this one too."""
+    """Makes a crate of the tests in a folder, and gives what each crate stands on, this
+    one too."""
     libraries = libraries_of()
     texts = []
     for path, place in files():
@@ -59,7 +64,8 @@ def make(folder: pathlib.Path) -> Libraries:
 
 
 def make_beside_all(room: pathlib.Path) -> pathlib.Path:
-    """Copies the crates to a folder, beside one of the tests, and gives the folder of that one."""
+    """Copies the crates to a folder, beside one of the tests, and gives the folder of
+    that one."""
     folder = room / "crates" / NAME
     libraries = make(folder)
     for name in libraries_of():
@@ -73,7 +79,8 @@ def make_beside_all(room: pathlib.Path) -> pathlib.Path:
 
 
 def refusing(room: pathlib.Path, kept: pathlib.Path) -> pathlib.Path:
-    """What is linked to the program so that it can be refused memory, and leaves itself in a file."""
+    """What is linked to the program so that it can be refused memory, and leaves itself
+    in a file."""
     made = room / "refusing.o"
     subprocess.run(
         [
@@ -96,8 +103,10 @@ def refusing(room: pathlib.Path, kept: pathlib.Path) -> pathlib.Path:
 
 
 def run(words: List[str], folder: pathlib.Path) -> Tuple[int, int]:
-    """Runs a command on the crate of the tests, and gives how many passed and how many failed."""
-    passed, failed = 0, 0
+    """Runs a command on the crate of the tests, and gives how many passed and how many
+    failed."""
+    passed = 0
+    failed = 0
     with subprocess.Popen(
         words,
         cwd=folder,
@@ -112,12 +121,14 @@ def run(words: List[str], folder: pathlib.Path) -> Tuple[int, int]:
             print(line, end="", flush=True)
             result = RESULT.match(line)
             if result:
-                passed, failed = int(result[1]), int(result[2])
+                passed = int(result[1])
+                failed = int(result[2])
     return passed, max(failed, int(child.returncode != 0 or not passed))
 
 
 def run_unproved(room: pathlib.Path, program: str) -> Tuple[int, int]:
-    """Compiles and runs the tests, leaves the program in a file if one is named, and counts."""
+    """Compiles and runs the tests, leaves the program in a file if one is named, and
+    counts."""
     folder = room / NAME
     libraries = make(folder)
     kept = room / "kept"

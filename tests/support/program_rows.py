@@ -1,7 +1,8 @@
 """Rows of text that play the program: how they are read, and how they are played.
 
-A file of rows, tests/program/*.rows, begins with lines that begin with #, which say what it shows. Rows are parted by
-empty lines. A row has a title and steps, and a step begins with one of these lines:
+A file of rows, tests/program/*.rows, begins with lines that begin with #, which say
+what it shows. Rows are parted by empty lines. A row has a title and steps, and a step
+begins with one of these lines:
 
     $ WORDS   runs the program with these words, which are parted and quoted as in a shell
     @ NAME    writes a file
@@ -16,19 +17,24 @@ Then come the lines of the step:
     ! TEXT    a line of what is told as a fault
     ? NUMBER  the exit status, which is else 0
 
-`>~`, `<~` and `!~` are the same without a line feed behind the text, `>x` gives bytes in hexadecimal digits. A `¶` in
-one of these lines stands for a line feed. A line `+` goes on with the line before it. If the title of the first row
-of a file begins with `Before each row`, its steps are carried out before those of each other row.
+`>~`, `<~` and `!~` are the same without a line feed behind the text, `>x` gives bytes
+in hexadecimal digits. A `¶` in one of these lines stands for a line feed. A line `+`
+goes on with the line before it. If the title of the first row of a file begins with
+`Before each row`, its steps are carried out before those of each other row.
 
-A row may have tables. `* NAME => NAME` names the columns of one, and each line `| VALUE => VALUE` makes a row of its
-own, in which the values stand for the names. Of several tables each line goes with each line of the others; values may
-hold names of tables that stand before theirs.
+A row may have tables. `* NAME => NAME` names the columns of one, and each line `| VALUE
+=> VALUE` makes a row of its own, in which the values stand for the names. Of several
+tables each line goes with each line of the others; values may hold names of tables that
+stand before theirs.
 
-A row whose second line is `~ SOURCE TARGET` is a table of changes, for `check cup.toml`. In a line `OLD => NEW => LINE`
-the first OLD in the file SOURCE, as it is written before each row, becomes NEW, and the file TARGET is written so. LINE
-is what is printed, if it begins with `match`, or told, with the exit status 6 if it ends with `: read`, and else
-3. `right` stands for the line of the match of a file in which nothing is changed. Behind each fault but `text` a line
-of what helps is told, any that begins with two spaces.
+A row whose second line is `~ SOURCE TARGET` is a table of changes, for `check
+cup.toml`. In a line `OLD => NEW => LINE` the first OLD in the file SOURCE, as it is
+written before each row, becomes NEW, and the file TARGET is written so. LINE is what is
+printed, if it begins with `match`, or told, with the exit status 6 if it ends with `:
+read`, and else 3. `right` stands for the line of the match of a file in which nothing is
+changed. Behind each fault but `text` a line of what helps is told, any that begins with
+two spaces. Notes on a tournament, of ignored keys, the schedule and links, are passed
+over where a row wants none.
 """
 import itertools
 import pathlib
@@ -50,7 +56,7 @@ from typing import (
 )
 
 from tests.support.counts import Wrong, require
-from tests.support.servers import Run
+from tests.support.servers import NOTE, Run, without_notes
 
 PATIENCE = 60
 # how much of a line is shown if it is not the line that was wanted
@@ -59,7 +65,9 @@ HEADS = "$@=%/"
 FIRST = "Before each row"
 ARROW = " => "
 RIGHT = "match 0 red nodes 3 links 3 agents 2"
-DONE, REFUSED_TEXT, FAILED_STREAM = 0, 3, 6
+DONE = 0
+REFUSED_TEXT = 3
+FAILED_STREAM = 6
 # a line of what helps, whatever it says
 SOME_HELP = b"  ..\n"
 
@@ -78,9 +86,12 @@ class Stage:
         words: Sequence[Word],
         script: bytes = b"",
         front: Sequence[str] = (),
+        wants_notes: bool = False,
         **streams: Any,
     ) -> Run:
-        """Runs the program on a script, by a command in front of it and with other streams if some are given."""
+        """Runs the program on a script, by a command in front of it and with other
+        streams if some are given. Notes on a tournament are passed over if they are not
+        wanted."""
         plain = {"stdout": subprocess.PIPE, "stderr": subprocess.PIPE}
         try:
             ran = subprocess.run(
@@ -92,7 +103,12 @@ class Stage:
             )
         except subprocess.TimeoutExpired:
             raise Wrong(f"it did not end in {PATIENCE} seconds") from None
-        return Run(ran.returncode, ran.stdout or b"", ran.stderr or b"")
+        told = ran.stderr or b""
+        return Run(
+            ran.returncode,
+            ran.stdout or b"",
+            told if wants_notes else without_notes(told),
+        )
 
 
 class Step(NamedTuple):
@@ -141,7 +157,8 @@ def expect(ran: Run, printed: bytes, told: bytes = b"", status: int = DONE) -> N
 
 
 def helped(wanted: bytes, came: bytes) -> bytes:
-    """What is wanted, with the lines of help that came for those that may say anything."""
+    """What is wanted, with the lines of help that came for those that may say
+    anything."""
     pairs = itertools.zip_longest(
         wanted.splitlines(True), came.splitlines(True), fillvalue=b""
     )
@@ -165,7 +182,8 @@ def do(step: Step, stage: Stage, printed: bytes) -> bytes:
     """Carries out a step, and gives what the last run printed."""
     place = stage.folder / step.rest
     if step.mark == "$":
-        ran = stage.run(shlex.split(step.rest), step.given)
+        wants_notes = NOTE.search(step.told) is not None
+        ran = stage.run(shlex.split(step.rest), step.given, wants_notes=wants_notes)
         expect(ran, step.wanted, step.told, step.status)
         return ran.printed
     if step.mark == "@":

@@ -1,21 +1,37 @@
-"""Servers that tests start, such as `arena serve`: what clients and the operator say to them, and how they ended."""
+"""Servers that tests start, such as `arena serve`: what clients and the operator say to
+them, and how they ended."""
 import contextlib
 import os
 import pathlib
+import re
 import socket
 import subprocess
 import threading
 import time
 from typing import Any, NamedTuple, Optional, Sequence, Tuple
 
+from arena_lab.support.built import TOP
 from arena_lab.support.ports import free_port
 from arena_lab.support.waiting import is_ready
-from tests import TOP
 from tests.support.counts import Wrong, require
 
 HOST = "127.0.0.1"
-# seconds within which a server says that it listens, within which it answers, and within which it has ended
-START, PATIENCE, END = 20.0, 20.0, 60.0
+# seconds within which a server says that it listens, within which it answers, and
+# within which it has ended
+START = 20.0
+PATIENCE = 20.0
+END = 60.0
+
+
+# what the program tells of a tournament that is no fault
+NOTE = re.compile(
+    rb".*: (.* is ignored|the schedule is |match \d+ of .* has (held|dark) links)"
+)
+
+
+def without_notes(told: bytes) -> bytes:
+    """What was told but for notes on a tournament: ignored keys, the schedule, links."""
+    return b"".join(it for it in told.splitlines(True) if not NOTE.match(it))
 
 
 class Run(NamedTuple):
@@ -36,8 +52,8 @@ def enter(key: str) -> bytes:
 
 
 class Server:
-    """A server that says on which port it listens. It is killed in the end if it has not ended. What it tells may go to
-    a file."""
+    """A server that says on which port it listens. It is killed in the end if it has
+    not ended. What it tells may go to a file."""
 
     def __init__(
         self,
@@ -48,11 +64,9 @@ class Server:
         **streams: Any,
     ) -> None:
         """If the command names no port, a free one is put behind it."""
-        self.port, self.begun, self._errors = (
-            port or free_port(),
-            time.monotonic(),
-            errors,
-        )
+        self.port = port or free_port()
+        self.begun = time.monotonic()
+        self._errors = errors
         self._listens = b"listening %d\n" % self.port
         command = command if port else [*command, "--port", self.port]
         streams = {
@@ -109,7 +123,8 @@ class Server:
 
     def tells(self, wanted: str) -> str:
         """What it tells until a line has this text."""
-        told, until = "", time.monotonic() + PATIENCE
+        told = ""
+        until = time.monotonic() + PATIENCE
         while wanted not in told and time.monotonic() < until:
             if is_ready(self.child.stderr, 0.1):
                 told += os.read(self.child.stderr.fileno(), 65_536).decode()
@@ -117,13 +132,14 @@ class Server:
         return told
 
     def ended(self) -> Run:
-        """Waits until the server has ended: its exit status, what it printed after the line that says where it
-        listens, and what of standard error nobody has read yet."""
+        """Waits until the server has ended: its exit status, what it printed after the
+        line that says where it listens, and what of standard error nobody has read
+        yet, but for notes on the tournament."""
         printed, told = self.child.communicate(timeout=END)
         return Run(
             self.child.returncode,
             self.first.removeprefix(self._listens) + printed,
-            told or b"",
+            without_notes(told or b""),
         )
 
 
@@ -139,7 +155,8 @@ def serve(
     front: Sequence[object] = (),
     **streams: Any,
 ) -> Server:
-    """The program serves the tournament of a folder, by a command in front of it if one is given."""
+    """The program serves the tournament of a folder, by a command in front of it if one
+    is given."""
     words = [
         *front,
         program,
