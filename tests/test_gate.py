@@ -43,19 +43,28 @@ class Gate(unittest.TestCase):
 
     def test_the_last_line_is_held_back(self) -> None:
         text = "print('1 passed, 0 failed'); print('more'); print('2 passed, 3 failed'); exit(1)"
-        self.assertEqual(self.told(text), ((1, (2, 3)), "1 passed, 0 failed\nmore\n"))
-        self.assertEqual(self.told("print('more')"), ((0, None), "more\n"))
+        self.assertEqual(
+            self.told(text), ((1, (2, 3), False), "1 passed, 0 failed\nmore\n")
+        )
+        self.assertEqual(self.told("print('more')"), ((0, None, False), "more\n"))
 
     def test_a_command_that_fails_counts_so(self) -> None:
-        self.assertEqual(gate.counted(0, None), (1, 0))
-        self.assertEqual(gate.counted(1, None), (0, 1))
-        self.assertEqual(gate.counted(1, (5, 0)), (5, 1))
-        self.assertEqual(gate.counted(1, (5, 2)), (5, 2))
+        for status, counts, wanted in (
+            (0, None, (1, 0)),
+            (1, None, (0, 1)),
+            (1, (5, 0), (5, 1)),
+            (1, (5, 2), (5, 2)),
+        ):
+            self.assertEqual(gate.counted(parts.Ran(status, counts)), wanted)
+
+    def test_a_command_that_plays_nothing_and_skips_nothing_fails(self) -> None:
+        self.assertEqual(gate.counted(parts.Ran(0, (0, 0))), (0, 1))
+        self.assertEqual(gate.counted(parts.Ran(0, (0, 0), has_skipped=True)), (0, 0))
 
     def test_what_was_skipped_is_kept_for_the_end(self) -> None:
         with unittest.mock.patch.object(parts, "skipped", []):
             said = "print('skipped: one: no spin'); print('2 passed, 0 failed')"
-            self.assertEqual(self.told(said), ((0, (2, 0)), ""))
+            self.assertEqual(self.told(said), ((0, (2, 0), True), ""))
             with unittest.mock.patch.object(gate.shutil, "which", return_value=None):
                 self.assertTrue(gate.lacks_compiler(["examples/contest.py"]))
                 self.assertFalse(gate.lacks_compiler(["-m", "tests.hostile.spoilers"]))
@@ -122,7 +131,8 @@ class Gate(unittest.TestCase):
             self.assertEqual([prover.is_current(it) for it in records], [False, False])
 
     def edits_after(self, *lines: str):
-        """What is tried, and counted, of the edits of two crates after these lines of `rt ci`."""
+        """What is tried, and counted, of the edits of two crates after these lines of
+        `rt ci`."""
         crates = pathlib.Path(self.enterContext(tempfile.TemporaryDirectory()))
         for name in ("low", "high"):
             write(crates / name / "must-fail" / "one.edit", "")

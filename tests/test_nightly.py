@@ -1,4 +1,5 @@
-"""tools/nightly runs each tool that the gate leaves out, and skips and names what the machine lacks."""
+"""tools/nightly runs each tool that the gate leaves out, and skips and names what the
+machine lacks."""
 import contextlib
 import io
 import pathlib
@@ -9,9 +10,9 @@ import unittest.mock
 from typing import Tuple
 
 from tests import TOP
+from tests.release import bare
 from tests.test_gate import module
 from tools import parts
-from tests.release import bare
 
 nightly = module(TOP / "tools" / "nightly")
 # compare two builds of the program; the tests of the lab that night runs play the third
@@ -33,8 +34,8 @@ class Nightly(unittest.TestCase):
         run = {word.rpartition(".")[2] for part in nightly.PARTS for word in part.words}
         tools = [
             path
-            for folder in ("hostile", "play")
-            for path in (TOP / "tools" / folder).glob("*.py")
+            for path in (TOP / "tests").glob("*/*.py")
+            if path.parent.name != "support"
         ]
         commands = [
             path for path in tools if '__name__ == "__main__"' in path.read_text()
@@ -42,7 +43,7 @@ class Nightly(unittest.TestCase):
         left = {
             it.stem
             for it in commands
-            if it.stem not in run and f"tools.{it.parent.name}.{it.stem}" not in text
+            if it.stem not in run and f"tests.{it.parent.name}.{it.stem}" not in text
         }
         self.assertEqual(left, BY_HAND)
 
@@ -73,10 +74,18 @@ class Nightly(unittest.TestCase):
         self.assertEqual(
             (last[:2], last[3:]), ([said[0], said[3]], ["0 passed, 1 failed"])
         )
-        self.assertEqual(
-            self.told(nightly.Part("one", ("-c", "")))[1].splitlines()[-1],
-            "1 passed, 0 failed",
-        )
+
+    def test_a_part_that_plays_nothing_fails(self) -> None:
+        none = "print('0 passed, 0 failed')"
+        for text, wanted in (
+            ("", (0, 1)),
+            (none, (0, 1)),
+            (f"print('skipped: it: why'); {none}", (0, 0)),
+        ):
+            with self.subTest(text):
+                self.assertEqual(
+                    self.told(nightly.Part("one", ("-c", text)))[0], wanted
+                )
 
     def test_a_part_that_lacks_something_is_skipped_and_named(self) -> None:
         with unittest.mock.patch.object(

@@ -1,15 +1,15 @@
-"""Runs commands that count, one after the other, for tools/gate and tools/nightly: the last line of each reads `N
-passed, M failed`, and lines that begin with `skipped: ` say what was left out."""
+"""Runs commands that count, one after the other, for tools/gate and tools/nightly: the
+last line of each reads `N passed, M failed`, and lines that begin with `skipped: ` say
+what was left out."""
 import os
 import pathlib
 import re
 import subprocess
 import sys
-from typing import Callable, Iterable, List, Optional, Sequence, Tuple
+from typing import Callable, Iterable, List, NamedTuple, Optional, Sequence
 
 from arena_lab.support.missing import DEBIANS_PYTHON
-from tests.support.counts import Counts, concluded, counts_in
-from tests.runners.python_tests import SKIPPED
+from tests.support.counts import SKIPPED, Counts, concluded, counts_in
 
 TOP = pathlib.Path(__file__).resolve().parents[1]
 # Debian's Python sees Debian's packages
@@ -19,10 +19,21 @@ PYTHON = DEBIANS_PYTHON if pathlib.Path(DEBIANS_PYTHON).exists() else sys.execut
 FAILURE = re.compile(
     r"(?:FAIL|ERROR): \w+ \([\w.]+\)|FAILED:? [^(]|edit \S+: (?:NOT|BAD) |rt: \w+ NOT PROVED"
 )
-PASSED, FAILED, NONE = (1, 0), (0, 1), (0, 0)
+PASSED = (1, 0)
+FAILED = (0, 1)
+NONE = (0, 0)
 # what was skipped, and why, and what failed
 skipped: List[str] = []
 failures: List[str] = []
+
+
+class Ran(NamedTuple):
+    """How a command ended: its exit status, what its last line counts, and whether it
+    said that it skipped something."""
+
+    status: int
+    counts: Optional[Counts]
+    has_skipped: bool = False
 
 
 def is_skipped(line: str) -> bool:
@@ -43,10 +54,11 @@ def run(
     hear: Callable[[str], None] = lambda line: None,
     folder: pathlib.Path = TOP,
     **variables: str,
-) -> Tuple[int, Optional[Counts]]:
-    """Runs a command, and gives its status and what its last line counts, if it does. All other lines are passed on but
-    those that say what was skipped."""
+) -> Ran:
+    """Runs a command. All lines are passed on but the last, if it counts, and those
+    that say what was skipped."""
     held = ""
+    has_skipped = False
     with subprocess.Popen(
         words,
         cwd=folder,
@@ -60,21 +72,26 @@ def run(
         for line in child.stdout:
             print(held, end="", flush=True)
             held = line if counts_in(line) else ""
-            if not held and not is_skipped(line.strip()):
+            if is_skipped(line.strip()):
+                has_skipped = True
+            elif not held:
                 print(line, end="", flush=True)
                 note(line.strip())
             hear(line.strip())
-    return child.returncode, counts_in(held)
+    return Ran(child.returncode, counts_in(held), has_skipped)
 
 
-def counted(status: int, counts: Optional[Counts]) -> Counts:
-    """What counts for a command: its own numbers, with one failed if it failed and does not say so."""
-    passed, failed = counts or (FAILED if status else PASSED)
-    return passed, max(failed, int(status != 0))
+def counted(ran: Ran) -> Counts:
+    """What counts for a command: its own numbers, with one failed if it failed and does
+    not say so, and if it counts none and skipped none: then it played nothing."""
+    passed, failed = ran.counts or (FAILED if ran.status else PASSED)
+    has_played = ran.has_skipped or (passed, failed) != NONE
+    return passed, max(failed, int(ran.status != 0 or not has_played))
 
 
 def say(name: str, counts: Counts) -> None:
-    """Prints what a command counts. If something failed, the line comes again at the end."""
+    """Prints what a command counts. If something failed, the line comes again at the
+    end."""
     line = f"{name}: {counts[0]} passed, {counts[1]} failed"
     print(line, flush=True)
     if counts[1]:
@@ -82,7 +99,8 @@ def say(name: str, counts: Counts) -> None:
 
 
 def conclude(found: Iterable[Counts], lacking: str) -> int:
-    """Prints what was skipped, which packages are lacking, what failed, and the sum: gives how many failed."""
+    """Prints what was skipped, which packages are lacking, what failed, and the sum:
+    gives how many failed."""
     for line in [
         *([f"{len(skipped)} skipped:", *skipped] if skipped else []),
         *([lacking] if lacking else []),

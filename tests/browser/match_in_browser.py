@@ -2,8 +2,10 @@
 
     /usr/bin/python3 -m tests.browser.match_in_browser [FOLDER]
 
-Steps each page to its end, compares each step's line with the replay and the last with `arena judge`, looks through the
-eyes of agents, and finds no error in the console. Screenshots go to the folder. `tools/nightly` installs what it needs.
+Steps each page to its end, compares each step's line with the replay and the last with
+`arena judge`, looks through the eyes of agents, and finds no error in the console.
+Screenshots go to the folder. The last line reads `N passed, M failed`: of what was
+compared. `tools/nightly` installs what it needs.
 """
 import pathlib
 import random
@@ -15,15 +17,17 @@ from typing import List
 
 from selenium.webdriver.common.keys import Keys
 
-from bench import replays
 from arena_lab.rules.engines import asked, program_at
 from arena_lab.rules.model import Match, Setup
 from arena_lab.rules.networks import hypercube
-from tests.support.matches import MAP, RING, fixture, played, ring_fixture
+from bench import replays
 from tests.browser.watch_in_browser import browser
+from tests.support.counts import concluded
+from tests.support.matches import MAP, RING, fixture, played, ring_fixture
 
 TOP = pathlib.Path(__file__).resolve().parents[2]
-WIDE, PHONE = (1200, 1000), (390, 844)
+WIDE = (1200, 1000)
+PHONE = (390, 844)
 SECONDS_TO_OPEN = 10
 MILLISECONDS_OF_A_STEP = 50
 HOSTILE = [
@@ -42,7 +46,8 @@ def cube_replay() -> str:
 
 
 def dark_replay() -> str:
-    """Two black holes and a dark link on a ring of six nodes with a chord, and agents that end in every way."""
+    """Two black holes and a dark link on a ring of six nodes with a chord, and agents
+    that end in every way."""
     links = [(v, 0, (v + 1) % 6, 1) for v in range(6)] + [(0, 2, 3, 2)]
     match = Match(Setup(6, links, 0, [2, 5], 6, 20, 40, [(3, 2)]))
     for agent in range(5):
@@ -91,10 +96,13 @@ class Browser:
 
     def __init__(self, folder: pathlib.Path, pictures: pathlib.Path) -> None:
         self.driver = browser("--force-device-scale-factor=1")
-        self.folder, self.pictures = folder, pictures
+        self.folder = folder
+        self.pictures = pictures
         self.faults: List[str] = []
+        self.right = 0
 
     def check(self, right: bool, what: str) -> None:
+        self.right += right
         if not right:
             self.faults.append(what)
             print(f"FAULT {what}", flush=True)
@@ -114,7 +122,8 @@ class Browser:
         self.driver.execute_script("look(arguments[0])", agent)
 
     def size(self, size: tuple, dark: bool = False) -> None:
-        """A window of this size; the width is also that of the page, which a window can refuse to be."""
+        """A window of this size; the width is also that of the page, which a window can
+        refuse to be."""
         width, height = size
         values = {
             "width": width,
@@ -194,7 +203,8 @@ def steps(browser: Browser, name: str, replay: str) -> None:
 
 
 def matches(browser: Browser, name: str, replay: str, agent: int = 1) -> None:
-    """One page: all steps, then pictures of the whole and through the eyes of an agent that plays."""
+    """One page: all steps, then pictures of the whole and through the eyes of an agent
+    that plays."""
     browser.size(WIDE)
     browser.open(page_of(browser, name, replay))
     steps(browser, name, replay)
@@ -263,7 +273,8 @@ def twins(browser: Browser) -> None:
 
 
 def largest(browser: Browser) -> None:
-    """The largest log that the limits allow opens, and steps within a tenth of a second."""
+    """The largest log that the limits allow opens, and steps within a tenth of a
+    second."""
     source = browser.folder / "source.jsonl"
     with open(source, "w", encoding="utf-8") as out:
         replays.write_replay(out, replays.hole_of_moves(1000), replays.moves(1000))
@@ -295,7 +306,8 @@ def largest(browser: Browser) -> None:
 
 
 def course(browser: Browser) -> None:
-    """The league table of the example course and pages of its teams, all links of which lead to files."""
+    """The league table of the example course and pages of its teams, all links of which
+    lead to files."""
     out = browser.folder / "course"
     words = [
         sys.executable,
@@ -327,7 +339,8 @@ def course(browser: Browser) -> None:
 
 
 def refused(browser: Browser) -> None:
-    """A replay that is cut is refused with the line and the status of `arena judge`, and no page is written."""
+    """A replay that is cut is refused with the line and the status of `arena judge`,
+    and no page is written."""
     source = browser.folder / "cut.jsonl"
     source.write_text(
         "".join(line + "\n" for line in dark_replay().split("\n")[:-2]),
@@ -367,8 +380,8 @@ def main() -> int:
             course(browser)
         finally:
             browser.driver.quit()
-    print(f"pages: {len(browser.faults)} faults; pictures in {pictures}")
-    return 1 if browser.faults else 0
+    print(f"pictures are in {pictures}")
+    return concluded(browser.right, len(browser.faults))
 
 
 if __name__ == "__main__":

@@ -1,10 +1,12 @@
-"""Plays a match as a person does, on the page of `./arena-lab play`, in headless Chromium and by the keyboard alone.
+"""Plays a match as a person does, on the page of `./arena-lab play`, in headless
+Chromium and by the keyboard alone.
 
     /usr/bin/python3 -m tests.browser.person_in_browser [FOLDER]
 
-Two agents search a ring of four nodes. Until the match is over no answer of the page's server may tell more than the
-agents have seen; then the page of the whole match opens. Screenshots go to the folder, at several widths, light and
-dark. `tools/nightly` installs what it needs.
+Two agents search a ring of four nodes. Until the match is over no answer of the page's
+server may tell more than the agents have seen; then the page of the whole match opens.
+Screenshots go to the folder, at several widths, light and dark. `tools/nightly`
+installs what it needs.
 """
 import json
 import pathlib
@@ -22,6 +24,7 @@ from selenium.webdriver.support.ui import WebDriverWait
 
 from examples.contest import free_port
 from tests.browser.watch_in_browser import SECONDS, browser, shoot
+from tests.support.counts import concluded
 
 TOP = pathlib.Path(__file__).resolve().parents[2]
 # what a page may be told of an agent before the match is over
@@ -54,7 +57,8 @@ class Person:
 
 
 def check_secrets(url: str) -> None:
-    """Before the end the server tells what agents have seen, and shows no page of the match."""
+    """Before the end the server tells what agents have seen, and shows no page of the
+    match."""
     with urllib.request.urlopen(f"{url}/seen") as answer:
         seen = json.load(answer)
     if set(seen) != {"over", "agents"} or any(
@@ -70,7 +74,8 @@ def check_secrets(url: str) -> None:
 
 
 def search(person: Person, url: str) -> None:
-    """The first agent enters, writes, and goes into the black hole; the second accuses it."""
+    """The first agent enters, writes, and goes into the black hole; the second accuses
+    it."""
     person.tab_to("enter")
     person.press(Keys.ENTER)
     person.sees("agent 0", "node")
@@ -149,7 +154,7 @@ def main() -> int:
         server.terminate()
         server.wait()
     print(f"played by the keyboard alone; screenshots in {shots}")
-    return 0
+    return concluded(1, 0)
 
 
 if __name__ == "__main__":

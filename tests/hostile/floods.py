@@ -2,11 +2,13 @@
 
     python3 -m tests.hostile.floods PROGRAM [RATE]
 
-RATE connections a second, 3,000 if it is not given, come from 200 addresses of 127.0.1.0/24, and each is held until
-the server cuts it off or 2,000 newer ones are held. Meanwhile 100 agents, two a team, whose first lines come 0.3
-seconds after they connect, search rings of eight nodes by examples/agents/ring.py. It prints how many connections
-came, how many teams solved, how often agents tried to enter, and the slowest answer; the status is 1 if a team did
-not solve, or if the flood ended before. It takes some seconds.
+RATE connections a second, 3,000 if it is not given, come from 200 addresses of
+127.0.1.0/24, and each is held until the server cuts it off or 2,000 newer ones are
+held. Meanwhile 100 agents, two a team, whose first lines come 0.3 seconds after they
+connect, search rings of eight nodes by examples/agents/ring.py. It prints how many
+connections came, how many teams solved, how often agents tried to enter, and the
+slowest answer. The last line reads `N passed, M failed`: a team that did not solve has
+failed, and so has a flood that ended before. It takes some seconds.
 """
 import collections
 import contextlib
@@ -23,9 +25,10 @@ import time
 from typing import Any, Deque, Dict, List
 
 from arena_lab.rules.networks import ring as ring_of
+from tests.support.cases import raise_descriptors
+from tests.support.counts import concluded
 from tests.support.servers import Server
 from tests.support.tournaments import match, write_cup
-from tests.support.cases import raise_descriptors
 
 # agents import their client as it stands beside them
 sys.path.insert(
@@ -35,7 +38,10 @@ sys.path.insert(
 import ring  # noqa: E402
 from client import Agent, MatchOver  # noqa: E402
 
-TEAMS, NODES, HELD, ADDRESSES = 50, 8, 2000, 200
+TEAMS = 50
+NODES = 8
+HELD = 2000
+ADDRESSES = 200
 # seconds between an agent's connection and its first line
 SLOW = 0.3
 # seconds within which all agents have played
@@ -45,9 +51,11 @@ AT_ONCE = struct.pack("ii", 1, 0)
 
 
 class Timed(Agent):
-    """An agent that notes how long each answer takes, and how often it asked to enter."""
+    """An agent that notes how long each answer takes, and how often it asked to
+    enter."""
 
-    slowest, tries = 0.0, 0
+    slowest = 0.0
+    tries = 0
 
     def _ask(self, command: Dict[str, Any]) -> Dict[str, Any]:
         begun = time.monotonic()
@@ -61,7 +69,8 @@ class Timed(Agent):
 def flood(port: int, rate: float, over: Any, count: Any) -> None:
     """Connects and says nothing, until it is over."""
     held: Deque[socket.socket] = collections.deque()
-    begun, came = time.monotonic(), 0
+    begun = time.monotonic()
+    came = 0
     while not over.is_set():
         if came > (time.monotonic() - begun) * rate:
             time.sleep(0.001)
@@ -92,10 +101,8 @@ def main(words: List[str]) -> int:
     if len(words) not in (1, 2):
         sys.exit((__doc__ or "").strip())
     raise_descriptors()
-    program, rate = (
-        os.path.abspath(words[0]),
-        float(words[1]) if len(words) > 1 else 3000.0,
-    )
+    program = os.path.abspath(words[0])
+    rate = float(words[1]) if len(words) > 1 else 3000.0
     with tempfile.TemporaryDirectory() as name:
         folder = pathlib.Path(name)
         write_cup(
@@ -117,7 +124,8 @@ def main(words: List[str]) -> int:
             "--early",
         ]
         server = Server(words, folder, stderr=subprocess.DEVNULL)
-        over, count = multiprocessing.Event(), multiprocessing.Value("l", 0)
+        over = multiprocessing.Event()
+        count = multiprocessing.Value("l", 0)
         stranger = multiprocessing.Process(
             target=flood, args=(server.port, rate, over, count)
         )
@@ -146,7 +154,7 @@ def main(words: List[str]) -> int:
         f"{count.value} connections in {took:.1f} s; {solved} of {TEAMS} teams solved; {Timed.tries} tries of "
         f"{2 * TEAMS} agents to enter; the slowest answer took {Timed.slowest:.2f} s"
     )
-    return 0 if solved == TEAMS and stranger.exitcode == 0 else 1
+    return concluded(solved, TEAMS - solved + (stranger.exitcode != 0))
 
 
 if __name__ == "__main__":

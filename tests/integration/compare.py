@@ -1,11 +1,14 @@
-"""Compares the engines: the proved program and the Python model play the same matches, and every byte must agree.
+"""Compares the engines: the proved program and the Python model play the same matches,
+and every byte must agree.
 
     /usr/bin/python3 -m tests.integration.compare [--matches N] [--seed S] [--program PATH]
 
-Each match has a drawn network, up to three black holes and two dark links, 1 to 8 agents, small quotas and small
-whiteboards. Half of the matches are drawn scripts, in which connections speak out of turn, end, or send lines that are
-no commands. In the other half agents do anything under a drawn schedule. The command compares what comes out of each
-line, and then the replays and the verdicts. The exit status is 1 if something differs.
+Each match has a drawn network, up to three black holes and two dark links, 1 to 8
+agents, small quotas and small whiteboards. Half of the matches are drawn scripts, in
+which connections speak out of turn, end, or send lines that are no commands. In the
+other half agents do anything under a drawn schedule. The command compares what comes
+out of each line, and then the replays and the verdicts. The last line reads `N passed,
+M failed`: a match in which something differs has failed, and the exit status is 1 then.
 """
 import argparse
 import pathlib
@@ -24,14 +27,15 @@ from arena_lab.rules import networks
 from arena_lab.rules.engines import (
     Differs,
     Engine,
-    Program,
     EngineRefused,
+    Program,
     judged,
     program_at,
 )
 from arena_lab.rules.fixtures import Fixture
 from arena_lab.rules.model import OVER, Object, Setup, judge, played, spelled
 from arena_lab.support.progress import along
+from tests.support.counts import concluded
 
 TEXTS = ["", "a", "bb\u20ac", "1234567", '\\ "\u0001']
 GARBAGE = [
@@ -48,7 +52,10 @@ GARBAGE = [
     b'{"do":"enter","key":7}',
     b'{"do":"look","x":"\\ud800"}',
 ]
-AGENTS, QUOTA, BOARD, LINES = 8, 30, 6, 300
+AGENTS = 8
+QUOTA = 30
+BOARD = 6
+LINES = 300
 
 
 def drawn_fixture(chance: random.Random) -> Fixture:
@@ -97,7 +104,8 @@ def play_lines(engine: Engine, fixture: Fixture, chance: random.Random) -> None:
     """Gives the engine lines by chance."""
     connections = len(fixture.keys) + 2
     for _ in range(LINES):
-        number, kind = chance.randrange(connections), chance.random()
+        number = chance.randrange(connections)
+        kind = chance.random()
         if kind < 0.35:
             engine.draw(chance.randrange(2**32))
         elif kind < 0.5:
@@ -160,9 +168,8 @@ def compare_verdicts(program: str, replay: bytes) -> None:
     with tempfile.NamedTemporaryFile(suffix=".jsonl") as file:
         file.write(replay)
         file.flush()
-        found, wanted = judged(program, pathlib.Path(file.name)), judge(
-            played(replay.decode())
-        )
+        found = judged(program, pathlib.Path(file.name))
+        wanted = judge(played(replay.decode()))
     if found != wanted:
         raise Differs(f"the program's verdict is {found}, the Python model's {wanted}")
 
@@ -177,8 +184,10 @@ def fault_of(program: str, seed: int) -> List[str]:
 
 
 def compare(program: str, seeds: range) -> Tuple[int, List[str]]:
-    """How many matches of these seeds were played, all unless it is interrupted, and what differs, a line for each."""
-    played, faults = 0, []
+    """How many matches of these seeds were played, all unless it is interrupted, and
+    what differs, a line for each."""
+    played = 0
+    faults = []
     try:
         for seed in along(seeds, len(seeds), "match"):
             faults += fault_of(program, seed)
@@ -211,8 +220,7 @@ def main() -> int:
     )
     for fault in faults:
         print(fault, file=sys.stderr)
-    print(f"{played} matches, {len(faults)} differ")
-    return 1 if faults else 0
+    return concluded(played - len(faults), len(faults))
 
 
 if __name__ == "__main__":

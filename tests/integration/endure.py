@@ -2,10 +2,12 @@
 
     /usr/bin/python3 -m tests.integration.endure [--runs N] [--seed S]
 
-Two agents that know n search rings of n nodes, for n from 3 to 64. On the hypercube of 16 nodes, the torus of 5 rows
-and 5 columns, and 50 drawn networks there is one agent more than the greatest degree. Two agents that have the map
-search all of these. Seeds take the networks, the black holes and the schedulers in turn, and the Python model plays. A
-line is printed for each match in which the team fails; the exit status is then 1.
+Two agents that know n search rings of n nodes, for n from 3 to 64. On the hypercube of
+16 nodes, the torus of 5 rows and 5 columns, and 50 drawn networks there is one agent
+more than the greatest degree. Two agents that have the map search all of these. Seeds
+take the networks, the black holes and the schedulers in turn, and the Python model
+plays. A line is printed for each match in which the team fails; the exit status is then
+1. The last line reads `N passed, M failed`.
 """
 import argparse
 import itertools
@@ -23,12 +25,14 @@ from arena_lab.rules.model import Setup
 from arena_lab.rules.networks import named
 from arena_lab.rules.rehearsal import Rehearsal
 from arena_lab.support.progress import along
+from tests.support.counts import concluded
 
 RUNS = 10_000
 RING = AgentWords(INSIDE, f"{AGENTS / 'ring.py'} {{nodes}}")
 MAP = AgentWords(INSIDE, f"{AGENTS / 'map.py'} {{nodes}} {{links}}")
 KNOWN_MAP = AgentWords(INSIDE, str(AGENTS / "known_map.py"))
-QUOTA, BOARD = 1000, 4096
+QUOTA = 1000
+BOARD = 4096
 
 
 class Pairing(NamedTuple):
@@ -65,8 +69,10 @@ def fixture_for(pairing: Pairing, seed: int) -> Fixture:
 
 def fault_of(seed: int) -> str:
     """What is wrong with the match of a seed, or nothing."""
-    pairing, names = PAIRINGS[seed % len(PAIRINGS)], sorted(schedulers.NAMED)
-    name, turn = names[seed // len(PAIRINGS) % len(names)], seed // len(PAIRINGS)
+    pairing = PAIRINGS[seed % len(PAIRINGS)]
+    names = sorted(schedulers.NAMED)
+    name = names[seed // len(PAIRINGS) % len(names)]
+    turn = seed // len(PAIRINGS)
     fixture = fixture_for(pairing, turn)
     team = Together([pairing.agent] * fixture.setup.agents, fixture, 5)
     played = play(Rehearsal(fixture), team, schedulers.NAMED[name](turn), fixture)
@@ -108,9 +114,8 @@ def main() -> int:
                 print(fault, flush=True)
     except KeyboardInterrupt:
         print("interrupted; until then:")
-    networks = len({pairing.network for pairing in PAIRINGS})
-    print(f"{played} matches on {networks} networks, {len(faults)} failed")
-    return 1 if faults else 0
+    print(f"played on {len({pairing.network for pairing in PAIRINGS})} networks")
+    return concluded(played - len(faults), len(faults))
 
 
 if __name__ == "__main__":

@@ -1,11 +1,12 @@
-"""Writes the kit of each language, builds it, runs its own test, and plays its sample agent against a server of the
-tests and on the program.
+"""Writes the kit of each language, builds it, runs its own test, and plays its sample
+agent against a server of the tests and on the program.
 
     /usr/bin/python3 -m tests.release.kits PROGRAM [LANGUAGE ..]
 
-They need Debian's packages: compilers, and libraries for JSON; Cargo takes Debian's crates. A kit that lacks one is
-skipped, and a line says what to install. The last line reads `N passed, M failed`; for each kit it is told how long it
-took until its last match was solved.
+They need Debian's packages: compilers, and libraries for JSON; Cargo takes Debian's
+crates. A kit that lacks one is skipped, and a line says what to install. The last line
+reads `N passed, M failed`; for each kit it is told how long it took until its last
+match was solved.
 """
 import pathlib
 import sys
@@ -13,10 +14,9 @@ import tempfile
 from typing import List
 
 from arena_lab.play.kits import KITS
+from tests.support.counts import SKIPPED, concluded
 from tests.support.kits_played import Played
-from tests.support.counts import concluded
 from tools import packages
-from tests.runners.python_tests import SKIPPED
 
 # Debian's crates that the kit in Rust needs on a machine which reaches no other
 CRATES = ("librust-serde-json-dev",)
@@ -26,7 +26,8 @@ def main(given: List[str]) -> int:
     if not given or given[0] in ("-h", "--help") or not set(given[1:]) <= set(KITS):
         print((__doc__ or "").strip())
         return 0 if given and given[0] in ("-h", "--help") else 2
-    program, chosen = str(pathlib.Path(given[0]).resolve()), given[1:] or list(KITS)
+    program = str(pathlib.Path(given[0]).resolve())
+    chosen = given[1:] or list(KITS)
     passed = failed = 0
     for language in chosen:
         absent = packages.missing(

@@ -1,11 +1,13 @@
-"""Runs the tests of the lab that play: on the built program, by Debian's Python with Debian's packages.
+"""Runs the tests of the lab on the built program, by Debian's Python with Debian's
+packages.
 
-    python3 -m tests.runners.integration_tests PROGRAM [ROOM.FILE ..]
+    python3 -m tests.runners.integration_tests PROGRAM [PACKAGE.FILE ..]
 
-The tests are those of tests/integration/ROOM/test_*.py, or of the files that are named, as many files at a time as there
-are processors, since most tests wait. A file is skipped if the machine lacks a package that each of its tests needs
-(tools/packages.toml). What a file's tests print comes once they have ended. The last line reads `N passed, M failed`,
-and the exit status is 1 if one failed.
+The tests are those of tests/integration/PACKAGE/test_*.py, or of the files that are
+named, as many files at a time as there are processors, since most tests wait. A file is
+skipped if the machine lacks a package that each of its tests needs
+(tools/packages.toml). What a file's tests print comes once they have ended. The last
+line reads `N passed, M failed`, and the exit status is 1 if one failed.
 """
 import concurrent.futures
 import os
@@ -16,12 +18,12 @@ import time
 from typing import Dict, List
 
 from arena_lab.support.missing import DEBIANS_PYTHON
-from tests.support.counts import Counts, concluded, counts_in
+from tests.support.counts import SKIPPED, Counts, concluded, counts_in
 from tools import packages
-from tests.runners.python_tests import SKIPPED
 
 TOP = pathlib.Path(__file__).resolve().parents[2]
-# runs tests/runners/python_tests.py and imports no `tools`: agents of the tests have modules of that name
+# runs tests/runners/python_tests.py and imports no `tools`: agents of the tests have
+# modules of that name
 RUN = (
     "import runpy; runpy.run_path('tests/runners/python_tests.py', run_name='__main__')"
 )
@@ -36,9 +38,11 @@ def lacking(name: str) -> List[str]:
 
 
 def counts_of(name: str, variables: Dict[str, str]) -> Counts:
-    """Runs the tests of a file, prints what they said, and gives how many passed and failed. A file that has no tests,
-    or whose tests end the process, counts as one that failed."""
-    begun, absent = time.monotonic(), lacking(name)
+    """Runs the tests of a file, prints what they said, and gives how many passed and
+    failed. A file that has no tests, or whose tests end the process, counts as one that
+    failed."""
+    begun = time.monotonic()
+    absent = lacking(name)
     if absent:
         more = f" and {len(absent) - 1} more" if len(absent) > 1 else ""
         print(

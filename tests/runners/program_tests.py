@@ -1,13 +1,17 @@
-"""Plays the program: the rows of text of tests/program, and cases that are made by rules.
+"""Plays the program: the rows of text of tests/program, and cases that are made by
+rules.
 
     python3 -m tests.runners.program_tests PROGRAM [FOLDER]
 
-PROGRAM is the built program. With a folder only the rows of its files are played: those of tests/benchmark go with the
-benchmark. program_rows.py says how rows are read and played; the other cases are in program_cases.py,
-interactive_cases.py, exploring_cases.py, module_cases.py, player_cases.py, contest_cases.py, serving_cases.py,
-replay_cases.py, traced_files.py, program_contests.py and program_rehearsals.py. Each row and each case is played in a
-fresh temporary folder; nothing in the repository is overwritten. For each that fails a line names the file and the
-title, what was wanted and what came. The last line reads `N passed, M failed`, and the exit status is 1 if one failed.
+PROGRAM is the built program. With a folder only the rows of its files are played: those
+of tests/benchmark go with the benchmark. program_rows.py says how rows are read and
+played; the other cases are in program_cases.py, interactive_cases.py,
+exploring_cases.py, module_cases.py, player_cases.py, contest_cases.py,
+serving_cases.py, replay_cases.py, traced_files.py, program_contests.py and
+program_rehearsals.py. Each row and each case is played in a fresh temporary folder;
+nothing in the repository is overwritten. For each that fails a line names the file and
+the title, what was wanted and what came. The last line reads `N passed, M failed`, and
+the exit status is 1 if one failed.
 """
 import concurrent.futures
 import functools
@@ -16,7 +20,6 @@ import sys
 import unittest
 from typing import Iterator, NamedTuple, Sequence, Union
 
-from tests.support.counts import concluded
 from tests.program import (
     contest_cases,
     exploring_cases,
@@ -30,8 +33,8 @@ from tests.program import (
     traced_files,
 )
 from tests.program.program_cases import CASES, Trial
+from tests.support.counts import SKIPPED, concluded
 from tests.support.program_rows import fault_of, play, rows_of
-from tests.runners.python_tests import SKIPPED
 
 # each adds its cases to CASES
 FILES = (

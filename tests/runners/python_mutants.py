@@ -1,19 +1,23 @@
-"""Tries whether the nearest tests find mistakes in the Python that publishes results: tables, verdicts, schedules,
-leagues and statistics.
+"""Tries whether the nearest tests find mistakes in the Python that publishes results:
+tables, verdicts, schedules, leagues and statistics.
 
     python3 -m tests.runners.python_mutants [NUMBER ..]
 
-Each mutant of MUTANTS is one change to one file, in a copy of the repository's Python, and the tests that stand
-nearest are run on it, by Debian's Python: they must fail. It first runs all of these tests on the copy as it is: they
-must pass. It is for trying by hand, not for the gate. The last line reads `N found, M not found`, and the exit status
-is 1 if one is not found.
+Each mutant of MUTANTS is one change to one file, in a copy of the repository's Python,
+and the tests that stand nearest are run on it, by Debian's Python: they must fail. It
+first runs all of these tests on the copy as it is: they must pass. It is for trying by
+hand, not for the gate. The last line reads `N passed, M failed`: a mutant that is not
+found has failed, and the exit status is 1 then.
 """
 import pathlib
+import re
 import shutil
 import subprocess
 import sys
 import tempfile
 from typing import List, NamedTuple
+
+from tests.support.counts import concluded
 
 TOP = pathlib.Path(__file__).resolve().parents[2]
 DEBIANS_PYTHON = "/usr/bin/python3"
@@ -23,16 +27,23 @@ SECONDS = 300
 
 
 class Mutant(NamedTuple):
-    """A change to a file, and the tests that must find it."""
+    """A change to a file, and the tests that must find it. However the lines of its
+    text are broken, it stands once in the file."""
 
     file: str
     before: str
     after: str
     tests: str
 
+    def places(self, text: str) -> List["re.Match[str]"]:
+        words = re.findall(r"\w+|[^\w\s]", self.before)
+        return [*re.finditer(r"\s*".join(map(re.escape, words)), text)]
 
-MODEL, MATCHES = "tests.lab.rules.test_model", "tests.lab.play.test_schedulers"
-GRADE, SWEEP = "tests.lab.course.test_grade", "tests.lab.sweep.test_sweep"
+
+MODEL = "tests.lab.rules.test_model"
+MATCHES = "tests.lab.play.test_schedulers"
+GRADE = "tests.lab.course.test_grade"
+SWEEP = "tests.lab.sweep.test_sweep"
 MUTANTS = (
     Mutant(
         "arena_lab/rules/model.py",
@@ -40,9 +51,7 @@ MUTANTS = (
         '("solved", "unfinished", "guess",',
         MODEL,
     ),
-    Mutant(
-        "arena_lab/rules/model.py", '"silent", "wrong")', '"wrong", "silent")', MODEL
-    ),
+    Mutant("arena_lab/rules/model.py", '"silent", "wrong"', '"wrong", "silent"', MODEL),
     Mutant(
         "arena_lab/rules/model.py",
         "verdict.moves, verdict.lost, team",
@@ -61,9 +70,7 @@ MUTANTS = (
         "agent.standing == AWAY for agent",
         MODEL,
     ),
-    Mutant(
-        "arena_lab/rules/model.py", "if not accused or not named", "if not named", MODEL
-    ),
+    Mutant("arena_lab/rules/model.py", "not accused or not named", "not named", MODEL),
     Mutant(
         "arena_lab/play/server.py",
         "enumerate(ranked, 1)",
@@ -102,8 +109,8 @@ MUTANTS = (
     ),
     Mutant(
         "arena_lab/rules/networks.py",
-        "not {(one, two), (two, one)} & set(pairs)",
-        "(one, two) not in pairs",
+        "(one, two), (two, one)",
+        "(one, two)",
         "tests.lab.rules.test_networks",
     ),
     Mutant(
@@ -184,11 +191,15 @@ def is_found(folder: pathlib.Path, mutant: Mutant) -> bool:
     """Whether the nearest tests fail on a mutant."""
     path = folder / mutant.file
     text = path.read_text(encoding="utf-8")
-    if text.count(mutant.before) != 1:
+    places = mutant.places(text)
+    if len(places) != 1:
         sys.exit(
-            f"{mutant.file}: `{mutant.before}` stands there {text.count(mutant.before)} times: name another text"
+            f"{mutant.file}: `{mutant.before}` stands there {len(places)} times: name another text"
         )
-    path.write_text(text.replace(mutant.before, mutant.after), encoding="utf-8")
+    path.write_text(
+        text[: places[0].start()] + mutant.after + text[places[0].end() :],
+        encoding="utf-8",
+    )
     try:
         return not run(folder, [mutant.tests])
     finally:
@@ -201,7 +212,8 @@ def main(given: List[str]) -> int:
         return 0 if given in (["-h"], ["--help"]) else 2
     chosen = [int(word) for word in given] or list(range(len(MUTANTS)))
     with tempfile.TemporaryDirectory() as name:
-        folder, left = pathlib.Path(name), 0
+        folder = pathlib.Path(name)
+        left = 0
         for it in FOLDERS:
             shutil.copytree(
                 TOP / it,
@@ -214,13 +226,10 @@ def main(given: List[str]) -> int:
             mutant = MUTANTS[number]
             found = is_found(folder, mutant)
             left += not found
-            told, shown = (
-                "found" if found else "NOT FOUND",
-                mutant.after.strip() or mutant.before,
-            )
+            told = "found" if found else "NOT FOUND"
+            shown = mutant.after.strip() or mutant.before
             print(f"{number} {told}: {mutant.file}: {shown}", flush=True)
-    print(f"{len(chosen) - left} found, {left} not found")
-    return 1 if left else 0
+    return concluded(len(chosen) - left, left)
 
 
 if __name__ == "__main__":

@@ -2,15 +2,15 @@
 
     python3 -m tests.runners.python_tests [MODULE ..]
 
-Without modules it runs all tests that need no program. A line `skipped: TEST: WHY` tells each that was skipped. The
-last line reads `N passed, M failed`, in which the skipped do not count; the exit status is 1 if one failed, or if none
-was run or skipped.
+Without modules it runs all tests that need no program. A line `skipped: TEST: WHY`
+tells each that was skipped. The last line reads `N passed, M failed`, in which the
+skipped do not count; the exit status is 1 if one failed, or if none was run or skipped.
 """
 import sys
 import unittest
 from typing import List
 
-SKIPPED = "skipped: "
+from tests.support.counts import SKIPPED
 
 
 def main(names: List[str]) -> int:

@@ -1,8 +1,10 @@
-"""How a tool that tests says what it found: its last line reads `N passed, M failed`, lines that begin with `skipped: `
-say what was left out, and its exit status is 1 if something failed."""
+"""How a tool that tests says what it found: its last line reads `N passed, M failed`,
+lines that begin with `skipped: ` say what was left out, and its exit status is 1 if
+something failed."""
 import re
 from typing import Optional, Tuple
 
+SKIPPED = "skipped: "
 COUNTS = re.compile(r"(\d+) passed, (\d+) failed")
 Counts = Tuple[int, int]
 

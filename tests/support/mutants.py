@@ -2,10 +2,12 @@
 
     /usr/bin/python3 -m tests.support.mutants [NAME ..] [--program PATH]
 
-Each of arena_lab/mutants/*.py is a sample agent with one mistake, and its first lines name it. `hunt` looks for a
-schedule after which the agent fails, and `explore` tries all schedules of a small network. A line says for each mutant
-after how many schedules and seconds `hunt` caught it, what the program's verdict was, and after how many states
-`explore` caught it. The exit status is 1 if one of them does not catch it.
+Each of arena_lab/mutants/*.py is a sample agent with one mistake, and its first lines
+name it. `hunt` looks for a schedule after which the agent fails, and `explore` tries
+all schedules of a small network. A line says for each mutant after how many schedules
+and seconds `hunt` caught it, what the program's verdict was, and after how many states
+`explore` caught it. The last line reads `N passed, M failed`: a mutant that one of them
+does not catch has failed, and the exit status is 1 then.
 """
 import argparse
 import sys
@@ -17,6 +19,7 @@ from arena_lab.commands.words import add_program
 from arena_lab.rules.engines import program_at
 from arena_lab.rules.model import Verdict
 from arena_lab.support.built import LAB
+from tests.support.counts import concluded
 
 FOLDER = LAB / "mutants"
 
@@ -29,7 +32,8 @@ class MutantMatch(NamedTuple):
 
 
 class MutantPlan(NamedTuple):
-    """The words of a mutant's agents, and where it is to be caught by `hunt` and by `explore`."""
+    """The words of a mutant's agents, and where it is to be caught by `hunt` and by
+    `explore`."""
 
     words: str
     hunted: MutantMatch
@@ -60,7 +64,8 @@ PLANS: Dict[str, MutantPlan] = {
 
 
 class Caught(NamedTuple):
-    """What a command said of a mutant: whether it caught it, after how many tries and seconds, and the verdict."""
+    """What a command said of a mutant: whether it caught it, after how many tries and
+    seconds, and the verdict."""
 
     is_caught: bool
     tries: int
@@ -70,7 +75,8 @@ class Caught(NamedTuple):
 
 def hunted(name: str, program: str) -> Caught:
     """What `hunt` finds of a mutant."""
-    plan, started = PLANS[name], time.monotonic()
+    plan = PLANS[name]
+    started = time.monotonic()
     found = api.hunt(
         plan.hunted.network, agent_of(name), count=plan.hunted.agents, engine=program
     )
@@ -80,8 +86,10 @@ def hunted(name: str, program: str) -> Caught:
 
 
 def explored(name: str) -> Caught:
-    """What the Python model's search finds of a mutant, which takes less time than that of the program."""
-    plan, started = PLANS[name], time.monotonic()
+    """What the Python model's search finds of a mutant, which takes less time than that
+    of the program."""
+    plan = PLANS[name]
+    started = time.monotonic()
     found = api.explore(
         plan.explored.network, agent_of(name), count=plan.explored.agents
     )
@@ -135,13 +143,13 @@ def main() -> int:
         parser.error(
             f"there is no mutant {', '.join(sorted(unknown))}; there are {', '.join(sorted(PLANS))}"
         )
-    program, left = program_at(words.program), 0
+    program = program_at(words.program)
+    left = 0
     for name in names:
         hunted, explored = caught(name, program)
         print(line_of(name, hunted, explored), flush=True)
         left += not (hunted.is_caught and explored.is_caught)
-    print(f"{len(names)} mutants, {left} not caught")
-    return 1 if left else 0
+    return concluded(len(names) - left, left)
 
 
 if __name__ == "__main__":

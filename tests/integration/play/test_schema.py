@@ -1,6 +1,7 @@
-"""The schema of lines holds of each line of the program's rows and of drawn matches: it takes a client's line exactly
-if the rules read it as a command, and each line that a client is sent. The schema of files takes each file that the
-program takes, in examples, documents and rows, and refuses what rows say is absent or of another shape."""
+"""The schema of lines holds of each line of the program's rows and of drawn matches: it
+takes a client's line exactly if the rules read it as a command, and each line that a
+client is sent. The schema of files takes each file that the program takes, in examples,
+documents and rows, and refuses what rows say is absent or of another shape."""
 import json
 import random
 import re
@@ -8,7 +9,8 @@ import tomllib
 import unittest
 from typing import Any, Dict, Iterator, List, Tuple
 
-from jsonschema import Draft4Validator, RefResolver
+from jsonschema import RefResolver
+from jsonschema.validators import validator_for
 
 from arena_lab.rules.engines import TOP
 from arena_lab.rules.model import BAD, command_of, value_of
@@ -21,30 +23,39 @@ FILES: Dict[str, Any] = json.loads(
     (TOP / "docs" / "files.schema.json").read_text(encoding="utf-8")
 )
 ROWS = TOP / "tests" / "program"
-# what of a fault of a file a schema can see, and of these what needs a sum or counts bytes
-SEEN = re.compile(r"\S+: (match \d+ )?(missing|shape|version)\b.*")
+# what of a fault of a file a schema can see, and of these what needs a sum or counts
+# bytes
+SEEN = re.compile(r"\S+: (match \d+ )?(missing|shape|version|unknown key)\b.*")
 UNSEEN = re.compile(".*shape (delay_odds|network|keys)")
 # what a client says in a script, and what it is told
-SAID, TOLD = re.compile(r"> \d+ (.*)"), re.compile(r'< \d+ (\{"(?:board|no|ok)":.*\})')
+SAID = re.compile(r"> \d+ (.*)")
+TOLD = re.compile(r'< \d+ (\{"(?:board|no|ok)":.*\})')
 
 
-def of(kind: str) -> Draft4Validator:
-    return Draft4Validator(
+# validators of the drafts that the schemas declare
+OfLines = validator_for(SCHEMA)
+OfFiles = validator_for(FILES)
+
+
+def of(kind: str) -> Any:
+    return OfLines(
         {"$ref": f"#/definitions/{kind}", "definitions": SCHEMA["definitions"]}
     )
 
 
-COMMANDS, ANSWERS = of("command"), of("answer")
+COMMANDS = of("command")
+ANSWERS = of("answer")
 
 
-def of_files(kind: str) -> Draft4Validator:
-    """The part of the schema of files for such a file; what it takes of the schema of lines stands beside it."""
+def of_files(kind: str) -> Any:
+    """The part of the schema of files for such a file; what it takes of the schema of
+    lines stands beside it."""
     resolver = RefResolver(
         f"file://{TOP}/docs/files.schema.json",
         FILES,
         {f"file://{TOP}/docs/agent.schema.json": SCHEMA},
     )
-    return Draft4Validator(
+    return OfFiles(
         {"$ref": f"#/definitions/{kind}", "definitions": FILES["definitions"]},
         resolver=resolver,
     )
@@ -56,8 +67,8 @@ def kind_of(found: Dict[str, Any]) -> str:
 
 
 def changed_files() -> Iterator[Tuple[str, str, str]]:
-    """The files of the rows of `check` as they are changed there, with what the program says: the name that is
-    checked, the text, and the lines."""
+    """The files of the rows of `check` as they are changed there, with what the program
+    says: the name that is checked, the text, and the lines."""
     files: Dict[str, str] = {}
     name = source = ""
     for line in (
@@ -82,7 +93,8 @@ def of_rows() -> Iterator[Tuple[bool, str]]:
     """The lines of the rows, each with whether a client said it."""
     for path in sorted(ROWS.glob("*.rows")):
         for line in path.read_text(encoding="utf-8").split("\n"):
-            said, told = SAID.fullmatch(line), TOLD.fullmatch(line.strip())
+            said = SAID.fullmatch(line)
+            told = TOLD.fullmatch(line.strip())
             if said:
                 yield True, said[1]
             elif told:
@@ -99,7 +111,7 @@ def is_json(line: str) -> bool:
 
 class TestSchema(unittest.TestCase):
     def test_it_is_a_schema(self) -> None:
-        Draft4Validator.check_schema(SCHEMA)
+        OfLines.check_schema(SCHEMA)
 
     def take(self, is_said: bool, line: str) -> None:
         if is_said:
@@ -145,7 +157,7 @@ class TestFiles(unittest.TestCase):
             of_files(kind_of(found)).validate(found)
 
     def test_it_is_a_schema(self) -> None:
-        Draft4Validator.check_schema(FILES)
+        OfFiles.check_schema(FILES)
 
     def test_examples_and_what_documents_show(self) -> None:
         paths = [
@@ -172,7 +184,7 @@ class TestFiles(unittest.TestCase):
                 self.take(shown)
 
     def test_files_of_rows_and_their_faults(self) -> None:
-        counts = [0, 0]
+        counts = [0, 0, 0]
         for name, text, told in changed_files():
             try:
                 found = tomllib.loads(text)
@@ -192,18 +204,20 @@ class TestFiles(unittest.TestCase):
                 ):
                     self.assertFalse(is_right)
                     counts[1] += 1
-        self.assertGreater(min(counts), 25)
+                    counts[2] += "unknown key" in told
+        self.assertGreater(min(counts[:2]), 25)
+        self.assertGreater(counts[2], 5)
 
     def test_each_key_of_each_line_of_a_replay(self) -> None:
-        """A line without it, with another one, or with a value of another kind is none."""
+        """A line without it, with another one, or with a value of another kind is
+        none."""
         lines: List[str] = (
             (TOP / "examples" / "appeal0.jsonl")
             .read_text(encoding="utf-8")
             .splitlines()
         )
-        validator, kinds = of_files("replay line"), {
-            tuple(json.loads(line)): line for line in lines
-        }
+        validator = of_files("replay line")
+        kinds = {tuple(json.loads(line)): line for line in lines}
         self.assertGreater(len(kinds), 5)
         for line in map(json.loads, kinds.values()):
             for key in line:

@@ -1,14 +1,14 @@
-"""The model checker SPIN finds the same most moves of all schedules as `./arena-lab explore`, and finds a mistake.
+"""The model checker SPIN finds the same most moves of all schedules as `./arena-lab
+explore`, and finds a mistake.
 
-The models in experiments/models were written by hand and share nothing with the program and the lab.
+The models in bench/models were written by hand and share nothing with the program and
+the lab.
 """
 import unittest
 from unittest import mock
 
 import arena_lab.api
-from bench import explore
-from bench import spin as bench_spin
-from bench import promela
+from bench import explore, promela, spin as bench_spin
 from tests.support.matches import RING_STEP, program
 
 
@@ -31,7 +31,8 @@ class TestSpin(unittest.TestCase):
                     )
 
     def test_spin_finds_a_mistake(self) -> None:
-        """An agent that does not look again before it writes overwrites what the other one has told."""
+        """An agent that does not look again before it writes overwrites what the other
+        one has told."""
         source = (promela.MODELS / "ring_merged.pml").read_text(encoding="utf-8")
         unchanged = "#define IS_UNCHANGED (right_seen == right_mark[node] && left_seen == left_mark[node])"
         self.assertIn(unchanged, source)

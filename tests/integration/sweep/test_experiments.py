@@ -5,14 +5,14 @@ import io
 from typing import Dict, List
 from unittest import mock
 
-from bench import explore
-from experiments import growth, make
-from experiments.division import Table, bound, of_ring3
 from arena_lab.rules import networks
 from arena_lab.rules.engines import TOP
 from arena_lab.search.ring_bounds import most_moves
 from arena_lab.sweep import grid, report, sweeping, tables
 from arena_lab.sweep.sweeping import SweepJob
+from bench import explore
+from experiments import growth, make
+from experiments.division import Table, bound, of_ring3
 from tests.support.matches import InFolder, program
 
 DOCUMENT = make.DOCUMENT
@@ -32,7 +32,8 @@ SWEEPS = (
 )
 SMALL_EXPLORED = ("ring:3", "ring:4", "ring:5")
 # rings on which so few schedules show the most moves that were hunted
-SMALL_HUNTED, FEW = ("ring:4", "ring:8"), 150
+SMALL_HUNTED = ("ring:4", "ring:8")
+FEW = 150
 HUNTED = 8
 
 
@@ -60,8 +61,8 @@ class Experiments(InFolder):
         self.asked = make.Asked(self.folder, ["--engine", "model"])
 
     def test_small_parts_of_the_sweeps(self) -> None:
-        for name, (file, networks) in SMALL.items():
-            spec = grid.read(make.EXPERIMENTS / f"{file}.toml")._replace(names=networks)
+        for name, (file, names) in SMALL.items():
+            spec = grid.read(make.EXPERIMENTS / f"{file}.toml")._replace(names=names)
             work = SweepJob("", None)
             rows = [
                 sweeping.row_for(case, *sweeping.played_case(work, spec, case), None)
@@ -151,7 +152,8 @@ class Experiments(InFolder):
         )
         for row in rows:
             nodes = int(row[0].partition(":")[2])
-            halves, thirds = most_moves(nodes), Table(nodes, of_ring3).moves()
+            halves = most_moves(nodes)
+            thirds = Table(nodes, of_ring3).moves()
             with self.subTest(nodes=nodes):
                 self.assertEqual((row[3], row[6]), (str(halves), str(thirds)))
                 shares = [f"{thirds / bound(nodes):.2f}", f"{thirds / halves:.2f}"]
