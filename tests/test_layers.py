@@ -1,4 +1,5 @@
-"""The lab's rooms stand on each other in one order, and no module imports one that imports it."""
+"""Folders of Python stand on each other in one order, the lab's packages too, and no
+module imports one that imports it."""
 import ast
 import graphlib
 import importlib
@@ -10,8 +11,9 @@ from typing import Dict, Iterator, List, Set, Tuple
 
 from arena_lab.support.built import LAB, TOP
 
-# from the ground up: a room imports from itself and from rooms below it; so do the modules that stand in no room
-ROOMS = (
+# from the ground up: a package imports from itself and from packages below it; so do
+# the modules that stand in no package
+PACKAGES = (
     "support",
     "rules",
     "pages",
@@ -26,18 +28,29 @@ ROOMS = (
     "__main__",
     "start",
 )
-TESTS = ("tests", "mutants")
-# these modules need Django and a hall, which no unit test has: they are read and not imported
-HALL = ("arena_lab.hall.", "tests.integration.hall.hall_pages")
+# folders from the ground up: a folder imports from itself and from those before it, and
+# of its own row from itself alone
+FOLDERS = (
+    ("arena_lab",),
+    ("examples",),
+    ("tests.support",),
+    ("bench", "tools"),
+    ("experiments",),
+    ("tests",),
+)
+MUTANTS = "mutants"
+# these modules need Django and a hall, which no unit test has: they are read and not
+# imported
+HALL = "arena_lab.hall."
 
 
 def modules() -> Dict[str, pathlib.Path]:
-    """The lab's modules by their names behind `lab.`, without tests and mutants."""
+    """The lab's modules by their names behind `lab.`, without mutants."""
     paths = [path.relative_to(LAB).with_suffix("") for path in LAB.rglob("*.py")]
     return {
         ".".join(path.parts).removesuffix(".__init__"): LAB / path.with_suffix(".py")
         for path in paths
-        if path.parts[0] not in TESTS and path.parts != ("__init__",)
+        if path.parts[0] != MUTANTS and path.parts != ("__init__",)
     }
 
 
@@ -66,6 +79,44 @@ def others() -> Iterator[pathlib.Path]:
                 and path.read_bytes().startswith(b"#!/usr/bin/env python3")
             ):
                 yield path
+
+
+def row_of(module: str) -> Tuple[int, str]:
+    """Where a module stands in FOLDERS, by the longest name of a folder that has it,
+    and that folder."""
+    _, row, folder = max(
+        (len(it), row, it)
+        for row, folders in enumerate(FOLDERS)
+        for it in folders
+        if f"{module}.".startswith(f"{it}.")
+    )
+    return row, folder
+
+
+def folder_of(path: pathlib.Path) -> str:
+    """The folder of a file, at most two below the top: `tests.program`."""
+    return ".".join(path.relative_to(TOP).parent.parts[:2])
+
+
+def needed(text: str) -> Iterator[str]:
+    """The modules of the repository that a file's text imports, when it is loaded or
+    later."""
+    tops = {it.partition(".")[0] for row in FOLDERS for it in row}
+    for node in ast.walk(ast.parse(text)):
+        if isinstance(node, ast.Import):
+            yield from (
+                it.name for it in node.names if it.name.partition(".")[0] in tops
+            )
+        elif (
+            isinstance(node, ast.ImportFrom)
+            and node.module
+            and node.module.partition(".")[0] in tops
+        ):
+            for it in node.names:
+                name = f"{node.module}.{it.name}"
+                yield name if (TOP / name.replace(".", "/")).with_suffix(
+                    ".py"
+                ).exists() else node.module
 
 
 def taken(text: str) -> Iterator[Tuple[str, str]]:
@@ -103,43 +154,71 @@ def defined(module: str) -> Set[str]:
 
 
 def listed() -> List[str]:
-    """The rooms in the table of the lab's page."""
+    """The packages in the table of the lab's page."""
     table = (
         (LAB / "README.md")
         .read_text(encoding="utf-8")
-        .partition("| room | what it has |")[2]
+        .partition("| package | what it has |")[2]
         .partition("\n\n")[0]
     )
     return re.findall(r"^\| `(\w+)` \|", table, re.MULTILINE)
 
 
-class Rooms(unittest.TestCase):
+class Folders(unittest.TestCase):
+    def setUp(self) -> None:
+        self.needed = [
+            (path, name)
+            for path in others()
+            for name in needed(path.read_text(encoding="utf-8"))
+        ]
+        self.assertGreater(len(self.needed), 500)
+
+    def test_a_folder_stands_on_those_before_it(self) -> None:
+        for path, name in self.needed:
+            (row, folder) = row_of(folder_of(path))
+            (other_row, other) = row_of(name)
+            with self.subTest(str(path.relative_to(TOP)), imports=name):
+                self.assertTrue(other_row < row or other == folder)
+
+    def test_no_folder_needs_one_that_needs_it(self) -> None:
+        graph: Dict[str, Set[str]] = {}
+        for path, name in self.needed:
+            other = folder_of((TOP / name.replace(".", "/")).with_suffix(".py"))
+            graph.setdefault(folder_of(path), set()).update({other} - {folder_of(path)})
+        self.assertIn(
+            "tests.runners", list(graphlib.TopologicalSorter(graph).static_order())
+        )
+
+
+class Packages(unittest.TestCase):
     def setUp(self) -> None:
         paths = modules()
-        # a room's own file says what it is for, and imports nothing
+        # a package's own file says what it is for, and imports nothing
         self.graph = {
             name: set(imported(path.read_text(encoding="utf-8"), set(paths)))
-            - set(ROOMS[:8])
+            - set(PACKAGES[:8])
             for name, path in paths.items()
         }
 
-    def test_each_module_stands_in_a_room(self) -> None:
-        self.assertEqual({name.partition(".")[0] for name in self.graph}, set(ROOMS))
+    def test_each_module_stands_in_a_package(self) -> None:
+        self.assertEqual({name.partition(".")[0] for name in self.graph}, set(PACKAGES))
         self.assertIn("rules.model", self.graph["rules.rehearsal"])
 
-    def test_a_room_stands_on_those_below(self) -> None:
+    def test_a_package_stands_on_those_below(self) -> None:
         for name, others in self.graph.items():
             for other in others:
-                rooms = [ROOMS.index(it.partition(".")[0]) for it in (name, other)]
+                packages = [
+                    PACKAGES.index(it.partition(".")[0]) for it in (name, other)
+                ]
                 with self.subTest(name, imports=other):
-                    self.assertGreaterEqual(rooms[0], rooms[1])
+                    self.assertGreaterEqual(packages[0], packages[1])
 
     def test_no_module_imports_one_that_imports_it(self) -> None:
         order = list(graphlib.TopologicalSorter(self.graph).static_order())
         self.assertEqual(set(order), set(self.graph))
 
-    def test_the_page_of_the_lab_lists_the_rooms_in_order(self) -> None:
-        self.assertEqual(listed(), list(ROOMS[: ROOMS.index("commands") + 1]))
+    def test_the_page_of_the_lab_lists_the_packages_in_order(self) -> None:
+        self.assertEqual(listed(), list(PACKAGES[: PACKAGES.index("commands") + 1]))
 
     def test_the_head_of_each_module_says_what_it_has(self) -> None:
         silent = [
@@ -166,7 +245,7 @@ class Rooms(unittest.TestCase):
                     )
         self.assertGreater(count, 50)
 
-    def test_a_cycle_and_a_room_above_are_told(self) -> None:
+    def test_a_cycle_and_a_package_above_are_told(self) -> None:
         names = {"rules.model", "commands.run", "api"}
         self.assertEqual(
             list(

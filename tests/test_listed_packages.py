@@ -1,18 +1,19 @@
-"""Debian's packages that the tests need stand in one list, are installed from there alone, and fail nothing."""
+"""Debian's packages that the tests need stand in one list, are installed from there
+alone, and fail nothing."""
 import re
 import unittest
 import unittest.mock
 from typing import List
 
 from arena_lab.play.kits import KITS
-from arena_lab.sandbox import cells
+from arena_lab.sandbox import sandboxes
 from arena_lab.support.missing import PACKAGES
 from tests import TOP
 from tools import packages
 from tools.pack.debian import CONTROL
 
 # what installs, or names the command for a machine of its own: a root of Debian
-INSTALL = ["tools/packages.py", "tests/release/bare.py", "tests/release/installed.py"]
+INSTALL = ["tests/release/bare.py", "tests/release/installed.py", "tools/packages.py"]
 # no test starts a notebook in Jupyter, and every Debian has the C library
 UNTESTED = {"jupyter-notebook", "libc6"}
 
@@ -27,7 +28,7 @@ class Listed(unittest.TestCase):
             for words in depends
             for word in re.sub(r"\(.*?\)", "", words).split(",")
         }
-        named |= {*PACKAGES.values(), *cells.PACKAGES.split()[2:]}
+        named |= {*PACKAGES.values(), *sandboxes.PACKAGES.split()[2:]}
         named |= {package for kit in KITS.values() for package in kit.packages}
         readme = (TOP / "arena_lab" / "README.md").read_text().replace("\\\n", "")
         named |= {
@@ -61,7 +62,8 @@ class Listed(unittest.TestCase):
 
 class Installing(unittest.TestCase):
     def installed(self, user: int, works: bool) -> str:
-        """What is said of a machine that lacks spin; the commands of apt-get go to `self.ran`."""
+        """What is said of a machine that lacks spin; the commands of apt-get go to
+        `self.ran`."""
         self.ran: List[str] = []
         there: List[str] = ["strace"]
 

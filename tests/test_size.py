@@ -1,4 +1,5 @@
-"""The tree does not grow unseen: its figures may fall, and rise only by an edit of tests/size.toml that says why."""
+"""The tree does not grow unseen: its figures may fall, and rise only by an edit of
+tests/size.toml."""
 import unittest
 
 from tests import needs
@@ -14,7 +15,7 @@ class Size(unittest.TestCase):
         self.assertEqual(
             found,
             [],
-            "\nmake it smaller, or raise the figure in tests/size.toml with a comment on why",
+            "\nmake it smaller, or raise the figure in tests/size.toml, and say in the commit what that is worth",
         )
 
 
@@ -32,6 +33,12 @@ class Tool(unittest.TestCase):
             size.lowered(KEPT, now),
             '[words]\n# why\n"a.md" = 150\n["files that name a command"]\n"Look" = 3  # and why\n',
         )
+
+    def test_statements_are_counted_and_not_lines(self) -> None:
+        self.assertEqual(
+            size.statements('"""Head."""\nif a:\n    b(\n        c,\n    )\n'), 2
+        )
+        self.assertEqual(size.statements("a = 1; b = 2\n"), 2)
 
     def test_a_riddle_scores_and_a_plain_sentence_does_not(self) -> None:
         riddle = "Whatever the words order, the status is 0, that of refused words, or that of a fault."

@@ -1,12 +1,13 @@
-"""Scores sentences that make a reader stop: a relative clause in the place of a noun ("that of", "of which there"),
-passives of tell and hear, and length.
+"""Scores sentences that make a reader stop: a relative clause in the place of a noun
+("that of", "of which there"), passives of tell and hear, and length.
 
     python3 -m tools.prose [FILE.md ..]
 
-Without files it reads all documents. It prints the worst sentences, and the sum of each document. The score of a
-sentence is what its patterns weigh, less in long sentences, and a point for each ten words beyond thirty-five. Short
-sentences, and scores below 1.5, count nothing. The patterns know words and not sense: tests/test_size.py only keeps the
-sums from rising.
+Without files it reads all documents. It prints the worst sentences, and the sum of each
+document. The score of a sentence is what its patterns weigh, less in long sentences,
+and a point for each ten words beyond thirty-five. Short sentences, and scores below
+1.5, count nothing. The patterns know words and not sense: it is for who writes, and no
+test.
 """
 import pathlib
 import re
@@ -14,7 +15,9 @@ import sys
 from typing import Dict, Iterator, List, Tuple
 
 TOP = pathlib.Path(__file__).resolve().parents[1]
-LEAST, SHORT, LONG = 1.5, 7, 35
+LEAST = 1.5
+SHORT = 7
+LONG = 35
 WORST = 40
 PATTERNS = [
     (re.compile(pattern), weight)
@@ -68,8 +71,10 @@ def score(sentence: str) -> float:
 
 
 def paragraphs(text: str) -> Iterator[str]:
-    """The paragraphs, items and cells of a document, without what is fenced or indented as code."""
-    is_code, block = False, []  # type: bool, List[str]
+    """The paragraphs, items and cells of a document, without what is fenced or indented
+    as code."""
+    is_code = False
+    block: List[str] = []
     for line in [*text.split("\n"), ""]:
         if line.startswith("```"):
             is_code = not is_code

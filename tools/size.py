@@ -1,11 +1,14 @@
-"""How large the tree is, by figures that may fall, and rise only by an edit of tests/size.toml that says why.
+"""How large the tree is, by figures that may fall, and rise only by an edit of
+tests/size.toml.
 
     python3 -m tools.size            prints each figure beside the one that is kept
     python3 -m tools.size --lower    keeps the figures that have fallen
 
-The figures are: in how many files of crates/ each command of an agent is named; how many names of types two crates or
-more have, and names of classes two modules of the lab; the words of each document, and the score of its sentences
-(tools/prose.py); how many modules `arena-lab --help` imports; and the lines of each language.
+The figures are: in how many files of crates/ each command of an agent is named; how
+many names of types two crates or more have, and names of classes two modules of the
+lab; how many modules `arena-lab --help` imports; the statements of Python, docstrings
+aside; the lines of .rt and .antt; and the words of README.md and of all documents. A
+commit that raises one says what it is worth.
 """
 import ast
 import collections
@@ -15,8 +18,6 @@ import subprocess
 import sys
 import tomllib
 from typing import Dict, Iterable, Iterator, List, Set, Tuple
-
-from tools import prose
 
 TOP = pathlib.Path(__file__).resolve().parents[1]
 KEPT = TOP / "tests" / "size.toml"
@@ -29,14 +30,16 @@ HELP = (
     "print(sum(it.split('.')[0] == 'arena_lab' for it in sys.modules))"
 )
 
-# words and lines are kept as the next multiple, so that mending a sentence takes no edit
-STEPS = {"words": 50, "lines": 100}
+# these are kept as the next multiple, so that mending a sentence takes no edit
+STEPS = {"statements": 100, "lines": 100, "words": 50}
+README = TOP / "README.md"
 
 Figures = Dict[str, Dict[str, float]]
 
 
 def tracked(*patterns: str) -> List[pathlib.Path]:
-    """The files of the repository that match one of these patterns of git; all that are there if this is no clone."""
+    """The files of the repository that match one of these patterns of git; all that are
+    there if this is no clone."""
     ran = subprocess.run(
         [
             "git",
@@ -62,6 +65,16 @@ def tracked(*patterns: str) -> List[pathlib.Path]:
 
 def documents() -> List[pathlib.Path]:
     return tracked("*.md")
+
+
+def programs() -> List[pathlib.Path]:
+    """The files in Python, also those of tools/ that have no ending."""
+    return [
+        path
+        for path in tracked("*.py", "tools/*")
+        if path.suffix == ".py"
+        or path.read_bytes().startswith(b"#!/usr/bin/env python3")
+    ]
 
 
 def texts(paths: Iterable[pathlib.Path]) -> Iterator[Tuple[pathlib.Path, str]]:
@@ -93,11 +106,12 @@ def shared_types() -> float:
 
 
 def shared_classes() -> float:
-    """How many names of classes stand in two modules of the lab or more; the tables of the hall's pages aside."""
+    """How many names of classes stand in two modules of the lab or more; the tables of
+    the hall's pages aside."""
     owners: Dict[str, Set[str]] = collections.defaultdict(set)
     for path, text in texts(tracked("arena_lab/*.py")):
         name = str(path.relative_to(TOP))
-        if not re.search("/tests/|/mutants/|/migrations/", name):
+        if not re.search("/mutants/|/migrations/", name):
             for node in ast.walk(ast.parse(text)):
                 if isinstance(node, ast.ClassDef) and node.name != "Meta":
                     owners[node.name].add(name)
@@ -115,9 +129,21 @@ def lines(*patterns: str) -> float:
     return sum(text.count("\n") for _, text in texts(tracked(*patterns)))
 
 
+def statements(text: str) -> int:
+    """How many statements a file of Python has, docstrings aside."""
+    found = [node for node in ast.walk(ast.parse(text)) if isinstance(node, ast.stmt)]
+    return sum(
+        not (isinstance(it, ast.Expr) and isinstance(it.value, ast.Constant))
+        for it in found
+    )
+
+
+def words(paths: Iterable[pathlib.Path]) -> float:
+    return sum(len(text.split()) for _, text in texts(paths))
+
+
 def figures() -> Figures:
     """Each figure, by its table and name."""
-    read = {str(path.relative_to(TOP)): text for path, text in texts(documents())}
     return {
         "files that name a command": files_that_name(COMMANDS),
         "names": {
@@ -125,13 +151,9 @@ def figures() -> Figures:
             "classes of two modules": shared_classes(),
         },
         "imports": {"modules of arena-lab --help": modules_of_help()},
-        "lines": {
-            "py": lines("*.py", "tools/gate", "tools/build", "tools/release"),
-            "rt": lines("*.rt"),
-            "antt": lines("*.antt"),
-        },
-        "words": {name: float(len(text.split())) for name, text in read.items()},
-        "sentences": {name: prose.total(text) for name, text in read.items()},
+        "statements": {"py": sum(statements(text) for _, text in texts(programs()))},
+        "lines": {"rt": lines("*.rt"), "antt": lines("*.antt")},
+        "words": {"README.md": words([README]), "all documents": words(documents())},
     }
 
 
@@ -140,7 +162,8 @@ def kept() -> Figures:
 
 
 def risen(now: Figures, then: Figures) -> List[str]:
-    """A line for each figure that is greater than the one that is kept, or that is kept nowhere."""
+    """A line for each figure that is greater than the one that is kept, or that is kept
+    nowhere."""
     return [
         f"{table}, {name}: {value:g}, and {then[table][name]:g} is kept"
         if name in then.get(table, {})
@@ -158,9 +181,10 @@ def rounded(table: str, value: float) -> float:
 
 
 def lowered(text: str, now: Figures) -> str:
-    """The text of the kept figures, with those that have fallen and without those of files that are gone. Comments
-    stay."""
-    table, found = "", []
+    """The text of the kept figures, with those that have fallen and without those of
+    files that are gone. Comments stay."""
+    table = ""
+    found = []
     for line in text.split("\n"):
         head = re.fullmatch(r"\[\"?([^\"]*)\"?\]", line)
         row = re.fullmatch(r"\"([^\"]+)\" = ([\d.]+)(.*)", line)
@@ -177,7 +201,8 @@ def main() -> int:
     if sys.argv[1:] not in ([], ["--lower"]):
         print((__doc__ or "").strip())
         return 0 if sys.argv[1:] in (["-h"], ["--help"]) else 2
-    now, then = figures(), kept()
+    now = figures()
+    then = kept()
     if sys.argv[1:]:
         KEPT.write_text(
             lowered(KEPT.read_text(encoding="utf-8"), now), encoding="utf-8"

@@ -1,4 +1,5 @@
-"""How many schedules `check` draws: enough to say that an agent is right, whatever the clock says."""
+"""How many schedules `check` draws: enough to say that an agent is right, whatever the
+clock says."""
 import contextlib
 import io
 import itertools
@@ -11,11 +12,13 @@ from arena_lab.__main__ import main
 from arena_lab.commands import check
 from arena_lab.commands.check import DRAWN, LEAST, SEARCHED, Checked
 from arena_lab.play.teams import INSIDE, AgentWords
+from tests.support.output import ran
 
 
 class Draws(unittest.TestCase):
     def drawn(self, pace: float, fails_at: int = -1) -> Any:
-        """What comes of drawing on a machine whose clock goes on by these seconds whenever it is asked."""
+        """What comes of drawing on a machine whose clock goes on by these seconds
+        whenever it is asked."""
         self.asked: Any = []
 
         def play(asked: Any) -> Any:
@@ -61,7 +64,8 @@ class Said(unittest.TestCase):
             print("14 matches: all solved")
             return step
 
-        out, errors = io.StringIO(), io.StringIO()
+        out = io.StringIO()
+        errors = io.StringIO()
         with mock.patch.object(check, "checked", checked), contextlib.redirect_stdout(
             out
         ), contextlib.redirect_stderr(errors):
@@ -88,4 +92,12 @@ class Said(unittest.TestCase):
         self.assertEqual(
             self.said(("", check.ToMend(["it fails", "so"], record))),
             (1, {"right": False, "said": ["it fails", "so"], "kept": "kept"}),
+        )
+
+    def test_a_tournament_is_left_to_the_program(self) -> None:
+        status, _, errors = ran(main, ["check", "cup.toml", "--engine", "model"])
+        self.assertEqual(status, 2)
+        self.assertIn(
+            "cup.toml: that is no agent; of a tournament it is `arena check cup.toml`",
+            errors,
         )
