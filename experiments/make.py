@@ -2,9 +2,10 @@
 
     python3 -m experiments.make [TABLE ..] [--write]
 
-Without a table it makes all of them, which takes an hour or more. Rows, reports and pages go to the folder of --out;
-interrupted, sweeps go on there. With --write the tables are put into docs/EXPERIMENTS.md, each with its command, its
-engine, its time, the day, the machine and the commit, and docs/growth.svg is drawn of them.
+Without a table it makes all of them, which takes an hour or more. Rows, reports and
+pages go to the folder of --out; interrupted, sweeps go on there. With --write the
+tables are put into docs/EXPERIMENTS.md, each with its command, its engine, its time,
+the day, the machine and the commit, and docs/growth.svg is drawn of them.
 
 Tables:
     rings        moves of two agents on rings under fair and under weighted schedules, and the most that was hunted
@@ -49,16 +50,18 @@ DOCUMENT = growth.DOCUMENT
 AGENTS = "examples/agents"
 # how wide a line of the document is at most
 WIDTH = 120
-RING, MAP = f"{AGENTS}/ring.py {{nodes}}", f"{AGENTS}/map.py {{nodes}} {{links}}"
-RING_STEP, RING3 = f"{AGENTS}/ring_step.py {{nodes}}", f"{AGENTS}/ring3.py {{nodes}}"
+RING = f"{AGENTS}/ring.py {{nodes}}"
+MAP = f"{AGENTS}/map.py {{nodes}} {{links}}"
+RING_STEP = f"{AGENTS}/ring_step.py {{nodes}}"
+RING3 = f"{AGENTS}/ring3.py {{nodes}}"
 KNOWN_MAP = f"{AGENTS}/known_map.py"
 
 Cells = Sequence[str]
 
 
 class Made(NamedTuple):
-    """A table: its rows with their head, the commands that made it, and whether the Python model searched for its
-    rows, which the engine then played again."""
+    """A table: its rows with their head, the commands that made it, and whether the
+    Python model searched for its rows, which the engine then played again."""
 
     rows: List[Cells]
     commands: List[str]
@@ -66,7 +69,8 @@ class Made(NamedTuple):
 
 
 class Asked(NamedTuple):
-    """Where files go, the words that choose the engine, and how many processes play a sweep."""
+    """Where files go, the words that choose the engine, and how many processes play a
+    sweep."""
 
     out: pathlib.Path
     engine: List[str]
@@ -100,7 +104,8 @@ def groups_of_sweep(name: str, asked: Asked) -> Tuple[List[report.RunGroup], Lis
 
 
 def of_sweep(name: str) -> Callable[[Asked], Made]:
-    """Makes the table of a sweep: a row for each network, and of each scheduler the mean and the most moves."""
+    """Makes the table of a sweep: a row for each network, and of each scheduler the
+    mean and the most moves."""
 
     def make(asked: Asked) -> Made:
         groups, commands = groups_of_sweep(name, asked)
@@ -112,9 +117,9 @@ def of_sweep(name: str) -> Callable[[Asked], Made]:
 def rows_of(
     groups: Sequence[report.RunGroup], hunted: Mapping[str, int] = {}
 ) -> List[Cells]:
-    """A row for each network, with the most moves that were hunted on it, if that was done. A mean has its confidence,
-    which is of all black holes: the sweep draws them, or has enough seeds to take each.
-    """
+    """A row for each network, with the most moves that were hunted on it, if that was
+    done. A mean has its confidence, which is of all black holes: the sweep draws them,
+    or has enough seeds to take each."""
     schedulers = list(dict.fromkeys(group.name[2] for group in groups))
     bound = grid_bound(groups)
     moves = [f"{name}: {what}" for name in schedulers for what in ("mean", "most")]
@@ -207,7 +212,8 @@ class Search(NamedTuple):
 
 
 def hunts(runs: int = 0, agent: str = "") -> List[Search]:
-    """The hunts for most moves, as their file says, or with another number of schedules, or by another search."""
+    """The hunts for most moves, as their file says, or with another number of
+    schedules, or by another search."""
     found = tomllib.loads((EXPERIMENTS / "hunts.toml").read_text(encoding="utf-8"))
     more = (
         "--objective",
@@ -224,7 +230,8 @@ def hunts(runs: int = 0, agent: str = "") -> List[Search]:
 
 
 def hunted_most(hunt: Search, asked: Asked) -> int:
-    """The most moves that a hunt finds. It knows of no earlier finds, so it finds the same again."""
+    """The most moves that a hunt finds. It knows of no earlier finds, so it finds the
+    same again."""
     folder = asked.out / "hunts" / hunt.network.replace(":", "")
     with tempfile.TemporaryDirectory() as database:
         said = said_by(
@@ -266,10 +273,12 @@ THIRDS_HEAD = (
 
 
 def thirds(asked: Asked) -> Made:
-    """The most moves of the search by halves and of the search by thirds: drawn, hunted, and counted."""
+    """The most moves of the search by halves and of the search by thirds: drawn,
+    hunted, and counted."""
     groups, commands = groups_of_sweep("thirds", asked)
     drawn = {(group.name[0], group.name[1]): group.worst["moves"] for group in groups}
-    halves, all_thirds = hunts(), hunts(agent=RING3)
+    halves = hunts()
+    all_thirds = hunts(agent=RING3)
     hunted = {
         (search.network, name): str(hunted_most(search, asked))
         for name, searches in (("halves", halves), ("thirds", all_thirds))
@@ -289,11 +298,9 @@ def thirds_row(
     drawn: Mapping[Tuple[str, str], str],
     hunted: Mapping[Tuple[str, str], str],
 ) -> Cells:
-    network, halves, counted = (
-        f"ring:{nodes}",
-        most_moves(nodes),
-        Table(nodes, of_ring3),
-    )
+    network = f"ring:{nodes}"
+    halves = most_moves(nodes)
+    counted = Table(nodes, of_ring3)
     attained = played(ring3.search, nodes, counted.runs()[0]).moves
     cells = [
         [drawn.get((network, name), "–"), hunted.get((network, name), "–"), str(moves)]
@@ -310,7 +317,8 @@ def thirds_row(
     ]
 
 
-# agents written as steps are explored by their memories, and programs by their histories, which are many more
+# agents written as steps are explored by their memories, and programs by their
+# histories, which are many more
 RINGS_EXPLORED = (3, 4, 5, 6, 7, 8, 9, 16, 24, 32)
 # more commands and more states than a match of these has
 WIDE = ("--quota", "65535", "--max-states", "1000000000")
@@ -346,7 +354,8 @@ def explored(asked: Asked) -> Made:
     return Made([EXPLORED_HEAD, *rows], [shown(EXPLORED[0].words())])
 
 
-MODULE, RINGS_OF_MODULE = "wasm/ring.wasm", (8, 16, 24, 27, 32, 48, 64)
+MODULE = "wasm/ring.wasm"
+RINGS_OF_MODULE = (8, 16, 24, 27, 32, 48, 64)
 MODULES_HEAD = (
     "network",
     "module",
@@ -373,9 +382,15 @@ def module_row(nodes: int) -> Cells:
 
 
 def modules(asked: Asked) -> Made:
-    words = f"./arena explore tournament.toml 0 --module {AGENTS}/{MODULE}:{RINGS_OF_MODULE[-1]} --max-states"
+    search = Search(
+        "explore",
+        f"ring:{RINGS_OF_MODULE[-1]}",
+        f"{AGENTS}/{MODULE}:{{nodes}}",
+        2,
+        WIDE,
+    )
     return Made(
-        [MODULES_HEAD, *map(module_row, RINGS_OF_MODULE)], [f"{words} {explore.STATES}"]
+        [MODULES_HEAD, *map(module_row, RINGS_OF_MODULE)], [shown(search.words())]
     )
 
 
@@ -487,7 +502,8 @@ def text_of(made: Made, seconds: float, player: str) -> str:
 
 def written(document: str, name: str, text: str) -> str:
     """The document with this text in the place of a table."""
-    begin, end = f"<!-- table {name} -->\n", f"<!-- end of {name} -->"
+    begin = f"<!-- table {name} -->\n"
+    end = f"<!-- end of {name} -->"
     before, found, rest = document.partition(begin)
     _, also, after = rest.partition(end)
     if not found or not also:

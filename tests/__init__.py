@@ -1,4 +1,5 @@
-"""Tests of the Python of tools/, bench/ and examples/: `python3 -m unittest` at the top of the repository."""
+"""Tests. `python3 -m unittest` at the top of the repository runs those that need
+nothing but Python; README.md has the others."""
 import pathlib
 import shutil
 import unittest
@@ -8,7 +9,8 @@ TOP = pathlib.Path(__file__).resolve().parent.parent
 
 
 def needs(command: str, package: str) -> Callable[[Any], Any]:
-    """Skips a test or a class of tests if a command of one of Debian's packages is missing."""
+    """Skips a test or a class of tests if a command of one of Debian's packages is
+    missing."""
     return unittest.skipUnless(
         shutil.which(command), f"Debian's {package} is not installed"
     )

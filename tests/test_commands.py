@@ -1,5 +1,6 @@
-"""What the command line declares is in its help, and in the tools that take memory, files and streams away: each
-command, and each option with its default. docs/FORMATS.md has no options; it sends to the help of the commands."""
+"""What the command line declares is in its help, and in the tools that take memory,
+files and streams away: each command, and each option with its default. docs/FORMATS.md
+has no options; it sends to the help of the commands."""
 import re
 import unittest
 from typing import Iterator, List, NamedTuple, Optional
@@ -65,7 +66,7 @@ def formats() -> str:
 def tried(option: Option) -> bool:
     """Whether a hostile tool gives the option to its command."""
     if option.command == SERVED:
-        tools = sorted((TOP / "tools" / "hostile").glob("*.py"))
+        tools = sorted((TOP / "tests" / "hostile").glob("*.py"))
         return any(
             f'"--{option.name}"' in tool.read_text(encoding="utf-8") for tool in tools
         )

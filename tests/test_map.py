@@ -1,5 +1,5 @@
-"""CONTRIBUTING.md names each file that has to say something of a new command, option, column or scheduler: those that
-name one which is there."""
+"""CONTRIBUTING.md names each file that has to say something of a new command, option,
+column or scheduler: those that name one which is there."""
 import re
 import unittest
 from typing import Iterator, List, NamedTuple, Set
@@ -14,7 +14,7 @@ ROWS = ("tests/program/*.rows",)
 
 
 class Example(NamedTuple):
-    """What is looked for, and in which files; the tests of the lab are left out."""
+    """What is looked for, and in which files."""
 
     pattern: str
     globs: List[str]

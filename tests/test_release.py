@@ -1,4 +1,5 @@
-"""What a release has, that it says whether its program is proved, and that its bytes are the same each time."""
+"""What a release has, that it says whether its program is proved, and that its bytes
+are the same each time."""
 import os
 import pathlib
 import subprocess
@@ -8,15 +9,13 @@ import unittest
 import unittest.mock
 from typing import Dict, Tuple
 
-from arena_lab import (
-    api,
-)  # noqa: F401  the lab is loaded before tests say that it stands elsewhere
+# the lab is loaded before tests say that it stands elsewhere
+from arena_lab import api  # noqa: F401
 from arena_lab.support import built
 from tests import TOP, needs
-from tests.test_gate import module
 from tests.support.output import ran, write
-from tools.prove import version
-from tools.prove import prover
+from tests.test_gate import module
+from tools.prove import prover, version
 
 release = module(TOP / "tools" / "release")
 PROVED_PROGRAM = release.proved_program
@@ -42,7 +41,8 @@ FILES = {
 
 
 class Repositories(unittest.TestCase):
-    """Tests in a repository of its own, whose program is a copy of a small one of this machine."""
+    """Tests in a repository of its own, whose program is a copy of a small one of this
+    machine."""
 
     def setUp(self) -> None:
         self.top = pathlib.Path(
@@ -65,7 +65,8 @@ class Repositories(unittest.TestCase):
         self.proved.write_bytes(pathlib.Path("/bin/true").read_bytes())
         self.unproved = write(self.top / "out" / "unproved", "", 0o755)
         self.unproved.write_bytes(self.proved.read_bytes() + built.SAID.encode())
-        crates, kit = self.top / "crates", self.top / "kit"
+        crates = self.top / "crates"
+        kit = self.top / "kit"
         for owner, found in (
             (
                 release,
@@ -144,7 +145,8 @@ class Releases(Repositories):
         )
         runnable = {path for path, (_, mode) in found.items() if mode == 0o755}
         self.assertEqual(runnable, {"arena", "bin/arena", "bin/bhs_player", "bin/ring"})
-        build, facts = found["BUILD"][0], found["PROVED.txt"][0]
+        build = found["BUILD"][0]
+        facts = found["PROVED.txt"][0]
         self.assertRegex(
             build,
             r"^arena 1\.2\.3, proved\ncommit [0-9a-f]{40}, tree clean\ntoolchain kit 1\n"
@@ -158,6 +160,14 @@ class Releases(Repositories):
             "once each was proved",
         ):
             self.assertIn(said, facts)
+
+    def test_no_test_of_the_tree_is_taken(self) -> None:
+        """The wheel and the Debian package have what the archive has, and the wheel of
+        pip has arena_lab alone."""
+        tests = {str(it.relative_to(TOP)) for it in (TOP / "tests").rglob("*.py")}
+        self.assertGreater(len(tests), 150)
+        self.assertEqual([it for it in tests if release.is_taken(it)], [])
+        self.assertEqual([*(TOP / "arena_lab").rglob("test_*.py")], [])
 
     def test_what_it_takes_is_there(self) -> None:
         for path in release.TAKEN:
@@ -178,7 +188,8 @@ class Releases(Repositories):
         self.assertEqual((folder / NAME / "SHA256SUMS").read_text().count("\n"), 14)
 
     def test_two_archives_of_one_commit_are_alike(self) -> None:
-        archive, found = self.top / "out" / "release" / f"{NAME}.tar.gz", []
+        archive = self.top / "out" / "release" / f"{NAME}.tar.gz"
+        found = []
         for seconds in (1, 2_000_000_000):
             for path in FILES:
                 os.utime(self.top / path, (seconds, seconds))

@@ -1,5 +1,5 @@
-"""The sentences of docs/THEOREMS.md name each premise of the definitions that their clauses state, and the sizes up to
-which a file can meet the premises."""
+"""The sentences of docs/THEOREMS.md name each premise of the definitions that their
+clauses state, and the sizes up to which a file can meet the premises."""
 import re
 import unittest
 from typing import Dict, Iterator, List, NamedTuple
@@ -21,7 +21,8 @@ NAMES = (
 
 
 class Theorem(NamedTuple):
-    """A function whose contract is the theorem, and the definition that says it: its crate, its file, its name."""
+    """A function whose contract is the theorem, and the definition that says it: its
+    crate, its file, its name."""
 
     function: str
     crate: str
@@ -113,10 +114,13 @@ DISPLAYED = [
     Theorem(
         "many_agents_are_needed", "bhs_unmapped", "Unmapped", "ManyAgentsAreNeeded"
     ),
+    Theorem("nobody_finds", "bhs_unmapped", "Ambiguity", "NobodyFinds"),
+    Theorem("nobody_finds", "bhs_unmapped", "Ambiguity", "NobodySolves"),
     Theorem("no_team_passes_a_cut", "bhs_mapped", "Cuts", "NoTeamLooksBehindACut"),
     Theorem("no_team_passes_a_cut", "bhs_mapped", "Cuts", "NoTeamPassesACut"),
 ]
-# what a premise looks like, and a word that its sentence, or the head of its section, must have
+# what a premise looks like, and a word that its sentence, or the head of its section,
+# must have
 PREMISES: Dict[str, str] = {
     r".*\.quota ≡ .*\.quota": "equal quota",
     r".*\.board ≡ .*\.board": "equal quota and whiteboard size",
@@ -161,9 +165,13 @@ PREMISES: Dict[str, str] = {
     r"(Finds|Solves)Size n .*": "rings, of m",
     r"(Finds|Solves)Size size .*": "of n nodes",
     r"3 ≤ degree": "d be from 3",
+    r"4 ≤ degree": "d be 4 or more",
+    r"degree \+ 6 ≤ nodes": "n from d + 6",
+    r"nodes ≤ MAX_NODES": "to 4,096",
     r"2 \* degree \+ 2 ≤ MAX_NODES": "to 2,047",
     r"terms\.agents ≤ degree": "d agents or fewer",
-    r"(FindsOn|Solves)Networks .*": "all networks of a file with 2 d + 2 nodes and greatest degree d",
+    r"(FindsOn|Solves)Networks \(2 .*": "all networks of a file with 2 d + 2 nodes and greatest degree d",
+    r"(FindsOn|Solves)Networks nodes .*": "all networks of a file with n nodes and greatest degree d",
     r"IsPortLabelled net": "simple graph with port labels",
     r"setup\.home < nodes_of net|setup\.home ≢ cut": "any other home base",
     r"IsCutIn net cut": "without which some two others are not joined",
@@ -185,7 +193,8 @@ def definition(one: Theorem) -> str:
 
 def parts_of(text: str) -> Iterator[str]:
     """The parts between arrows that stand in no bracket."""
-    depth, part = 0, ""
+    depth = 0
+    part = ""
     for letter in text:
         depth += (letter in "({") - (letter in ")}")
         if letter == "→" and depth == 0:
@@ -197,12 +206,14 @@ def parts_of(text: str) -> Iterator[str]:
 
 
 def is_binder(part: str) -> bool:
-    """Whether a part names what the statement is about, as `(net : Network) (hole : ℕ)` does."""
+    """Whether a part names what the statement is about, as `(net : Network) (hole : ℕ)`
+    does."""
     return bool(re.fullmatch(r"(\([^()]* : [^()]*(\([^()]*\))?[^()]*\) ?)+", part))
 
 
 def premises(one: Theorem) -> List[str]:
-    """The premises of a definition: what stands before its last arrow, of each field if it is a record."""
+    """The premises of a definition: what stands before its last arrow, of each field if
+    it is a record."""
     text = definition(one)
     if " where " in text:
         bodies = [
@@ -220,7 +231,8 @@ def premises(one: Theorem) -> List[str]:
 
 
 def sentence(function: str) -> str:
-    """The row of the page that names a function as its clause, and the head of its section."""
+    """The row of the page that names a function as its clause, and the head of its
+    section."""
     sections = THEOREMS.read_text(encoding="utf-8").split("\n## ")
     for section in sections:
         for row in section.split("\n"):
@@ -233,7 +245,8 @@ def sentence(function: str) -> str:
 
 
 def clauses() -> Iterator[str]:
-    """What the rows name as their clauses: functions, clauses, definitions and crates. The column has this head."""
+    """What the rows name as their clauses: functions, clauses, definitions and crates.
+    The column has this head."""
     column = 0
     for line in THEOREMS.read_text(encoding="utf-8").split("\n"):
         cells = [cell.strip() for cell in line.split("|")]

@@ -1,4 +1,5 @@
-"""No line of code or prose is wider than 120 characters, but for tables, pictures and code in documents."""
+"""No line of code or prose is wider than 120 characters, but for tables, pictures and
+code in documents. Of Python this holds of what black leaves: strings and comments."""
 import pathlib
 import unittest
 from typing import Iterator, List, Tuple

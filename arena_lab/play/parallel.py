@@ -1,6 +1,8 @@
-"""Spreads the matches of a command over processes, or over the workers of a Dask scheduler.
+"""Spreads the matches of a command over processes, or over the workers of a Dask
+scheduler.
 
-A job plays matches one by one. Its results come in the order of the matches, whoever plays them.
+A job plays matches one by one. Its results come in the order of the matches, whoever
+plays them.
 """
 import concurrent.futures
 import ctypes
@@ -21,8 +23,10 @@ from arena_lab.support.built import TOP
 from arena_lab.support.faults import Fault
 from arena_lab.support.missing import needed
 
-# how many matches a process takes at a time and a Dask worker, if they are short or long
-AT_A_TIME, BATCH = {False: 4, True: 1}, {False: 20, True: 4}
+# how many matches a process takes at a time and a Dask worker, if they are short or
+# long
+AT_A_TIME = {False: 4, True: 1}
+BATCH = {False: 20, True: 4}
 # how many seconds the scheduler may take to answer
 SECONDS_TO_ANSWER = 20
 # seconds in which a process ends that is asked to
@@ -72,7 +76,8 @@ class NoCluster(Fault):
 
 
 class Parallelism(NamedTuple):
-    """Who plays matches: this number of processes, or the workers of a Dask scheduler."""
+    """Who plays matches: this number of processes, or the workers of a Dask
+    scheduler."""
 
     workers: int = 1
     cluster: Optional[str] = None
@@ -103,7 +108,8 @@ is_over: Any = None
 
 
 def begin(over: Any, parent: int) -> None:
-    """Begins a worker. An interrupt of the command reaches the command alone, which then ends its workers."""
+    """Begins a worker. An interrupt of the command reaches the command alone, which
+    then ends its workers."""
     global is_over
     is_over = over
     signal.signal(signal.SIGINT, signal.SIG_IGN)
@@ -112,7 +118,8 @@ def begin(over: Any, parent: int) -> None:
 
 
 def end_with(parent: int) -> None:
-    """Has Linux end this process when the process that started it ends, also by a signal that cannot be caught."""
+    """Has Linux end this process when the process that started it ends, also by a
+    signal that cannot be caught."""
     ctypes.CDLL(None, use_errno=True).prctl(PR_SET_PDEATHSIG, signal.SIGTERM)
     if os.getppid() != parent:
         # it ended before
@@ -122,8 +129,9 @@ def end_with(parent: int) -> None:
 def over_processes(
     job: Job, cases: Sequence[NumberedTask], workers: int, is_long: bool = False
 ) -> Generator[Result, None, None]:
-    """The results of all matches, in order, by this number of processes, each of which takes some at a time. If they
-    are long, what is played when no more results are taken is not waited for."""
+    """The results of all matches, in order, by this number of processes, each of which
+    takes some at a time. If they are long, what is played when no more results are
+    taken is not waited for."""
     is_cut_short = is_long
     over = multiprocessing.Event()
     pool = concurrent.futures.ProcessPoolExecutor(
@@ -145,7 +153,8 @@ def over_processes(
 
 
 def end_all(processes: Sequence[Any]) -> None:
-    """Ends processes. One that waits for what another held when it ended does not end by being asked."""
+    """Ends processes. One that waits for what another held when it ended does not end
+    by being asked."""
     for process in processes:
         process.terminate()
     last = time.monotonic() + SECONDS_TO_END
@@ -160,10 +169,12 @@ def over_cluster(
 ) -> Generator[Result, None, None]:
     """The results of all matches, in order, by the workers of a Dask scheduler.
 
-    A worker plays a batch in a process of its own, as agents inside the lab need a main thread. So a worker needs
-    nothing of the lab but its folder, at the same path, and the same Python.
+    A worker plays a batch in a process of its own, as agents inside the lab need a main
+    thread. So a worker needs nothing of the lab but its folder, at the same path, and
+    the same Python.
     """
-    client, size = client_at(address), BATCH[is_long]
+    client = client_at(address)
+    size = BATCH[is_long]
     batches = [cases[at : at + size] for at in range(0, len(cases), size)]
     files = {**job.digests(), **own_digests()}
     futures = [
@@ -226,9 +237,7 @@ def results_in(future: Any) -> List[Result]:
 def own_digests() -> Dict[str, str]:
     """The SHA-256 of each file of the lab that plays."""
     return {
-        str(path): digest_of(path)
-        for path in sorted((TOP / "arena_lab").rglob("*.py"))
-        if "tests" not in path.parts
+        str(path): digest_of(path) for path in sorted((TOP / "arena_lab").rglob("*.py"))
     }
 
 
@@ -238,9 +247,11 @@ def other_files(files: Dict[str, str]) -> List[str]:
 
 
 def serve() -> None:
-    """Plays a batch that standard input gives, and writes the results to standard output."""
+    """Plays a batch that standard input gives, and writes the results to standard
+    output."""
     job, batch, files = pickle.load(sys.stdin.buffer)
-    answers, sys.stdout = sys.stdout.buffer, io.StringIO()
+    answers = sys.stdout.buffer
+    sys.stdout = io.StringIO()
     others = other_files(files)
     if others:
         sys.exit(

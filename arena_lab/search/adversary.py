@@ -1,9 +1,12 @@
-"""An adversary of two agents on a ring, after the proof in docs/PROTOCOLS.md that every team of two must move.
+"""An adversary of two agents on a ring, after the proof in docs/PROTOCOLS.md that every
+team of two must move.
 
-It gives one agent turns alone, then perhaps the other, and decides last which node is the black hole. A node is new if
-nobody has reached it. While one agent is on a link to a new node, the other one alone has to reach all other new nodes
-in order and to accuse: else the team fails with the black hole there. Nothing is kept of agents between runs: each run
-is played from the beginning, by the turns that led there, in the match whose black hole the run is about.
+It gives one agent turns alone, then perhaps the other, and decides last which node is
+the black hole. A node is new if nobody has reached it. While one agent is on a link to
+a new node, the other one alone has to reach all other new nodes in order and to accuse:
+else the team fails with the black hole there. Nothing is kept of agents between runs:
+each run is played from the beginning, by the turns that led there, in the match whose
+black hole the run is about.
 """
 from typing import Dict, Iterator, List, NamedTuple, Sequence, Tuple
 
@@ -33,7 +36,8 @@ def steps_of(new: int) -> int:
 
 
 class Spot(NamedTuple):
-    """Where an agent is before one of its turns, and the moves of the match until then."""
+    """Where an agent is before one of its turns, and the moves of the match until
+    then."""
 
     standing: str
     node: int
@@ -42,8 +46,8 @@ class Spot(NamedTuple):
 
 
 class TurnsBefore:
-    """The scheduler of these turns, and then of what `go_on` chooses. A turn of an agent to which nothing can happen is
-    left out."""
+    """The scheduler of these turns, and then of what `go_on` chooses. A turn of an
+    agent to which nothing can happen is left out."""
 
     def __init__(self, turns: Sequence[int], go_on: Scheduler) -> None:
         self._turns = iter(turns)
@@ -58,12 +62,14 @@ class TurnsBefore:
 
 
 class RunAlone:
-    """One agent has all turns, as long as anything can happen to it. Notes where it is before each of them."""
+    """One agent has all turns, as long as anything can happen to it. Notes where it is
+    before each of them."""
 
     def __init__(self, agent: int) -> None:
         self._agent = agent
         self.spots: List[Spot] = []
-        self._read, self._moves = 0, 0
+        self._read = 0
+        self._moves = 0
 
     def __call__(self, choices: Sequence[Choice], state: MatchView) -> Choice:
         self.note(state.match)
@@ -81,7 +87,8 @@ class RunAlone:
 
 
 class Departure:
-    """The agents have turns by turns until one of them is on a link. Notes whose turns they were."""
+    """The agents have turns by turns until one of them is on a link. Notes whose turns
+    they were."""
 
     def __init__(self) -> None:
         self.turns: List[int] = []
@@ -111,8 +118,8 @@ class ToRest:
 
 
 class WayOut(NamedTuple):
-    """How an agent came alone to a link to a new node: in how many turns, to which place of the line it went back
-    before, and the moves of the match then."""
+    """How an agent came alone to a link to a new node: in how many turns, to which
+    place of the line it went back before, and the moves of the match then."""
 
     turns: int
     back: int
@@ -120,9 +127,9 @@ class WayOut(NamedTuple):
 
 
 class Arcs(NamedTuple):
-    """The nodes in a line, of which the first ones are explored and the others new. One agent is on a link to the first
-    new node, the other one on a link to the last node. Whose turns led there, and the moves.
-    """
+    """The nodes in a line, of which the first ones are explored and the others new. One
+    agent is on a link to the first new node, the other one on a link to the last node.
+    Whose turns led there, and the moves."""
 
     line: Tuple[int, ...]
     explored: int
@@ -137,7 +144,8 @@ class Arcs(NamedTuple):
 
     def mirrored(self) -> "Arcs":
         """The same seen from the other agent."""
-        explored, new = self.line[: self.explored], self.line[self.explored :]
+        explored = self.line[: self.explored]
+        new = self.line[self.explored :]
         return self._replace(line=explored[::-1] + new[::-1], agent=1 - self.agent)
 
     def after(self, place: int, way: WayOut) -> "Arcs":
@@ -154,7 +162,8 @@ class Arcs(NamedTuple):
 
 
 class Phase(NamedTuple):
-    """What a phase came to: which agent went on, over how many explored nodes it came back, and what is new then."""
+    """What a phase came to: which agent went on, over how many explored nodes it came
+    back, and what is new then."""
 
     agent: int
     back: int
@@ -166,7 +175,9 @@ class Beaten(Exception):
 
     def __init__(self, why: str, hole: int, turns: Sequence[int]) -> None:
         super().__init__(why)
-        self.why, self.hole, self.turns = why, hole, turns
+        self.why = why
+        self.hole = hole
+        self.turns = turns
 
 
 class Adversary:
@@ -188,8 +199,10 @@ class Adversary:
             )
 
     def _walked(self, home: int) -> List[int]:
-        """The nodes in the order in which one comes to them from the home base by its port 0."""
-        found, node, port = [home], *self._far[home][0]
+        """The nodes in the order in which one comes to them from the home base by its
+        port 0."""
+        found = [home]
+        node, port = self._far[home][0]
         while node != home:
             found.append(node)
             node, port = self._far[node][1 - port]
@@ -207,7 +220,8 @@ class Adversary:
         return play(Rehearsal(fixture), team, TurnsBefore(turns, go_on), fixture)
 
     def at_rest(self, hole: int, turns: Sequence[int]) -> Tuple[PlayedMatch, Schedule]:
-        """The match with this black hole after these turns and all that can happen then, and its schedule."""
+        """The match with this black hole after these turns and all that can happen
+        then, and its schedule."""
         played = self.played(hole, turns, ToRest())
         origin = f"adversary{self.game.where()}"
         return played, schedule_of(
@@ -219,7 +233,8 @@ class Adversary:
         )
 
     def phases(self) -> Iterator[Phase]:
-        """Plays until two nodes are new. Raises Beaten if the team does not find some black hole."""
+        """Plays until two nodes are new. Raises Beaten if the team does not find some
+        black hole."""
         arcs = self.begun()
         yield Phase(arcs.agent, 0, arcs)
         while arcs.new > 2:
@@ -228,7 +243,8 @@ class Adversary:
             yield phase
 
     def begun(self) -> Arcs:
-        """One agent is on a link to a neighbour of the home base; the other one goes on to the other neighbour."""
+        """One agent is on a link to a neighbour of the home base; the other one goes on
+        to the other neighbour."""
         departure = Departure()
         hole = self.around[1]
         match = self.played(hole, [], departure).match
@@ -253,7 +269,8 @@ class Adversary:
         return before.after(1, self.ways(before)[1])
 
     def ways(self, arcs: Arcs) -> Dict[int, WayOut]:
-        """How the agent comes alone to each new node but the last one, if that is the black hole, by their places."""
+        """How the agent comes alone to each new node but the last one, if that is the
+        black hole, by their places."""
         alone = RunAlone(arcs.agent)
         hole = arcs.line[-1]
         match = self.played(hole, arcs.turns, alone).match
@@ -283,12 +300,12 @@ class Adversary:
         """The ways to the new nodes, of where an agent was before each of its turns."""
         place = {node: number for number, node in enumerate(arcs.line)}
         found: Dict[int, WayOut] = {}
-        back, front = arcs.explored, arcs.explored
+        back = arcs.explored
+        front = arcs.explored
         for count, spot in enumerate(spots):
             if spot.standing == PRESENT:
-                back, front = min(back, place[spot.node]), max(
-                    front, place[spot.node] + 1
-                )
+                back = min(back, place[spot.node])
+                front = max(front, place[spot.node] + 1)
             elif (
                 spot.standing == AWAY
                 and place[self._far[spot.node][spot.port][0]] == front < self.nodes - 1
@@ -297,15 +314,14 @@ class Adversary:
         return found
 
     def next(self, arcs: Arcs) -> Phase:
-        """Lets the agent go on that makes more moves, to the middle of the new nodes if they are one more than a power
-        of two, and until then past the others."""
+        """Lets the agent go on that makes more moves, to the middle of the new nodes if
+        they are one more than a power of two, and until then past the others."""
         other = arcs.mirrored()
-        ways, other_ways = self.ways(arcs), self.ways(other)
+        ways = self.ways(arcs)
+        other_ways = self.ways(other)
         for place in range(arcs.explored + 1, self.nodes - 1):
-            way, other_way = (
-                ways[place],
-                other_ways[self.nodes - 1 + arcs.explored - place],
-            )
+            way = ways[place]
+            other_way = other_ways[self.nodes - 1 + arcs.explored - place]
             if way.back + other_way.back >= arcs.explored:
                 raise Beaten(
                     f"both agents come to links to node {arcs.line[place]}, and neither can know of the other",

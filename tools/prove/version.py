@@ -1,11 +1,12 @@
 #!/usr/bin/env python3
-"""Says which arena this is: its version, the commit, whether the tree was clean, the toolchain, and whether the program
-that ./arena runs is proved.
+"""Says which arena this is: its version, the commit, whether the tree was clean, the
+toolchain, and whether the program that ./arena runs is proved.
 
     ./arena --version
 
-In a clone, `proved` means that tools/build or the gate has recorded the SHA-256 of the program and of the sources as
-they stand in the tree. A release says what it was made of (its file BUILD).
+In a clone, `proved` means that tools/build or the gate has recorded the SHA-256 of the
+program and of the sources as they stand in the tree. A release says what it was made of
+(its file BUILD).
 """
 import pathlib
 import re
@@ -47,9 +48,8 @@ def asked_of_git(*words: str) -> Optional[str]:
 
 def commit() -> str:
     """The commit of this tree, and whether it has changed since."""
-    head, changes = asked_of_git("rev-parse", "HEAD"), asked_of_git(
-        "status", "--porcelain"
-    )
+    head = asked_of_git("rev-parse", "HEAD")
+    changes = asked_of_git("status", "--porcelain")
     if head is None or changes is None:
         return f"commit {UNKNOWN}: this is no git repository"
     return f"commit {head}, {'tree changed' if changes else 'tree clean'}"
