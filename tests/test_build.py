@@ -153,6 +153,35 @@ class Build(unittest.TestCase):
         self.assertIn("\n# toolchain kit 1\n", self.record.read_text())
         self.assertTrue(prover.is_current(self.record))
 
+    def test_files_are_read_again_only_if_one_was_touched(self) -> None:
+        self.said(0)
+        self.assertTrue(prover.is_current(self.record))
+        write(self.top / "read", "")
+        words = write(
+            self.top / "words" / "sha256sum",
+            f'#!/bin/sh\necho read >>{self.top}/read\nexec /usr/bin/sha256sum "$@"\n',
+            0o755,
+        )
+        source = self.crates / "left" / "src" / "lib.rt"
+        text = source.read_text()
+        path = f"{words.parent}:{os.environ['PATH']}"
+        with unittest.mock.patch.dict(os.environ, PATH=path):
+            for touched, is_same, reads in (
+                (None, True, 0),
+                (text, True, 1),
+                (None, True, 1),
+                (text[::-1], False, 2),
+                (None, False, 3),
+                (text, True, 4),
+                (None, True, 4),
+            ):
+                if touched is not None:
+                    write(source, touched)
+                    os.utime(source, (1, 1))
+                self.assertEqual(prover.is_current(self.record), is_same)
+                told = (self.top / "read").read_text().splitlines()
+                self.assertEqual(len(told), reads)
+
     def test_words_prove_nothing(self) -> None:
         for words, status in ((["--help"], 0), (["-h"], 0), (["bhs_net"], 2)):
             found, said, _ = ran(self.build.main, words)
