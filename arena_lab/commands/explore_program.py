@@ -43,7 +43,7 @@ FAILURES = {
 # and how its module does
 MODULE_FAILURES = {
     "trap": "it traps",
-    "fuel": "it executes too many instructions",
+    "fuel": "it burns more fuel than a command has",
     "command": "it gives a port or a text that is none",
 }
 # of the table of several networks

@@ -53,6 +53,7 @@ AGAIN = b"\x0c\x00"
 SIZE = b"\x3f\x00"
 GROW = b"\x40\x00"
 FILL = b"\xfc\x0b\x00"
+COPY = b"\xfc\x0a\x00\x00"
 MULTIPLY = b"\x6c"
 SUBTRACT = b"\x6b"
 # where a module has the text of a whiteboard
@@ -213,6 +214,19 @@ def fails(stage: Stage) -> None:
         explores(
             stage, agent, BREAKS, FAILING, f',"failure":"{cause}","function":{function}'
         )
+
+
+@case("each 64 bytes that are filled or copied burn fuel as an instruction does")
+def burns(stage: Stage) -> None:
+    whole = constant(I32, GROWTH * 65_536)
+    grows = constant(I32, GROWTH) + GROW + DROP
+    fills = constant(I32, 0) + constant(I32, 1) + whole + FILL
+    copies = constant(I32, 0) + constant(I32, 0) + whole + COPY
+    for again in (fills, copies):
+        agent = running(grows + LOOP + again + AGAIN + END)
+        explores(stage, agent, BREAKS, FAILING, ',"failure":"fuel","function":0')
+    # a function of 100 instructions as often as that ends
+    explores(stage, running(grows + fills * 25), SILENT, FAILING)
 
 
 @case("each agent runs its own module, and each module has a line of its own")

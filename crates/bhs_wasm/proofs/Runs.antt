@@ -1,55 +1,88 @@
--- An instance that has stopped stays as it is.
-use Rattle.std.proofs.Common.{ℕ, zero, suc, ◌≡◌, ◌≢◌, ◌+◌, ◌-◌, ◌<◌, ◌∙◌, refl, sym, ap, subst, arith}
+-- What an instance comes to while its fuel lasts.
+use Rattle.std.proofs.Common.{ℕ, zero, suc, ◌+◌, ◌≡◌, ◌≢◌, ◌-◌, ◌<◌, ◌≤◌, ◌∙◌, Option, refl, sym, ap}
+use Rattle.std.proofs.Common.{nat_lt, if◌then◌else◌, subst, arith}
+use Rattle.std.proofs.lemmas.Bool.{cond-true, cond-false, lt-ltb, le-ltb}
 use Rattle.bhs_wasm.specs.Contents.{Contents}
+use Rattle.bhs_wasm.specs.declared.instructions.Instruction.{Instruction}
 use Rattle.bhs_wasm.specs.declared.interpreters.Progress.{Progress}
 use Rattle.bhs_wasm.specs.declared.interpreters.Progress.TheVariants as progresses
-use Rattle.bhs_wasm.specs.States.{State, StepResult, Continues, Waits, Ends, Traps, IsStepResult, step, stepped}
-use Rattle.bhs_wasm.specs.States.{then_step, spent, run}
+use Rattle.bhs_wasm.specs.States.{State, StepResult, Continues, Waits, Ends, Traps, IsStepResult, and_then, burned}
+use Rattle.bhs_wasm.specs.States.{cost_of, do_next, instruction_in, run}
 
--- it does not continue
-abbrev pub IsOver : StepResult → Type 0
-IsOver (Continues state) = ⊥
-IsOver outcome = Unit {0}
+-- what the next instruction comes to, and then the others
+abbrev goes : Contents → (most left : ℕ) → Option Instruction → State → StepResult
+goes program most left next state = and_then (do_next program next state)
+    (burned program most (left - cost_of program.max_pages next state))
 
-still : (program : Contents) (t : StepResult) → IsOver t → then_step program t ≡ t
-still program (Continues state) over = absurd over
-still program (Waits function state) over = refl
-still program Ends over = refl
-still program Traps over = refl
+burns : (program : Contents) (most left : ℕ) (state : State) → burned program (suc most) left state
+    ≡ (if nat_lt left (cost_of program.max_pages (instruction_in program state) state) then Traps
+    else goes program most left (instruction_in program state) state)
+unfolding burned
+burns program most left state = refl
 
--- more steps change nothing
-settled : (program : Contents) (s : State) (t : StepResult) (k : ℕ) → IsOver t → stepped program k s ≡ t
-    → (extra : ℕ) → stepped program (extra + k) s ≡ t
-unfolding stepped
-settled program s t k over e zero = let z : zero + k ≡ k = omega arith in rw z e
-settled program s t k over e (suc extra) =
-    let z : suc extra + k ≡ suc (extra + k) = omega arith in
-    rw z (ap (then_step program) (settled program s t k over e extra) ∙ still program t over)
+on_from : (result : StepResult) (then_do : State → StepResult) (progress : Progress) (new : State)
+    → progress ≡ progresses.Continues → IsStepResult result progress new → and_then result then_do ≡ then_do new
+on_from (Continues after) then_do progress new on is = ap then_do (sym is.1)
+on_from (Waits function after) then_do progress new on is = absurd (let both = sym on ∙ is.0 in cc)
+on_from Ends then_do progress new on is = absurd (let both = sym on ∙ is in cc)
+on_from Traps then_do progress new on is = absurd (let both = sym on ∙ is in cc)
 
-later : (program : Contents) (s : State) (t : StepResult) (k fuel : ℕ) → IsOver t → k < fuel
-    → stepped program (suc k) s ≡ t → stepped program fuel s ≡ t
-later program s t k fuel over lt e =
-    let z : (fuel - suc k) + suc k ≡ fuel = omega arith in
-    subst (λ (n : ℕ). stepped program n s ≡ t) z (settled program s t (suc k) over e (fuel - suc k))
+over_from : (result : StepResult) (then_do : State → StepResult) (progress : Progress) (new : State)
+    → progress ≢ progresses.Continues → IsStepResult result progress new
+    → IsStepResult (and_then result then_do) progress new
+over_from (Continues after) then_do progress new over is = absurd (over is.0)
+over_from (Waits function after) then_do progress new over is = is
+over_from Ends then_do progress new over is = is
+over_from Traps then_do progress new over is = is
 
-ended : (program : Contents) (s0 : State) (k fuel : ℕ) → k < fuel → (t : StepResult) → stepped program (suc k) s0 ≡ t
-    → (progress : Progress) (new : State) → progress ≢ progresses.Continues → IsStepResult t progress new
-    → IsStepResult (run program fuel s0) progress new
-ended program s0 k fuel lt (Continues after) e progress new ne h = absurd (ne h.0)
-ended program s0 k fuel lt (Waits function after) e progress new ne h =
-    subst (λ (u : StepResult). IsStepResult (spent u) progress new)
-    (sym (later program s0 (Waits function after) k fuel tt lt e)) h
-ended program s0 k fuel lt Ends e progress new ne h =
-    subst (λ (u : StepResult). IsStepResult (spent u) progress new)
-    (sym (later program s0 Ends k fuel tt lt e)) h
-ended program s0 k fuel lt Traps e progress new ne h =
-    subst (λ (u : StepResult). IsStepResult (spent u) progress new)
-    (sym (later program s0 Traps k fuel tt lt e)) h
+pub trapped : (result : StepResult) (new : State) → result ≡ Traps → IsStepResult result progresses.Traps new
+trapped result new is = subst (λ (it : StepResult). IsStepResult it progresses.Traps new) (sym is) refl
 
--- An instance that stops after some instructions stops so, if its fuel lasts.
-pub stops : (program : Contents) (s0 s : State) (k fuel : ℕ) (progress : Progress) (new : State) → k < fuel
-    → stepped program k s0 ≡ Continues s → progress ≢ progresses.Continues → IsStepResult (step program s) progress new
-    → IsStepResult (run program fuel s0) progress new
-unfolding stepped
-stops program s0 s k fuel progress new lt e ne h =
-    ended program s0 k fuel lt (step program s) (ap (then_step program) e) progress new ne h
+-- a run that has come to this instruction in this state, with this fuel left
+module _ (program : Contents) (fuel counter left : ℕ) (start state : State) (next : Option Instruction) (cost : ℕ)
+    (is_next : next ≡ instruction_in program state) (is_cost : cost ≡ cost_of program.max_pages next state)
+    (has_come : run program fuel start ≡ burned program (fuel - counter) left state) (below : counter < fuel)
+  where
+    one_more : run program fuel start ≡ (if nat_lt left cost then Traps
+        else and_then (do_next program next state) (burned program (fuel - (counter + 1)) (left - cost)))
+    one_more =
+        let more : fuel - counter ≡ suc (fuel - (counter + 1)) = omega (arith, below) in
+        has_come ∙ ap (λ (n : ℕ). burned program n left state) more
+        ∙ burns program (fuel - (counter + 1)) left state
+        ∙ (λ i. if nat_lt left (cost_of program.max_pages (sym is_next i) state) then Traps
+        else goes program (fuel - (counter + 1)) left (sym is_next i) state)
+        ∙ (λ i. if nat_lt left (sym is_cost i) then Traps
+        else and_then (do_next program next state) (burned program (fuel - (counter + 1)) (left - sym is_cost i)))
+
+    -- the fuel does not pay for it
+    pub unpaid : left < cost → run program fuel start ≡ Traps
+    unpaid few = one_more ∙ cond-true (nat_lt left cost) _ _ (lt-ltb left cost few)
+
+    paid : cost ≤ left → run program fuel start
+        ≡ and_then (do_next program next state) (burned program (fuel - (counter + 1)) (left - cost))
+    paid enough = one_more ∙ cond-false (nat_lt left cost) _ _ (le-ltb left cost enough)
+
+    -- it continues
+    pub continues : (progress : Progress) (new : State) → cost ≤ left → progress ≡ progresses.Continues
+        → IsStepResult (do_next program next state) progress new
+        → run program fuel start ≡ burned program (fuel - (counter + 1)) (left - cost) new
+    continues progress new enough on is = paid enough
+        ∙ on_from (do_next program next state) (burned program (fuel - (counter + 1)) (left - cost)) progress new on is
+
+    -- it does not
+    pub stops : (progress : Progress) (new : State) → cost ≤ left → progress ≢ progresses.Continues
+        → IsStepResult (do_next program next state) progress new
+        → IsStepResult (run program fuel start) progress new
+    stops progress new enough over is =
+        subst (λ (result : StepResult). IsStepResult result progress new) (sym (paid enough))
+        (over_from (do_next program next state) (burned program (fuel - (counter + 1)) (left - cost)) progress new over
+        is)
+
+-- a run that has come to its last instruction
+pub spent : (program : Contents) (fuel counter left : ℕ) (start state : State)
+    → run program fuel start ≡ burned program (fuel - counter) left state → fuel ≤ counter
+    → run program fuel start ≡ Traps
+unfolding burned
+spent program fuel counter left start state has_come past =
+    let none : fuel - counter ≡ zero = omega (arith, past) in
+    has_come ∙ ap (λ (n : ℕ). burned program n left state) none

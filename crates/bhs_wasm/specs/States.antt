@@ -96,6 +96,11 @@ top state = slice_get state.stack (length state.stack - 1)
 abbrev pub below : State → State
 below state = with_stack (take (length state.stack - 1) state.stack) state
 
+-- the operand at this depth, as an i32
+abbrev pub operand : (depth : ℕ) → State → ℕ
+operand depth state = if nat_lt depth (length state.stack)
+    then low (slice_index state.stack (length state.stack - 1 - depth)) else 0
+
 -- a trap, if there is no value
 abbrev pub given : Option ℕ → (ℕ → StepResult) → StepResult
 given None then_do = Traps
@@ -400,30 +405,41 @@ abbrev pub do_next : Contents → Option Instruction → State → StepResult
 do_next program None state = Traps
 do_next program (Some found) state = do_instruction program found state
 
-unfoldable pub step : Contents → State → StepResult
-step program state = do_next program (slice_get program.code state.program_counter) state
+-- the instruction that is next
+abbrev pub instruction_in : Contents → State → Option Instruction
+instruction_in program state = slice_get program.code state.program_counter
 
--- one more instruction, if the last one continues
-abbrev pub then_step : Contents → StepResult → StepResult
-then_step program (Continues state) = step program state
-then_step program (Waits function state) = Waits function state
-then_step program Ends = Ends
-then_step program Traps = Traps
+-- the pages that a growth adds
+abbrev pub added_pages : (max_pages : ℕ) → State → ℕ
+added_pages max_pages state =
+    if nat_le (state.pages + operand 0 state) max_pages then operand 0 state else 0
 
--- this many instructions, or fewer if one does not continue
-unfoldable pub stepped : Contents → (fuel : ℕ) → State → StepResult
-stepped program zero state = Continues state
-stepped program (suc fuel) state = then_step program (stepped program fuel state)
+-- The fuel that an instruction burns: one. A copy or a fill burns one more for each 64 bytes, and a growth 1,024 more
+-- for each page that it adds, which are as many bytes.
+abbrev pub cost_of : (max_pages : ℕ) → Option Instruction → State → ℕ
+cost_of max_pages (Some instruction.MemoryCopy) state = 1 + operand 0 state / 64
+cost_of max_pages (Some instruction.MemoryFill) state = 1 + operand 0 state / 64
+cost_of max_pages (Some instruction.MemoryGrow) state = 1 + 1_024 * added_pages max_pages state
+cost_of max_pages found state = 1
 
--- a module that has used all its fuel traps
-abbrev pub spent : StepResult → StepResult
-spent (Continues state) = Traps
-spent (Waits function state) = Waits function state
-spent Ends = Ends
-spent Traps = Traps
+-- what comes of what follows, if an instruction continues
+abbrev pub and_then : StepResult → (State → StepResult) → StepResult
+and_then (Continues state) then_do = then_do state
+and_then (Waits function state) then_do = Waits function state
+and_then Ends then_do = Ends
+and_then Traps then_do = Traps
+
+-- The instructions that the fuel pays for, until one does not continue. A module whose fuel does not pay for the next
+-- one traps. Since each burns some, there are no more of them than `most`, if that is the fuel.
+unfoldable pub burned : Contents → (most fuel : ℕ) → State → StepResult
+burned program zero fuel state = Traps
+burned program (suc most) fuel state =
+    if nat_lt fuel (cost_of program.max_pages (instruction_in program state) state) then Traps
+    else and_then (do_next program (instruction_in program state) state)
+    (burned program most (fuel - cost_of program.max_pages (instruction_in program state) state))
 
 abbrev pub run : Contents → (fuel : ℕ) → State → StepResult
-run program fuel state = spent (stepped program fuel state)
+run program fuel state = burned program fuel fuel state
 
 -- ---- from command to command
 
@@ -460,11 +476,6 @@ instantiated program arguments = after_put (put 0 program.memory (instance progr
 abbrev pub answered : (parameters value : ℕ) → State → StepResult
 answered parameters value state = checked (nat_le parameters (length state.stack))
     (pushed value (with_stack (take (length state.stack - parameters) state.stack) state))
-
--- the operand at this depth, as an i32
-abbrev pub operand : (depth : ℕ) → State → ℕ
-operand depth state = if nat_lt depth (length state.stack)
-    then low (slice_index state.stack (length state.stack - 1 - depth)) else 0
 
 -- the bytes from an address on; None if they are not all in the memory
 abbrev pub bytes_in : (at count : ℕ) → State → Option (List ℕ)

@@ -13,15 +13,24 @@ impl Interpreter {
     ghost use Rattle.bhs_wasm.specs.Contents.{contents_of};
     ghost use Rattle.bhs_wasm.specs.States.{state_of};
 
-    /// Runs until the module waits in a command, returns or traps. It traps also after `fuel` instructions.
-    #[tactic(auto, unfolding(crate::specs::States::stepped))]
+    /// Runs until the module waits in a command, returns or traps. It traps also where the fuel does not pay for the
+    /// next instruction.
+    #[tactic(auto, unfolding(crate::specs::States::burned))]
     pub fn run(&mut self, program: &Module, fuel: u32) -> Result<Progress, AllocError>
         ensures { specs.Gives (specs.run (contents_of program.now) fuel (state_of self.old)) result
             (state_of self.new) }
     {
         self.is_out_of_fuel = false;
+        let mut left = u64::from(fuel);
         for _ in 0..fuel {
-            let progress = self.step(program)?;
+            let next = self.next_in(program);
+            let cost = self.cost_of(program.max_pages, next);
+            if left < cost {
+                self.is_out_of_fuel = true;
+                return Ok(Progress::Traps);
+            }
+            left -= cost;
+            let progress = self.step(program, next)?;
             match progress {
                 Progress::Continues => {}
                 Progress::Waits(_) => return Ok(progress),
@@ -110,12 +119,43 @@ impl Interpreter {
         }
     }
 
-    /// Executes the next instruction.
-    #[tactic(auto, unfolding(crate::specs::States::step))]
-    pub(crate) fn step(&mut self, program: &Module) -> Result<Progress, AllocError>
-        ensures { specs.Gives (specs.step (contents_of program.now) (state_of self.old)) result (state_of self.new) }
+    // The next instruction.
+    fn next_in(&self, program: &Module) -> Option<Instruction>
+        ensures { result ≡ specs.instruction_in (contents_of program.now) (state_of self.now) }
     {
-        match program.code.get(self.program_counter as usize).copied() {
+        program.code.get(self.program_counter as usize).copied()
+    }
+
+    // The fuel that the next instruction burns.
+    fn cost_of(&self, max_pages: u32, next: Option<Instruction>) -> u64
+        ensures { result ≡ specs.cost_of max_pages next (state_of self.now) }
+    {
+        match next {
+            Some(Instruction::MemoryCopy) => 1 + u64::from(self.operand(0)) / 64,
+            Some(Instruction::MemoryFill) => 1 + u64::from(self.operand(0)) / 64,
+            Some(Instruction::MemoryGrow) => 1 + 1_024 * u64::from(self.added_pages(max_pages)),
+            _ => 1,
+        }
+    }
+
+    // The pages that a growth adds.
+    fn added_pages(&self, max_pages: u32) -> u32
+        ensures { result ≡ specs.added_pages max_pages (state_of self.now) }
+    {
+        let more = self.operand(0);
+        if u64::from(self.pages) + u64::from(more) <= u64::from(max_pages) {
+            more
+        } else {
+            0
+        }
+    }
+
+    // Executes the next instruction.
+    fn step(&mut self, program: &Module, next: Option<Instruction>) -> Result<Progress, AllocError>
+        ensures { specs.Gives (specs.do_next (contents_of program.now) next (state_of self.old)) result
+            (state_of self.new) }
+    {
+        match next {
             Some(instruction) => self.execute(program, instruction),
             None => Ok(Progress::Traps),
         }

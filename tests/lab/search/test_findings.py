@@ -156,7 +156,7 @@ class Findings(unittest.TestCase):
                 *modules,
             )
             self.assertIn(
-                f"agent {agent} fails: it executes too many instructions in function 7",
+                f"agent {agent} fails: it burns more fuel than a command has in function 7",
                 explore_program.line_of(tried),
             )
 

@@ -17,9 +17,10 @@ option once for each agent if they differ: agent 0 runs the first module, agent 
 the second. A module imports nothing but functions of `arena`, and exports `run`;
 in a clone examples/agents/wasm/arena.h declares them for C. Numbers behind a
 colon are its arguments: ring.wasm:8. Agents fail whose module traps, or that
-execute more than 10,000,000 instructions from one command to the next. Standard
-error tells now and then how far a long search is. A file that is no such module
-is told as `FILE: FAULT at byte N`:
+burn more fuel than 10,000,000 from one command to the next: 1 an instruction,
+1 more for each 64 bytes of a fill or copy, 1,024 more for each page that a memory
+grows. Standard error tells now and then how far a long search is. A file that is
+no such module is told as `FILE: FAULT at byte N`:
 
   head       It does not begin as a module, version 1
   end        It, or a part of it, ends too soon
