@@ -6,6 +6,7 @@ as a client, and `arena explore --module` tries every schedule of a team of them
 The whole numbers behind the colon are the module's arguments. {nodes}, {links} and
 {home} may stand for some.
 """
+import re
 import shlex
 
 from arena_lab.play.agent_files import NoAgent, facts_of, file_of
@@ -13,6 +14,37 @@ from arena_lab.rules.model import Setup
 from arena_lab.support import built
 
 ENDING = ".wasm"
+# what to change in a file that is no module of agents, by the fault that the program
+# tells: the last column of the table of docs/FORMATS.md
+ADVICE = {
+    "head": "give the file that the linker writes, in place of its text or of an object file",
+    "float": "compute with integers",
+    "opcode": "compile for WebAssembly's first version, with `-mcpu=mvp`",
+    "import": "declare the functions as `arena.h` does, and link without a system's library",
+    "import type": "declare it as `arena.h` does: all numbers are 32-bit integers, and each command has a result",
+    "start": "begin in `run`",
+    "run": 'begin it with `ARENA_RUN` of `arena.h`, or export it by `__attribute__((export_name("run")))`',
+    "run type": "declare it `void run(void)`; arguments are read by `arena_argument`",
+    "main": "name the function `run`; nobody calls `main`",
+    "segment": "give the memory as many pages as the data takes",
+    "size": "make it smaller",
+    **dict.fromkeys(
+        (
+            "type",
+            "index",
+            "block",
+            "alignment",
+            "end",
+            "number",
+            "name",
+            "section",
+        ),
+        "it was changed, or cut off: build it again",
+    ),
+}
+_FAULT = re.compile(
+    rf"\{ENDING}: ({'|'.join(sorted(ADVICE, key=len, reverse=True))})\b.* at byte \d+$"
+)
 
 
 def is_module(words: str) -> bool:
@@ -62,3 +94,9 @@ def word_of(words: str, setup: Setup) -> str:
             f"{words}: behind the colon stand whole numbers, {{nodes}}, {{links}} or {{home}}"
         ) from None
     return f"{file_of(file_in(words)).absolute()}{numbers}"
+
+
+def with_advice(fault: str) -> str:
+    """A fault that the program told, with what to change if it is about a module."""
+    found = _FAULT.search(fault)
+    return f"{fault}: {ADVICE[found[1]]}" if found else fault

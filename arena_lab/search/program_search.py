@@ -10,7 +10,7 @@ import time
 from typing import Any, Callable, Dict, List, NamedTuple, Optional, Tuple
 
 from arena_lab.play.players import WAKES
-from arena_lab.play.wasm_modules import word_of
+from arena_lab.play.wasm_modules import with_advice, word_of
 from arena_lab.rules.engines import EngineRefused, text_of_fault
 from arena_lab.rules.fixtures import Fixture, write_tournament
 from arena_lab.rules.model import Object
@@ -230,4 +230,4 @@ def asked(
         return answer_of(last[0], last[1], last[2:], seconds, run.unwoken())
     if fault.endswith(f": {TOO_MANY}"):
         return ExploreAnswer(None, seconds, why=LONGER if draws else MORE)
-    raise EngineRefused(fault, child.returncode)
+    raise EngineRefused(with_advice(fault), child.returncode)

@@ -23,6 +23,7 @@ from tests.support.program_rows import DONE, REFUSED_TEXT, Stage, Wrong, expect
 from tests.support.servers import Run
 from tests.support.wasm_encoding import (
     I32,
+    I64,
     Call,
     Function,
     checks,
@@ -365,6 +366,16 @@ def refused(stage: Stage) -> None:
         (module([Function([], [], b"")]), "run at byte 38"),
     ):
         refuses(stage, agent, fault)
+    agent = module([Function([], [], b"", "main")])
+    refuses(stage, agent, f"main at byte {len(agent)}")
+    for own in (([I32], []), ([], [I32])):
+        agent = module([Function(*own, TRAP, "run")])
+        refuses(stage, agent, f"run type at byte {agent.rindex(name('run'))}")
+    agent = running(CALL + b"\x00" + DROP, "look")
+    agent = agent.replace(type_of([], [I32]), type_of([], [I64]))
+    refuses(
+        stage, agent, f"import type arena.look at byte {agent.index(name('arena'))}"
+    )
 
 
 @case("a function has at most 1,000 parameters and 1,000 results")

@@ -29,9 +29,12 @@ pub enum FaultKind {
     /// It does not have the types that its instructions and functions want.
     #[error("type")]
     Type,
-    /// It imports something that is no function of `arena`, or that has another type.
+    /// It imports something that is no function of `arena`.
     #[error("import")]
     Import,
+    /// It imports a function of `arena` with another type.
+    #[error("import type")]
+    ImportType,
     /// It has a start function.
     #[error("start")]
     Start,
@@ -53,9 +56,15 @@ pub enum FaultKind {
     /// An instruction assumes a greater alignment than its size.
     #[error("alignment")]
     Alignment,
-    /// It exports no function `run` without parameters and results.
+    /// It exports no function `run`, and nothing named `main`.
     #[error("run")]
     Run,
+    /// Its function `run` has parameters or results.
+    #[error("run type")]
+    RunType,
+    /// It exports no function `run`, but something named `main`, which nobody calls.
+    #[error("main")]
+    Main,
 }
 
 /// Why a file is refused.
@@ -78,10 +87,11 @@ impl Display for ModuleFault {
             ModuleFault::Head => f.write_str("head at byte 0"),
             ModuleFault::Inside { kind, at, import } => match *kind {
                 FaultKind::Memory => f.write_str("memory"),
-                FaultKind::Import => {
+                FaultKind::Import | FaultKind::ImportType => {
                     write!(
                         f,
-                        "import {} at byte {}",
+                        "{} {} at byte {}",
+                        *kind,
                         import.as_str().escape_debug(),
                         *at
                     )

@@ -4,12 +4,15 @@
 mod blocks;
 mod bodies;
 mod bytes;
+mod code_section;
 mod control;
+mod declarations;
 mod faults;
 mod module_types;
 mod opcodes;
 mod reading;
 mod sections;
+mod segments;
 
 pub use faults::{FaultKind, ModuleFault};
 pub use reading::module_of;

@@ -318,8 +318,9 @@ class Modules(InFolder):
         status, said = self.explored(
             "--network", "ring:3", "--agent", self.folder / "a.wasm"
         )
+        told = f"{self.folder / 'a.wasm'}: head at byte 0"
         self.assertEqual(
-            (status, said[-1]), (3, f"{self.folder / 'a.wasm'}: head at byte 0")
+            (status, said[-1]), (3, f"{told}: {wasm_modules.ADVICE['head']}")
         )
         status, said = self.explored(
             "--network",

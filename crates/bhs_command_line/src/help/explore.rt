@@ -29,7 +29,10 @@ no such module is told as `FILE: FAULT at byte N`:
   float      It has floating-point numbers
   opcode N   It has an instruction that agents do without
   type       Types do not fit the instructions or functions
-  import     It imports something else than the functions of `arena`
+  import NAME
+             It imports something else than the functions of `arena`
+  import type NAME
+             It imports this function of `arena` with another type
   start      It has a start function
   segment    A segment is not active, or out of its memory or table
   section    A section is unknown, out of order, or too long
@@ -37,7 +40,9 @@ no such module is told as `FILE: FAULT at byte N`:
   index      It names something that it does not have
   block      Its blocks do not match
   alignment  An instruction assumes too large an alignment
-  run        It exports no function `run` without parameters and results
+  run        It exports no function `run`
+  run type   Its function `run` has parameters or results
+  main       It exports no function `run`, but `main`, which nobody calls
 
 A tournament without this match is told as `no match M`, and one of A agents with
 N modules, neither one nor A, as `N modules, A agents`.

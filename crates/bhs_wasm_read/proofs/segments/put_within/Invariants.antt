@@ -1,6 +1,6 @@
 use Rattle.std.proofs.Common.{◌≡◌, ◌+◌, drop}
 use Rattle.bhs_wasm.specs.States.{put_at}
-use Rattle.bhs_wasm_read.proofs.sections.put_within.Given as goal
+use Rattle.bhs_wasm_read.proofs.segments.put_within.Given as goal
 
 abbrev pub invariant-loop-byte : goal.invariant-loop-byte
 invariant-loop-byte l = (l.place ≡ l.first + l.byte-index)

@@ -3,7 +3,7 @@ use Rattle.std.proofs.lemmas.List.{length-map}
 use Rattle.bhs_wasm_read.specs.Modules.{is_same}
 use Rattle.bhs_wasm_read.specs.Types.{signature_of}
 use Rattle.bhs_wasm_read.proofs.Lists.{position-mapped}
-use Rattle.bhs_wasm_read.proofs.sections.type_number.Goals as goal
+use Rattle.bhs_wasm_read.proofs.declarations.type_number.Goals as goal
 
 pub returns-in-Some : goal.returns-in-Some
 returns-in-Some c =
