@@ -37,6 +37,7 @@ AS_STEPS = "an agent that is written as a step has fewer states: see `./arena-la
 # how an agent fails under a schedule that the program tells
 FAILURES = {
     "program": "fails",
+    "outside": "says a command before it has entered",
     "close": "fails when it is told that the match is over",
     "asleep": "sleeps, and nothing changes any more",
 }

@@ -175,6 +175,10 @@ def fails(_history: List[str]) -> Step:
     return FAILS
 
 
+def looks(_history: List[str]) -> Step:
+    return say("look")
+
+
 def as_agent(number: int, of: Callable[[int, List[str]], Step]) -> Agent:
     return functools.partial(of, number)
 
@@ -216,6 +220,16 @@ def fails_at_once(stage: Stage) -> None:
         == {"found": "breaks", "agent": 0, "failure": "program", "schedule": []},
         told,
     )
+
+
+@case(
+    "an agent that says a command before it has entered has failed, however it goes on"
+)
+def outside(stage: Stage) -> None:
+    for words in ([], ["--draws", 2]):
+        told = explored(stage, [SOLVER, looks], *words)
+        wanted = {"found": "breaks", "agent": 1, "failure": "outside", "schedule": []}
+        require(told.found == wanted, words, told)
 
 
 @case("an agent that sleeps and has not entered has failed under a drawn schedule")

@@ -137,6 +137,7 @@ BREAKS = '{"found":"breaks","agent":0,"failure":"program","schedule":[]}\n' + ST
     1,
     1,
 )
+OUTSIDE = BREAKS.replace("program", "outside")
 
 
 @case("a module solves a ring under every schedule")
@@ -215,6 +216,14 @@ def fails(stage: Stage) -> None:
         explores(
             stage, agent, BREAKS, FAILING, f',"failure":"{cause}","function":{function}'
         )
+
+
+@case("agents that look before they enter fail, though their module does not")
+def looks_outside(stage: Stage) -> None:
+    looks = CALL + b"\x00" + DROP
+    enters = CALL + b"\x01" + DROP
+    for body in (looks, looks + enters, LOOP + looks + AGAIN + END):
+        explores(stage, running(body, "look", "enter"), OUTSIDE, FAILING)
 
 
 @case("each 64 bytes that are filled or copied burn fuel as an instruction does")

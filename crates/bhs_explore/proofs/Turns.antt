@@ -148,7 +148,8 @@ changed_itself f place value other same = elim (eqb_tells other place) [
   | inr h ↦ rw h.0 refl
 ]
 
-unreached : (world : World) (position : Position) (before : ℕ → Bool) → reached_by world None position before ≡ before
+pub unreached : (world : World) (position : Position) (before : ℕ → Bool)
+    → reached_by world None position before ≡ before
 unreached world Before before = refl
 unreached world (At node came) before = refl
 unreached world (Bound node port) before = refl

@@ -1,7 +1,8 @@
 -- What is said of all schedules.
 use Rattle.std.specs.Prelude.{ℕ, ◌≡◌, ◌<◌, ◌≤◌, ◌≢◌, List, ◌∷◌}
 use Rattle.bhs_model.specs.declared.replies.Reply.TheVariants.{Over}
-use Rattle.bhs_model.specs.Runs.{Before, Bound}
+use Rattle.bhs_model.specs.declared.commands.Command.TheVariants.{Enter}
+use Rattle.bhs_model.specs.Runs.{Position, Before, Bound}
 use Rattle.bhs_referee.specs.declared.verdicts.Verdict.{Verdict}
 use Rattle.bhs_referee.specs.declared.verdicts.Outcome.TheVariants.{Solved}
 use Rattle.bhs_explore.specs.declared.answers.Step.{Step}
@@ -33,11 +34,19 @@ step_after trial schedule agent = trial.strategies agent ((under trial schedule)
 abbrev pub step_when_over : Trial → (schedule : List ℕ) → (agent : ℕ) → Step
 step_when_over trial schedule agent = trial.strategies agent (Heard Over ∷ (under trial schedule).history agent)
 
--- Under each schedule, at each time, no agent has failed. Once nothing more can happen, an agent on a link
--- does not fail when it is told that the match is over, and an agent that has not entered does not sleep.
+-- An agent that has not entered says nothing but Enter: a server takes no other command before.
+abbrev pub OnlyEnters : Position → Step → Type 0
+OnlyEnters Before (steps.Says command) = command ≡ Enter
+OnlyEnters position step = Unit {0}
+
+-- Under each schedule, at each time, no agent has failed, and none says a command before it has entered. Once nothing
+-- more can happen, an agent on a link does not fail when it is told that the match is over, and an agent that has not
+-- entered does not sleep.
 pub record NobodyFails (trial : Trial) : Type 0 where
   pub runs : (schedule : List ℕ) (agent : ℕ) → agent < trial.world.agents
       → step_after trial schedule agent ≢ steps.Fails
+  pub enters : (schedule : List ℕ) (agent : ℕ) → agent < trial.world.agents
+      → OnlyEnters (position_of trial (under trial schedule) agent) (step_after trial schedule agent)
   pub over : (schedule : List ℕ) (agent node port : ℕ) → agent < trial.world.agents
       → IsAtRest trial (under trial schedule) → position_of trial (under trial schedule) agent ≡ Bound node port
       → step_when_over trial schedule agent ≢ steps.Fails

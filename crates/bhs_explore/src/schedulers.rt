@@ -23,7 +23,7 @@ pub enum Scheduler {
     Fair,
     /// Agents go as far as they can, and of those on links the one arrives that departed last.
     LastDeparted,
-    /// One agent moves only if no other can. It is the one whose number is that of the schedule, counted cycle the
+    /// One agent moves only if no other can. It is the one whose number is that of the schedule, counted round the
     /// team.
     Starved,
     /// Some agents are slow to be answered, and some to arrive, for the whole schedule; sleepers wake seldom.

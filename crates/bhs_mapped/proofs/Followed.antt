@@ -22,7 +22,7 @@ use Rattle.bhs_explore.specs.Schedules.{Trial, Scene, Action, Makes, Wakes, Rest
 use Rattle.bhs_explore.specs.Schedules.{done, turn, turns as scene_turns, under, can_move, verdict}
 use Rattle.bhs_explore.specs.Certificates.{one_if}
 use Rattle.bhs_explore.specs.Endings.{moving}
-use Rattle.bhs_explore.specs.Everywhere.{IsSolvedWithin}
+use Rattle.bhs_explore.specs.Everywhere.{IsSolvedWithin, OnlyEnters, step_after}
 use Rattle.bhs_explore.proofs.Turns.{IsOwn, own_deed, lost_more, verdict_is}
 use Rattle.bhs_protocols.specs.Configurations.{Configuration, configuration_of, found_in, outcome_in, turn_in}
 use Rattle.bhs_protocols.specs.Invariants.{CostBounds, IsSolved}
@@ -125,6 +125,22 @@ module _ (world : World) (part : Network) (port : (node port : ℕ) → ℕ) (wa
   never wrong apart place Sleeps fine = fine
   never wrong apart place Stops fine = fine
   never wrong apart place Fails fine = fine
+
+  -- who has not entered says Enter in the network where it does in the part
+  enters_same : (there here : Position) (step : Step) → SamePlace there here → OnlyEnters here step
+      → OnlyEnters there (step_of port here step)
+  enters_same there Before (Says command) like enters =
+      subst (λ (p : Position). OnlyEnters p (Says (command_of port Before command))) (sym like)
+      (ap (command_of port Before) enters)
+  enters_same there Before Sleeps like enters = subst (λ (p : Position). OnlyEnters p Sleeps) (sym like) tt
+  enters_same there Before Stops like enters = subst (λ (p : Position). OnlyEnters p Stops) (sym like) tt
+  enters_same there Before Fails like enters = subst (λ (p : Position). OnlyEnters p Fails) (sym like) tt
+  enters_same there (At node came) step like enters =
+      subst (λ (p : Position). OnlyEnters p (step_of port (At node came) step)) (sym like.2) tt
+  enters_same there (Bound node by) step like enters =
+      subst (λ (p : Position). OnlyEnters p (step_of port (Bound node by) step)) (sym like.2) tt
+  enters_same there After step like enters =
+      subst (λ (p : Position). OnlyEnters p (step_of port After step)) (sym like) tt
 
   says_no : (command : Command) → Says command ≢ Fails
   says_no command h = cc
@@ -298,6 +314,13 @@ module _ (world : World) (part : Network) (port : (node port : ℕ) → ℕ) (wa
           (sym (says_as (outer_after schedule) (inner_after schedule)
           agent same))
           (never Fails says_no _ _ (solved.nobody_fails.runs schedule agent within));
+      enters = λ schedule agent within.
+          let same = (after schedule).alike in
+          subst (λ (step : Step). OnlyEnters (position_of followed_by (under followed_by schedule) agent) step)
+          (sym (says_as (outer_after schedule) (inner_after schedule) agent same))
+          (enters_same (position_of followed_by (under followed_by schedule) agent)
+          (position_of played (under played schedule) agent) (step_after played schedule agent) (same.place agent)
+          (solved.nobody_fails.enters schedule agent within));
       over = λ schedule agent node by within rest on.
           let same : AreAlike (under followed_by schedule) (under played schedule) = after schedule in
           over_as (outer_after schedule) (inner_after schedule) agent

@@ -93,6 +93,7 @@ fails_line verdict schedule =
 abbrev pub failure_text : Failure → List ℕ
 failure_text failures.Program = codes "program"
 failure_text failures.Close = codes "close"
+failure_text failures.Outside = codes "outside"
 failure_text failures.Asleep = codes "asleep"
 
 -- the line of a schedule under which an agent fails

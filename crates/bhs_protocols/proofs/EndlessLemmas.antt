@@ -1,80 +1,121 @@
--- Two agents that look for ever stay outside.
-use Rattle.std.proofs.Common.{ℕ, ◌≡◌, true, false, List, [], ◌∷◌, refl, sym, ap, ◌∙◌, subst}
-use Rattle.std.proofs.Common.{if◌then◌else◌, nat_lt, arith}
-use Rattle.std.proofs.lemmas.Bool.{true≢false, cond-true, cond-false}
-use Rattle.bhs_model.specs.declared.commands.Command.TheVariants.{Look}
+-- Two agents that say Enter for ever use no command and never rest.
+use Rattle.std.proofs.Common.{ℕ, ◌≡◌, ◌⊎◌, true, None, List, [], ◌∷◌, refl, sym, ap}
+use Rattle.std.proofs.Common.{◌∙◌, subst, nat_lt, arith, inl, inr}
+use Rattle.std.proofs.lemmas.Bool.{true≢false}
+use Rattle.std.proofs.lemmas.Bool.Decides.{eqb_tells}
+use Rattle.bhs_model.specs.declared.commands.Command.TheVariants.{Enter}
 use Rattle.bhs_model.specs.declared.events.Event.TheVariants.{Tell}
-use Rattle.bhs_model.specs.Replying.{accepts}
-use Rattle.bhs_model.specs.Standings.{standing_at}
-use Rattle.bhs_model.specs.Runs.{Position, Before}
+use Rattle.bhs_model.specs.Runs.{Position, Before, At, changed}
 use Rattle.bhs_model.specs.Examples.{none_held}
-use Rattle.bhs_model.proofs.StepLemmas.{by_cases}
+use Rattle.bhs_model.proofs.StepLemmas.{changed_same, changed_other}
+use Rattle.bhs_model.proofs.LegalLemmas.{either}
 use Rattle.bhs_explore.specs.declared.answers.Step.TheVariants.{Says}
-use Rattle.bhs_explore.specs.Schedules.{Makes, Rests, action_at, is_move, under, can_move, IsAtRest}
+use Rattle.bhs_explore.specs.Schedules.{Action, Makes, Rests, action_at, is_move, under, position_of, can_move}
+use Rattle.bhs_explore.specs.Schedules.{IsAtRest}
+use Rattle.bhs_explore.specs.Everywhere.{OnlyEnters}
 use Rattle.bhs_explore.specs.Spending.{used_in}
-use Rattle.bhs_protocols.specs.Configurations.{Configuration, configuration_of, blank, deed_in, said_in, refused_in}
-use Rattle.bhs_protocols.specs.Configurations.{done_in}
+use Rattle.bhs_protocols.specs.Configurations.{Configuration, configuration_of, blank, said_in, refused_in}
+use Rattle.bhs_protocols.specs.Configurations.{told_in, done_in, is_heard}
 use Rattle.bhs_protocols.specs.Configurations.{turn_in, turns_in}
-use Rattle.bhs_protocols.specs.Endless.{lookers, LookersSolveAtRest, LookersDoNotRest}
+use Rattle.bhs_protocols.specs.Endless.{repeaters, RepeatersSolveAtRest, RepeatersDoNotRest}
 use Rattle.bhs_protocols.proofs.ConfigurationLemmas.{configurations_follow}
 
--- nobody has entered or used anything
-record AreOutside (configuration : Configuration) : Type 0 where
-  position : (k : ℕ) → configuration.position k ≡ Before
+-- an agent has not entered, or is at the home base
+abbrev IsNear : Position → Type 0
+IsNear position = (position ≡ Before) ⊎ (position ≡ At 0 None)
+
+-- nobody has left the home base, or used anything
+record AreNear (configuration : Configuration) : Type 0 where
+  position : (k : ℕ) → IsNear (configuration.position k)
   used : (k : ℕ) → configuration.used k ≡ 0
 
-deed_is : (configuration : Configuration) (k : ℕ) → AreOutside configuration
-    → deed_in lookers configuration k ≡ (if nat_lt k 2 then Makes (Tell k Look) else Rests)
-deed_is configuration k outside i =
-    if nat_lt k 2 then action_at none_held 0 (outside.position k i) (configuration.woken k) (Says Look) k else Rests
+-- each says Enter, as long as there is such an agent
+deed_near : (configuration : Configuration) (k : ℕ) (place : Position) → IsNear place →
+    action_at none_held 0 place (configuration.woken k) (Says Enter) k ≡ Makes (Tell k Enter)
+deed_near configuration k place near = elim near [
+  | inl h ↦ ap (λ (p : Position). action_at none_held 0 p (configuration.woken k) (Says Enter) k) h
+  | inr h ↦ ap (λ (p : Position). action_at none_held 0 p (configuration.woken k) (Says Enter) k) h
+]
 
-turn_outside : (configuration : Configuration) (k : ℕ) → AreOutside configuration
-    → AreOutside (turn_in lookers configuration k)
-turn_outside configuration k outside = by_cases (nat_lt k 2) (AreOutside (turn_in lookers configuration k))
-    (λ yes.
-    let is : turn_in lookers configuration k ≡ said_in lookers.world configuration k Look =
-    ap (done_in lookers configuration k) (deed_is configuration k outside ∙ cond-true _ _ _ yes) in
-    let deaf : said_in lookers.world configuration k Look ≡ refused_in configuration k Look =
-    cond-false _ _ _ (unheard (configuration.position k) (outside.position k)) in
-    subst AreOutside (sym (is ∙ deaf)) (record { position = outside.position; used = outside.used }))
-    (λ none. subst AreOutside (sym (ap (done_in lookers configuration k) (deed_is configuration k outside
-    ∙ cond-false _ _ _ none)))
-    outside)
-  where
-    unheard : (place : Position) → place ≡ Before
-        → accepts (standing_at place) (nat_lt (configuration.used k) lookers.world.quota) Look ≡ false
-    unheard place at = ap (λ (p : Position). accepts (standing_at p) (nat_lt
-        (configuration.used k) lookers.world.quota) Look)
-        at
+entered_near : (configuration : Configuration) (k j : ℕ) → AreNear configuration
+    → IsNear (changed configuration.position k (At 0 None) j)
+entered_near configuration k j near = elim (eqb_tells j k) [
+  | inl h ↦ inr (ap (changed configuration.position k (At 0 None)) h.1
+      ∙ changed_same configuration.position k (At 0 None))
+  | inr h ↦ subst IsNear (sym (changed_other configuration.position k j (At 0 None) h.0)) (near.position j)
+]
 
-turns_outside : (schedule : List ℕ) (configuration : Configuration) → AreOutside configuration
-    → AreOutside (turns_in lookers configuration schedule)
-turns_outside [] configuration outside = outside
-turns_outside (k ∷ schedule) configuration outside =
-    turns_outside schedule (turn_in lookers configuration k) (turn_outside configuration k outside)
+used_near : (configuration : Configuration) (k j : ℕ) → AreNear configuration
+    → changed configuration.used k (configuration.used k) j ≡ 0
+used_near configuration k j near = elim (eqb_tells j k) [
+  | inl h ↦ ap (changed configuration.used k (configuration.used k)) h.1
+      ∙ changed_same configuration.used k (configuration.used k) ∙ near.used k
+  | inr h ↦ changed_other configuration.used k j (configuration.used k) h.0 ∙ near.used j
+]
 
-outside_under : (schedule : List ℕ) → AreOutside (configuration_of lookers (under lookers schedule))
-outside_under schedule = subst AreOutside (sym (configurations_follow lookers schedule))
-    (turns_outside schedule blank (record { position = λ k. refl; used = λ k. refl }))
+said_near : (configuration : Configuration) (k : ℕ) → AreNear configuration
+    → AreNear (said_in repeaters.world configuration k Enter)
+said_near configuration k near =
+    either AreNear (is_heard repeaters.world configuration k Enter) (told_in repeaters.world configuration k Enter)
+    (refused_in configuration k Enter)
+    (record {
+      position = λ j. entered_near configuration k j near;
+      used = λ j. used_near configuration k j near;
+    })
+    (record { position = near.position; used = near.used })
 
-never_rest : (schedule : List ℕ) → IsAtRest lookers (under lookers schedule) → ⊥
+turn_near : (configuration : Configuration) (k : ℕ) → AreNear configuration
+    → AreNear (turn_in repeaters configuration k)
+turn_near configuration k near =
+    either (λ (it : Action). AreNear (done_in repeaters configuration k it)) (nat_lt k 2)
+    (action_at none_held 0 (configuration.position k) (configuration.woken k) (Says Enter) k) Rests
+    (subst (λ (it : Action). AreNear (done_in repeaters configuration k it))
+    (sym (deed_near configuration k (configuration.position k) (near.position k))) (said_near configuration k near))
+    near
+
+turns_near : (schedule : List ℕ) (configuration : Configuration) → AreNear configuration
+    → AreNear (turns_in repeaters configuration schedule)
+turns_near [] configuration near = near
+turns_near (k ∷ schedule) configuration near =
+    turns_near schedule (turn_in repeaters configuration k) (turn_near configuration k near)
+
+near_under : (schedule : List ℕ) → AreNear (configuration_of repeaters (under repeaters schedule))
+near_under schedule = subst AreNear (sym (configurations_follow repeaters schedule))
+    (turns_near schedule blank (record { position = λ k. inl refl; used = λ k. refl }))
+
+moves_near : (place : Position) (woken : ℕ) → IsNear place
+    → is_move repeaters.world place (action_at none_held 0 place woken (Says Enter) 0) ≡ true
+moves_near place woken near = elim near [
+  | inl h ↦ ap (λ (p : Position). is_move repeaters.world p (action_at none_held 0 p woken (Says Enter) 0)) h
+  | inr h ↦ ap (λ (p : Position). is_move repeaters.world p (action_at none_held 0 p woken (Says Enter) 0)) h
+]
+
+never_rest : (schedule : List ℕ) → IsAtRest repeaters (under repeaters schedule) → ⊥
 never_rest schedule rest =
-    let moves : can_move lookers (under lookers schedule) 0 ≡ true =
-    λ i. is_move lookers.world ((outside_under schedule).position 0 i)
-    (action_at none_held 0 ((outside_under schedule).position 0 i) ((under lookers schedule).woken 0) (Says Look) 0) in
+    let moves : can_move repeaters (under repeaters schedule) 0 ≡ true =
+    moves_near (position_of repeaters (under repeaters schedule) 0) ((under repeaters schedule).woken 0)
+    ((near_under schedule).position 0) in
     true≢false (sym moves ∙ rest 0)
 
-pub lookers_solve : LookersSolveAtRest
-lookers_solve = (
+enters_near : (place : Position) → IsNear place → OnlyEnters place (Says Enter)
+enters_near place near = elim near [
+  | inl h ↦ subst (λ (p : Position). OnlyEnters p (Says Enter)) (sym h) refl
+  | inr h ↦ subst (λ (p : Position). OnlyEnters p (Says Enter)) (sym h) tt
+]
+
+pub repeaters_solve : RepeatersSolveAtRest
+repeaters_solve = (
   λ schedule rest. absurd (never_rest schedule rest),
-  λ schedule k. let none : used_in lookers (under lookers schedule) k ≡ 0 = (outside_under schedule).used k in
+  λ schedule k. let none : used_in repeaters (under repeaters schedule) k ≡ 0 = (near_under schedule).used k in
       omega (arith, none),
   record {
     runs = λ schedule k within h. cc;
+    enters = λ schedule k within. enters_near (position_of repeaters (under repeaters schedule) k)
+        ((near_under schedule).position k);
     over = λ schedule k node port within rest at h. never_rest schedule rest;
     awake = λ schedule k within rest at h. never_rest schedule rest;
   },
 )
 
-pub lookers_never_rest : LookersDoNotRest
-lookers_never_rest rests = let more = rests [] in never_rest more.0 more.1
+pub repeaters_never_rest : RepeatersDoNotRest
+repeaters_never_rest rests = let more = rests [] in never_rest more.0 more.1

@@ -1,8 +1,8 @@
 -- Two agents that explore by ways solve the match, and keep bounds.
 use Rattle.std.proofs.Common.{ℕ, zero, suc, ◌+◌, ◌-◌, ◌*◌, ◌<◌, ◌≤◌, ◌≡◌, ◌⊎◌, true, ◌&&◌, ◌==◌, Option, None, refl}
-use Rattle.std.proofs.Common.{◌∷◌, sym, ap, ◌∙◌, subst, if◌then◌else◌, inl, inr, arith}
+use Rattle.std.proofs.Common.{[], ◌∷◌, sym, ap, ◌∙◌, subst, if◌then◌else◌, inl, inr, arith}
 use Rattle.std.proofs.lemmas.Bool.Decides.{eqb_tells}
-use Rattle.bhs_model.specs.declared.commands.Command.TheVariants.{Depart, Accuse}
+use Rattle.bhs_model.specs.declared.commands.Command.TheVariants.{Enter, Depart, Accuse}
 use Rattle.bhs_model.specs.declared.replies.Reply.TheVariants.{Over}
 use Rattle.bhs_model.specs.Runs.{Position, Before}
 use Rattle.bhs_explore.specs.declared.answers.Step.TheVariants.{Says}
@@ -135,6 +135,11 @@ module _ (game : Game) where
       let m : Memory = game.holds agent past in
       ap is_steady (explorers.does agent past) ∙ steady_by (way_to m.side (m.mine + 1)) m m.phase
 
+  -- each first says Enter
+  first : (agent : ℕ) → trial.strategies agent [] ≡ Says Enter
+  first agent = explorers.does agent []
+      ∙ ap (λ (m : Memory). does_by n (way_to m.side (m.mine + 1)) m m.phase) (explorers.starts agent)
+
   -- ---- all together
 
   abbrev pub bounds : CostBounds
@@ -248,6 +253,7 @@ module _ (game : Game) where
 
   invariant : IsInvariant trial bounds (Holds 0 1)
   invariant = record {
+    first = first;
     begins = record { inv = first_inv; total = omega (arith, first_progress 0, first_progress 1) };
     goes_on = λ configuration turns agent within moves held.
         either_goes_on trial Holds turned goes_on configuration turns agent

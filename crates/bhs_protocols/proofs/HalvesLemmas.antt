@@ -215,6 +215,7 @@ module _ (game : Game) where
 
   invariant : IsInvariant trial bounds (Holds 0 1)
   invariant = record {
+    first = λ agent. refl;
     begins = record { mark = 0; mark_too = 0; inv = first_inv; total = first_turns };
     goes_on = λ configuration turns agent within moves held.
         either_goes_on trial Holds turned goes_on configuration turns agent

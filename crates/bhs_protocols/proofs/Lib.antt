@@ -1,4 +1,5 @@
 pub mod ConfigurationLemmas
+pub mod Entering
 pub mod Principle
 pub mod TurnLemmas
 pub mod MovingLemmas

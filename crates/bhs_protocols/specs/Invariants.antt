@@ -1,10 +1,11 @@
 -- What it takes to show of a match, once and for all, that agents solve it under every schedule: an invariant of its
 -- configurations with a number that falls.
-use Rattle.std.specs.Prelude.{ℕ, ◌≡◌, ◌≢◌, ◌<◌, ◌≤◌, true, ◌∷◌}
+use Rattle.std.specs.Prelude.{ℕ, ◌≡◌, ◌≢◌, ◌<◌, ◌≤◌, true, [], ◌∷◌}
+use Rattle.bhs_model.specs.declared.commands.Command.TheVariants.{Enter}
 use Rattle.bhs_model.specs.declared.replies.Reply.TheVariants.{Over}
 use Rattle.bhs_model.specs.Runs.{Before, Bound}
 use Rattle.bhs_referee.specs.declared.verdicts.Outcome.TheVariants.{Solved}
-use Rattle.bhs_explore.specs.declared.answers.Step.TheVariants.{Sleeps, Fails}
+use Rattle.bhs_explore.specs.declared.answers.Step.TheVariants.{Says, Sleeps, Fails}
 use Rattle.bhs_explore.specs.Strategies.{Heard}
 use Rattle.bhs_explore.specs.Schedules.{Trial}
 use Rattle.bhs_explore.specs.Everywhere.{EveryScheduleSolves, NobodyFails}
@@ -36,10 +37,12 @@ pub record GoesOn (Holds : Configuration → ℕ → Type 0) (left : ℕ) (new :
   pub fewer : rest < left
   pub holds : Holds new rest
 
--- It holds at the start; whoever can move, it holds after that turn, with fewer turns left; where it holds, the bounds
--- are kept and nobody has failed; and where nothing more can happen, the match is solved.
+-- Each agent first says Enter. The invariant holds at the start; whoever can move, it holds after that turn, with fewer
+-- turns left; where it holds, the bounds are kept and nobody has failed; and where nothing more can happen, the match
+-- is solved.
 pub record IsInvariant (trial : Trial) (bounds : CostBounds) (Holds : Configuration → (left : ℕ)
     → Type 0) : Type 0 where
+  pub first : (agent : ℕ) → trial.strategies agent [] ≡ Says Enter
   pub begins : Holds blank bounds.turns
   pub goes_on : (configuration : Configuration) (left agent : ℕ) → agent < trial.world.agents
       → can_move_in trial configuration agent ≡ true → Holds configuration left

@@ -5,7 +5,7 @@ ghost use Rattle.bhs_protocols.specs.Alone.{OneAloneFails, OneAloneFailsOnNetwor
 ghost use Rattle.bhs_protocols.specs.Attained.{HalvesAttain, HalvesAttainOnAllRings, HalvesAttainOnStandardRings};
 ghost use Rattle.bhs_protocols.specs.Attained.{ShuttleAttains, ShuttleAttainsOnAllRings, ShuttleAttainsSquares};
 ghost use Rattle.bhs_protocols.specs.Attained.{WorstDistances, WorstIsWithin};
-ghost use Rattle.bhs_protocols.specs.Endless.{LookersDoNotRest, LookersSolveAtRest};
+ghost use Rattle.bhs_protocols.specs.Endless.{RepeatersDoNotRest, RepeatersSolveAtRest};
 ghost use Rattle.bhs_protocols.specs.HalvesExamples.{OnFive, OnFour, OnSix, OnThree};
 ghost use Rattle.bhs_protocols.specs.HalvesLaws.{HalvesSolve, HalvesSolveAllRings, TurnsAreFew};
 ghost use Rattle.bhs_protocols.specs.Halving.{LastWaysArePaid, MovesAre, MovesAreFew, RoundsAreLeast, RoundsReach};
@@ -99,11 +99,11 @@ pub fn no_team_solves_two_sizes()
     ensures solves { NoTeamSolvesTwoSizes }
 {}
 
-/// Agents that look for ever solve a match under every schedule that comes to rest, so `IsSolved` also says that
+/// Agents that say Enter for ever solve a match under every schedule that comes to rest, so `IsSolved` also says that
 /// schedules end.
-pub fn lookers_solve()
-    ensures said { LookersSolveAtRest }
-    ensures but { LookersDoNotRest }
+pub fn repeaters_solve()
+    ensures said { RepeatersSolveAtRest }
+    ensures but { RepeatersDoNotRest }
 {}
 
 /// What a search by halves costs: each way is paid for, and all that is paid for is order n log n.

@@ -474,6 +474,7 @@ module _ (world : World) (n right left wakeups : ℕ) (ways : Ways) (search : Is
 
   invariant : IsInvariant trial triangle_bounds Holds
   invariant = record {
+    first = λ agent. refl;
     begins = record {
       inv = record { own = first_fit 0; other = first_fit 1; moves = refl; none = λ k beyond. refl };
       total = refl;

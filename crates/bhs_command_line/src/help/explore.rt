@@ -105,9 +105,10 @@ At the end comes a line of what was found, and one of how much was visited:
       If the agents have their turns in this order, nothing more can happen, and
       the match is not solved
   {\"found\":\"breaks\",\"agent\":A,\"failure\":F,\"schedule\":[A,..]}
-      Under this schedule agent A fails: its program does (program), or it would
-      once it is told that the match is over (close), or it sleeps where nothing
-      more can happen (asleep)
+      Under this schedule agent A fails: its program does (program), or it says
+      a command other than Enter before it has entered (outside), or it would fail
+      once it is told that the match is over (close), or it sleeps and has not
+      entered, where nothing more can happen (asleep)
   {\"found\":\"endless\",\"schedule\":[A,..],\"round\":[A,..],\"fair\":B}
       After the schedule this round may go on for ever. It is fair (true) if each
       agent that can move throughout it has a turn in it. In an unfair round
