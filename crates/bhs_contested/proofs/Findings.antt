@@ -8,14 +8,14 @@ use Rattle.bhs_model.specs.declared.events.Event.TheVariants.{Tell, Deliver, Clo
 use Rattle.bhs_model.specs.declared.replies.Reply.{Reply}
 use Rattle.bhs_model.specs.Replying.{hears}
 use Rattle.bhs_model.specs.Worlds.{World}
-use Rattle.bhs_model.specs.Runs.{State, Position, Before, At, Bound, After, initial, heard, arrives, next, reply}
+use Rattle.bhs_model.specs.Runs.{State, Position, initial, heard, arrives, next, reply}
 use Rattle.bhs_model.specs.Kept.{lost_after, keeps, kept_from, nobody, kept}
 use Rattle.bhs_model.proofs.StepLemmas.{no_arrival_no_reply}
 use Rattle.bhs_model.proofs.KeptLemmas.{unkept_state}
 use Rattle.bhs_referee.specs.Findings.{Findings, nothing_found, accused_by, moves_by}
 use Rattle.bhs_referee.specs.Findings.{reached_by, found_after, found_from}
 use Rattle.bhs_referee.specs.Findings.{findings}
-use Rattle.bhs_explore.proofs.Turns.{changed_itself}
+use Rattle.bhs_explore.proofs.Turns.{changed_itself, unreached}
 
 -- a reply by which nothing is found
 abbrev IsVain : Option Reply → Type 0
@@ -45,12 +45,7 @@ unkept_found world state lost found (Deliver agent) unkept =
     let after : Findings = record { accused = found.accused; reached = reached; moves = found.moves } in after)
     (ap (λ (said : Option Reply). reached_by world said (state.position agent) found.reached)
     (no_arrival_no_reply world state agent (or_parts (arrives world state agent) _ unkept).0)
-    ∙ elim (state.position agent) as (λ (p : Position). reached_by world None p found.reached ≡ found.reached) [
-      | Before ↦ refl
-      | At node came ↦ refl
-      | Bound node port ↦ refl
-      | After ↦ refl
-    ])
+    ∙ unreached world (state.position agent) found.reached)
 unkept_found world state lost found Close unkept = refl
 
 found-kept : (world : World) (state : State) (lost : ℕ → Bool) (found : Findings) (events : List Event)

@@ -5,10 +5,9 @@ ghost use Rattle.bhs_contested.specs.Example.{ItIsSolved, TheLawSpeaksOfIt};
 ghost use Rattle.bhs_contested.specs.Instances.{HalvesSolveContests, ProgramsWait};
 ghost use Rattle.bhs_contested.specs.ModuleContests.{ModulesSolveContests};
 
-/// If every schedule solves a match for the strategies of its agents, a contest that gave the match back settled, each
-/// of whose agents was played by a client that follows its strategy line by line, and in which all agents have ended or
-/// are lost, solved it within the same moves and lost agents.
-/// Whenever such a contest ended, no accusation was wrong.
+/// Let every schedule solve a match for the strategies of its agents, and a contest give this match back settled, where
+/// a client played each agent by its strategy, line by line. If all agents have ended or are lost, the contest solved
+/// the match within the same moves and lost agents. Whenever it ended, no accusation was wrong.
 pub fn contests_are_solved()
     ensures solved { ContestsAreSolved }
     ensures never_wrong { ContestsAreNeverWrong }

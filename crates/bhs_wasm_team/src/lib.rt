@@ -12,5 +12,5 @@ mod saying;
 pub use agents::{Agents, FUEL, Role, Roles};
 pub use exploring::{draw_module, explore_module};
 pub use failures::{FailureCause, ModuleFailure};
-pub use laws::{modules_answer, modules_solve};
+pub use laws::{findings_of_modules_agree, modules_answer, modules_solve};
 pub use saving::{MemoryTable, Saved, Status};
