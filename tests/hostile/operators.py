@@ -52,8 +52,8 @@ from tests.support.tournaments import match, write_cup
 # turns that no test waits for
 LONG = 1_000_000
 ACCUSE = b'{"do":"accuse","port":1}\n'
-# the row of the last of two teams
-LAST_ROW = "  2 "
+# a row of the status: a team with its rank, or one that nobody has entered for
+ROW = re.compile(r"^ +(?:\d+ |- )\w.*\n", re.M)
 # how many looks, at a text of how many bytes, and by how many kilobytes a server may
 # grow meanwhile
 LOOKS = 3000
@@ -73,10 +73,14 @@ def heard(program: str, folder: pathlib.Path, *options: str, **more: object) -> 
     )
 
 
-def asked(server: Server, last: str = LAST_ROW) -> str:
-    """What the operator is told that asks for the status."""
+def asked(server: Server, teams: int = 2) -> str:
+    """What the operator is told that asks for the status. It ends with a row for each
+    team."""
     server.says(b"status\n")
-    return server.tells(last)
+    told = server.tells("closed now:\n")
+    while len(ROW.findall(told.rpartition("closed now:\n")[2])) < teams:
+        told += server.tells("\n")
+    return told
 
 
 def found(pattern: str, text: str) -> Tuple[str, ...]:
@@ -382,8 +386,9 @@ def status_once(program: str, folder: pathlib.Path) -> None:
 def own_verdicts(program: str, folder: pathlib.Path) -> None:
     with heard(program, folder, "--log") as server, server.connect(
         enter("blue-1") + ACCUSE
-    ) as client:
+    ) as client, server.connect(enter("red-0")) as other:
         answer(client, len(HERE) + 14)
+        answer(other, len(HERE))
         server.says(b"close 0\n")
         server.tells("match 0 (red) closed")
         rows = [
@@ -461,7 +466,7 @@ def turns_of_a_closed_match(program: str, folder: pathlib.Path) -> None:
 @case("the status has a line for each of three matches")
 def status_of_three(program: str, folder: pathlib.Path) -> None:
     with played(program, folder, on_ring("red", "blue", "green")) as server:
-        told = asked(server, "  3 ")
+        told = asked(server, 3)
     wants("matches", told.count(" is open: turns "), 3)
 
 

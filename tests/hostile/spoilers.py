@@ -425,6 +425,10 @@ def asks(program: str, folder: pathlib.Path, options: Sequence[str]) -> None:
         enter("blue-1") + b'{"do":"accuse","port":1}\n'
     ) as client:
         answer(client, 1000)
+        # a team that nobody has entered for is not ranked before one that plays
+        server.says(b"status\n")
+        told = server.tells("  - red: no agent of match 0 has entered\n")
+        require("  1 blue" in told and "  2 " not in told, f"{told!r}")
         with entered(server, "red-0"):
             server.says(b"status\n")
             told = server.tells("  2 ")

@@ -131,8 +131,13 @@ missing_line game team agents =
     ++ codes "\n")))))
 
 -- how the teams would be ranked if all matches were closed now
-abbrev pub standings_lines : (table : List ℕ) → List ℕ
-standings_lines table = codes "serve: if all matches were closed now:\n" ++ table
+abbrev pub standings_lines : (table absent : List ℕ) → List ℕ
+standings_lines table absent = codes "serve: if all matches were closed now:\n" ++ (table ++ absent)
+
+-- a team that nobody has entered for, below the table of the others
+abbrev pub absent_line : (game : ℕ) (team : List ℕ) → List ℕ
+absent_line game team =
+    codes "  - " ++ (team ++ (codes ": no agent of match " ++ (decimal game ++ codes " has entered\n")))
 
 -- the operator has matches closed
 abbrev pub all_closing_line : List ℕ

@@ -6,7 +6,8 @@ ghost use Rattle.bhs_program.specs.LogLines.{judged_line, unjudged_line, session
 ghost use Rattle.bhs_program.specs.LogLines.{denied_words, outside_words, unserved_words, outsiders_line, unread_line};
 ghost use Rattle.bhs_program.specs.LogLines.{part_waits_line, part_goes_on_line};
 ghost use Rattle.bhs_program.specs.LogLines.{open_line, closed_line, missing_line, numbers, number_after_space};
-ghost use Rattle.bhs_program.specs.LogLines.{standings_lines, all_closing_line, closing_line, unknown_line, timed_line};
+ghost use Rattle.bhs_program.specs.LogLines.{absent_line, standings_lines, all_closing_line, closing_line};
+ghost use Rattle.bhs_program.specs.LogLines.{unknown_line, timed_line};
 
 use bhs_model::MAX_LINE;
 use bhs_net::Memory;
@@ -278,10 +279,17 @@ fn number(alloc: Global, one: u16) -> Result<String, Memory>
 }
 
 /// How the matches would be ranked if all that are open were closed now.
-pub(crate) fn standings_lines(alloc: Global, table: &str) -> Result<String, Memory>
-    ensures { IfOk result (λ text. string_bytes text ≡ standings_lines table.now) }
+pub(crate) fn standings_lines(alloc: Global, table: &str, absent: &str) -> Result<String, Memory>
+    ensures { IfOk result (λ text. string_bytes text ≡ standings_lines table.now absent.now) }
 {
-    format!(in alloc; "serve: if all matches were closed now:\n{table}")
+    format!(in alloc; "serve: if all matches were closed now:\n{table}{absent}")
+}
+
+/// A team that nobody has entered for, below the table of the others.
+pub(crate) fn absent_line(alloc: Global, game: usize, team: &str) -> Result<String, Memory>
+    ensures { IfOk result (λ text. string_bytes text ≡ absent_line game team.now) }
+{
+    format!(in alloc; "  - {team}: no agent of match {game} has entered\n")
 }
 
 /// The operator has all matches closed.

@@ -4,9 +4,9 @@ use crate::judged::{judged, judged_now};
 use crate::keeping::Keep;
 use crate::log::Log;
 use crate::log_lines::{
-    closed_line, judged_line, missing_line, open_line, outsiders_line, played_line, plays_line,
-    sessions_line, standings_lines, stray_words, strays_line, unjudged_line, unknown_line,
-    unplayed_line,
+    absent_line, closed_line, judged_line, missing_line, open_line, outsiders_line, played_line,
+    plays_line, sessions_line, standings_lines, stray_words, strays_line, unjudged_line,
+    unknown_line, unplayed_line,
 };
 use crate::operator::Operator;
 use crate::parts::PartFiles;
@@ -50,10 +50,10 @@ pub(crate) struct RunningContest<'a> {
 pub(crate) struct Recorder<'a, R> {
     rt: &'a R,
     alloc: Global,
-    scene: RunningContest<'a>,
+    running: RunningContest<'a>,
     standings: MatchStatuses,
     parts: &'a PartFiles,
-    going: Mutex<RecorderState>,
+    state: Mutex<RecorderState>,
 }
 
 // What goes on.
@@ -73,17 +73,17 @@ impl<'a, R> Recorder<'a, R> {
     pub(crate) fn new(
         rt: &'a R,
         alloc: Global,
-        scene: RunningContest<'a>,
+        running: RunningContest<'a>,
         standings: MatchStatuses,
         parts: &'a PartFiles,
     ) -> Recorder<'a, R> {
         Recorder {
             rt,
             alloc,
-            scene,
+            running,
             standings,
             parts,
-            going: Mutex::new(RecorderState {
+            state: Mutex::new(RecorderState {
                 sessions: 0,
                 looks: 0,
                 came: 0,
@@ -94,7 +94,7 @@ impl<'a, R> Recorder<'a, R> {
 
     // The team of the match of this number.
     fn team(&self, game: usize) -> &str {
-        match self.scene.teams.get(game) {
+        match self.running.teams.get(game) {
             Some(team) => team.as_str(),
             None => "",
         }
@@ -104,8 +104,8 @@ impl<'a, R> Recorder<'a, R> {
 impl<R: Keep + Wait + Clock> Recorder<'_, R> {
     // Reports a line, if the operator wants reports.
     fn report(&self, made: Result<String, Memory>) {
-        if self.scene.is_reporting {
-            self.scene.log.report(self.rt, made);
+        if self.running.is_reporting {
+            self.running.log.report(self.rt, made);
         }
     }
 
@@ -117,7 +117,7 @@ impl<R: Keep + Wait + Clock> Recorder<'_, R> {
 
     // Reports how far the matches are, and who has not entered.
     fn report_stand(&self, sessions: u32) {
-        let log = self.scene.log;
+        let log = self.running.log;
         let Ok(standings) = self.standings.copied(self.rt) else {
             log.report(self.rt, Err(Memory));
             return;
@@ -138,15 +138,15 @@ impl<R: Keep + Wait + Clock> Recorder<'_, R> {
 
     // Tells how far a match is whose part has this number of events, and who has not entered.
     fn report_match(&self, game: usize, events: usize, standing: &MatchStatus) {
-        let log = self.scene.log;
+        let log = self.running.log;
         let team = self.team(game);
         log.report(
             self.rt,
             match standing.closed {
                 Some(turns) => closed_line(self.alloc, game, team, turns, events),
                 None => {
-                    let turns = self.scene.operator.progress().turns(self.rt, game);
-                    open_line(self.alloc, game, team, turns, self.scene.turns, events)
+                    let turns = self.running.operator.progress().turns(self.rt, game);
+                    open_line(self.alloc, game, team, turns, self.running.turns, events)
                 }
             },
         );
@@ -160,29 +160,39 @@ impl<R: Keep + Wait + Clock> Recorder<'_, R> {
 
     // Tells what the operator asked for.
     fn answer(&self, cells: &[Cell], sessions: u32) {
-        let asks = self.scene.operator.take_asks(self.rt);
+        let asks = self.running.operator.take_asks(self.rt);
         if asks.unknown > 0 {
             let line = unknown_line(self.alloc, asks.unknown, cells.len());
-            self.scene.log.report(self.rt, line);
+            self.running.log.report(self.rt, line);
         }
         if asks.status {
             self.report_stand(sessions);
-            self.scene.log.report(self.rt, self.standings_now(cells));
+            self.running.log.report(self.rt, self.standings_now(cells));
         }
     }
 
-    // How the teams would be ranked if all matches were closed now.
+    // How the teams would be ranked if all matches were closed now. Those that nobody has entered for follow, without a
+    // rank: a team that waits is no better than one that plays.
     fn standings_now(&self, cells: &[Cell]) -> Result<String, Memory> {
+        let statuses = self.standings.copied(self.rt)?;
+        let mut teams = Vec::with_capacity(self.alloc, cells.len())?;
         let mut verdicts = Vec::with_capacity(self.alloc, cells.len())?;
+        let mut absent = String::new(self.alloc);
         for (game, cell) in cells.iter().enumerate() {
-            let game = u32::try_from(game).unwrap_or(u32::MAX);
-            verdicts.push(self.verdict_now(game, cell)?)?;
+            let team = self.team(game);
+            if is_absent(&statuses, game, cell) {
+                absent.push_str(absent_line(self.alloc, game, team)?.as_str())?;
+                continue;
+            }
+            let number = u32::try_from(game).unwrap_or(u32::MAX);
+            verdicts.push(self.verdict_now(number, cell)?)?;
+            teams.push(Text::new(self.alloc, team)?)?;
         }
-        if verdicts.len() != self.scene.teams.len() {
+        if verdicts.len() != teams.len() {
             return Err(Memory);
         }
-        let table = table_by(self.alloc, self.scene.teams, &verdicts)?;
-        standings_lines(self.alloc, table.as_str())
+        let table = table_by(self.alloc, &teams, &verdicts)?;
+        standings_lines(self.alloc, table.as_str(), absent.as_str())
     }
 
     // The verdict on a match if it were closed now. One that is closed was judged then, if that was reported.
@@ -195,15 +205,15 @@ impl<R: Keep + Wait + Clock> Recorder<'_, R> {
 
     // Counts a look: what went on before it.
     fn counted(&self) -> RecorderState {
-        let mut going = self.going.lock(self.rt);
-        going.looks = going.looks.saturating_add(1);
-        let counted = *going;
-        if going.looks % COUNTED == 0 {
-            going.came = 0;
-            going.outside = 0;
+        let mut state = self.state.lock(self.rt);
+        state.looks = state.looks.saturating_add(1);
+        let counted = *state;
+        if state.looks % COUNTED == 0 {
+            state.came = 0;
+            state.outside = 0;
         }
-        if going.looks >= LOOKS {
-            going.looks = 0;
+        if state.looks >= LOOKS {
+            state.looks = 0;
         }
         counted
     }
@@ -211,38 +221,38 @@ impl<R: Keep + Wait + Clock> Recorder<'_, R> {
 
 impl<R: Keep + Wait + Clock> Watch for Recorder<'_, R> {
     fn came(&self, session: u32, peer: SocketAddr) {
-        let mut going = self.going.lock(self.rt);
-        going.came = going.came.saturating_add(1);
-        if going.came <= OUTSIDERS {
+        let mut state = self.state.lock(self.rt);
+        state.came = state.came.saturating_add(1);
+        if state.came <= OUTSIDERS {
             self.report(format!(in self.alloc; "serve: session {session} from {peer}\n"));
         }
     }
 
     fn let_in(&self, session: u32, game: u32, agent: u16) {
-        let mut going = self.going.lock(self.rt);
-        going.sessions = going.sessions.saturating_add(1);
+        let mut state = self.state.lock(self.rt);
+        state.sessions = state.sessions.saturating_add(1);
         self.standings.entered(self.rt, game, agent);
         let team = self.team(game as usize);
         self.report(plays_line(self.alloc, session, game, team, agent));
     }
 
     fn ended(&self, session: u32, ended: Ended, game: u32, agent: u16) {
-        let mut going = self.going.lock(self.rt);
-        going.sessions = going.sessions.saturating_sub(1);
+        let mut state = self.state.lock(self.rt);
+        state.sessions = state.sessions.saturating_sub(1);
         let team = self.team(game as usize);
         self.report(played_line(self.alloc, session, game, team, agent, ended));
     }
 
     fn strayed(&self, session: u32, strays: &Strays) {
-        if self.scene.is_reporting {
+        if self.running.is_reporting {
             self.report(self.strays_reported(session, strays));
         }
     }
 
     fn left_outside(&self, session: u32, why: Outside) {
-        let mut going = self.going.lock(self.rt);
-        going.outside = going.outside.saturating_add(1);
-        if going.outside <= OUTSIDERS {
+        let mut state = self.state.lock(self.rt);
+        state.outside = state.outside.saturating_add(1);
+        if state.outside <= OUTSIDERS {
             self.report(unplayed_line(self.alloc, session, why));
         }
     }
@@ -250,8 +260,8 @@ impl<R: Keep + Wait + Clock> Watch for Recorder<'_, R> {
     fn closed(&self, game: u32, turns: u32, cell: &Cell) {
         self.standings.closed(self.rt, game, turns);
         // The operator is not told to close what is closed.
-        self.scene.operator.progress().call_off(self.rt, game);
-        if self.scene.is_reporting {
+        self.running.operator.progress().call_off(self.rt, game);
+        if self.running.is_reporting {
             let team = self.team(game as usize);
             let judged = judged(self.rt, self.alloc, cell);
             self.report(match judged {
@@ -266,14 +276,22 @@ impl<R: Keep + Wait + Clock> Watch for Recorder<'_, R> {
 
     fn look(&self, cells: &[Cell]) {
         self.parts
-            .write_on(self.rt, self.alloc, cells, self.scene.log);
+            .write_on(self.rt, self.alloc, cells, self.running.log);
         let counted = self.counted();
         if counted.looks % COUNTED == 0 && counted.outside > OUTSIDERS {
             self.report(outsiders_line(self.alloc, counted.outside.saturating_sub(OUTSIDERS)));
         }
-        if counted.looks >= LOOKS && self.scene.is_reporting {
+        if counted.looks >= LOOKS && self.running.is_reporting {
             self.report_stand(counted.sessions);
         }
         self.answer(cells, counted.sessions);
+    }
+}
+
+// Whether no agent of a match has entered.
+fn is_absent(statuses: &[MatchStatus], game: usize, cell: &Cell) -> bool {
+    match statuses.get(game) {
+        Some(status) => status.missing.len() >= usize::from(cell.setup().agents),
+        None => false,
     }
 }
