@@ -108,8 +108,8 @@ impl Workload {
         } else if self.events == EVENTS_OF_A_MATCH {
             self.game.apply(Event::Close);
         } else {
-            let deed = deed_of(self.words.next());
-            self.perform(alloc, deed)?;
+            let step = deed_of(self.words.next());
+            self.perform(alloc, step)?;
         }
         Ok(())
     }
@@ -118,8 +118,8 @@ impl Workload {
         self.game.apply(Event::Tell { agent, command });
     }
 
-    fn perform(&mut self, alloc: Global, deed: BenchStep) -> Result<(), Memory> {
-        match deed {
+    fn perform(&mut self, alloc: Global, step: BenchStep) -> Result<(), Memory> {
+        match step {
             BenchStep::Look { agent } => self.apply_command(agent, Command::Look),
             BenchStep::Write { agent } => {
                 let expect = self.game.seen(agent)?;

@@ -18,16 +18,16 @@ struct MatchProgress {
 // A match, as those see it who pace and close it.
 #[derive(Drop)]
 struct PacedMatch {
-    going: Mutex<MatchProgress>,
+    progress: Mutex<MatchProgress>,
     changed: Condvar,
 }
 
 impl PacedMatch {
     // Has the match take no more turns. Answers whether it might have taken some.
     fn call_off<R: Wait>(&self, rt: &R) -> bool {
-        let mut going = self.going.lock(rt);
-        let was_on = !going.is_called_off;
-        going.is_called_off = true;
+        let mut progress = self.progress.lock(rt);
+        let was_on = !progress.is_called_off;
+        progress.is_called_off = true;
         self.changed.notify_all();
         was_on
     }
@@ -37,29 +37,29 @@ impl PacedMatch {
 /// for none of its agents: its dealer closes it as after its last turn.
 #[derive(Drop)]
 pub struct Progress {
-    stages: Vec<PacedMatch>,
+    matches: Vec<PacedMatch>,
 }
 
 impl Progress {
     /// Of this number of matches, none of which has taken a turn or is called off.
-    pub fn new(alloc: Global, matches: usize) -> Result<Progress, Memory> {
-        let mut stages = Vec::with_capacity(alloc, matches)?;
-        for _ in 0..matches {
-            stages.push(PacedMatch {
-                going: Mutex::new(MatchProgress {
+    pub fn new(alloc: Global, count: usize) -> Result<Progress, Memory> {
+        let mut matches = Vec::with_capacity(alloc, count)?;
+        for _ in 0..count {
+            matches.push(PacedMatch {
+                progress: Mutex::new(MatchProgress {
                     turns: 0,
                     is_called_off: false,
                 }),
                 changed: Condvar::new(),
             })?;
         }
-        Ok(Progress { stages })
+        Ok(Progress { matches })
     }
 
     /// Calls the match of this number off. Answers whether there is such a match, which was not called off before.
     pub fn call_off<R: Wait>(&self, rt: &R, game: u32) -> bool {
-        match self.stages.get(game as usize) {
-            Some(stage) => stage.call_off(rt),
+        match self.matches.get(game as usize) {
+            Some(paced) => paced.call_off(rt),
             None => false,
         }
     }
@@ -67,24 +67,24 @@ impl Progress {
     /// Calls all matches off. Answers whether one was not called off before.
     pub fn call_all_off<R: Wait>(&self, rt: &R) -> bool {
         let mut were_on = false;
-        for stage in &self.stages {
-            were_on = stage.call_off(rt) || were_on;
+        for paced in &self.matches {
+            were_on = paced.call_off(rt) || were_on;
         }
         were_on
     }
 
     /// How many turns the match of this number has taken.
     pub fn turns<R: Wait>(&self, rt: &R, game: usize) -> u32 {
-        match self.stages.get(game) {
-            Some(stage) => stage.going.lock(rt).turns,
+        match self.matches.get(game) {
+            Some(paced) => paced.progress.lock(rt).turns,
             None => 0,
         }
     }
 
     // Whether the match of this number may take turns.
     pub(crate) fn is_on<R: Wait>(&self, rt: &R, game: u32) -> bool {
-        match self.stages.get(game as usize) {
-            Some(stage) => !stage.going.lock(rt).is_called_off,
+        match self.matches.get(game as usize) {
+            Some(paced) => !paced.progress.lock(rt).is_called_off,
             None => true,
         }
     }
@@ -98,22 +98,22 @@ impl Progress {
         turns: u32,
         pause: Duration,
     ) -> bool {
-        let Some(stage) = self.stages.get(game as usize) else {
+        let Some(paced) = self.matches.get(game as usize) else {
             return true;
         };
-        let mut going = stage.going.lock(rt);
-        going.turns = turns;
+        let mut progress = paced.progress.lock(rt);
+        progress.turns = turns;
         if pause.is_zero() {
-            let goes_on = !going.is_called_off;
-            drop(going);
+            let goes_on = !progress.is_called_off;
+            drop(progress);
             // between two turns the agents may have the processor
             thread::yield_now();
             return goes_on;
         }
-        let going = stage
+        let progress = paced
             .changed
-            .wait_timeout_while(rt, going, pause, |going| !going.is_called_off)
+            .wait_timeout_while(rt, progress, pause, |progress| !progress.is_called_off)
             .0;
-        !going.is_called_off
+        !progress.is_called_off
     }
 }

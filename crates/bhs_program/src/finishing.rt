@@ -114,8 +114,8 @@ fn write_settled<F: Files, E: Write>(
 {
     let mut status = DONE;
     for (number, one) in settled.iter().enumerate() {
-        let place = ReplayName { prefix, number };
-        let code = write_one(alloc, files, &place, schedule, one, errors);
+        let file = ReplayName { prefix, number };
+        let code = write_one(alloc, files, &file, schedule, one, errors);
         status = first_status(status, code);
     }
     status
@@ -125,7 +125,7 @@ fn write_settled<F: Files, E: Write>(
 fn write_one<F: Files, E: Write>(
     alloc: Global,
     files: &F,
-    place: &ReplayName<'_>,
+    file: &ReplayName<'_>,
     schedule: &ScheduleKind,
     settled: &Settled,
     errors: &mut E,
@@ -136,8 +136,8 @@ fn write_one<F: Files, E: Write>(
     let Ok(Settlement { sealed, turns, .. }) = settled else {
         return DONE;
     };
-    let timed = write_timed(alloc, files, place, schedule, turns, errors);
-    let filed = write_sealed(alloc, files, place.prefix, place.number, sealed, errors);
+    let timed = write_timed(alloc, files, file, schedule, turns, errors);
+    let filed = write_sealed(alloc, files, file.prefix, file.number, sealed, errors);
     first_status(timed, filed)
 }
 
@@ -145,7 +145,7 @@ fn write_one<F: Files, E: Write>(
 fn write_timed<F: Files, E: Write>(
     alloc: Global,
     files: &F,
-    place: &ReplayName<'_>,
+    file: &ReplayName<'_>,
     schedule: &ScheduleKind,
     turns: &[u32],
     errors: &mut E,
@@ -156,7 +156,7 @@ fn write_timed<F: Files, E: Write>(
     match schedule {
         ScheduleKind::Adaptive => DONE,
         ScheduleKind::Oblivious(_) => {
-            write_turns(alloc, files, place.prefix, place.number, turns, errors)
+            write_turns(alloc, files, file.prefix, file.number, turns, errors)
         }
     }
 }

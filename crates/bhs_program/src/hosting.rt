@@ -46,7 +46,7 @@ pub struct ContestFiles {
 pub fn host<R: Machine, W: Output, E: Write>(
     alloc: Global,
     rt: &R,
-    stage: &ContestFiles,
+    contest_files: &ContestFiles,
     lineup: Lineup,
     manner: &Manner<'_>,
     writer: &mut W,
@@ -56,9 +56,9 @@ pub fn host<R: Machine, W: Output, E: Write>(
     ensures { Hosts (known_takes R.File.contents) W.takes W.flushes lineup.seed lineup.schedule lineup.ready.items
         writer.old writer.new result }
 {
-    match served(alloc, rt, stage, lineup, manner) {
+    match served(alloc, rt, contest_files, lineup, manner) {
         Ok(finished) => {
-            stage.parts.make_way(rt, alloc, &finished.settled);
+            contest_files.parts.make_way(rt, alloc, &finished.settled);
             finish(alloc, rt, manner.prefix, finished, writer, errors)
         }
         Err(fault) => report("serve", fault, errors),
@@ -69,7 +69,7 @@ pub fn host<R: Machine, W: Output, E: Write>(
 fn served<R: Machine>(
     alloc: Global,
     rt: &R,
-    stage: &ContestFiles,
+    contest_files: &ContestFiles,
     lineup: Lineup,
     manner: &Manner<'_>,
 ) -> Result<Finished, Fault>
@@ -84,7 +84,7 @@ fn served<R: Machine>(
     let Ok(Hosted { teams, contest }) = contest_of(alloc, lineup) else {
         return Err(Fault::Memory);
     };
-    match settled(alloc, rt, stage, contest, manner, &teams) {
+    match settled(alloc, rt, contest_files, contest, manner, &teams) {
         Ok(settled) => Ok(Finished {
             schedule,
             teams,
@@ -99,7 +99,7 @@ fn served<R: Machine>(
 fn settled<R: Machine>(
     alloc: Global,
     rt: &R,
-    stage: &ContestFiles,
+    contest_files: &ContestFiles,
     contest: Contest,
     manner: &Manner<'_>,
     teams: &[Text],
@@ -109,7 +109,7 @@ fn settled<R: Machine>(
 {
     let log = started_log(alloc, rt)?;
     let operator = heard_operator(alloc, rt, manner.hears, &log, contest.cells.len())?;
-    let scene = RunningContest {
+    let running = RunningContest {
         is_reporting: manner.log,
         turns: manner.turns,
         teams,
@@ -117,7 +117,7 @@ fn settled<R: Machine>(
         operator: &operator,
     };
     let standings = MatchStatuses::new(alloc, &contest.cells)?;
-    let recorder = Recorder::new(rt, alloc, scene, standings, &stage.parts);
+    let recorder = Recorder::new(rt, alloc, running, standings, &contest_files.parts);
     let pace = Steady::new(rt, operator.progress(), manner.turns, manner.pause);
     let limits = Limits {
         sessions: manner.sessions,
@@ -128,7 +128,7 @@ fn settled<R: Machine>(
     let served = run_server(
         rt,
         alloc,
-        &stage.listener,
+        &contest_files.listener,
         contest,
         limits,
         &pace,

@@ -56,8 +56,8 @@ pub(crate) fn serve_named<
     if status != DONE {
         return status;
     }
-    let stage = ContestFiles { listener, parts };
-    host(alloc, rt, &stage, lineup, &manner, writer, errors)
+    let contest_files = ContestFiles { listener, parts };
+    host(alloc, rt, &contest_files, lineup, &manner, writer, errors)
 }
 
 // Tells the operator if fewer sessions may go on beside each other than there are agents.

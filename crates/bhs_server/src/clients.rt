@@ -36,7 +36,7 @@ pub(crate) struct Clients {
     /// The socket of each, at the same place.
     sockets: Vec<Arc<TcpStream, Global>>,
     /// Those whose agents have entered.
-    entrants: Vec<EnteredClient>,
+    entered: Vec<EnteredClient>,
     /// The addresses from which agents have entered.
     origins: Vec<Origin>,
     /// How many agents may have entered at most.
@@ -50,7 +50,7 @@ impl Clients {
         Ok(Clients {
             known: Vec::with_capacity(alloc, OUTSIDE)?,
             sockets: Vec::with_capacity(alloc, OUTSIDE)?,
-            entrants: Vec::with_capacity(alloc, most)?,
+            entered: Vec::with_capacity(alloc, most)?,
             origins: Vec::with_capacity(alloc, most)?,
             most,
         })
@@ -95,7 +95,7 @@ impl Clients {
 
     // Whether as many agents have entered, or are about to, as may.
     fn are_all_in(&self) -> bool {
-        let mut all = self.entrants.len();
+        let mut all = self.entered.len();
         for client in self.known.iter() {
             if client.stand == Stand::Enters {
                 all = all.saturating_add(1);
@@ -171,13 +171,13 @@ impl Clients {
         if place >= self.known.len() || place >= self.sockets.len() {
             return;
         }
-        if self.entrants.reserve(1).is_err() {
+        if self.entered.reserve(1).is_err() {
             // it stands as one that enters, and is not cut off before the end
             return;
         }
         let origin = self.known.remove(place).origin;
         let socket = self.sockets.remove(place);
-        let _ = self.entrants.push(EnteredClient { session, socket });
+        let _ = self.entered.push(EnteredClient { session, socket });
         if !self.origins.iter().any(|one| *one == origin) {
             let _ = self.origins.push(origin);
         }
@@ -212,7 +212,7 @@ impl Clients {
                 let _gone = self.sockets.remove(place);
             }
         }
-        self.entrants.retain(|entrant| entrant.session != session);
+        self.entered.retain(|client| client.session != session);
     }
 
     // The place of the client of a session whose agent has not entered.
@@ -242,8 +242,8 @@ impl Clients {
         for socket in self.sockets.iter() {
             let _ = socket.shutdown(Shutdown::Both);
         }
-        for entrant in self.entrants.iter() {
-            let _ = entrant.socket.shutdown(Shutdown::Both);
+        for client in self.entered.iter() {
+            let _ = client.socket.shutdown(Shutdown::Both);
         }
     }
 }

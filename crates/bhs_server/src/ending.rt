@@ -34,7 +34,7 @@ struct ContestProgress {
 /// What the threads of a contest share to end it.
 #[derive(Drop)]
 pub(crate) struct Ending {
-    going: Mutex<ContestProgress>,
+    progress: Mutex<ContestProgress>,
     changed: Condvar,
     is_over: AtomicBool,
 }
@@ -48,7 +48,7 @@ impl Ending {
         most: u32,
     ) -> Result<Ending, Memory> {
         Ok(Ending {
-            going: Mutex::new(ContestProgress {
+            progress: Mutex::new(ContestProgress {
                 open: matches,
                 awaited,
                 is_over: false,
@@ -62,27 +62,29 @@ impl Ending {
 
     /// Says whether the matches may begin: only if all their threads are there.
     pub(crate) fn begin<R: Wait>(&self, rt: &R, may_begin: bool) {
-        let mut going = self.going.lock(rt);
-        going.begins = Some(may_begin);
+        let mut progress = self.progress.lock(rt);
+        progress.begins = Some(may_begin);
         if !may_begin {
-            going.open = 0;
-            going.awaited = 0;
+            progress.open = 0;
+            progress.awaited = 0;
         }
         self.changed.notify_all();
     }
 
     /// Waits until it is said whether the matches may begin, and answers it.
     pub(crate) fn may_begin<R: Wait>(&self, rt: &R) -> bool {
-        let going = self
-            .changed
-            .wait_while(rt, self.going.lock(rt), |going| going.begins.is_none());
-        going.begins == Some(true)
+        let progress = self.changed.wait_while(
+            rt,
+            self.progress.lock(rt),
+            |progress| progress.begins.is_none(),
+        );
+        progress.begins == Some(true)
     }
 
     /// A match was closed.
     pub(crate) fn match_closed<R: Wait>(&self, rt: &R) {
-        let mut going = self.going.lock(rt);
-        going.open = going.open.saturating_sub(1);
+        let mut progress = self.progress.lock(rt);
+        progress.open = progress.open.saturating_sub(1);
         self.changed.notify_all();
     }
 
@@ -94,47 +96,47 @@ impl Ending {
         peer: SocketAddr,
         socket: &Arc<TcpStream, Global>,
     ) -> Result<(), Unserved> {
-        let mut going = self.going.lock(rt);
-        if going.is_over {
+        let mut progress = self.progress.lock(rt);
+        if progress.is_over {
             let _ = socket.shutdown(Shutdown::Both);
         }
-        going.clients.add(session, origin_of(peer.ip()), socket)
+        progress.clients.add(session, origin_of(peer.ip()), socket)
     }
 
     /// Cuts off a client that waits to be let in, if one may be.
     pub(crate) fn make_room<R: Wait>(&self, rt: &R) {
-        self.going.lock(rt).clients.make_room();
+        self.progress.lock(rt).clients.make_room();
     }
 
     /// The first line of the client of a session is still to come: whether it is not cut off.
     pub(crate) fn waits<R: Wait>(&self, rt: &R, session: u32) -> bool {
-        self.going.lock(rt).clients.waits(session)
+        self.progress.lock(rt).clients.waits(session)
     }
 
     /// The first line of the client of a session is being read, unless it is cut off or there is no room for its agent.
     pub(crate) fn enters<R: Wait>(&self, rt: &R, session: u32) -> Result<(), Unserved> {
-        self.going.lock(rt).clients.enters(session)
+        self.progress.lock(rt).clients.enters(session)
     }
 
     /// The agent of the client of a session has entered.
     pub(crate) fn is_in<R: Wait>(&self, rt: &R, session: u32) {
-        self.going.lock(rt).clients.is_in(session);
+        self.progress.lock(rt).clients.is_in(session);
     }
 
     /// The client of a session is connected no more, so that its socket can be closed.
     pub(crate) fn go<R: Wait>(&self, rt: &R, session: u32) {
-        self.going.lock(rt).clients.remove(session);
+        self.progress.lock(rt).clients.remove(session);
     }
 
     /// Tells the client of a session that there is no memory to serve it, and lets go of it.
     pub(crate) fn turn_away<R: Wait>(&self, rt: &R, session: u32) {
-        self.going.lock(rt).clients.turn_away(session);
+        self.progress.lock(rt).clients.turn_away(session);
     }
 
     /// A session whose agent had entered has ended.
     pub(crate) fn session_ended<R: Wait>(&self, rt: &R) {
-        let mut going = self.going.lock(rt);
-        going.awaited = going.awaited.saturating_sub(1);
+        let mut progress = self.progress.lock(rt);
+        progress.awaited = progress.awaited.saturating_sub(1);
         self.changed.notify_all();
     }
 
@@ -145,9 +147,9 @@ impl Ending {
 
     // Waits this long, or until all matches are closed. Answers whether one is still open.
     fn is_open_after<R: Wait + Clock>(&self, rt: &R, time: Duration) -> bool {
-        let going = self.going.lock(rt);
+        let progress = self.progress.lock(rt);
         self.changed
-            .wait_timeout_while(rt, going, time, |going| going.open > 0)
+            .wait_timeout_while(rt, progress, time, |progress| progress.open > 0)
             .0
             .open
             > 0
@@ -157,7 +159,7 @@ impl Ending {
     pub(crate) fn watch<R: Wait + Clock, W: Watch>(&self, rt: &R, watch: &W, cells: &[Cell]) {
         for _ in rt.forever() {
             let is_open = self.is_open_after(rt, Duration::from_millis(EVERY));
-            self.going.lock(rt).clients.grow_older();
+            self.progress.lock(rt).clients.grow_older();
             watch.look(cells);
             if !is_open {
                 return;
@@ -169,17 +171,17 @@ impl Ending {
     /// Waits until all matches are closed, and then until the sessions that are waited for have ended, but no longer
     /// than the grace period. Then no more sessions are accepted, and those that still run are cut off.
     pub(crate) fn end<R: Wait + Clock>(&self, rt: &R, listener: &TcpListener, grace: Duration) {
-        let going = self
+        let progress = self
             .changed
-            .wait_while(rt, self.going.lock(rt), |going| going.open > 0);
-        let mut going = self
+            .wait_while(rt, self.progress.lock(rt), |progress| progress.open > 0);
+        let mut progress = self
             .changed
-            .wait_timeout_while(rt, going, grace, |going| going.awaited > 0)
+            .wait_timeout_while(rt, progress, grace, |progress| progress.awaited > 0)
             .0;
-        going.is_over = true;
+        progress.is_over = true;
         self.is_over.store(true, Ordering::SeqCst);
         // On Linux this makes an accept that waits fail, and each later one.
         let _ = shutdown(listener.as_raw_fd(), SHUT_RDWR);
-        going.clients.cut_all();
+        progress.clients.cut_all();
     }
 }

@@ -46,7 +46,7 @@ impl<R: Wait + Clock, G: Gate, W: Watch> Reception<'_, R, G, W> {
         let connection = Connection::new(self.alloc, stream)?;
         let mut incoming = Incoming::new(self.rt, self.alloc, session, &connection, self.ending)?;
         let guest = Guest::new(self.rt, session, &connection, self.ending, self.watch);
-        let visit = attend(
+        let session_end = attend(
             self.rt,
             self.alloc,
             &mut incoming,
@@ -56,13 +56,13 @@ impl<R: Wait + Clock, G: Gate, W: Watch> Reception<'_, R, G, W> {
             self.keys,
             self.gate,
         );
-        self.part(session, &connection, visit);
+        self.part(session, &connection, session_end);
         Ok(())
     }
 
-    // Ends the session of a visit.
-    fn part(&self, session: u32, connection: &Connection, visit: EndedSession) {
-        let EndedSession { ended, played } = visit;
+    // Ends a session.
+    fn part(&self, session: u32, connection: &Connection, session_end: EndedSession) {
+        let EndedSession { ended, played } = session_end;
         let denial = connection.denial();
         if denial.is_some() {
             // it counts no more once it knows that it is denied

@@ -25,7 +25,7 @@ pub(crate) fn found_of(discovery: &Discovery) -> &Finding
 {
     match discovery {
         Discovery::Tried(explored) => &explored.found,
-        Discovery::Drawn(drawn) => &drawn.found,
+        Discovery::Drawn(sample) => &sample.found,
     }
 }
 
@@ -36,7 +36,7 @@ pub(crate) fn text_of(alloc: Global, found: &Discovery) -> Result<String, Memory
     let mut text = found_line(alloc, found_of(found))?;
     let counts = match found {
         Discovery::Tried(explored) => counts_line(alloc, explored)?,
-        Discovery::Drawn(drawn) => draws_line(alloc, drawn)?,
+        Discovery::Drawn(sample) => draws_line(alloc, sample)?,
     };
     text.push_str(counts.as_str())?;
     Ok(text)
@@ -54,13 +54,13 @@ fn counts_line(alloc: Global, explored: &Explored) -> Result<String, Memory>
 }
 
 // The line of what was counted of drawn schedules.
-fn draws_line(alloc: Global, drawn: &SampleResult) -> Result<String, Memory>
-    ensures { IfOk result (λ text. string_bytes text ≡ draws_line drawn.now) }
+fn draws_line(alloc: Global, sample: &SampleResult) -> Result<String, Memory>
+    ensures { IfOk result (λ text. string_bytes text ≡ draws_line sample.now) }
 {
-    let (solved, failed, turns) = (drawn.solved, drawn.failed, drawn.turns);
-    let (memories, locals) = (drawn.memories, drawn.locals);
-    let moves = pairs(alloc, &drawn.moves)?;
-    let lost = pairs(alloc, &drawn.lost)?;
+    let (solved, failed, turns) = (sample.solved, sample.failed, sample.turns);
+    let (memories, locals) = (sample.memories, sample.locals);
+    let moves = pairs(alloc, &sample.moves)?;
+    let lost = pairs(alloc, &sample.lost)?;
     let (moves, lost) = (moves.as_str(), lost.as_str());
     let mut text = format!(in alloc;
         "{{\"solved\":{solved},\"failed\":{failed},\"turns\":{turns},\"moves\":{moves}"
@@ -199,6 +199,7 @@ fn failure_text(failure: Failure) -> &'static str
 {
     match failure {
         Failure::Program => "program",
+        Failure::Outside => "outside",
         Failure::Close => "close",
         Failure::Asleep => "asleep",
     }

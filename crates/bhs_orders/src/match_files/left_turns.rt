@@ -28,24 +28,24 @@ use std::rt::Files;
 pub(crate) fn save_turns<F: Files, E: Write>(
     alloc: Global,
     files: &F,
-    place: &MatchFileName<'_>,
+    file: &MatchFileName<'_>,
     lineup: &Lineup,
     sealed: &Sealed,
     errors: &mut E,
 ) -> u8
     ensures saved { result ≡ DONE
-        → AreSavedTurns (known_takes F.File.contents) lineup.now place.now.number sealed.now }
+        → AreSavedTurns (known_takes F.File.contents) lineup.now file.now.number sealed.now }
     ensures status { result ≡ DONE ⊎ IsOfFault result }
 {
     if let ScheduleKind::Adaptive = lineup.schedule {
         return DONE;
     }
-    let name = match name_of_left(alloc, files, place) {
+    let name = match name_of_left(alloc, files, file) {
         Ok(name) => name,
-        Err(fault) => return report(place.prefix, fault, errors),
+        Err(fault) => return report(file.prefix, fault, errors),
     };
-    match turns_by(alloc, files, name.as_str(), place.number, lineup, sealed) {
-        Ok(turns) => write_turns(alloc, files, place.prefix, place.number, &turns, errors),
+    match turns_by(alloc, files, name.as_str(), file.number, lineup, sealed) {
+        Ok(turns) => write_turns(alloc, files, file.prefix, file.number, &turns, errors),
         Err(fault) => report(name.as_str(), fault, errors),
     }
 }
@@ -54,10 +54,10 @@ pub(crate) fn save_turns<F: Files, E: Write>(
 pub(crate) fn turns_are_missing<F: Files>(
     alloc: Global,
     files: &F,
-    place: &MatchFileName<'_>,
+    file: &MatchFileName<'_>,
 ) -> Result<bool, Fault> {
-    let part = turns_part_name(alloc, place.prefix, place.number)?;
-    let whole = turns_name(alloc, place.prefix, place.number)?;
+    let part = turns_part_name(alloc, file.prefix, file.number)?;
+    let whole = turns_name(alloc, file.prefix, file.number)?;
     Ok(is_free(files, whole.as_str())? && !is_free(files, part.as_str())?)
 }
 
@@ -65,10 +65,10 @@ pub(crate) fn turns_are_missing<F: Files>(
 fn name_of_left<F: Files>(
     alloc: Global,
     files: &F,
-    place: &MatchFileName<'_>,
+    file: &MatchFileName<'_>,
 ) -> Result<String, Fault> {
-    let part = turns_part_name(alloc, place.prefix, place.number)?;
-    let whole = turns_name(alloc, place.prefix, place.number)?;
+    let part = turns_part_name(alloc, file.prefix, file.number)?;
+    let whole = turns_name(alloc, file.prefix, file.number)?;
     if is_free(files, part.as_str())? && !is_free(files, whole.as_str())? {
         Ok(whole)
     } else {

@@ -101,8 +101,8 @@ fn found_of<F: Files, E: Write>(
     let mut rows = Vec::new(alloc);
     let mut status = DONE;
     for (number, one) in ready.iter().enumerate() {
-        let place = MatchFileName { prefix, number };
-        let found = row_of_match(alloc, files, &place, one, errors);
+        let file = MatchFileName { prefix, number };
+        let found = row_of_match(alloc, files, &file, one, errors);
         let Ok(code) = added(&mut rows, found) else {
             return Err(report(prefix, Fault::Memory, errors));
         };
@@ -129,19 +129,19 @@ fn added(rows: &mut Vec<Row>, found: Result<Row, u8>) -> Result<u8, Memory>
 fn row_of_match<F: Files, E: Write>(
     alloc: Global,
     files: &F,
-    place: &MatchFileName<'_>,
+    file: &MatchFileName<'_>,
     ready: &Ready,
     errors: &mut E,
 ) -> Result<Row, u8>
     ensures row { IfOk result (IsContestRow ready.now) }
     ensures fault { IfErr result IsOfFault }
 {
-    let Ok(name) = file_name(alloc, place.prefix, place.number) else {
-        return Err(report(place.prefix, Fault::Memory, errors));
+    let Ok(name) = file_name(alloc, file.prefix, file.number) else {
+        return Err(report(file.prefix, Fault::Memory, errors));
     };
-    match read_row(alloc, files, name.as_str(), place.number, ready) {
+    match read_row(alloc, files, name.as_str(), file.number, ready) {
         Ok(row) => Ok(row),
-        Err(fault) => Err(report_left_out(name.as_str(), fault, place.number, ready, errors)),
+        Err(fault) => Err(report_left_out(name.as_str(), fault, file.number, ready, errors)),
     }
 }
 

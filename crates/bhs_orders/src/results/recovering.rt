@@ -53,8 +53,8 @@ fn save_matches<F: Files, E: Write>(
 {
     let mut status = DONE;
     for number in 0..lineup.ready.len() {
-        let place = MatchFileName { prefix, number };
-        let code = save_match(alloc, files, &place, lineup, errors);
+        let file = MatchFileName { prefix, number };
+        let code = save_match(alloc, files, &file, lineup, errors);
         status = first_status(status, code);
     }
     status
@@ -64,19 +64,19 @@ fn save_matches<F: Files, E: Write>(
 fn save_match<F: Files, E: Write>(
     alloc: Global,
     files: &F,
-    place: &MatchFileName<'_>,
+    file: &MatchFileName<'_>,
     lineup: &Lineup,
     errors: &mut E,
 ) -> u8
-    ensures saved { result ≡ DONE → IsSaved (known_takes F.File.contents) lineup.now place.now.number }
+    ensures saved { result ≡ DONE → IsSaved (known_takes F.File.contents) lineup.now file.now.number }
     ensures status { result ≡ DONE ⊎ IsOfFault result }
 {
-    let Some(ready) = lineup.ready.get(place.number) else {
+    let Some(ready) = lineup.ready.get(file.number) else {
         return DONE;
     };
-    match left_of(alloc, files, place, ready, errors) {
-        Ok(Some(sealed)) => save_left(alloc, files, place, lineup, &sealed, errors),
-        Ok(None) => save_turns_alone(alloc, files, place, lineup, ready, errors),
+    match left_of(alloc, files, file, ready, errors) {
+        Ok(Some(sealed)) => save_left(alloc, files, file, lineup, &sealed, errors),
+        Ok(None) => save_turns_alone(alloc, files, file, lineup, ready, errors),
         Err(status) => status,
     }
 }
@@ -85,18 +85,18 @@ fn save_match<F: Files, E: Write>(
 fn save_left<F: Files, E: Write>(
     alloc: Global,
     files: &F,
-    place: &MatchFileName<'_>,
+    file: &MatchFileName<'_>,
     lineup: &Lineup,
     sealed: &Sealed,
     errors: &mut E,
 ) -> u8
     ensures filed { result ≡ DONE → Took (known_takes F.File.contents) (replay_of sealed.now) }
     ensures timed { result ≡ DONE
-        → AreSavedTurns (known_takes F.File.contents) lineup.now place.now.number sealed.now }
+        → AreSavedTurns (known_takes F.File.contents) lineup.now file.now.number sealed.now }
     ensures status { result ≡ DONE ⊎ IsOfFault result }
 {
-    let timed = save_turns(alloc, files, place, lineup, sealed, errors);
-    let filed = write_sealed(alloc, files, place.prefix, place.number, sealed, errors);
+    let timed = save_turns(alloc, files, file, lineup, sealed, errors);
+    let filed = write_sealed(alloc, files, file.prefix, file.number, sealed, errors);
     first_status(timed, filed)
 }
 
@@ -105,16 +105,16 @@ fn save_left<F: Files, E: Write>(
 fn save_turns_alone<F: Files, E: Write>(
     alloc: Global,
     files: &F,
-    place: &MatchFileName<'_>,
+    file: &MatchFileName<'_>,
     lineup: &Lineup,
     ready: &Ready,
     errors: &mut E,
 ) -> u8
-    ensures saved { result ≡ DONE → IsSaved (known_takes F.File.contents) lineup.now place.now.number }
+    ensures saved { result ≡ DONE → IsSaved (known_takes F.File.contents) lineup.now file.now.number }
     ensures status { result ≡ DONE ⊎ IsOfFault result }
 {
-    match replay_without_turns(alloc, files, place, ready) {
-        Ok(Some(sealed)) => save_turns(alloc, files, place, lineup, &sealed, errors),
+    match replay_without_turns(alloc, files, file, ready) {
+        Ok(Some(sealed)) => save_turns(alloc, files, file, lineup, &sealed, errors),
         _ => DONE,
     }
 }
@@ -123,17 +123,17 @@ fn save_turns_alone<F: Files, E: Write>(
 fn replay_without_turns<F: Files>(
     alloc: Global,
     files: &F,
-    place: &MatchFileName<'_>,
+    file: &MatchFileName<'_>,
     ready: &Ready,
 ) -> Result<Option<Sealed>, Fault>
     ensures { IfOk result (λ found. IfSome found IsReplayed) }
 {
-    if !turns_are_missing(alloc, files, place)? {
+    if !turns_are_missing(alloc, files, file)? {
         return Ok(None);
     }
-    let name = file_name(alloc, place.prefix, place.number)?;
+    let name = file_name(alloc, file.prefix, file.number)?;
     let sealed = read_match(alloc, files, name.as_str())?;
-    see_same(alloc, &sealed, place.number, ready)?;
+    see_same(alloc, &sealed, file.number, ready)?;
     Ok(Some(sealed))
 }
 
@@ -141,17 +141,17 @@ fn replay_without_turns<F: Files>(
 fn left_of<F: Files, E: Write>(
     alloc: Global,
     files: &F,
-    place: &MatchFileName<'_>,
+    file: &MatchFileName<'_>,
     ready: &Ready,
     errors: &mut E,
 ) -> Result<Option<Sealed>, u8>
     ensures left { IfOk result (λ found. IfSome found (IsLeft ready.now)) }
     ensures fault { IfErr result IsOfFault }
 {
-    let Ok(name) = part_name(alloc, place.prefix, place.number) else {
-        return Err(report(place.prefix, Fault::Memory, errors));
+    let Ok(name) = part_name(alloc, file.prefix, file.number) else {
+        return Err(report(file.prefix, Fault::Memory, errors));
     };
-    match read_left(alloc, files, name.as_str(), place, ready) {
+    match read_left(alloc, files, name.as_str(), file, ready) {
         Ok(found) => Ok(found),
         Err(fault) => Err(report(name.as_str(), fault, errors)),
     }
@@ -161,16 +161,16 @@ fn read_left<F: Files>(
     alloc: Global,
     files: &F,
     name: &str,
-    place: &MatchFileName<'_>,
+    file: &MatchFileName<'_>,
     ready: &Ready,
 ) -> Result<Option<Sealed>, Fault>
     ensures { IfOk result (λ found. IfSome found (IsLeft ready.now)) }
 {
-    let replay = file_name(alloc, place.prefix, place.number)?;
+    let replay = file_name(alloc, file.prefix, file.number)?;
     if !is_free(files, replay.as_str())? || is_free(files, name)? {
         return Ok(None);
     }
     let sealed = match_of_part(alloc, files, name)?;
-    see_same(alloc, &sealed, place.number, ready)?;
+    see_same(alloc, &sealed, file.number, ready)?;
     Ok(Some(sealed))
 }
