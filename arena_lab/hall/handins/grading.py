@@ -226,9 +226,9 @@ def rows_of(out: pathlib.Path, team: str) -> List[Dict[str, Any]]:
 
 
 def due(most: int, resting: Collection[int] = ()) -> List[Grading]:
-    """The gradings that may begin, up to this number, and none that rests: of each team
-    one at a time, first those of teams whose last grading took the shortest time, so
-    that a program that hangs keeps few waiting, and then the least lately graded."""
+    """The gradings that may begin, at most this number; those that rest wait. A team has
+    one at a time. First come the teams whose last grading took the shortest time, so
+    that a program that hangs keeps few waiting, then those graded least lately."""
     waiting = Grading.objects.filter(state=machine.WAITING).exclude(pk__in=resting)
     busy = set(
         Grading.objects.filter(state__in=machine.ACTIVE).values_list(

@@ -56,7 +56,7 @@ module _ (nodes hole : ℕ) (not_home : 0 ≢ hole) (terms : Limits) (strategies
   abbrev second : Trial
   second = over nodes twos hole terms strategies two
 
-  -- a world in which each node has so many links
+  -- a world in which each node has this many links
   abbrev flat : ℕ → World
   flat n = (over nodes (λ node. n) hole terms strategies one).world
 
