@@ -29,6 +29,7 @@ from arena_lab.rules.fixtures import Fixture, write_tournament
 from arena_lab.search.findings import Finding, Solves, finding_of
 from arena_lab.search.machines import Machines
 from arena_lab.search.program_search import ProgramRun, asked, program_words
+from arena_lab.support.faults import Fault
 from bench.inputs import peak_so_far
 
 TOP = pathlib.Path(__file__).resolve().parents[1]
@@ -226,4 +227,7 @@ def main() -> None:
 
 
 if __name__ == "__main__":
-    main()
+    try:
+        main()
+    except Fault as fault:
+        raise SystemExit(str(fault)) from None

@@ -18,6 +18,7 @@ seconds of SPIN do not count the compiler.
 import argparse
 from typing import List, NamedTuple
 
+from arena_lab.support.faults import Fault
 from bench import promela
 from bench.explore import STATES, measured, measured_by_module
 
@@ -107,4 +108,7 @@ def main() -> None:
 
 
 if __name__ == "__main__":
-    main()
+    try:
+        main()
+    except Fault as fault:
+        raise SystemExit(str(fault)) from None
