@@ -21,7 +21,7 @@ from arena_lab.hall import keys  # noqa: E402
 from arena_lab.hall.attempts import seen  # noqa: E402
 from arena_lab.hall.attempts.models import Attempt, Match  # noqa: E402
 from arena_lab.hall.handins import taking  # noqa: E402
-from arena_lab.hall.handins.models import Grading, HandIn  # noqa: E402
+from arena_lab.hall.handins.models import Contest, Grading, HandIn  # noqa: E402
 from arena_lab.hall.teams import guards  # noqa: E402
 from arena_lab.hall.teams.models import Team  # noqa: E402
 
@@ -153,6 +153,21 @@ def graded(
         moves=moves,
         ended=timezone.now(),
         networks={word: [solved, 2]},
+    )
+
+
+def contest_of(**given: Any) -> Contest:
+    """A contest that goes on."""
+    now = timezone.now()
+    hour = timezone.timedelta(hours=1)
+    return Contest.objects.create(
+        **{
+            "name": "finale",
+            "networks": ["ring of 5", "torus with a map"],
+            "start": now - hour,
+            "end": now + hour,
+            **given,
+        }
     )
 
 
