@@ -1,5 +1,7 @@
 """Pages of hand-ins."""
 import contextlib
+import functools
+import pathlib
 import re
 from typing import Any, Dict, List
 
@@ -7,6 +9,7 @@ from django.conf import settings
 from django.http import Http404, HttpResponse, StreamingHttpResponse
 from django.shortcuts import redirect, render
 from django.utils import timezone
+from django.utils.html import escape
 
 from arena_lab.hall import packing
 from arena_lab.hall.attempts.asking import RequestRefused
@@ -24,8 +27,10 @@ NUMBER = re.compile("[0-9]{1,9}")
 KEPT = re.compile(r"failed/[\w-]+/(?:smallest/)?[\w.-]+")
 # what may be no character that one sees
 UNSEEN = re.compile(r"[^\n\t -~]")
-# bytes of sources that a page has
+# bytes of sources that a page has, and hand-ins whose sources are kept as pages have
+# them
 MOST_SHOWN = 400_000
+MOST_KEPT = 16
 KINDS = {".html": "text/html; charset=utf-8"}
 
 
@@ -79,13 +84,18 @@ def one(request: Any, number: int) -> HttpResponse:
     return render(
         request,
         "hand_in.html",
-        {"told": taking.shown(hand_in), "of": hand_in, "files": sources(hand_in)},
+        {
+            "told": taking.shown(hand_in),
+            "of": hand_in,
+            "files": sources(hand_in.folder / FILES),
+        },
     )
 
 
-def sources(hand_in: HandIn) -> List[Dict[str, Any]]:
-    """The files of a hand-in, each with its text."""
-    place = hand_in.folder / FILES
+@functools.lru_cache(MOST_KEPT)
+def sources(place: pathlib.Path) -> List[Dict[str, Any]]:
+    """The files of a hand-in, each with its text as a page has it. They never change,
+    and a look at large ones takes a third of a second."""
     left = MOST_SHOWN
     found = []
     for path in sorted(
@@ -95,7 +105,7 @@ def sources(hand_in: HandIn) -> List[Dict[str, Any]]:
         text = None
         if size <= left:
             with contextlib.suppress(UnicodeDecodeError):
-                text = as_seen(path.read_text(encoding="utf-8"))
+                text = escape(as_seen(path.read_text(encoding="utf-8")))
                 left -= size
         found.append(
             {"name": as_seen(str(path.relative_to(place))), "size": size, "text": text}

@@ -20,7 +20,7 @@ from django.utils import timezone, translation  # noqa: E402
 from arena_lab.hall import keys  # noqa: E402
 from arena_lab.hall.attempts import seen  # noqa: E402
 from arena_lab.hall.attempts.models import Attempt, Match  # noqa: E402
-from arena_lab.hall.handins import taking  # noqa: E402
+from arena_lab.hall.handins import taking, views  # noqa: E402
 from arena_lab.hall.handins.models import Contest, Grading, HandIn  # noqa: E402
 from arena_lab.hall.teams import guards  # noqa: E402
 from arena_lab.hall.teams.models import Team  # noqa: E402
@@ -35,8 +35,9 @@ class Hall(TestCase):
     def setUp(self) -> None:
         for buckets in (guards.asked, guards.tried, taking.sent):
             buckets.clear()
-        # numbers of attempts come again in each test
+        # numbers of attempts and hand-ins come again in each test
         seen.part.cache_clear()
+        views.sources.cache_clear()
         self.tokens = {team.name: team.new_token() for team in Team.objects.all()}
         keys.set_password(PASSWORD)
         self.addCleanup(shutil.rmtree, PLACE.folder / "attempts", True)

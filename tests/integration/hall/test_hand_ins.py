@@ -1,5 +1,6 @@
 """Hand-ins: what is taken, what a team sees of them, and when they are graded."""
 import re
+from unittest import mock
 
 from arena_lab.hall import machine
 from tests.integration.hall.hall_pages import PLACE, Hall, graded, halled, played
@@ -11,7 +12,7 @@ from django.utils import timezone
 
 from arena_lab.hall import packing
 from arena_lab.hall.attempts.models import Attempt
-from arena_lab.hall.handins import grading, taking
+from arena_lab.hall.handins import grading, taking, views
 from arena_lab.hall.handins.models import Grading, HandIn
 from arena_lab.hall.standings.models import Reveal
 from arena_lab.hall.teams.models import Team
@@ -49,6 +50,14 @@ class HandIns(Hall):
         self.assertContains(
             self.teacher().get("/teacher/handins/handin/"), f'href="{path}"'
         )
+
+    def test_a_page_of_sources_is_made_once(self) -> None:
+        self.hand_in(zipped({"agent.py": "\u202e".encode() * 130_000}))
+        path = f"/hand-ins/{HandIn.objects.get().pk}"
+        with mock.patch.object(views, "as_seen", wraps=views.as_seen) as seen:
+            for _ in range(5):
+                self.assertContains(self.teacher().get(path), r"\u202e" * 2)
+        self.assertEqual(seen.call_count, 2)
 
     def test_a_team_that_is_deleted_leaves_no_files(self) -> None:
         for name in ("amber", "birch"):
