@@ -19,6 +19,8 @@ PLACE = "hall.json"
 KEY = "key.txt"
 SECRET = "secret.txt"
 PASSWORD = "password.txt"
+# with this behind it a password is looked at however many were wrong
+LOGIN = "login.txt"
 # the course's file as it was when the hall was started last
 KEPT = "course.toml"
 

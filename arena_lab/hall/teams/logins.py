@@ -1,5 +1,6 @@
 """Logging in: teams by the token of their key sheet, by a page or by each request; the
 teacher by a password."""
+import secrets
 from typing import Any, Callable, Dict, Optional, Tuple
 
 from django.conf import settings
@@ -10,6 +11,7 @@ from rest_framework import exceptions
 from rest_framework.authentication import BaseAuthentication, SessionAuthentication
 from rest_framework.permissions import BasePermission
 
+from arena_lab.hall.place import LOGIN
 from arena_lab.hall.teams import guards
 from arena_lab.hall.teams.models import DOT, Team, team_of
 
@@ -106,14 +108,19 @@ class IsTeam(BasePermission):
 
 
 class Teachers(ModelBackend):
-    """The teacher's password, whose tries are limited."""
+    """The teacher's password, whose tries are limited. Behind it may stand the word of
+    a file of the hall, which its owner alone reads: then it is looked at, however often
+    a stranger at the same address has tried."""
 
     def authenticate(
         self, request: Any, username: Any = None, password: Any = None, **given: Any
     ) -> Any:
         name = f"{guards.STAFF}{username}"
         if request is not None and guards.has_tried_too_often(request, name):
-            return None
+            password, _, word = str(password).rpartition(" ")
+            own = settings.PLACE.secret(LOGIN)
+            if not secrets.compare_digest(word.encode(), own.encode()):
+                return None
         user = super().authenticate(
             request, username=username, password=password, **given
         )

@@ -13,13 +13,17 @@
 - questions at the same time were more than are allowed
 - `/health` told after the freeze how long each program was graded, and programs that
   fail take long
+- ten wrong passwords kept the teacher out whose address a stranger shared
+- each look at the page of a large source took a third of a second
 
 Other files try other attacks:
 
 - test_steps.py: a worker whose lease has run out
-- test_pages.py and test_rest.py: tokens from all addresses of an IPv6 network, another
+- test_pages.py and test_hand_ins.py: tokens from all addresses of an IPv6 network, another
   team's match or replay, and the black hole before the close, by page, REST, size,
   header and error
+- test_connections.py: connections and bytes, more than a server has room for, and slow
+  ones
 - test_nginx.py: X_Forwarded_For through Caddy, and many requests at once through nginx
 - test_hall.py and test_hall.py: paths, SQL, HTML, formulas, requests of other sites,
   and links and bombs in zips
@@ -41,6 +45,7 @@ from arena_lab.hall.attempts import seen
 from arena_lab.rules.model import Match as Played, Setup
 from arena_lab.rules.networks import ring
 from tests.integration.hall.hall_pages import (
+    PASSWORD,
     PLACE,
     Hall,
     graded,
@@ -111,6 +116,21 @@ class Requests(Hall):
             )
             page.get("/matches", REMOTE_ADDR="192.0.2.9")
         self.assertEqual(self.rest("get", "/api/matches").status_code, 200)
+
+
+class Passwords(Hall):
+    def test_a_stranger_at_the_same_address_keeps_no_teacher_out(self) -> None:
+        own = PLACE.secret(place.LOGIN)
+
+        def is_let_in(password: str) -> bool:
+            said = {"username": "teacher", "password": password, "next": "/teacher/"}
+            return Client().post("/teacher/login/", said).status_code == 302
+
+        for _ in range(TRIES + 1):
+            self.assertFalse(is_let_in("wrong password"))
+        for password in (PASSWORD, f"{PASSWORD} {own[1:]}", f"wrong {own}", own):
+            self.assertFalse(is_let_in(password))
+        self.assertTrue(is_let_in(f"{PASSWORD} {own}"))
 
 
 class HandIns(Hall):
