@@ -20,7 +20,8 @@ class Versions(unittest.TestCase):
 
     def test_the_newest_changes_have_it(self) -> None:
         headings = re.findall(r"^## (\S+)", (TOP / "CHANGELOG.md").read_text(), re.M)
-        self.assertEqual(headings[0].rstrip(","), VERSION)
+        released = [it for it in headings if it != "Unreleased"]
+        self.assertEqual(released[0].rstrip(","), VERSION)
         self.assertRegex(VERSION, r"^\d+\.\d+\.\d+$")
         self.assertEqual(version.version(), VERSION)
 

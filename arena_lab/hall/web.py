@@ -3,15 +3,16 @@ of their own."""
 import resource
 from typing import Any, Dict
 
-import waitress
 from django.conf import settings
 from django.core.wsgi import get_wsgi_application
 
-# threads that answer, connections at a time, and seconds after which one that says
-# nothing is ended
+from arena_lab.hall.connections import HallServer, servers
+
+# threads that answer, and seconds after which a connection that says nothing is ended
 THREADS = 16
-CONNECTIONS = 2_000
 SILENT = 20
+# files that are open at a time, and connections with more than the hall has of them
+FILES = 3 * HallServer.bounds.all
 LOOPBACK = ("127.0.0.1", "::1", "localhost")
 FORWARDED = {"x-forwarded-for", "x-forwarded-proto"}
 
@@ -21,9 +22,9 @@ def options(address: str, is_behind: bool) -> Dict[str, Any]:
     one, and by nobody else."""
     found: Dict[str, Any] = {
         "threads": THREADS,
-        "connection_limit": CONNECTIONS,
+        "connection_limit": FILES,
         "channel_timeout": SILENT,
-        "cleanup_interval": 5,
+        "cleanup_interval": 1,
         "asyncore_use_poll": True,
         "max_request_header_size": 16 << 10,
         "max_request_body_size": 9 << 20,
@@ -41,12 +42,11 @@ def options(address: str, is_behind: bool) -> Dict[str, Any]:
 def main(address: str, port: str) -> None:
     _, most = resource.getrlimit(resource.RLIMIT_NOFILE)
     resource.setrlimit(
-        resource.RLIMIT_NOFILE,
-        (min(most, 3 * CONNECTIONS) if most > 0 else 3 * CONNECTIONS, most),
+        resource.RLIMIT_NOFILE, (min(most, FILES) if most > 0 else FILES, most)
     )
-    waitress.serve(
+    servers(
         get_wsgi_application(),
         host=address,
-        port=int(port),
+        port=port,
         **options(address, settings.HALL.https),
-    )
+    )[0].run()

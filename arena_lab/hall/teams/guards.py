@@ -105,9 +105,13 @@ known = ConnectionProxy(caches, "known")
 
 def address_of(request: HttpRequest) -> str:
     """Who asks: the address, as waitress has it of the server before the hall if there
-    is one. Of an address of IPv6 that is the network, whose addresses are all one
+    is one."""
+    return network_of(str(request.META.get("REMOTE_ADDR", "")))
+
+
+def network_of(found: str) -> str:
+    """An address, or of one of IPv6 the network, whose addresses are all one
     person's."""
-    found = str(request.META.get("REMOTE_ADDR", ""))
     try:
         address = ipaddress.ip_address(found.partition("%")[0])
     except ValueError:

@@ -2,154 +2,22 @@
 are limited by the address of who asks: nginx's own does not count, nor what a stranger
 says of himself."""
 import concurrent.futures
-import contextlib
-import http.client
 import pathlib
 import re
-import shutil
-import socket
-import ssl
-import subprocess
 import tempfile
-import time
 import unittest
 from typing import Any, List
 
 from arena_lab.hall.teams.guards import TRIES
-from arena_lab.support.built import LAB
-from arena_lab.support.ports import free_port
-from tests.support.halls import SECONDS, Served, Told, told_by
-
-NGINX = shutil.which("nginx") or shutil.which("nginx", path="/usr/sbin")
-NAME = "arena.example.org"
-# of a machine with nginx alone: the rest of its file, whose folder is its own
-AROUND = """
-daemon off;
-user root;
-worker_processes 2;
-pid {folder}/pid;
-error_log {folder}/error.log;
-events {{}}
-http {{
-    access_log off;
-    client_body_temp_path {folder}/body;
-    proxy_temp_path {folder}/proxy;
-    fastcgi_temp_path {folder}/fastcgi;
-    uwsgi_temp_path {folder}/uwsgi;
-    scgi_temp_path {folder}/scgi;
-    {site}
-}}
-"""
-
-
-class Proxy:
-    """nginx before a hall."""
-
-    def __init__(self, folder: pathlib.Path, hall: int) -> None:
-        self.port = free_port()
-        self.plain = free_port()
-        certificate = folder / "certificate.pem"
-        key = folder / "key.pem"
-        subprocess.run(
-            [
-                "openssl",
-                "req",
-                "-x509",
-                "-newkey",
-                "ec",
-                "-pkeyopt",
-                "ec_paramgen_curve:prime256v1",
-                "-nodes",
-                "-days",
-                "2",
-                "-subj",
-                f"/CN={NAME}",
-                "-keyout",
-                key,
-                "-out",
-                certificate,
-            ],
-            check=True,
-            capture_output=True,
-        )
-        site = re.sub(
-            r"^ *listen \[::\].*\n",
-            "",
-            (LAB / "hall" / "nginx.conf").read_text(),
-            flags=re.M,
-        )
-        for said, here in (
-            ("listen 80;", f"listen {self.plain};"),
-            ("listen 443 ", f"listen {self.port} "),
-            (f"/etc/letsencrypt/live/{NAME}/fullchain.pem", str(certificate)),
-            (f"/etc/letsencrypt/live/{NAME}/privkey.pem", str(key)),
-            ("http://127.0.0.1:8000", f"http://127.0.0.1:{hall}"),
-        ):
-            assert said in site, said
-            site = site.replace(said, here)
-        path = folder / "nginx.conf"
-        path.write_text(AROUND.format(folder=folder, site=site))
-        self.child = subprocess.Popen(
-            [
-                str(NGINX),
-                "-c",
-                str(path),
-                "-p",
-                str(folder),
-                "-e",
-                str(folder / "error.log"),
-            ]
-        )
-        limit = time.monotonic() + SECONDS
-        while not self.listens():
-            assert self.child.poll() is None and time.monotonic() < limit, (
-                folder / "error.log"
-            ).read_text()
-            time.sleep(0.1)
-
-    def listens(self) -> bool:
-        with contextlib.suppress(OSError):
-            socket.create_connection(("127.0.0.1", self.port), 5).close()
-            return True
-        return False
-
-    def end(self) -> None:
-        self.child.terminate()
-        self.child.wait()
-
-    def ask(
-        self, how: str, path: str, address: str, headers: List[Any], body: str = ""
-    ) -> Told:
-        """What is answered to who asks from this address."""
-        strange = ssl.create_default_context()
-        strange.check_hostname = False
-        strange.verify_mode = ssl.CERT_NONE
-        connection = http.client.HTTPSConnection(
-            "127.0.0.1",
-            self.port,
-            timeout=SECONDS,
-            context=strange,
-            source_address=(address, 0),
-        )
-        with contextlib.closing(connection):
-            connection.putrequest(how, path, skip_host=True)
-            for name, value in [
-                ("Host", NAME),
-                *headers,
-                *([("Content-Length", len(body))] if body else []),
-            ]:
-                connection.putheader(name, value)
-            connection.endheaders(body.encode() or None)
-            answer = connection.getresponse()
-            return Told(answer.status, answer.headers, answer.read())
-
+from tests.support.halls import Served, Told, told_by
+from tests.support.proxies import NAME, Nginx
 
 HALL: List[Served] = []
-PROXY: List[Proxy] = []
+PROXY: List[Nginx] = []
 
 
 def setUpModule() -> None:
-    if NGINX is None:
+    if Nginx.found() is None:
         raise unittest.SkipTest("Debian's nginx is not installed")
     folder = pathlib.Path(
         unittest.enterModuleContext(tempfile.TemporaryDirectory(prefix="hall-"))
@@ -158,11 +26,11 @@ def setUpModule() -> None:
     unittest.addModuleCleanup(hall.stop)
     hall.start()
     HALL.append(hall)
-    PROXY.append(Proxy(folder, hall.port))
+    PROXY.append(Nginx(folder, hall.port))
     unittest.addModuleCleanup(PROXY[0].end)
 
 
-class Nginx(unittest.TestCase):
+class BehindNginx(unittest.TestCase):
     def setUp(self) -> None:
         self.tokens = HALL[0].tokens()
         self.proxy = PROXY[0]

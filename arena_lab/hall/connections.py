@@ -1,0 +1,192 @@
+"""The connections of a hall's web server, before anybody is asked who he is. An address
+has so many of them, so many bytes that wait, and so long for a request. Where there are
+more, one goes that waits, and whoever comes is taken."""
+import collections
+import functools
+import time
+from typing import Any, Callable, List, NamedTuple, Tuple, Type
+
+from waitress.adjustments import Adjustments
+from waitress.channel import HTTPChannel
+from waitress.parser import HTTPRequestParser
+from waitress.server import TcpWSGIServer
+
+from arena_lab.hall.teams.guards import network_of
+
+# connections that are taken in a turn, and bytes that come between two looks at what
+# waits
+AT_ONCE = 50
+OFTEN = 1 << 20
+
+
+class ConnectionBounds(NamedTuple):
+    """How many connections there are, and of an address; how many bytes of requests
+    wait, and of an address; within how many seconds the head of a request comes, and
+    how many bytes of the rest come, and of an answer are taken, in a second."""
+
+    all: int = 2_000
+    of_address: int = 800
+    bytes: int = 192 << 20
+    bytes_of_address: int = 64 << 20
+    head: float = 10.0
+    rate: int = 64 << 10
+
+
+class Request(HTTPRequestParser):
+    """A request that comes, and since when."""
+
+    def __init__(self, channel: "Channel", adj: Any) -> None:
+        super().__init__(adj)
+        self.begun = time.monotonic()
+        self._channel = channel
+
+    def parse_header(self, header_plus: bytes) -> None:
+        super().parse_header(header_plus)
+        self._channel.is_of(self.headers.get("X_FORWARDED_FOR", ""))
+
+    def length(self) -> int:
+        """The bytes that it may have behind its head."""
+        return int(
+            self.adj.max_request_body_size if self.chunked else self.content_length
+        )
+
+
+class Channel(HTTPChannel):
+    """A connection, and the address that it is of: behind a server that encrypts, the
+    one of its last request, or none."""
+
+    def __init__(self, server: Any, sock: Any, addr: Any, adj: Any, map: Any) -> None:
+        self.is_trusted = adj.trusted_proxy in ("*", addr[0])
+        self.address = "" if self.is_trusted else network_of(str(addr[0]))
+        self.parser_class = functools.partial(Request, self)
+        # when there was nothing left to send, and the bytes that were sent since then
+        self.idle = time.monotonic()
+        self.sent = 0
+        super().__init__(server, sock, addr, adj, map)
+
+    def is_of(self, forwarded: str) -> None:
+        """Notes whose a request is, by the last address that the server before the hall
+        names."""
+        if self.is_trusted and forwarded:
+            self.address = network_of(forwarded.rpartition(",")[2].strip())
+            self.server.news = OFTEN
+
+    def received(self, data: bytes) -> bool:
+        self.server.news += len(data)
+        return bool(super().received(data))
+
+    def del_channel(self, map: Any = None) -> None:
+        """Frees what has come of its request, too."""
+        super().del_channel(map)
+        if self.request is not None:
+            self.request.close()
+
+    def readable(self) -> bool:
+        return self._fileno is not None and bool(super().readable())
+
+    def writable(self) -> bool:
+        return self._fileno is not None and bool(super().writable())
+
+    def size(self) -> int:
+        """The bytes of its requests that wait."""
+        return sum(
+            it.body_bytes_received for it in (*self.requests, self.request) if it
+        )
+
+    def smallness(self) -> int:
+        """What goes first of the bytes that wait: the largest."""
+        return -self.size()
+
+    def waits(self) -> bool:
+        """Whether nothing of it is being answered."""
+        return self.connected and not self.requests
+
+    def send(self, data: bytes, do_close: bool = True) -> int:
+        count = int(super().send(data, do_close=do_close))
+        self.sent += count
+        return count
+
+    def is_late(self, bounds: ConnectionBounds) -> bool:
+        """Whether its request comes too slowly, or the answer is taken so. This is
+        asked again and again."""
+        now = time.monotonic()
+        if not self.total_outbufs_len:
+            self.sent = 0
+            self.idle = now
+        came = self.request if self.waits() else None
+        if came is not None:
+            return bool(now - came.begun > bounds.head + came.length() / bounds.rate)
+        return now - self.idle > bounds.head + self.sent / bounds.rate
+
+    def age(self) -> Tuple[bool, float]:
+        """What goes first: the oldest request that has not come whole, and then the
+        connection that has been silent for longest."""
+        begun = self.last_activity if self.request is None else self.request.begun
+        return self.request is None, begun
+
+
+class HallServer(TcpWSGIServer):
+    """waitress within bounds. Its one thread that reads ends connections before it asks
+    which of the others are ready, and at no other time: a new one may get the number of
+    one that was ended."""
+
+    channel_class = Channel
+    bounds = ConnectionBounds()
+    # bytes that have come since the last look; a connection counts as many
+    news = 0
+
+    def channels(self) -> List[Channel]:
+        return list(self.active_channels.values())
+
+    def handle_accept(self) -> None:
+        """Takes several connections at once: each turn looks at all there are."""
+        for _ in range(AT_ONCE):
+            super().handle_accept()
+        self.news = OFTEN
+
+    def readable(self) -> bool:
+        if self.news >= OFTEN:
+            self.news = 0
+            most = self.bounds
+            self.end_some(lambda it: 1, Channel.age, most.of_address, most.all)
+            self.end_some(
+                Channel.size, Channel.smallness, most.bytes_of_address, most.bytes
+            )
+        return bool(super().readable())
+
+    def end_some(
+        self,
+        weigh: Callable[[Channel], int],
+        order: Callable[[Channel], Any],
+        of_address: int,
+        of_all: int,
+    ) -> None:
+        """Ends connections that wait, in this order, where an address has too much:
+        more than it may, or so much that all together have too much."""
+        sizes: "collections.Counter[str]" = collections.Counter()
+        for it in self.channels():
+            sizes[it.address] += weigh(it)
+        while sum(min(it, of_address) for it in sizes.values()) > of_all:
+            of_address = of_address * 9 // 10
+        for it in sorted(filter(Channel.waits, self.channels()), key=order):
+            # whose a connection of a server before the hall is, its head will say
+            is_over = it.address and weigh(it) and sizes[it.address] > of_address
+            if is_over and (of_address or sizes.total() > of_all):
+                sizes[it.address] -= weigh(it)
+                it.handle_close()
+
+    def maintenance(self, now: float) -> None:
+        super().maintenance(now)
+        for it in self.channels():
+            if it.is_late(self.bounds):
+                it.handle_close()
+
+
+def servers(
+    application: Any, kind: Type[HallServer] = HallServer, **options: Any
+) -> List[Any]:
+    """Servers of an application by waitress's options, one for each address of its
+    host. Any of them runs all."""
+    adj = Adjustments(**options)
+    sockets: Any = {}
+    return [kind(application, sockets, adj=adj, sockinfo=it) for it in adj.listen]
