@@ -237,7 +237,7 @@ def written(out: pathlib.Path, cases: Sequence[Case]) -> Dict[str, float]:
 
 def unplayed(played: CourseFile, case: Case, fault: str) -> List[str]:
     """The row of a match that was not played."""
-    return sweeping.sandboxes_for(
+    return sweeping.cells_for(
         case,
         played.fixture(case),
         Summary(Verdict(league.UNPLAYED, 0, 0), faults=[fault]),

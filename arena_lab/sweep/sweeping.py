@@ -94,10 +94,10 @@ def row_for(
     case: Case, schedule: Schedule, played: PlayedMatch, program: Optional[str]
 ) -> List[str]:
     """The row of a run that was played. The program judges it, if there is one."""
-    return sandboxes_for(case, schedule.fixture, summary_of(played, program))
+    return cells_for(case, schedule.fixture, summary_of(played, program))
 
 
-def sandboxes_for(case: Case, fixture: Fixture, summary: Summary) -> List[str]:
+def cells_for(case: Case, fixture: Fixture, summary: Summary) -> List[str]:
     """The row of a run, of which this came."""
     row = {
         **asked_of(case, fixture),

@@ -18,6 +18,7 @@ from typing import Any, List
 from selenium import webdriver
 from selenium.webdriver.support.ui import WebDriverWait
 
+from arena_lab.hall import packing
 from tests.browser.watch_in_browser import SECONDS, browser
 from tests.support import halls
 
@@ -100,7 +101,7 @@ class Walk:
         page = (
             self._hall.folder / "attempts" / str(number) / "run1" / "match0" / "m0.html"
         )
-        self._hall.wait(page.exists, "the page is made")
+        self._hall.wait(lambda: packing.place(page).exists(), "the page is made")
         self.open(f"/matches/{number}/0/page")
         self._page.execute_script("document.getElementById('speed').value = '20'")
         self.find("#play").click()

@@ -1,1 +1,1 @@
-"""Hand-ins: programs of teams, which are graded in cells."""
+"""Hand-ins: programs of teams, which are graded in sandboxes."""

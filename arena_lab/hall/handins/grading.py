@@ -1,4 +1,4 @@
-"""Grades a hand-in: `grade` plays it in its cells, as a command of its own, so that
+"""Grades a hand-in: `grade` plays it in its sandboxes, as a command of its own, so that
 nothing of a team's program is in a process of the hall.
 
 A grading at once has draws of its own, since a team hands in again and again and must
@@ -111,8 +111,9 @@ def drawn_from(work: Grading) -> str:
 
 
 def run(work: Grading, holder: str, folder: pathlib.Path) -> None:
-    """Runs `grade`. It ends with this worker, and its cells with it. Whatever a program
-    does, `grade` tells it in its rows: if it fails itself, the machine has a fault."""
+    """Runs `grade`. It ends with this worker, and its sandboxes with it. Whatever a
+    program does, `grade` tells it in its rows: if it fails itself, the machine has a
+    fault."""
     words = [
         # if memory is short, it ends before the hall's own processes
         "choom",

@@ -178,7 +178,7 @@ class Workers:
             (worker, "tell", lambda line: self.broken_rules.append(line)),
             (steps, "tell", lambda line: None),
             (grading.subprocess, "Popen", graded),
-            (grading.cells, "remove", shutil.rmtree),
+            (grading.sandboxes, "remove", shutil.rmtree),
         ):
             self._held.enter_context(mock.patch.object(module, name, instead))
 

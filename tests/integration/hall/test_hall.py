@@ -15,6 +15,7 @@ import time
 import unittest
 from typing import Any, Dict, List
 
+from arena_lab.hall import packing
 from arena_lab.rules.engines import TOP
 from arena_lab.rules.model import played
 from arena_lab.sandbox.processes import below, is_alive, listed, words_of
@@ -83,7 +84,7 @@ class Matches(Halls):
         page = (
             self.hall.folder / "attempts" / str(number) / "run1" / "match0" / "m0.html"
         )
-        self.hall.wait(page.exists, "the page is made")
+        self.hall.wait(lambda: packing.place(page).exists(), "the page is made")
 
     def test_a_team_with_a_map_is_told_the_map_and_no_black_hole(self) -> None:
         token = self.tokens["cedar"]

@@ -52,7 +52,7 @@ def after_seconds(seconds: float, since: float = time.monotonic()) -> Any:
 def runs(program: Any) -> Iterator[None]:
     """Another program in the place of `grade`, while the block goes on."""
     with mock.patch.object(grading.subprocess, "Popen", program), mock.patch.object(
-        grading.cells, "remove", shutil.rmtree
+        grading.sandboxes, "remove", shutil.rmtree
     ):
         yield
 
