@@ -56,7 +56,7 @@ from arena_lab.play.teams import (
     agent_named,
     filled,
 )
-from arena_lab.rules import networks
+from arena_lab.rules import draws, networks
 from arena_lab.rules.engines import MODEL, PROGRAM, name_of, program_at
 from arena_lab.rules.model import Place, Verdict
 from arena_lab.rules.networks import Network
@@ -129,16 +129,18 @@ def game(
     agents: Union[AgentLike, Sequence[AgentLike]],
     *,
     count: Optional[int] = None,
-    home: int = 0,
+    home: Union[None, int, str] = 0,
     holes: Iterable[int] = (),
     dark: Iterable[Place] = (),
     quota: int = QUOTA,
     board: int = BOARD,
     naps: int = NAPS,
     limit: float = LIMIT,
+    ports: str = draws.GIVEN,
 ) -> Game:
     """What is played. If neither `holes` nor `dark` destroys, each seed has a black
-    hole of its own. A dark link is (node, port)."""
+    hole of its own, and a home base if `home` is "drawn" or None. A dark link is (node,
+    port). `ports` are as `--ports` takes them."""
     if isinstance(network, str):
         name = network
         found = networks.named(network)
@@ -152,13 +154,14 @@ def game(
         name,
         networks.checked(found, name),
         team_of(agents, count),
-        home,
+        home if isinstance(home, int) else None,
         sorted(holes),
         list(dark),
         quota,
         board,
         naps,
         limit,
+        ports=draws.ports_of(ports),
     )
 
 
@@ -340,7 +343,19 @@ def explore(
     `check` drawn schedules the agents play on each network, what they do is compared
     with what they answered. `states` are the most of a match to visit: as many as take
     half of the memory that is left, unless you name a number."""
-    all_asked = [game(one, agents, **more) for one in networks_in(network)]
+    asked = [game(one, agents, **more) for one in networks_in(network)]
+    fixed = [it for one in asked for it in one.fixed()]
+    return explore_games(fixed, states, engine, draws, check)
+
+
+def explore_games(
+    all_asked: Sequence[Game],
+    states: Optional[int] = None,
+    engine: str = MODEL,
+    draws: Optional[SampleRequest] = None,
+    check: int = CHECKED,
+) -> Union[Exploration, SearchResult]:
+    """Tries every schedule of games, as `explore` does."""
     path = path_of(engine)
     if path is not None:
         most = exploring.MOST_STATES if draws is not None else fitting(OF_PROGRAM)

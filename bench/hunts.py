@@ -16,7 +16,7 @@ from typing import List, Optional, Sequence
 
 from arena_lab.play.games import play_seed
 from arena_lab.play.teams import INSIDE, AgentWords, Game, filled
-from arena_lab.rules import networks
+from arena_lab.rules import draws, networks
 from arena_lab.search.hunt import DRAWS, Hunt, Hunter, hunted
 from tests.support.mutants import PLANS, agent_of
 
@@ -28,7 +28,8 @@ def game_of(name: str) -> Game:
     """The game on which a wrong agent is hunted."""
     place = PLANS[name].hunted
     agents = filled([AgentWords(INSIDE, agent_of(name))], place.agents)
-    return Game(place.network, networks.named(place.network), agents)
+    network = networks.named(place.network)
+    return Game(place.network, network, agents, ports=draws.ports_of(place.ports))
 
 
 class UntilFailure:

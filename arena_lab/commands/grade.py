@@ -123,7 +123,7 @@ def run(words: argparse.Namespace) -> int:
     own = [file for files in read.files.values() for file in files]
     course.check_walls(strongest, [path.parent, words.out, *own], read.terms.tools)
     for name in read.grid.schedulers:
-        read.maker(name)
+        read.conditions.maker(name)
     if strongest is not Isolation.ALL:
         print(f"arena-lab: {sandboxes.weakness()}; {strongest.value}", file=sys.stderr)
     wanted = export.export_of(
@@ -137,7 +137,7 @@ def run(words: argparse.Namespace) -> int:
             strongest, read.terms.tools, read.terms.has_proc, calls=read.terms.calls
         )
         graded = GradingRun(
-            read.text,
+            read.conditions.text,
             path.parent,
             secret,
             program,

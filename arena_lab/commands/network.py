@@ -5,40 +5,26 @@
     ./arena-lab network petersen:5x2 --page petersen.html
 
 A network must stay connected when any one node is taken away. The command refuses
-another, and names the node. With --ports shuffled:SEED the ports of each node are
-numbered anew, so that a label says nothing of where a link leads.
+another, and names the node. With --ports drawn, or shuffled:SEED, the ports of each
+node are numbered anew, so that a label says nothing of where a link leads.
 """
 import argparse
 import pathlib
+import secrets
 import sys
 
+from arena_lab.commands.words import add_ports
 from arena_lab.pages import network_page
-from arena_lab.rules import networks
+from arena_lab.rules import draws, networks
 from arena_lab.rules.networks import Network, NoNetwork
-
-
-def add_ports(parser: argparse.ArgumentParser) -> None:
-    """The option that numbers ports."""
-    parser.add_argument(
-        "--ports",
-        metavar="shuffled:SEED",
-        type=ports_seed,
-        help="number the ports of each node anew, " "by this seed",
-    )
-
-
-def ports_seed(word: str) -> int:
-    """The seed of `shuffled:SEED`."""
-    try:
-        return networks.ports_seed(word)
-    except NoNetwork as fault:
-        raise argparse.ArgumentTypeError(str(fault)) from None
 
 
 def network_for(name: str, words: argparse.Namespace) -> Network:
     """The network of a word, with its ports as the words say."""
     network = networks.biconnected(name)
-    return network if words.ports is None else networks.shuffled(network, words.ports)
+    return draws.numbered(
+        network, draws.ports_seed(words.ports, secrets.SystemRandom())
+    )
 
 
 def add_words(parser: argparse.ArgumentParser) -> None:

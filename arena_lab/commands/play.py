@@ -37,9 +37,9 @@ from arena_lab.play.human import (
     HumanMatch,
     trails,
 )
-from arena_lab.rules import networks
+from arena_lab.rules import draws, networks
 from arena_lab.rules.fixtures import fixture_of
-from arena_lab.rules.model import Object, Setup
+from arena_lab.rules.model import Object
 from arena_lab.support.faults import Fault
 
 HELP = """  enter             enter the match at the home base
@@ -132,18 +132,12 @@ def match_of(words: argparse.Namespace) -> HumanMatch:
     would be."""
     chance = random.Random(words.seed)
     network = networks.biconnected(words.network)
-    hole = words.hole if words.hole is not None else chance.randrange(1, network.nodes)
+    hole = words.hole
+    if hole is None:
+        hole = draws.sampled(network, 0, 1, chance)[0]
     is_slow = words.riddle and chance.random() < 0.5
-    setup = Setup(
-        network.nodes,
-        network.links,
-        0,
-        [] if is_slow else [hole],
-        words.agents,
-        1000,
-        64,
-    )
-    fixture = fixture_of(setup)
+    found = draws.Drawn(network, 0, [] if is_slow else [hole])
+    fixture = fixture_of(found.setup(words.agents, 1000, 64), words.seed)
     if is_slow:
         fixture = fixture._replace(held=networks.places_into(network.links, [hole]))
     return HumanMatch(fixture, chance)

@@ -5,7 +5,8 @@
 
 The folder gets the file of the tournament, a file for each network, and a sheet of keys
 for each team. Keys and the tournament's seed are drawn by the operating system's source
-of secrets. So are black holes, unless you name them by --hole or ask for all of them.
+of secrets. So are black holes, unless you name them by --hole or ask for all of them,
+and the numbers of ports of each network, unless you say --ports given.
 On one network with one black hole all teams play the same match. The tournament has the
 oblivious schedule, under which no agent learns by waiting what others do;
 examples/README.md says how to choose its delays and how many turns a match takes.
@@ -37,10 +38,10 @@ import re
 import secrets
 from typing import Callable, Dict, List, NamedTuple, Optional, Sequence, Tuple, Union
 
-from arena_lab.commands.network import add_ports, network_for
-from arena_lab.commands.words import not_negative
+from arena_lab.commands.network import network_for
+from arena_lab.commands.words import add_ports, not_negative
 from arena_lab.pages.contest_pages import AGAIN, TOURNAMENT
-from arena_lab.rules import networks
+from arena_lab.rules import draws, networks
 from arena_lab.rules.delays import ADAPTIVE, OBLIVIOUS, ODDS, SCALES, Delays
 from arena_lab.rules.fixtures import Fixture, checked, read_tournament, tournament_text
 from arena_lab.rules.limits import MOST_AGENTS, SMALL_BOARD, SMALL_QUOTA
@@ -55,6 +56,7 @@ MOST_ODDS = 65_535
 NETWORK = "network0.toml"
 QUOTA = SMALL_QUOTA
 BOARD = SMALL_BOARD
+CHANCE = secrets.SystemRandom()
 
 
 class TournamentMatch(NamedTuple):
@@ -66,18 +68,17 @@ class TournamentMatch(NamedTuple):
 
 def holes_of(words: argparse.Namespace, name: str, network: Network) -> List[int]:
     """The black holes to be tried on a network, in the order of their numbers."""
-    others = [node for node in range(network.nodes) if node != words.home]
+    others = draws.others_than(words.home, network)
     if words.hole:
         if not set(words.hole) <= set(others):
             raise NoNetwork(f"{name}: a black hole is a node other than the home base")
         return sorted(set(words.hole))
     if words.holes == ALL:
         return others
-    if words.holes > len(others):
-        raise NoNetwork(
-            f"{name}: only {len(others)} nodes can be the black hole; ask for fewer by --holes"
-        )
-    return sorted(secrets.SystemRandom().sample(others, words.holes))
+    try:
+        return sorted(draws.sampled(network, words.home, words.holes, CHANCE))
+    except NoNetwork as fault:
+        raise NoNetwork(f"{name}: {fault}; ask for fewer by --holes") from None
 
 
 def check_words(words: argparse.Namespace) -> None:
@@ -102,18 +103,18 @@ def check_words(words: argparse.Namespace) -> None:
 def entries_of(words: argparse.Namespace) -> List[TournamentMatch]:
     """The matches, network by network, hole by hole and team by team; with traps among
     them, in an order that is drawn."""
+    drawn = [network_for(name, words) for name in words.network]
     places = [
         place
-        for number, name in enumerate(words.network)
-        for place in places_on(words, number, name)
+        for number, network in enumerate(drawn)
+        for place in places_on(words, number, network)
     ]
     if words.traps:
-        chance = secrets.SystemRandom()
         places += [
-            trap_on(words, *chance.choice(list(enumerate(words.network))))
+            trap_on(words, *CHANCE.choice(list(enumerate(drawn))))
             for _ in range(words.traps)
         ]
-        chance.shuffle(places)
+        CHANCE.shuffle(places)
     found = [
         TournamentMatch(
             Fixture(
@@ -141,18 +142,14 @@ class Planned(NamedTuple):
     file: str
 
 
-def trap_on(words: argparse.Namespace, number: int, name: str) -> Planned:
+def trap_on(words: argparse.Namespace, number: int, network: Network) -> Planned:
     """A match without a black hole. Nobody arrives at two nodes that are drawn: if it
     were one, it would be the last that is left to a team which has visited all others,
     and every team would accuse it."""
-    place = places_on(words, number, name)[0]
-    setup = place.setup
-    nodes = secrets.SystemRandom().sample(
-        [it for it in range(setup.nodes) if it != setup.home], 2
-    )
-    return place._replace(
-        setup=setup._replace(holes=[]), held=networks.places_into(setup.links, nodes)
-    )
+    left = draws.Open(words.home, 0, None, closed=2)
+    held = draws.drawn(network, CHANCE, left).held
+    place = places_on(words, number, network)[0]
+    return place._replace(setup=place.setup._replace(holes=[]), held=held)
 
 
 def file_of(names: Sequence[str], number: int) -> str:
@@ -172,9 +169,11 @@ def file_of(names: Sequence[str], number: int) -> str:
     )
 
 
-def places_on(words: argparse.Namespace, number: int, name: str) -> List[Planned]:
+def places_on(
+    words: argparse.Namespace, number: int, network: Network
+) -> List[Planned]:
     """The matches on a network, hole by hole."""
-    network = network_for(name, words)
+    name = words.network[number]
     if not 0 <= words.home < network.nodes:
         raise NoNetwork(
             f"{name}: it has no node {words.home} for a home base; name another by --home"
@@ -185,14 +184,11 @@ def places_on(words: argparse.Namespace, number: int, name: str) -> List[Planned
             f"{name}: a match has 1 to {MOST_AGENTS} agents, and not {agents}; name another number by "
             "--agents"
         )
-    setup = Setup(
-        network.nodes, network.links, words.home, [], agents, words.quota, words.board
-    )
+    file = file_of(words.network, number)
     return [
-        Planned(
-            checked(setup._replace(holes=[hole])), [], file_of(words.network, number)
-        )
+        Planned(checked(found.setup(agents, words.quota, words.board)), [], file)
         for hole in holes_of(words, name, network)
+        for found in [draws.Drawn(network, words.home, [hole])]
     ]
 
 
@@ -263,7 +259,7 @@ def add_words(parser: argparse.ArgumentParser) -> None:
         help="a network, and more by more "
         "of these: see `./arena-lab network --help`",
     )
-    add_ports(parser)
+    add_ports(parser, draws.DRAWN)
     parser.add_argument(
         "--home", metavar="V", type=int, default=0, help="the home base (0)"
     )
@@ -365,7 +361,7 @@ def run(words: argparse.Namespace) -> int:
         raise NoNetwork(
             f"{path}: there is a tournament, whose keys teams may have: name another folder by --out"
         )
-    return write_again(words.out, *words.again) if words.again else write_all(words)
+    return write_again(words) if words.again else write_all(words)
 
 
 def write_all(words: argparse.Namespace) -> int:
@@ -424,12 +420,14 @@ def write_secret(path: pathlib.Path, text: str) -> None:
     path.write_text(text, encoding="utf-8")
 
 
-def write_again(out: pathlib.Path, file: str, match: str) -> int:
+def write_again(words: argparse.Namespace) -> int:
     """Writes another try of a match of a tournament's file."""
+    file, match = words.again
+    out = words.out
     tournament = read_tournament(file)
     if not match.isdecimal() or int(match) >= len(tournament.fixtures):
         raise NoNetwork(f"{file}: it has no match {match}")
-    fixture = drawn_anew(tournament.fixtures[int(match)])
+    fixture = drawn_anew(tournament.fixtures[int(match)], words)
     out.mkdir(parents=True, exist_ok=True)
     network = Network(fixture.setup.nodes, fixture.setup.links)
     (out / NETWORK).write_text(networks.text_of(network), encoding="utf-8")
@@ -446,27 +444,20 @@ def write_again(out: pathlib.Path, file: str, match: str) -> int:
     return 0
 
 
-def drawn_anew(fixture: Fixture) -> Fixture:
+def drawn_anew(fixture: Fixture, words: argparse.Namespace) -> Fixture:
     """The same match with other keys and labels, and with other nodes that destroy or
     at which nobody arrives."""
     setup = fixture.setup
-    chance = secrets.SystemRandom()
     if setup.dark:
         raise NoNetwork("the match has dark links: write another try of it by hand")
-    network = networks.shuffled(
-        Network(setup.nodes, setup.links), secrets.randbits(128)
-    )
-    closed = closed_nodes(fixture)
-    drawn = chance.sample(
-        [it for it in range(setup.nodes) if it != setup.home],
-        len(setup.holes) + len(closed),
-    )
-    holes = sorted(drawn[: len(setup.holes)])
-    others = drawn[len(setup.holes) :]
+    closed = len(closed_nodes(fixture))
+    left = draws.Open(setup.home, len(setup.holes), words.ports, closed)
+    network = Network(setup.nodes, setup.links)
+    found = draws.drawn(network, CHANCE, left, draws.SECRET_BITS)
     return fixture._replace(
-        setup=setup._replace(links=network.links, holes=holes),
+        setup=found.setup(setup.agents, setup.quota, setup.board),
         keys=[key_of(fixture.team) for _ in fixture.keys],
-        held=networks.places_into(network.links, others),
+        held=found.held,
     )
 
 

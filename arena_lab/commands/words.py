@@ -17,7 +17,7 @@ from arena_lab.play.teams import (
     agent_named,
     filled,
 )
-from arena_lab.rules import networks
+from arena_lab.rules import draws, networks
 from arena_lab.rules.engines import MODEL, PROGRAM, program_at
 from arena_lab.rules.fixtures import Fixture, read_tournament
 from arena_lab.rules.model import Place
@@ -49,6 +49,33 @@ def place(word: str) -> Place:
             f"{word} is not a node and a port: write them as in 3,1"
         )
     return int(found[1]), int(found[2])
+
+
+def ports(word: str) -> draws.Ports:
+    """How ports are numbered."""
+    try:
+        return draws.ports_of(word)
+    except networks.NoNetwork as fault:
+        raise argparse.ArgumentTypeError(str(fault)) from None
+
+
+def home(word: str) -> Optional[int]:
+    """A home base, or None for one that is drawn."""
+    return None if word == draws.DRAWN else not_negative(word)
+
+
+def add_ports(
+    parser: "argparse._ActionsContainer", usual: str = draws.GIVEN, each: str = ""
+) -> None:
+    """The option that numbers ports."""
+    parser.add_argument(
+        "--ports",
+        metavar="given|drawn|shuffled:SEED",
+        type=ports,
+        default=draws.ports_of(usual),
+        help="the numbers of ports: as the network has them, or drawn anew"
+        f"{each}, or by this seed ({usual})",
+    )
 
 
 class Kinds(argparse.Action):
@@ -99,8 +126,13 @@ def add_match(parser: argparse.ArgumentParser, several: bool = False) -> None:
             default=NETWORK,
             help=f"the network ({NETWORK})",
         )
+    add_ports(match, each=" for each seed")
     match.add_argument(
-        "--home", metavar="V", type=int, default=0, help="the home base (0)"
+        "--home",
+        metavar="V|drawn",
+        type=home,
+        default=0,
+        help="the home base, or `drawn` for another with each seed (0)",
     )
     match.add_argument(
         "--hole",
@@ -210,19 +242,24 @@ def game_of(words: argparse.Namespace) -> Game:
         words.limit,
         match,
         f", match {words.match} of {words.tournament}" if match else "",
+        words.ports,
     )
 
 
 def games_of(words: argparse.Namespace) -> List[Game]:
-    """The games that the words of a command name, one for each network."""
+    """The games that the words of a command name: one for each network, or for each home
+    base and numbering of it that is drawn."""
     names = [
         name
         for given in words.networks or [NETWORK]
         for name in networks.in_range(given)
     ]
     return [
-        game_of(argparse.Namespace(**{**vars(words), "network": name}))
+        fixed
         for name in names
+        for fixed in game_of(
+            argparse.Namespace(**{**vars(words), "network": name})
+        ).fixed()
     ]
 
 

@@ -19,7 +19,8 @@
                   as in the file of a sweep: see `./arena-lab sweep --help`
     home          the home base; if it is absent and black holes are drawn, it is drawn for each match
     ports         "shuffled:SEED" numbers the ports of each node anew, alike in all matches, and "given" leaves them as
-                  the network has them; if it is absent and black holes are drawn, they are numbered anew in each match
+                  the network has them; if it is "drawn" or absent and black holes are drawn, they are numbered anew in
+                  each match
     limit         how many seconds a program may take to send a line (20); a quarter of these on a network on which the
                   team has hung twice alike
     match_limit   how many seconds the lab waits for the programs of a match in all (60)
@@ -58,10 +59,8 @@ kept in `secret.txt` beside the results. To grade again by the same draws, name 
 file by --secret; if a team has handed in something else since, all is drawn anew.
 """
 import functools
-import hashlib
 import os
 import pathlib
-import random
 import re
 import secrets
 import shlex
@@ -69,7 +68,6 @@ import sys
 from typing import (
     Any,
     Dict,
-    FrozenSet,
     List,
     Mapping,
     NamedTuple,
@@ -78,15 +76,13 @@ from typing import (
     Tuple,
 )
 
+from arena_lab.course.conditions import Conditions, CourseDraws, conditions_in
 from arena_lab.course.points import Points, points_in
 from arena_lab.play.agent_files import digests
-from arena_lab.play.games import maker_of
 from arena_lab.play.programs import HOST
-from arena_lab.play.schedulers import Maker
 from arena_lab.play.teams import OUTSIDE, agent_named
 from arena_lab.play.wasm_modules import is_module
 from arena_lab.rules import networks
-from arena_lab.rules.fixtures import Fixture
 from arena_lab.sandbox import calls, isolation
 from arena_lab.sandbox.sandboxes import Isolation
 from arena_lab.support import fields
@@ -114,97 +110,46 @@ FIELDS = {
     "points": fields.table("points", {}),
 }
 SECRET = "secret.txt"
-GIVEN = "given"
 WORDS = ("host", "port", "key", "nodes", "links", "home", "network")
 NEEDED = ("port", "key")
-
-
-class CourseDraws(NamedTuple):
-    """What is drawn from a course's secret. Without it nobody can guess it."""
-
-    secret: str
-
-    def drawn(self, *words: object) -> str:
-        """Digits."""
-        return hashlib.sha256(
-            "\0".join(map(str, [self.secret, *words])).encode()
-        ).hexdigest()
-
-    def keys(self, text: str, number: int, agents: int) -> List[str]:
-        """The keys of a match of the course that has this text."""
-        return [self.drawn("key", text, number, agent)[:20] for agent in range(agents)]
 
 
 class CourseFile(NamedTuple):
     """What a course's file says, and its secret. The files are those of each team."""
 
-    text: str
-    folder: pathlib.Path
-    draws: CourseDraws
-    grid: Grid
+    conditions: Conditions
     files: Dict[str, List[pathlib.Path]]
     terms: "Terms"
     tries: int
-    # which of `home` and `ports` the file has
-    named: FrozenSet[str] = frozenset()
     points: Optional[Points] = None
+
+    @property
+    def grid(self) -> Grid:
+        return self.conditions.grid
 
     def cases(self) -> List[Case]:
         """All matches, in the order in which they are played. Teams come in an order
         that is drawn; each plays the same matches, in an order of its own."""
-        found = [self._placed(case) for case in self.grid.cases(self.draws.secret)]
+        draws = self.conditions.draws
+        found = list(self.conditions.cases())
         found.sort(
             key=lambda case: (
-                self.draws.drawn("order", case.team.name),
-                self.draws.drawn("order", case.team.name, case[1:3], case[4:]),
+                draws.drawn("order", case.team.name),
+                draws.drawn("order", case.team.name, case[1:3], case[4:]),
             )
         )
         return [case._replace(number=number) for number, case in enumerate(found)]
-
-    def _placed(self, case: Case) -> Case:
-        """A match with black holes, a home base and ports of its own, as far as the
-        file does not name them. They are the same for all teams."""
-        if not isinstance(self.grid.holes, int) and self.grid.holes not in (
-            grid.BY_SEED,
-            grid.DRAWN,
-        ):
-            return case
-        words = (case.network, case.scheduler, case.seed, *case.holes)
-        chance = random.Random(self.draws.drawn("place", *words))
-        nodes = range(self.grid.networks[case.network].nodes)
-        home = self.grid.home if "home" in self.named else chance.choice(nodes)
-        hole = chance.choice([node for node in nodes if node != home])
-        ports = (
-            None if "ports" in self.named or self.grid.dark else chance.getrandbits(64)
-        )
-        return case._replace(holes=(hole,), home=home, ports=ports)
-
-    def fixture(self, case: Case) -> Fixture:
-        """A match. Without the course's secret nobody can guess its keys."""
-        fixture = self.grid.fixture(case)
-        keys = self.draws.keys(self.text, case.number, fixture.setup.agents)
-        return fixture._replace(team=case.team.name, keys=keys)
-
-    def maker(self, name: str) -> Maker:
-        """The scheduler of a name or a file."""
-        return maker_of(str(self.folder / name) if ".py" in name else name)
-
-    def seed(self, case: Case) -> int:
-        """The seed that a match's scheduler gets, which is the same for all teams.
-        Those of matches that differ in the seed alone follow one another."""
-        drawn = self.draws.drawn("seed", case.network, case.scheduler)
-        return int(drawn[:8], 16) + case.seed
 
     def digests(self) -> Dict[str, str]:
         """The SHA-256 of each file on which the matches depend, and of the secret, but
         for what teams hand in."""
         own = [
-            self.folder / name.partition(":")[0]
+            self.conditions.folder / name.partition(":")[0]
             for name in [*self.grid.schedulers, *self.grid.names]
         ]
         return {
             **digests([str(path) for path in own]),
-            SECRET: self.draws.drawn("digest"),
+            SECRET: self.conditions.draws.drawn("digest"),
         }
 
 
@@ -304,25 +249,18 @@ def course_of(text: str, folder: pathlib.Path, secret: str) -> CourseFile:
         TeamRow(row["name"], row["agents"], agent_named(OUTSIDE, row[OUTSIDE]))
         for row in rows
     ]
-    played = grid.grid_in(
-        {**said, "ports": None if said["ports"] == GIVEN else said["ports"]},
-        teams,
-        folder,
-    )
+    drawn = CourseDraws(secret)
+    asked = conditions_in(text, found, said, teams, folder, drawn)
     terms = terms_in(said, rows)
     limits = for_matches(
-        terms.limits, sum(1 for _ in played.cases()) // len(teams), found
+        terms.limits, sum(1 for _ in asked.cases()) // len(teams), found
     )
     return CourseFile(
-        text,
-        folder,
-        CourseDraws(secret),
-        played,
+        asked,
         files,
         terms._replace(limits=limits),
         said["tries"],
-        frozenset({"home", "ports"} & set(found)),
-        points_in(said["points"], played),
+        points_in(said["points"], asked.grid),
     )
 
 

@@ -13,6 +13,7 @@ import time
 from typing import Dict, Iterator, List, NamedTuple, Optional, Sequence, Set, Tuple
 
 from arena_lab.course import course, intake, league, rounds
+from arena_lab.course.conditions import Conditions
 from arena_lab.course.course import CourseFile
 from arena_lab.course.grounds import grounds_of
 from arena_lab.course.hand_in import HandIn
@@ -92,6 +93,10 @@ class GradingRun(NamedTuple):
     def course(self) -> CourseFile:
         return course.course_of(self.text, self.folder, self.secret)
 
+    @property
+    def conditions(self) -> Conditions:
+        return self.course.conditions
+
     def play(self, case: Case) -> TimedResult:
         """The row of a match. One that the team fails is written to a folder of its
         own."""
@@ -114,7 +119,7 @@ class GradingRun(NamedTuple):
     def _row(self, case: Case) -> List[str]:
         schedule, played = self.match(
             case,
-            self.course.maker(case.scheduler)(self.course.seed(case)),
+            self.conditions.scheduler(case),
             self.program,
         )
         row = sweeping.row_for(case, schedule, played, self.program)
@@ -145,7 +150,7 @@ class GradingRun(NamedTuple):
         return Repeating(
             self.out,
             self.text,
-            self.course.draws,
+            self.conditions.draws,
             self.sandbox,
             self.course.terms.limits,
             self.forgets,
@@ -183,11 +188,11 @@ class GradingRun(NamedTuple):
         self, case: Case, scheduler: Scheduler, program: Optional[str]
     ) -> Tuple[Schedule, PlayedMatch]:
         """Plays a match by this scheduler."""
-        fixture = self.course.fixture(case)
+        fixture = self.conditions.fixture(case)
         limits = self.course.terms.limits
         agents = [case.team.words] * fixture.setup.agents
         files = self._take(case.team.name).files
-        origin = f"{case.scheduler} {self.course.seed(case)} on {case.network}"
+        origin = f"{case.scheduler} {self.conditions.seed(case)} on {case.network}"
         empty = schedule_of(fixture, agents, origin, [], limits.line)._replace(
             files=files
         )
@@ -239,7 +244,7 @@ def unplayed(played: CourseFile, case: Case, fault: str) -> List[str]:
     """The row of a match that was not played."""
     return sweeping.cells_for(
         case,
-        played.fixture(case),
+        played.conditions.fixture(case),
         Summary(Verdict(league.UNPLAYED, 0, 0), faults=[fault]),
     )
 
@@ -305,9 +310,8 @@ class Cutting(NamedTuple):
         graded = self.graded
         place = self.graded.place(case)
         asked = graded.course
-        _, again = graded.match(
-            case, noted(asked.maker(case.scheduler)(asked.seed(case)), numbers), None
-        )
+        by = noted(asked.conditions.scheduler(case), numbers)
+        _, again = graded.match(case, by, None)
         if (
             again.replay != (place / kept_matches.REPLAY).read_bytes()
             or not again.has_failed()
@@ -416,7 +420,7 @@ def budget_of(graded: GradingRun, cases: Sequence[Case]) -> Budget:
 def taken_anew(out: pathlib.Path, asked: CourseFile, team: str) -> HandInRecord:
     """Reads what a team hands in now, and keeps it in a folder."""
     words = next(it.words.words for it in asked.grid.teams if it.name == team)
-    return intake.take(out, team, asked.files[team], asked.folder, words)
+    return intake.take(out, team, asked.files[team], asked.conditions.folder, words)
 
 
 def hand_ins(out: pathlib.Path, asked: CourseFile) -> Dict[str, str]:

@@ -6,6 +6,7 @@ import sys
 from typing import Dict, List, Set
 
 from arena_lab.course import course, intake, rounds
+from arena_lab.course.conditions import CourseDraws
 from arena_lab.course.grading import not_counted_in
 from arena_lab.course.rounds import Repeating, Solved
 from arena_lab.sandbox import sandboxes
@@ -25,7 +26,7 @@ def repeat_graded(out: pathlib.Path, workers: int, forgets: bool) -> int:
             for team in {row["team"] for row in rows}
         ]
         terms = course.terms_of(text, max(counts, default=0))
-        draws = course.CourseDraws(grid.text_in(out / course.SECRET).strip())
+        draws = CourseDraws(grid.text_in(out / course.SECRET).strip())
         if strongest is not Isolation.ALL:
             print(
                 f"arena-lab: {sandboxes.weakness()}; {strongest.value}", file=sys.stderr

@@ -13,7 +13,8 @@ import time
 from typing import Dict, Iterator, List, NamedTuple, Sequence, Tuple
 
 from arena_lab.course import intake, league
-from arena_lab.course.course import CourseDraws, ProgramLimits, terms_of
+from arena_lab.course.conditions import CourseDraws
+from arena_lab.course.course import ProgramLimits, terms_of
 from arena_lab.course.grounds import grounds_of
 from arena_lab.course.pool import Budget, Limited, TimedResult, in_time
 from arena_lab.play import mistakes, programs, repeating

@@ -11,8 +11,8 @@ parameters `network` and `home` get the network's links as (node, port, node, po
 the home base.
 
 Each agent of each match has modules of its own, as a program outside has: its file,
-what it imports from beside it, and `random`, which begins with the agent's number as
-its seed. So agents share no variable with each other, nor with an earlier match.
+what it imports from beside it, and `random`, which begins with a seed from the agent's
+key, as ARENA_SEED of a program outside. So agents share no variable with each other, nor with an earlier match.
 """
 import contextlib
 import functools

@@ -18,6 +18,7 @@ from arena_lab.play.agent_files import Script
 from arena_lab.play.bounds import LIMIT
 from arena_lab.play.foreign_files import notes_of, read_by
 from arena_lab.play.own_modules import OwnModules
+from arena_lab.rules.draws import seed_of
 from arena_lab.rules.model import GONE, LAST, spelled
 from arena_lab.support.missing import needed
 
@@ -74,7 +75,7 @@ class Player:
         self.latest = ""
         self.ahead = None
         # those that the script loads for this agent alone
-        self.modules = OwnModules(number)
+        self.modules = OwnModules(team.seeds[number])
         self._team = team
         self._heard: Deque[str] = deque()
         self._is_over = False
@@ -245,10 +246,16 @@ class Team:
     agent; an agent that sleeps has a longer limit."""
 
     def __init__(
-        self, keys: Sequence[str], scripts: Mapping[int, Script], seconds: float = LIMIT
+        self,
+        keys: Sequence[str],
+        scripts: Mapping[int, Script],
+        seconds: float = LIMIT,
+        seeds: Optional[Sequence[int]] = None,
     ) -> None:
-        """The scripts are by the number of their agent."""
+        """The scripts are by the number of their agent. Seeds are those of the keys
+        unless others are given."""
         self.turns = 0
+        self.seeds = [seed_of(key) for key in keys] if seeds is None else seeds
         self.players = [
             Player(self, number, keys[number], script)
             for number, script in scripts.items()

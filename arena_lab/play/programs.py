@@ -12,7 +12,6 @@ What a program has sent counts, also if it ends before it is answered, as for `a
 serve`.
 """
 import contextlib
-import hashlib
 import math
 import os
 import shlex
@@ -43,6 +42,7 @@ from arena_lab.play.bounds import READ_NOTHING, SENT_NOTHING, TimeBound, Room
 from arena_lab.play.last_words import asked_behind, error_in, usage_in
 from arena_lab.play.mistakes import plain, shown
 from arena_lab.play.players import DENIALS, DONE, LAST_LINES, TRAVELS, WAITS
+from arena_lab.rules.draws import seed_of
 from arena_lab.rules.fixtures import Fixture
 from arena_lab.rules.limits import MOST_LINE
 from arena_lab.support.built import without_warning
@@ -518,13 +518,6 @@ def as_in_a_shell(status: Optional[int]) -> Optional[int]:
     """A status as a shell has it, and walls around a program: 128 and the number of the
     signal that ended it."""
     return 128 - status if status is not None and status < 0 else status
-
-
-def seed_of(key: str) -> int:
-    """The number from which a program may draw its chance. It comes from the agent's
-    key, so it is the same when a match is played again. It fits in an int of C, and
-    Python takes it as the seed of its hashes."""
-    return int(hashlib.sha256(key.encode(errors="replace")).hexdigest()[:7], 16)
 
 
 def seeds_of(fixture: Fixture) -> List[int]:

@@ -21,11 +21,11 @@ from arena_lab.play.programs import Team as Outside
 from arena_lab.play.programs import seeds_of
 from arena_lab.play.steps import Step, is_step
 from arena_lab.play.wasm_modules import is_module
-from arena_lab.rules import networks
+from arena_lab.rules import draws
 from arena_lab.rules.fixtures import Fixture, NoMatch, fixture_of
 from arena_lab.rules.limits import MOST_AGENTS, SMALL_BOARD, SMALL_QUOTA
 from arena_lab.rules.model import Place, Setup
-from arena_lab.rules.networks import Network
+from arena_lab.rules.networks import Network, NoNetwork
 
 INSIDE = "agent"
 OUTSIDE = "command"
@@ -34,6 +34,10 @@ QUOTA = SMALL_QUOTA
 BOARD = SMALL_BOARD
 NETWORK = "ring:8"
 NAPS = 2
+# how many numberings of ports every schedule is tried with, if they are drawn, and
+# among how many draws these are looked for
+NUMBERINGS = 16
+DRAWS = 128
 
 
 class AgentWords(NamedTuple):
@@ -173,9 +177,11 @@ def alone(
 ) -> Team:
     """A team of one agent of a match, which plays with the keys of `again`, and has the
     chance that it had before."""
+    seeds = seeds_of(fixture)
     if agent.kind == INSIDE:
-        return Inside(again.keys, {number: agent.script(again.setup)}, seconds)
-    return Outside(again, {number: agent.words}, seconds, seeds=seeds_of(fixture))
+        script = agent.script(again.setup)
+        return Inside(again.keys, {number: script}, seconds, seeds)
+    return Outside(again, {number: agent.words}, seconds, seeds=seeds)
 
 
 class Matches(NamedTuple):
@@ -189,13 +195,14 @@ class Matches(NamedTuple):
 
 class Game(NamedTuple):
     """What is played, as far as a seed does not choose it: a network by its name, a
-    team, and what destroys; if nothing does, each seed has a black hole of its own. Or
-    else the match of a tournament."""
+    team, and what destroys; if nothing does, each seed has a black hole of its own. A
+    seed also chooses a home base if none is named, and ports if they are drawn. Or else
+    the match of a tournament."""
 
     name: str
     network: Network
     agents: List[AgentWords]
-    home: int = 0
+    home: Optional[int] = 0
     holes: Sequence[int] = ()
     dark: Sequence[Place] = ()
     quota: int = QUOTA
@@ -204,43 +211,62 @@ class Game(NamedTuple):
     limit: float = LIMIT
     match: Optional[Fixture] = None
     origin: str = ""
+    ports: draws.Ports = None
 
     def fixture(self, seed: int, home: Optional[int] = None) -> Fixture:
         """The match of a seed."""
         if self.match:
             return self.match._replace(naps=self.naps)
-        home = self.home if home is None else home
-        if not 0 <= home < self.network.nodes:
-            raise networks.NoNetwork(f"{self.name}: it has no node {home}")
-        others = [v for v in range(self.network.nodes) if v != home]
-        holes = list(self.holes) or ([] if self.dark else [others[seed % len(others)]])
-        setup = Setup(
-            self.network.nodes,
-            self.network.links,
-            home,
-            sorted(holes),
-            len(self.agents),
-            self.quota,
-            self.board,
-            list(self.dark),
-        )
-        return fixture_of(setup)._replace(naps=self.naps)
+        left = draws.Open(self.home if home is None else home, ports=self.ports)
+        try:
+            found = draws.of_number(self.network, seed, left)
+        except NoNetwork as fault:
+            raise NoNetwork(f"{self.name}: {fault}") from None
+        if self.holes or self.dark:
+            found = found._replace(holes=sorted(self.holes))
+        setup = found.setup(len(self.agents), self.quota, self.board, self.dark)
+        return fixture_of(setup, seed)._replace(naps=self.naps)
 
     def where(self) -> str:
         """Where it is played, as origins of schedules say it."""
         return self.origin if self.match else f" on {self.name}"
 
-    def fixtures(self) -> List[Fixture]:
-        """Its matches: one, or one for each node but the home base as the black
-        hole."""
+    def fixed(self) -> List["Game"]:
+        """The games of which it consists, each with a home base and ports: what is
+        drawn of these goes with every black hole."""
+        if self.match:
+            return [self]
+        homes = range(self.network.nodes)
+        if self.home is not None:
+            homes = range(self.home, self.home + 1)
+        seeds: List[Optional[int]] = []
+        if isinstance(self.ports, str):
+            seeds += draws.numberings(self.network, NUMBERINGS, range(DRAWS))
+        else:
+            seeds.append(self.ports)
+        named = "" if self.home is not None else ", home {}"
         return [
-            self.fixture(seed)
-            for seed in range(1 if self.is_fixed() else self.network.nodes - 1)
+            self._replace(
+                name=self.name + draws.said_of(seed) + named.format(home),
+                home=home,
+                ports=seed,
+            )
+            for seed in seeds
+            for home in homes
         ]
+
+    def fixtures(self) -> List[Fixture]:
+        """Its matches: one, or one for each node but the home base as the black hole.
+        Their agents have the same keys, as they are taken for the same machines."""
+        holes = 1 if self.is_fixed() else self.network.nodes - 1
+        keys = draws.keys_of((self.home, self.ports), len(self.agents))
+        if self.match:
+            keys = self.match.keys
+        return [self.fixture(seed)._replace(keys=keys) for seed in range(holes)]
 
     def matches(self) -> Matches:
         return Matches(self.agents, self.fixtures(), self.limit)
 
     def is_fixed(self) -> bool:
-        """Whether all seeds have the same match."""
+        """Whether all seeds have the same black hole."""
         return bool(self.match or self.holes or self.dark)

@@ -4,7 +4,7 @@ import pathlib
 import tomllib
 from typing import Any, Dict, Iterable, List, NamedTuple, Optional, Sequence, Set, Tuple
 
-from arena_lab.rules import networks
+from arena_lab.rules import draws, networks
 from arena_lab.rules.delays import OBLIVIOUS, Delays
 from arena_lab.rules.limits import (
     MOST_AGENTS,
@@ -98,10 +98,13 @@ def checked(setup: Setup) -> Setup:
     return setup
 
 
-def fixture_of(setup: Setup) -> Fixture:
-    """A fixture with keys of its own."""
+def fixture_of(setup: Setup, number: object = None) -> Fixture:
+    """A fixture with keys of its own: those of a number, if there is one."""
+    keys = [f"k{agent}" for agent in range(setup.agents)]
     return Fixture(
-        OWN_TEAM, checked(setup), [f"k{agent}" for agent in range(setup.agents)]
+        OWN_TEAM,
+        checked(setup),
+        keys if number is None else draws.keys_of(number, setup.agents),
     )
 
 

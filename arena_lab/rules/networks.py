@@ -199,28 +199,6 @@ def regular(nodes: int, degree: int, seed: int) -> Network:
     return Network(nodes, numbered(nodes, pairs, random.Random(seed)))
 
 
-def shuffled(network: Network, seed: int) -> Network:
-    """The network with the ports of each node numbered anew by the seed."""
-    chance = random.Random(seed)
-    labels = [list(range(degree)) for degree in network.degrees()]
-    for ports in labels:
-        chance.shuffle(ports)
-    return Network(
-        network.nodes,
-        [(v, labels[v][p], w, labels[w][q]) for v, p, w, q in network.links],
-    )
-
-
-def ports_seed(word: str) -> int:
-    """The seed of `shuffled:SEED`, by which ports are numbered anew."""
-    found = re.fullmatch(r"shuffled:(\d+)", word)
-    if not found:
-        raise NoNetwork(
-            f"{word}: ports are numbered by shuffled:SEED, such as shuffled:3"
-        )
-    return int(found[1])
-
-
 def cut_of(network: Network) -> str:
     """Why the network is not biconnected, or nothing if it is."""
     networkx = needed("networkx")

@@ -31,6 +31,8 @@ LONGEST_BLOCK = 40
 # a drawn one small
 DRAWS = 300
 SMALLER = 500
+# how many keys and numberings of ports each black hole is tried with
+NUMBERS = 64
 
 Blocks = Sequence[Tuple[int, int]]
 
@@ -63,7 +65,8 @@ class Hunt(NamedTuple):
             self.any_home,
             *([True] if self.repeats else []),
         )
-        network = game.name, game.network, game.home, game.holes, game.dark, game.match
+        places = game.home, game.holes, game.dark, game.match, game.ports
+        network = game.name, game.network, *places
         return repr((network, drawn, [agent[:2] for agent in game.agents])).encode()
 
 
@@ -96,12 +99,15 @@ class Hunter:
         self._fixture = functools.lru_cache(maxsize=None)(asked.game.fixture)
         game = asked.game
         nodes = game.network.nodes
-        self._holes = 1 if game.is_fixed() else nodes - 1
-        self._homes = range(nodes) if asked.any_home and not game.match else [game.home]
+        self._homes: Sequence[Optional[int]]
+        # the numbers of matches: each black hole with so many keys and numberings
+        self._numbers = NUMBERS * (1 if game.is_fixed() else nodes - 1)
+        is_any = asked.any_home or game.home is None
+        self._homes = range(nodes) if is_any and not game.match else [game.home]
 
-    def play(self, home: int, hole: int, scheduler: Scheduler) -> Trial:
+    def play(self, home: Optional[int], match: int, scheduler: Scheduler) -> Trial:
         """Plays a schedule, and keeps it if it is the best."""
-        fixture = self._fixture(hole, home)
+        fixture = self._fixture(match, home)
         game = self.asked.game
         played = play(
             Rehearsal(fixture),
@@ -134,18 +140,18 @@ class Hunter:
         first = self.asked.seed * DRAWS
         left = self.asked.runs - self.tried
         for number in range(first, first + min(DRAWS, (left + 1) // 2)):
-            home = self._homes[number // self._holes % len(self._homes)]
-            hole = number % self._holes
+            match = number % self._numbers
+            home = self._homes[number * NUMBERS // self._numbers % len(self._homes)]
             numbers: List[int] = []
-            if self.play(home, hole, noted(fair(number), numbers)).has_failed:
-                self._make_small(home, hole, runs_of(numbers))
+            if self.play(home, match, noted(fair(number), numbers)).has_failed:
+                self._make_small(home, match, runs_of(numbers))
                 return
 
-    def _make_small(self, home: int, hole: int, runs: Runs) -> None:
+    def _make_small(self, home: Optional[int], match: int, runs: Runs) -> None:
         """Makes a schedule small after which the team fails."""
 
         def fails(runs: Runs) -> bool:
-            tried = self.play(home, hole, in_runs(runs))
+            tried = self.play(home, match, in_runs(runs))
             if tried.has_failed:
                 self.best = tried
             return tried.has_failed
@@ -212,8 +218,8 @@ class Hunter:
             given.integers(0, max(1, agents - 1)), given.integers(1, LONGEST_BLOCK)
         )
 
-        def trial(home: int, hole: int, blocks: Blocks) -> None:
-            tried = self.play(home, hole, in_runs(blocks))
+        def trial(home: Optional[int], match: int, blocks: Blocks) -> None:
+            tried = self.play(home, match, in_runs(blocks))
             hypothesis.target(float(tried.worth))
             if (
                 tried.has_failed
@@ -225,7 +231,7 @@ class Hunter:
 
         draws = hypothesis.given(
             given.sampled_from(list(self._homes)),
-            given.integers(0, self._holes - 1),
+            given.integers(0, self._numbers - 1),
             given.lists(blocks, max_size=MOST_BLOCKS),
         )
         # a seed takes the database away, so it comes before the settings

@@ -73,8 +73,11 @@ class SweepExploreJob(NamedTuple):
     def play(self, match: SweepMatch) -> List[str]:
         """Tries a match, and gives its row."""
         spec = grid.grid_of(self.text)
-        fixtures = [spec.fixture(case)._replace(naps=NAPS) for case in match.cases]
-        # a team is asked once on each network what its agents do
+        # a team is asked once on each network what its agents do, by the same keys
+        keys = spec.fixture(match.cases[0]).keys
+        fixtures = [
+            spec.fixture(case)._replace(keys=keys, naps=NAPS) for case in match.cases
+        ]
         team = Matches(
             [match.case.team.words] * fixtures[0].setup.agents, fixtures, self.limit
         )

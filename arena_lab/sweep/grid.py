@@ -44,6 +44,7 @@ from typing import (
     Dict,
     Iterator,
     List,
+    Mapping,
     NamedTuple,
     Optional,
     Tuple,
@@ -60,7 +61,8 @@ from arena_lab.play.teams import (
     agent_named,
     digests_of,
 )
-from arena_lab.rules import networks
+from arena_lab.rules import draws, networks
+from arena_lab.rules.draws import DRAWN, PORTS_ARE
 from arena_lab.rules.fixtures import Fixture, NoMatch, checked, fixture_of
 from arena_lab.rules.limits import MOST_AGENTS, MOST_BOARD, MOST_QUOTA
 from arena_lab.rules.model import Place, Setup
@@ -76,7 +78,6 @@ from arena_lab.support.fields import (
 )
 
 BY_SEED = "by seed"
-DRAWN = "drawn"
 ALL = "all"
 DEGREE = "degree"
 BOUNDS: Dict[str, Callable[[float], float]] = {
@@ -85,7 +86,6 @@ BOUNDS: Dict[str, Callable[[float], float]] = {
     "n^2": lambda nodes: nodes**2,
 }
 HOLES_ARE = f'"{BY_SEED}", "{DRAWN}", "{ALL}", how many to draw, or a list of nodes and of lists of nodes'
-PORTS_ARE = '"shuffled:SEED" with a whole number, such as "shuffled:3"'
 
 
 def is_holes(value: Any) -> bool:
@@ -202,23 +202,11 @@ class Grid(NamedTuple):
         """The match of a run."""
         network = self.networks[case.network]
         agents = case.team.agents
-        network = (
-            network if case.ports is None else networks.shuffled(network, case.ports)
-        )
         count = max(network.degrees()) + 1 if isinstance(agents, str) else agents
         home = self.home if case.home is None else case.home
-        return fixture_of(
-            Setup(
-                network.nodes,
-                network.links,
-                home,
-                list(case.holes),
-                count,
-                self.quota,
-                self.board,
-                self.dark,
-            )
-        )
+        found = draws.Drawn(draws.numbered(network, case.ports), home, list(case.holes))
+        setup = found.setup(count, self.quota, self.board, self.dark)
+        return fixture_of(setup, case.number)
 
     def files(self) -> Dict[str, str]:
         """The digest of each file that the runs depend on."""
@@ -229,26 +217,17 @@ class Grid(NamedTuple):
         """The black holes of a network: each seed takes the next of these lists."""
         if isinstance(self.holes, list):
             return [[holes] for holes in self.holes]
-        others = [
-            node for node in range(self.networks[name].nodes) if node != self.home
-        ]
+        network = self.networks[name]
+        others = draws.others_than(self.home, network)
         chance = random.Random(f"{secret}{name} {self.holes}")
-        if self.holes in (BY_SEED, DRAWN):
-            is_drawn = secret or self.holes == DRAWN
-            return [
-                [
-                    (hole,)
-                    for hole in (
-                        chance.sample(others, len(others)) if is_drawn else others
-                    )
-                ]
-            ]
-        drawn = (
-            others
-            if isinstance(self.holes, str)
-            else sorted(chance.sample(others, min(self.holes, len(others))))
-        )
-        return [[(hole,)] for hole in drawn]
+        count = len(others)
+        if isinstance(self.holes, int):
+            count = min(self.holes, count)
+            others = sorted(draws.sampled(network, self.home, count, chance))
+        elif self.holes == DRAWN or self.holes == BY_SEED and secret:
+            others = draws.sampled(network, self.home, count, chance)
+        taken: List[Tuple[int, ...]] = [(hole,) for hole in others]
+        return [taken] if self.holes in (BY_SEED, DRAWN) else [[it] for it in taken]
 
 
 def read(path: pathlib.Path) -> Grid:
@@ -284,10 +263,11 @@ def grid_in(
 ) -> Grid:
     """The grid of these values and teams. Files of networks are looked for in the
     folder."""
-    ports = ports_in(said["ports"])
     grid = Grid(
         names=said["networks"],
-        networks={name: numbered(name, ports, folder) for name in said["networks"]},
+        networks={
+            name: numbered(name, ports_in(said), folder) for name in said["networks"]
+        },
         holes=holes_of(said["holes"]),
         dark=[(v, p) for v, p in said["dark"]],
         bound=said.get("bound"),
@@ -301,12 +281,15 @@ def grid_in(
     return grid
 
 
-def ports_in(said: Optional[str]) -> Optional[int]:
-    """The seed by which ports are numbered anew, if there is one."""
+def ports_in(said: Mapping[str, Any]) -> Optional[int]:
+    """The seed by which ports are numbered alike in all matches, if there is one."""
     try:
-        return None if said is None else networks.ports_seed(said)
+        found = draws.ports_of(said["ports"] or draws.GIVEN)
     except NoNetwork:
-        raise WrongFile(f"ports must be {PORTS_ARE}, and not {said}") from None
+        raise WrongFile(f"ports must be {PORTS_ARE}, and not {said['ports']}") from None
+    if isinstance(found, str):
+        raise WrongFile("a sweep draws no ports: name shuffled:SEED")
+    return found
 
 
 def numbered(name: str, ports: Optional[int], folder: pathlib.Path) -> Network:
@@ -318,7 +301,7 @@ def numbered(name: str, ports: Optional[int], folder: pathlib.Path) -> Network:
         raise WrongFile(
             f"networks has {name}, which is no network file: `arena check` says what is wrong"
         ) from None
-    return network if ports is None else networks.shuffled(network, ports)
+    return draws.numbered(network, ports)
 
 
 def check_nodes(grid: Grid) -> None:

@@ -16,6 +16,7 @@ from typing import Dict, List, NamedTuple, Optional, Tuple
 
 from arena_lab import api, with_one_order
 from arena_lab.commands.words import add_program
+from arena_lab.rules.draws import DRAWN, GIVEN
 from arena_lab.rules.engines import program_at
 from arena_lab.rules.model import Verdict
 from arena_lab.support.built import LAB
@@ -25,10 +26,12 @@ FOLDER = LAB / "mutants"
 
 
 class MutantMatch(NamedTuple):
-    """Where a mutant is to be caught: on this network, by a team of this number."""
+    """Where a mutant is to be caught: on this network, by a team of this number, with
+    ports that are numbered so."""
 
     network: str
     agents: int = 2
+    ports: str = GIVEN
 
 
 class MutantPlan(NamedTuple):
@@ -44,6 +47,14 @@ def on_ring(explored: int) -> MutantPlan:
     return MutantPlan("{nodes}", MutantMatch("ring:8"), MutantMatch(f"ring:{explored}"))
 
 
+def on_numbered(explored: str) -> MutantPlan:
+    return MutantPlan(
+        "{nodes}",
+        MutantMatch("ring:8", ports=DRAWN),
+        MutantMatch(explored, ports=DRAWN),
+    )
+
+
 def on_cube(explored: str, agents: int) -> MutantPlan:
     return MutantPlan(
         "{nodes} {links}", MutantMatch("hypercube:3", 4), MutantMatch(explored, agents)
@@ -53,11 +64,13 @@ def on_cube(explored: str, agents: int) -> MutantPlan:
 PLANS: Dict[str, MutantPlan] = {
     "accuses_at_once": on_ring(4),
     "divides_unevenly": on_ring(6),
+    "forgets_label": on_numbered("ring:4"),
     "forgets_to_mark": on_ring(4),
     "reads_once": on_ring(4),
     "counts_naps": on_cube("ring:3", 3),
     "counts_nodes_alone": on_cube("complete:4", 4),
     "overwrites": on_cube("ring:3", 3),
+    "tosses_coin": on_numbered("ring:3"),
     "trusts_order": on_cube("complete:4", 4),
     "waits_for_the_lost": on_cube("ring:3", 3),
 }
@@ -77,8 +90,13 @@ def hunted(name: str, program: str) -> Caught:
     """What `hunt` finds of a mutant."""
     plan = PLANS[name]
     started = time.monotonic()
+    place = plan.hunted
     found = api.hunt(
-        plan.hunted.network, agent_of(name), count=plan.hunted.agents, engine=program
+        place.network,
+        agent_of(name),
+        count=place.agents,
+        engine=program,
+        ports=place.ports,
     )
     return Caught(
         found.fails, found.tried, time.monotonic() - started, found.best.judged()
@@ -91,7 +109,10 @@ def explored(name: str) -> Caught:
     plan = PLANS[name]
     started = time.monotonic()
     found = api.explore(
-        plan.explored.network, agent_of(name), count=plan.explored.agents
+        plan.explored.network,
+        agent_of(name),
+        count=plan.explored.agents,
+        ports=plan.explored.ports,
     )
     return Caught(
         found.fails,

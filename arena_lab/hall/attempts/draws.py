@@ -8,10 +8,9 @@ from typing import Any, Dict, NamedTuple, Optional
 
 from arena_lab.hall.course import DRAWN, Net
 from arena_lab.hall.place import write_whole
-from arena_lab.rules import networks
+from arena_lab.rules import draws, networks
 from arena_lab.rules.delays import ODDS, SCALES, Delays
 from arena_lab.rules.fixtures import Fixture, tournament_text
-from arena_lab.rules.model import Setup
 
 TOURNAMENT = "tournament.toml"
 NETWORK = "network.toml"
@@ -27,25 +26,15 @@ class Draw(NamedTuple):
 
 def drawn(net: Net, team: str) -> Draw:
     """Draws a match of a team."""
-    chance = secrets.SystemRandom()
-    nodes = net.network.nodes
-    network = (
-        networks.shuffled(net.network, secrets.randbits(128))
-        if net.labels == DRAWN
-        else net.network
+    left = draws.Open(
+        holes=net.holes, ports=draws.DRAWN if net.labels == DRAWN else None
     )
-    home = chance.randrange(nodes)
-    holes = sorted(
-        chance.sample([node for node in range(nodes) if node != home], net.holes)
-    )
+    found = draws.drawn(net.network, secrets.SystemRandom(), left, draws.SECRET_BITS)
+    setup = found.setup(net.agents, net.quota, net.board)
     keys = [f"{team}-{secrets.token_urlsafe(12)}" for _ in range(net.agents)]
-    setup = Setup(nodes, network.links, home, holes, net.agents, net.quota, net.board)
-    known = (
-        {"nodes": nodes, "links": [list(link) for link in network.links], "home": home}
-        if net.has_map
-        else None
-    )
-    return Draw(Fixture(team, setup, keys), known)
+    links = [list(link) for link in setup.links]
+    known = {"nodes": setup.nodes, "links": links, "home": setup.home}
+    return Draw(Fixture(team, setup, keys), known if net.has_map else None)
 
 
 def write(draw: Draw, folder: pathlib.Path) -> None:

@@ -243,7 +243,12 @@ class TestPrograms(Fake):
         ) as sandbox:
             self.assertEqual(sandbox.groups, str(self.own))
             graded = GradingRun(
-                course.text, self.top, SECRET, None, sandbox, self.top / "out"
+                course.conditions.text,
+                self.top,
+                SECRET,
+                None,
+                sandbox,
+                self.top / "out",
             )
             row = graded.play(course.cases()[0]).found
             self.assertIn("solved", row)

@@ -4,9 +4,10 @@ import unittest
 from typing import Iterator, Tuple
 
 from arena_lab.play import schedulers
+from arena_lab.rules import draws
 from arena_lab.rules.engines import Program
 from arena_lab.rules.fixtures import Fixture
-from arena_lab.rules.networks import Network, drawn, named, numbered, shuffled
+from arena_lab.rules.networks import Network, drawn, named, numbered
 from arena_lab.search.explore import explored
 from arena_lab.support.missing import needed
 from arena_lab.support.progress import NO_PROGRESS
@@ -54,7 +55,7 @@ class KnownMap(unittest.TestCase):
 
     def test_drawn_schedules_on_larger_networks(self) -> None:
         for seed, name in enumerate(NETWORKS * 8):
-            self.try_match(shuffled(named(name), seed), seed)
+            self.try_match(draws.numbered(named(name), seed), seed)
 
     def test_drawn_networks(self) -> None:
         for seed in range(100):

@@ -16,7 +16,7 @@ from arena_lab.course.course import CourseFile, course_of
 from arena_lab.play import bounds, mistakes
 from arena_lab.play.schedulers import ANSWER, Choice, in_runs
 from arena_lab.search.minimising import Cut, Runs, in_words, runs_of, tidy
-from arena_lab.rules import networks
+from arena_lab.rules import draws, networks
 from arena_lab.sandbox import processes, users
 from arena_lab.sandbox.sandboxes import Isolation
 from arena_lab.support.fields import WrongFile
@@ -91,11 +91,17 @@ class Files(Folder):
     def test_keys_are_those_of_this_course_and_no_two_are_the_same(self) -> None:
         one = self.course()
         other = self.course("seeds = 2\n")
-        keys = [key for case in one.cases() for key in one.fixture(case).keys]
+        keys = [
+            key for case in one.cases() for key in one.conditions.fixture(case).keys
+        ]
         self.assertEqual(len(set(keys)), 4)
         self.assertFalse(
             set(keys)
-            & {key for case in other.cases() for key in other.fixture(case).keys}
+            & {
+                key
+                for case in other.cases()
+                for key in other.conditions.fixture(case).keys
+            }
         )
 
     def test_files_are_looked_for_in_the_folder_of_the_course(self) -> None:
@@ -221,7 +227,7 @@ class Places(Folder):
         text = 'title = "T"\nnetworks = ["ring:64"]\nseeds = 12\n' + middle + TEAM
         found = course_of(text, self.folder, SECRET)
         cases = sorted(found.cases(), key=lambda case: case.seed)
-        setups = [found.fixture(case).setup for case in cases]
+        setups = [found.conditions.fixture(case).setup for case in cases]
         return [(setup.holes[0], setup.home, tuple(setup.links)) for setup in setups]
 
     def test_they_are_drawn_for_each_match(self) -> None:
@@ -238,7 +244,7 @@ class Places(Folder):
             ("holes = 1\nhome = 5\nports = 'given'\n", {(5, tuple(given))}),
             (
                 "holes = 1\nhome = 5\nports = 'shuffled:3'\n",
-                {(5, tuple(networks.shuffled(networks.named("ring:64"), 3).links))},
+                {(5, tuple(draws.numbered(networks.named("ring:64"), 3).links))},
             ),
         ):
             found = self.places(middle)
@@ -276,11 +282,14 @@ class Secrets(Folder):
             for number in range(2)
         )
         keys = [
-            {key for case in each.cases() for key in each.fixture(case).keys}
+            {key for case in each.cases() for key in each.conditions.fixture(case).keys}
             for each in (one, other)
         ]
         self.assertFalse(keys[0] & keys[1])
-        seeds = [[each.seed(case) for case in each.cases()] for each in (one, other)]
+        seeds = [
+            [each.conditions.seed(case) for case in each.cases()]
+            for each in (one, other)
+        ]
         self.assertFalse(set(seeds[0]) & set(seeds[1]))
         self.assertEqual(len(set(seeds[0])), 4)
         self.assertNotIn(0, seeds[0])
@@ -288,7 +297,11 @@ class Secrets(Folder):
     def test_teams_get_the_same_draws(self) -> None:
         found = self.course("seeds = 2\n", TEAM + TEAM.replace('"a"', '"b"'))
         seeds = [
-            [found.seed(case) for case in found.cases() if case.team.name == name]
+            [
+                found.conditions.seed(case)
+                for case in found.cases()
+                if case.team.name == name
+            ]
             for name in "ab"
         ]
         self.assertEqual(sorted(seeds[0]), sorted(seeds[1]))

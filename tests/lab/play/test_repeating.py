@@ -3,7 +3,7 @@ import unittest
 from typing import Any, List, Optional
 
 from arena_lab.play.players import SLEEPS, TRAVELS, WAITS
-from arena_lab.play.programs import seed_of
+from arena_lab.rules.draws import seed_of
 from arena_lab.play.repeating import (
     Alone,
     Otherwise,

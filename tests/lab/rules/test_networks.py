@@ -6,9 +6,9 @@ import unittest
 import warnings
 
 from arena_lab.__main__ import main
-from arena_lab.commands.network import ports_seed
+from arena_lab.commands.words import ports
 from arena_lab.commands.tournament import file_of, number_or, team_name
-from arena_lab.rules import networks
+from arena_lab.rules import draws, networks
 from arena_lab.support.built import TOP
 from arena_lab.support.missing import needed
 from tests.support.drawing import by_chance
@@ -43,7 +43,7 @@ class Networks(InTemporary):
     def test_each_node_has_its_ports_in_a_row(self) -> None:
         for name in NAMES:
             network = networks.named(name)
-            for made in (network, networks.shuffled(network, 3)):
+            for made in (network, draws.numbered(network, 3)):
                 with self.subTest(name):
                     wanted = [
                         (v, p)
@@ -160,12 +160,12 @@ class Networks(InTemporary):
 
     def test_shuffled_ports_join_the_same_nodes_by_other_labels(self) -> None:
         network = networks.named("torus:4x4")
-        one = networks.shuffled(network, 1)
-        two = networks.shuffled(network, 2)
+        one = draws.numbered(network, 1)
+        two = draws.numbered(network, 2)
         pairs = [[(v, w) for v, _, w, _ in it.links] for it in (network, one, two)]
         self.assertEqual(pairs[0], pairs[1])
         self.assertEqual(pairs[0], pairs[2])
-        self.assertEqual(one, networks.shuffled(network, 1))
+        self.assertEqual(one, draws.numbered(network, 1))
         self.assertEqual(len({tuple(it.links) for it in (network, one, two)}), 3)
 
     @by_chance(200)
@@ -232,7 +232,7 @@ class Ranges(unittest.TestCase):
 
 class Words(unittest.TestCase):
     def test_words_that_are_taken(self) -> None:
-        self.assertEqual(ports_seed("shuffled:17"), 17)
+        self.assertEqual(ports("shuffled:17"), 17)
         self.assertEqual(team_name("red-2"), "red-2")
         self.assertEqual(
             [number_or("all")(word) for word in ("all", "12")], ["all", 12]
@@ -240,8 +240,8 @@ class Words(unittest.TestCase):
 
     def test_words_that_are_refused(self) -> None:
         for taken, word in (
-            (ports_seed, "shuffled"),
-            (ports_seed, "3"),
+            (ports, "shuffled"),
+            (ports, "3"),
             (team_name, "Red"),
             (team_name, "r" * 17),
             (number_or("all"), "0"),
