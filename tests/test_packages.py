@@ -3,6 +3,7 @@ have, and that bytes are alike.
 
 What is installed is tried by tests/release/installed.py.
 """
+import argparse
 import base64
 import csv
 import gzip
@@ -17,7 +18,6 @@ from typing import Dict, List
 
 from arena_lab import INSTALLED
 from arena_lab.__main__ import COMMANDS, parser
-from arena_lab.commands.spellings import SPELLINGS
 from tests import TOP, needs
 from tests.support.output import InTemporary, write
 from tests.test_gate import module
@@ -156,7 +156,7 @@ class Manuals(InTemporary):
                 option
                 for action in command._actions
                 for option in action.option_strings
-                if option[1] == "-" and option not in SPELLINGS
+                if option[1] == "-" and action.help != argparse.SUPPRESS
             }
             self.assertEqual(set(one.options()), options, name)
             case = re.search(rf'^        {name}\) options="(.*)" ;;$', completion, re.M)

@@ -34,17 +34,22 @@ class Checks(InFolder):
         return status, said
 
     def test_a_right_agent_gets_one_sentence(self) -> None:
-        for engine in (("--program", program()), ("--engine", "model")):
-            status, said = self.checked(
-                f"{AGENTS / 'ring.py'} {{nodes}}", "--seconds", "10", *engine
-            )
+        # a program that is not proved tries few schedules a second
+        for more, engine in (
+            (r"\b.*", ("--program", program())),
+            (
+                r" and under every schedule of a ring of 4 with 16 numberings of its ports and a ring of 5: on 7 "
+                r"networks with \d\d numberings of ports, from \d\d of 45 home bases, under fair, slow-agents "
+                r"and slow-links$",
+                ("--engine", "model", "--seconds", "200"),
+            ),
+        ):
+            status, said = self.checked(f"{AGENTS / 'ring.py'} {{nodes}}", *engine)
             self.assertEqual(status, 0, said)
             self.assertRegex(
                 said.splitlines()[-1],
-                (
-                    r"^Right on all 14 matches, under \d+ schedules that were drawn and \d+ that were hunted on "
-                    r"ring:5, ring:6 and ring:8 and under every schedule of a ring of 5$"
-                ),
+                r"^Right on all 14 matches(?:,| and) under 100 schedules that were drawn and 40 that were hunted"
+                + more,
             )
         self.assertFalse((self.folder / "kept").exists())
 
@@ -67,11 +72,13 @@ class Checks(InFolder):
         self.assertRegex(
             said.splitlines()[-1],
             (
-                r"^Right on all 4 matches, with arrivals 6 s late and under \d+ schedules that were drawn and \d+ that "
-                r"were hunted on ring:4 and ring:5$"
+                r"^Right on all 4 matches, with arrivals 6 s late and under 24 schedules that were drawn and 0 that "
+                r"were hunted: on 2 networks with \d\d numberings of ports, from (?:8 of 9 home bases|every home "
+                r"base), under fair, slow-agents and slow-links; left out after 2 s: 76 of 100 drawn schedules and "
+                r"40 of 40 hunted schedules$"
             ),
         )
-        self.assertIn("not every schedule of ring:4 was tried: ", said)
+        self.assertIn("not every schedule of a ring of 4 with 16 numberings", said)
 
     def test_the_first_thing_to_mend_is_told_and_shown(self) -> None:
         agent = self.folder / "agent.py"
@@ -82,9 +89,8 @@ class Checks(InFolder):
             agent.write_text(text)
             status, said = self.checked(f"{agent} {{nodes}}", "--engine", "model")
             self.assertEqual(status, 1)
-            self.assertIn(
-                "To mend first: on ring:3 under fair 0 the match came to silent", said
-            )
+            self.assertIn("To mend first: on ring:3 with ports shuffled:", said)
+            self.assertIn(" under fair the match came to silent", said)
             self.assertIn(f"\n  {told}", said)
             self.assertIn("\n  nobody accused: agent", said)
             self.assertLess(max(map(len, said.splitlines())), 250)
@@ -105,7 +111,7 @@ class Checks(InFolder):
         self.assertEqual(status, 1, said)
         self.assertIn("2 matches on ring:4: all solved", said)
         self.assertIn(
-            "\nTo mend first: under slow-agents 13 on ring:4 the match came to silent",
+            "\nTo mend first: under ",
             said,
         )
         self.assertIn(
@@ -186,9 +192,47 @@ class Checks(InFolder):
             status, said = self.checked(agent, "--no-repeat", "--engine", "model")
             self.assertEqual(status, 1, said)
             self.assertIn(
-                "\nTo mend first: under slow-agents 5 on ring:8 the match came to silent",
+                "\nTo mend first: ",
                 said,
             )
+
+    def test_an_agent_that_forgets_the_arrival_label(self) -> None:
+        """On rings as they are named it is right, however long one looks."""
+        kit = self.kit(
+            "agent.depart(1 - back(here))", "agent.depart(port)", "careful.py"
+        )
+        agent = f"{kit}/careful.py {{nodes}}"
+        status, said = self.checked(agent, "--engine", "model")
+        self.assertEqual(status, 1, said)
+        self.assertIn("with ports shuffled:", said)
+        self.assertIn("the two ends of a link may have different numbers", said)
+        rings = ("--network", "ring:4", "--network", "ring:6", "--seconds", "20")
+        given = ("--ports", "given", "--engine", "model", *rings)
+        self.assertEqual(self.checked(agent, *given)[0], 0)
+
+    def test_agents_that_toss_a_coin_each(self) -> None:
+        agent = str(TOP / "arena_lab" / "mutants" / "tosses_coin.py") + " {nodes}"
+        status, said = self.checked(agent, "--engine", "model")
+        self.assertEqual(status, 1, said)
+        self.assertIn("agents 0 and 1 both went over the link from node", said)
+
+    def test_the_conditions_of_a_course(self) -> None:
+        file = self.folder / "course.toml"
+        file.write_text(
+            'networks = ["ring:6"]\nholes = 2\nquota = 12\nschedulers = ["starved"]\n'
+        )
+        agent = f"{AGENTS / 'ring.py'} {{nodes}}"
+        words = ("--for", str(file), "--engine", "model", "--seconds", "2")
+        status, said = self.checked(agent, *words)
+        self.assertEqual(status, 1, said)
+        self.assertIn("home", said)
+        self.assertIn("has used all of its 12 commands", said)
+        file.write_text(file.read_text().replace("12", "400"))
+        status, said = self.checked(agent, *words)
+        self.assertEqual(status, 0, said)
+        # how much is drawn in two seconds depends on the machine
+        self.assertRegex(said, r"Right on all 2 matches(?:,| and) under ")
+        self.assertIn("under starved", said)
 
     def test_refused_lines_of_a_right_agent_are_to_be_mended(self) -> None:
         agent = self.folder / "agent.py"

@@ -138,7 +138,8 @@ def ends(agent, key, seed, sleep):
 
 
 def enters_as_another(agent, key):
-    agent.enter("k1" if key == "k0" else "k0")
+    # the keys of a game whose home base and ports are those of the network
+    agent.enter({"k0": "k1-d11ffac8", "k1": "k0-9241b6b9"}[key[:2]])
 
 
 def looks_first(agent, key):

@@ -4,14 +4,18 @@ import contextlib
 import io
 import itertools
 import json
+import pathlib
 import unittest
 from typing import Any
 from unittest import mock
 
 from arena_lab.__main__ import main
 from arena_lab.commands import check
-from arena_lab.commands.check import DRAWN, LEAST, SEARCHED, Checked
+from arena_lab.commands.check import BY_TURNS, DRAWS, LEAST, SEARCHED
+from arena_lab.course import checked
+from arena_lab.course.checked import Checked, conditions_of
 from arena_lab.play.teams import INSIDE, AgentWords
+from arena_lab.rules import networks
 from tests.support.output import ran
 
 
@@ -22,35 +26,41 @@ class Draws(unittest.TestCase):
         self.asked: Any = []
 
         def play(asked: Any) -> Any:
-            self.asked.append((asked.game.name, asked.scheduler))
+            self.asked.append(asked)
             return mock.Mock(has_failed=len(self.asked) == fails_at)
 
-        clock = mock.Mock(monotonic=mock.Mock(side_effect=itertools.count(0, pace)))
-        agent = Checked(
-            AgentWords(INSIDE, "examples/agents/ring.py {nodes}"),
-            2,
-            check.NETWORKS,
-            1.0,
-            None,
-            60,
-            True,
-        )
-        with mock.patch.object(check, "time", clock), mock.patch.object(
-            check.Asked, "play", play
+        clock = mock.Mock(side_effect=itertools.count(0, pace))
+        agent = AgentWords(INSIDE, "examples/agents/ring.py {nodes}")
+        found = {"networks": list(check.NETWORKS), **check.USUAL}
+        given = conditions_of(found, pathlib.Path(), agent)
+        asked = Checked(agent, given, 1.0, None, 60, True)
+        with mock.patch.object(checked, "spent", clock), mock.patch.object(
+            checked.Asked, "play", play
         ), mock.patch.object(check, "under", return_value="to mend"), mock.patch.object(
             check, "bar"
         ):
-            return check.draw(agent, SEARCHED)
+            self.tried = checked.Tried(60)
+            return check.draw(asked, SEARCHED, self.tried)
 
-    def test_a_busy_machine_draws_the_least_number_on_each_network_by_each_scheduler(
-        self,
-    ) -> None:
+    def test_a_busy_machine_draws_the_least_number_and_says_so(self) -> None:
         self.assertEqual(self.drawn(1_000.0), (LEAST, None))
-        self.assertEqual(set(self.asked), set(itertools.product(SEARCHED, DRAWN)))
+        self.assertEqual(
+            self.tried.left_out, [f"{DRAWS - LEAST} of {DRAWS} drawn schedules"]
+        )
+        names = {(it.game.name, it.scheduler) for it in self.asked}
+        self.assertEqual(names, set(itertools.product(SEARCHED, BY_TURNS)))
 
-    def test_half_of_the_time_is_used_and_no_more_is_drawn_than_the_most(self) -> None:
-        self.assertEqual(self.drawn(0.5), (LEAST + 59, None))
-        self.assertEqual(self.drawn(0.0), (check.DRAWS * len(SEARCHED), None))
+    def test_schedules_are_counted_and_half_of_them_are_plain(self) -> None:
+        self.assertEqual(self.drawn(0.001), (DRAWS, None))
+        self.assertEqual(self.tried.left_out, [])
+        plain = [
+            it.game.match.setup.links == networks.named(it.game.name).links
+            and it.game.match.setup.home == 0
+            for it in self.asked
+        ]
+        self.assertLess(abs(plain.count(True) - DRAWS / 2), 6)
+        # plain and drawn networks alternate
+        self.assertEqual(plain[:18], [True] * 9 + [False] * 9)
 
     def test_the_first_that_fails_ends_it(self) -> None:
         self.assertEqual(self.drawn(1_000.0, 3), (2, "to mend"))

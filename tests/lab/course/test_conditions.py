@@ -1,12 +1,20 @@
-"""Conditions: that draws of courses that were graded stay."""
+"""Conditions: that a check plays what is graded, and that draws of courses stay."""
 import hashlib
 import itertools
 import pathlib
 import unittest
+from typing import Any
+from unittest import mock
 
+from arena_lab.course import checked
+from arena_lab.course.checked import Checked, Tried, because, conditions_of, place
 from arena_lab.course.course import course_of
+from arena_lab.play.teams import INSIDE, AgentWords
+from arena_lab.rules import networks
+from arena_lab.support.fields import WrongFile
 
 SECRET = "a secret of many"
+AGENT = AgentWords(INSIDE, "agent.py {nodes}")
 # of the matches that version 0.9.0 draws
 DRAWN_BEFORE = "0f092d05c1996872ae7c7bf2dd331926da0e73bee5b37611fdf710710644b3df"
 TEAM = '[[team]]\nname = "a"\nfiles = ["."]\ncommand = "x {port} {key}"\n'
@@ -33,3 +41,100 @@ class Draws(unittest.TestCase):
                 row = (case, drawn.fixture(case), drawn.seed(case))
                 found.update(repr(row).encode())
         self.assertEqual(found.hexdigest(), DRAWN_BEFORE)
+
+
+class Conditions(unittest.TestCase):
+    """What a file says to a check."""
+
+    def of(self, **more: Any) -> checked.Conditions:
+        found = {"networks": ["ring:6", "hypercube:3"], "holes": 2, **more}
+        return conditions_of(found, pathlib.Path("."), AGENT)
+
+    def test_a_course_is_played_by_one_team_and_other_draws(self) -> None:
+        text = f'title = "t"\nnetworks = ["ring:6"]\nholes = 2\nseeds = 3\n{TEAM}'
+        graded = course_of(text, pathlib.Path("."), SECRET).conditions
+        other = self.of(networks=["ring:6"], seeds=3, title="t")
+        matches = [list(it.cases()) for it in (graded, other)]
+        self.assertEqual(*map(len, matches))
+        places = [{(it.home, it.hole, it.ports) for it in one} for one in matches]
+        self.assertEqual(places[0] & places[1], set())
+
+    def test_agents_are_those_of_the_file_or_of_its_first_team(self) -> None:
+        for more, count in (
+            ({}, 2),
+            ({"agents": "degree"}, 4),
+            ({"team": [{"name": "a", "agents": 3}]}, 3),
+        ):
+            given = self.of(**more)
+            case = next(it for it in given.cases() if it.network == "hypercube:3")
+            self.assertEqual(given.fixture(case).setup.agents, count)
+
+    def test_a_file_that_is_wrong(self) -> None:
+        with self.assertRaisesRegex(WrongFile, "seeds must be"):
+            self.of(seeds=0)
+
+    def test_a_match_more_is_drawn_as_those_of_the_file(self) -> None:
+        given = self.of(quota=400)
+        drawn = [given.case("ring:6", "slow-links", number) for number in range(40)]
+        self.assertEqual({it.home for it in drawn}, set(range(6)))
+        self.assertEqual(len({it.ports for it in drawn}), 40)
+        keys = {key for it in drawn for key in given.fixture(it).keys}
+        graded = {key for it in given.cases() for key in given.fixture(it).keys}
+        self.assertEqual((len(keys), keys & graded), (80, set()))
+        self.assertEqual({given.fixture(it).setup.quota for it in drawn}, {400})
+        plain = given.with_named(("home", "ports")).case("ring:6", "fair", 0)
+        self.assertEqual((plain.home, plain.ports), (0, None))
+        self.assertEqual(place(plain), f"ring:6, home 0, black hole {plain.hole}")
+
+
+class Causes(unittest.TestCase):
+    """Which assumption the failures of some matches show."""
+
+    def said(self, fails: Any, **more: Any) -> Any:
+        """What is said of an agent that fails a match if this says so."""
+        found = {"networks": ["ring:6"], "holes": 2, **more}
+        given = conditions_of(found, pathlib.Path("."), AGENT)
+        asked = Checked(AGENT, given, 1.0, None, 60, True)
+
+        def play(one: Any) -> Any:
+            return mock.Mock(has_failed=fails(one.game.match.setup, one.scheduler))
+
+        with mock.patch.object(checked.Asked, "play", play):
+            return list(because(asked, given.case("ring:6", "fair", 0)))
+
+    def test_each_cause(self) -> None:
+        plain = networks.named("ring:6").links
+        for fails, told in (
+            (lambda setup, _: setup.links != plain, "the two ends of a link"),
+            (lambda setup, _: setup.home != 0, "take what {home} says"),
+            (lambda _, by: by is not checked.at_once, "a link takes as long as"),
+            (lambda _, by: by != checked.SLOW, "agents act at the same time"),
+        ):
+            [said] = self.said(fails)
+            self.assertIn(f"it solves all of {checked.COMPARED} such matches", said)
+            self.assertIn(told, said)
+
+    def test_nothing_is_said_of_a_mistake_that_shows_everywhere_or_seldom(self) -> None:
+        self.assertEqual(self.said(lambda *_: True), [])
+        self.assertEqual(self.said(lambda *_: False), [])
+        holes = iter([True, *[False] * 100])
+        self.assertEqual(self.said(lambda *_: next(holes)), [])
+
+    def test_what_the_file_names_is_no_cause(self) -> None:
+        plain = networks.named("ring:6").links
+        said = self.said(lambda setup, _: setup.links != plain, ports="shuffled:3")
+        self.assertEqual(said, [])
+
+
+class What(unittest.TestCase):
+    def test_what_was_tried_in_words(self) -> None:
+        tried = Tried(60.0)
+        given = conditions_of({"networks": ["ring:3"]}, pathlib.Path("."), AGENT)
+        for number in range(20):
+            case = given.case("ring:3", ("fair", "slow-links")[number % 2], number)
+            tried.add("ring:3", given.fixture(case), case.scheduler)
+        self.assertRegex(
+            str(tried),
+            r"^on 1 network with \d numberings of ports, from every home base, under fair and slow-links$",
+        )
+        self.assertLess(tried.left(), 60.1)
