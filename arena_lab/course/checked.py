@@ -99,7 +99,8 @@ class Checked(NamedTuple):
         given = self.conditions
         setup = given.fixture(given.case(name, "fair", 0)).setup
         holes = given.grid.holes
-        has_ports = "ports" in given.named or setup.dark
+        own = given.grid.terms_on(name).ports
+        has_ports = "ports" in given.named or setup.dark or own == draws.GIVEN
         return Game(
             name,
             given.grid.networks[name],
@@ -289,6 +290,7 @@ FIELDS = {
     **{name: grid.FIELDS[name] for name in SAYS},
     "title": grid.FIELDS["title"]._replace(usual=TITLE),
     "agents": grid.AGENTS,
+    "conditions": fields.table("conditions", {}),
 }
 
 

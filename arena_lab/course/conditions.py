@@ -77,7 +77,8 @@ class Conditions(NamedTuple):
         ):
             return case
         words = (case.network, case.scheduler, case.seed, *case.holes)
-        is_named = "ports" in self.named or self.grid.dark
+        own = self.grid.terms_on(case.network).ports
+        is_named = "ports" in self.named or self.grid.dark or own == draws.GIVEN
         left = draws.Open(
             self.grid.home if "home" in self.named else None,
             ports=None if is_named else draws.DRAWN,

@@ -31,9 +31,13 @@
     tools         folders that programs see to read, besides the system's, such as ["/opt/jdk-21"]
     packages      packages of Debian that programs see, besides those of the programs that commands name, such as
                   ["python3-numpy"]
+    agents        how many agents a team has that says nothing else, or "degree" (2)
     proc          true if programs need /proc, as those in Java do (false)
     calls         calls of the system that programs may make, besides those that their language needs, such as
                   ["splice"]; `python3 -m arena_lab.sandbox.calls --help` says how to see which a program makes
+
+A table [conditions."NAME"] says what is otherwise on the network of this name: `agents`,
+`quota`, `board`, and `ports`, which are "given" or "drawn".
 
 Each [[team]] has a `name`, of 1 to 16 characters out of a to z, 0 to 9 and -; `agents`,
 a number or "degree" for one more than the network's greatest degree (2); `files`, a
@@ -103,6 +107,8 @@ FIELDS = {
     "tools": fields.MAYBE_NAMES._replace(wanted="a list of folders"),
     "proc": fields.FLAG,
     "team": grid.FIELDS["team"],
+    "agents": grid.AGENTS,
+    "conditions": fields.table("conditions", {}),
     "packages": fields.MAYBE_NAMES,
     "calls": fields.MAYBE_NAMES,
     "tries": Field(fields.is_number, "a whole number", 100),
@@ -243,7 +249,7 @@ def course_of(text: str, folder: pathlib.Path, secret: str) -> CourseFile:
     """The course that a text says, whose files are looked for in the folder."""
     found = fields.table_of(text)
     said = fields.values_of(found, FIELDS, "a course")
-    rows = fields.unlike(list(map(team_in, said["team"])), "team")
+    rows = fields.unlike(teams_in(said), "team")
     files = {row["name"]: files_of(row[FILES], row["name"], folder) for row in rows}
     teams = [
         TeamRow(row["name"], row["agents"], agent_named(OUTSIDE, row[OUTSIDE]))
@@ -313,7 +319,7 @@ def terms_of(text: str, matches: int) -> Terms:
     matches."""
     found = fields.table_of(text)
     said = fields.values_of(found, FIELDS, "a course")
-    terms = terms_in(said, list(map(team_in, said["team"])))
+    terms = terms_in(said, teams_in(said))
     return terms._replace(limits=for_matches(terms.limits, matches, found))
 
 
@@ -329,6 +335,11 @@ def tools_of(names: List[str]) -> Tuple[str, ...]:
                 f"tools has {name}, which is no folder that programs may see: write one like /opt/jdk-21"
             )
     return tuple(names)
+
+
+def teams_in(said: Dict[str, Any]) -> List[Dict[str, Any]]:
+    """What the tables of teams say."""
+    return [team_in({"agents": said["agents"], **row}) for row in said["team"]]
 
 
 def team_in(row: Dict[str, Any]) -> Dict[str, Any]:

@@ -58,8 +58,11 @@ Each [[network]] has these keys:
                   teams (the same as `networks`).
     deadline      a time, such as "2026-12-18 18:00"; after it nothing is taken, and the last hand-ins are graded.
     a_day         how many hand-ins a team has a day (10).
-    agents, holes, schedulers, seeds
-                  as in a course of `grade` (2, 2, ["fair", "slow-agents"], 2).
+    agents        how many agents a team has (as in practice on that network, or 2).
+    holes, schedulers, seeds
+                  as in a course of `grade` (2, ["fair", "slow-agents"], 2).
+
+Hand-ins are graded by the agents, quota, whiteboards and labels that practice has on the same network.
 
 Without [hand_ins] nothing is handed in, and nobody is ranked. Times are of the zone.
 """
@@ -68,7 +71,7 @@ import functools
 import pathlib
 import re
 import zoneinfo
-from typing import Any, Dict, List, NamedTuple, Optional, Sequence, Tuple
+from typing import Any, Dict, List, NamedTuple, Optional, Sequence, Tuple, Union
 
 from arena_lab.course.course import check_command
 from arena_lab.play.wasm_modules import file_in, is_module
@@ -178,7 +181,7 @@ HAND_INS = {
     "secret": fields.MAYBE_NAMES,
     "deadline": TIME,
     "a_day": fields.count(10),
-    "agents": fields.count(2),
+    "agents": fields.maybe(AGENTS),
     "holes": fields.count(2),
     "schedulers": Field(is_texts, "a list of names", ["fair", "slow-agents"]),
     "seeds": fields.count(2),
@@ -232,7 +235,7 @@ class HandInRules(NamedTuple):
     secret: Dict[str, str]
     deadline: Optional[datetime.datetime]
     a_day: int
-    agents: int
+    agents: Union[None, int, str]
     holes: int
     schedulers: List[str]
     seeds: int

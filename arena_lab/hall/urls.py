@@ -107,6 +107,8 @@ urlpatterns = [
     path("matches/<number:number>/<number:match>/page", attempts.page),
     path("hand-ins", handins.listed),
     path("hand-ins/take", handins.take),
+    path("hand-ins/conditions.toml", handins.conditions),
+    path("hand-ins/conditions-<number:number>.toml", handins.conditions),
     path("hand-ins/<number:number>", handins.one),
     path("messages", teams.messages),
     re_path(

@@ -98,6 +98,11 @@ def up_to(most: int, usual: int, least: int = 1) -> Field:
     )
 
 
+def maybe(field: Field) -> Field:
+    """What may be absent, and is None then."""
+    return Field(lambda it: it is None or field.is_right(it), field.wanted, None)
+
+
 def one_of(choices: Sequence[str], usual: Any) -> Field:
     return Field(
         lambda it: it == usual or it in choices, f"one of {', '.join(choices)}", usual

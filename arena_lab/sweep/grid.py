@@ -127,6 +127,12 @@ AGENTS = Field(
     f'1 to {MOST_AGENTS}, or "{DEGREE}"',
     2,
 )
+OWN = {
+    "agents": fields.maybe(AGENTS),
+    "quota": fields.maybe(fields.up_to(MOST_QUOTA, QUOTA)),
+    "board": fields.maybe(fields.up_to(MOST_BOARD, BOARD, 0)),
+    "ports": fields.one_of([draws.GIVEN, DRAWN], None),
+}
 MAY_BE_TEXT = Field(lambda it: it is None or is_text(it), "a text", None)
 TEAM = {
     "name": fields.TEXT,
@@ -163,6 +169,15 @@ class Case(NamedTuple):
         return " ".join(map(str, self.holes))
 
 
+class NetworkTerms(NamedTuple):
+    """What the matches on one network have of their own, as far as it is said."""
+
+    agents: Union[None, int, str] = None
+    quota: Optional[int] = None
+    board: Optional[int] = None
+    ports: Optional[str] = None
+
+
 class Grid(NamedTuple):
     """What a sweep's file says."""
 
@@ -178,6 +193,7 @@ class Grid(NamedTuple):
     board: int
     bound: Optional[str]
     teams: List[TeamRow]
+    own: Dict[str, NetworkTerms] = {}
 
     def cases(self, secret: str = "") -> Iterator[Case]:
         """All runs, in the order of their numbers. Black holes are drawn from a secret,
@@ -201,12 +217,17 @@ class Grid(NamedTuple):
     def fixture(self, case: Case) -> Fixture:
         """The match of a run."""
         network = self.networks[case.network]
-        agents = case.team.agents
+        own = self.terms_on(case.network)
+        agents = own.agents or case.team.agents
         count = max(network.degrees()) + 1 if isinstance(agents, str) else agents
         home = self.home if case.home is None else case.home
         found = draws.Drawn(draws.numbered(network, case.ports), home, list(case.holes))
-        setup = found.setup(count, self.quota, self.board, self.dark)
+        board = self.board if own.board is None else own.board
+        setup = found.setup(count, own.quota or self.quota, board, self.dark)
         return fixture_of(setup, case.number)
+
+    def terms_on(self, network: str) -> NetworkTerms:
+        return self.own.get(network, NetworkTerms())
 
     def files(self) -> Dict[str, str]:
         """The digest of each file that the runs depend on."""
@@ -272,6 +293,7 @@ def grid_in(
         dark=[(v, p) for v, p in said["dark"]],
         bound=said.get("bound"),
         teams=teams,
+        own=own_in(said.get("conditions", {}), said["networks"]),
         **{
             name: said[name]
             for name in ("title", "home", "schedulers", "seeds", "quota", "board")
@@ -279,6 +301,19 @@ def grid_in(
     )
     check_nodes(grid)
     return grid
+
+
+def own_in(said: Mapping[str, Any], names: List[str]) -> Dict[str, NetworkTerms]:
+    """What a file says of each of some networks."""
+    for name, row in said.items():
+        if name not in names or not isinstance(row, dict):
+            raise WrongFile(
+                f'conditions has {name}: write [conditions."NAME"] with a network'
+            )
+    return {
+        name: NetworkTerms(**fields.values_of(row, OWN, f"conditions of {name}"))
+        for name, row in said.items()
+    }
 
 
 def ports_in(said: Mapping[str, Any]) -> Optional[int]:

@@ -20,14 +20,13 @@ from django.conf import settings
 from django.db import transaction
 from django.utils import timezone
 
-from arena_lab.hall import machine, packing
+from arena_lab.hall import conditions, machine, packing
 from arena_lab.hall.attempts.asking import bytes_of, own_bytes
 from arena_lab.hall.attempts.servers import bound
 from arena_lab.hall.handins.models import Grading
 from arena_lab.hall.handins.windows import window_of
 from arena_lab.hall.place import SECRET, temporary_of, write_whole
 from arena_lab.hall.steps import Lease, WorkLost, begun, step
-from arena_lab.rules.fixtures import toml_of
 from arena_lab.sandbox import sandboxes
 from arena_lab.support.built import TOP
 from arena_lab.support.faults import Fault
@@ -74,27 +73,16 @@ def prepare(work: Grading, folder: pathlib.Path) -> None:
         )
     folder.mkdir(mode=0o700)
     shutil.copytree(work.hand_in.folder / FILES, folder / FILES)
-    rows: Dict[str, Any] = {
-        "title": settings.HALL.title,
-        "networks": list(names),
-        "holes": given.holes,
-        "schedulers": given.schedulers,
-        "seeds": given.seeds,
-    }
-    if not work.is_secret:
-        # what decides in the end has all the room that a course gives it
-        left = bytes_of(team) - own_bytes(team) >> 20
-        rows["team_space"] = max(LEAST_SPACE, left)
+    # what decides in the end has all the room that a course gives it
+    left = max(LEAST_SPACE, bytes_of(team) - own_bytes(team) >> 20)
+    more = {} if work.is_secret else {"team_space": left}
     own = {
         "name": team.name,
-        "agents": given.agents,
         "files": [FILES],
         "command": given.command,
     }
-    text = "".join(f"{name} = {toml_of(value)}\n" for name, value in rows.items())
-    text += "\n[[team]]\n" + "".join(
-        f"{name} = {toml_of(value)}\n" for name, value in own.items()
-    )
+    text = conditions.text_of(settings.HALL, names, more)
+    text += "\n[[team]]\n" + conditions.rows_in(own)
     write_whole(folder / COURSE, text)
     write_whole(
         folder / SECRET, hashlib.sha256(drawn_from(work).encode()).hexdigest() + "\n"

@@ -11,6 +11,7 @@ from django.shortcuts import redirect, render
 from django.utils import timezone
 from django.utils.html import escape
 
+from arena_lab.hall import conditions as given_to
 from arena_lab.hall import packing
 from arena_lab.hall.attempts.asking import RequestRefused
 from arena_lab.hall.attempts.views import sent
@@ -71,6 +72,20 @@ def take(request: Any) -> HttpResponse:
     except RequestRefused as fault:
         return listed(request, str(fault), fault.status_code)
     return redirect("/hand-ins")
+
+
+@for_teams
+def conditions(request: Any, number: int = 0) -> HttpResponse:
+    """What hand-ins of the course or of a contest are graded by, for a team that checks
+    its program."""
+    for window in windows():
+        if (
+            window.has_begun()
+            and (window.contest.pk if window.contest else 0) == number
+        ):
+            text = given_to.for_teams(settings.HALL, window.public)
+            return HttpResponse(text, content_type="text/plain; charset=utf-8")
+    raise Http404
 
 
 def own(request: Any, number: int) -> HandIn:

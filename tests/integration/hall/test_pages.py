@@ -28,6 +28,18 @@ class Logins(Hall):
         client.post("/logout")
         self.assertEqual(client.get("/matches").status_code, 302)
 
+    def test_a_team_is_told_what_hand_ins_are_graded_by(self) -> None:
+        client = self.client_of("amber")
+        self.assertContains(client.get("/hand-ins"), "/hand-ins/conditions.toml")
+        told = client.get("/hand-ins/conditions.toml").content.decode()
+        self.assertIn('networks = ["ring:5"]\n', told)
+        self.assertIn('schedulers = ["fair"]\n', told)
+        # neither the networks of the secret draw nor a team is there
+        self.assertNotIn("ring:6", told)
+        self.assertNotIn("[[team]]", told)
+        self.assertEqual(client.get("/hand-ins/conditions-99.toml").status_code, 404)
+        self.assertEqual(Client().get("/hand-ins/conditions.toml").status_code, 302)
+
     def test_wrong_tokens_are_refused_and_soon_not_tried_any_more(self) -> None:
         client = Client()
         answers = [

@@ -126,7 +126,7 @@ class Files(Folder):
     def test_what_is_refused(self) -> None:
         for middle, team, said in (
             ("", "", "team must be given"),
-            ("size = 1\n", TEAM, "a course has no key size; its keys are board,"),
+            ("size = 1\n", TEAM, "a course has no key size; its keys are agents,"),
             ("bound = 'n^2'\n", TEAM, "a course has no key bound"),
             ("limit = 0\n", TEAM, "limit must be a whole"),
             ("match_limit = 0\n", TEAM, "match_limit must be"),

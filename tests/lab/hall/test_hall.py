@@ -18,7 +18,8 @@ from typing import Any, Dict, List, Optional, Set, Tuple
 from unittest import mock
 
 from arena_lab.commands import hall
-from arena_lab.hall import backup, serving
+from arena_lab.course.checked import conditions_of
+from arena_lab.hall import backup, conditions, serving
 from arena_lab.hall.attempts.draws import TOURNAMENT, drawn, write
 from arena_lab.hall.attempts.seen import Part, ended
 from arena_lab.hall.course import DRAWN, FIXED, Net, NoHall, hall_of, read
@@ -43,9 +44,10 @@ from arena_lab.hall.machine import (
 )
 from arena_lab.hall.place import HallFolder
 from arena_lab.hall.standings.rules import GradedTeam, league
+from arena_lab.play.teams import AgentWords
 from arena_lab.rules.model import Match, Setup, spelled
 from arena_lab.rules.networks import NoNetwork, ring, text_of
-from arena_lab.support.fields import WrongFile
+from arena_lab.support.fields import WrongFile, table_of
 from tests.support.drawing import by_chance
 from tests.support.job_states import EVENTS, STATES, JobState, after, rows
 from tests.support.needing import needs
@@ -201,6 +203,38 @@ class Courses(unittest.TestCase):
         # by the secret draw programs play on the same networks, unless others are named
         self.assertEqual(
             (given.notes, given.hand_ins.secret), ([], {"ring:5": "ring:5"})
+        )
+
+    def test_hand_ins_are_graded_as_practice_is_played(self) -> None:
+        """And by what a team's check plays."""
+        own = '[[network]]\nname = "big"\nnetwork = "hypercube:3"\n'
+        text = COURSE + HAND_INS.replace('["ring:5"]', '["ring:6", "hypercube:3"]')
+        hall = self.read(text + 'deadline = "2099-01-01 12:00"\n' + own)
+        names = hall.hand_ins.networks if hall.hand_ins else {}
+        plain = conditions.text_of(hall, names)
+        self.assertNotIn("[conditions", plain)
+        own += 'agents = "degree"\nquota = 200\nboard = 64\nlabels = "fixed"\n'
+        hall = self.read(text + 'deadline = "2099-01-01 12:00"\n' + own)
+        found = conditions.for_teams(hall, {**names, "/net.toml": "net"})
+        self.assertIn("# net is a file: ask your teacher for it\n", found)
+        given = conditions_of(
+            table_of(found), pathlib.Path(), AgentWords("agent", "agent.py")
+        )
+        cases = list(given.cases())
+        setups = {it.network: given.fixture(it).setup for it in cases}
+        terms = {name: (it.agents, it.quota, it.board) for name, it in setups.items()}
+        self.assertEqual(
+            terms, {"ring:6": (2, 1000, 4096), "hypercube:3": (4, 200, 64)}
+        )
+        ports = {it.network: it.ports is None for it in cases}
+        self.assertEqual(ports, {"ring:6": False, "hypercube:3": True})
+        homes = {it.home for it in cases if it.network == "hypercube:3"}
+        self.assertGreater(len(homes), 1)
+        # what [hand_ins] says of agents is for all networks
+        said = text + "agents = 3\n" + 'deadline = "2099-01-01 12:00"\n' + own
+        self.assertIn("agents = 3\n", conditions.text_of(self.read(said), names))
+        self.assertEqual(
+            conditions.text_of(self.read(said), names).count("agents ="), 1
         )
 
     def test_networks_of_hand_ins_may_be_files_beside_the_course(self) -> None:
