@@ -12,7 +12,6 @@ import time
 from typing import Any, List, Sequence
 
 from arena_lab.support.built import LAB
-from arena_lab.support.ports import free_port
 from tests.support.halls import SECONDS, Told
 
 NAME = "arena.example.org"
@@ -46,6 +45,13 @@ CERTIFICATE = (
 )
 
 
+def free_everywhere() -> int:
+    """A port that nobody has at any address, as connections of other tests may."""
+    with socket.create_server(("", 0)) as listener:
+        port: int = listener.getsockname()[1]
+        return port
+
+
 def connected(port: int, address: str) -> ssl.SSLSocket:
     """An encrypted connection from this address, by the name of the hall."""
     plain = socket.create_connection(("127.0.0.1", port), SECONDS, (address, 0))
@@ -67,8 +73,8 @@ class Proxy:
 
     def starts(self, hall: int) -> bool:
         """Starts it on ports that are free; gives whether it listens."""
-        self.port = free_port()
-        self.plain = free_port()
+        self.port = free_everywhere()
+        self.plain = free_everywhere()
         self.child = subprocess.Popen(
             self.words(hall),
             stdout=self._said,
@@ -78,10 +84,15 @@ class Proxy:
         limit = time.monotonic() + SECONDS
         while self.child.poll() is None and time.monotonic() < limit:
             with contextlib.suppress(OSError):
-                socket.create_connection(("127.0.0.1", self.port), 5).close()
+                for port in self.ports():
+                    socket.create_connection(("127.0.0.1", port), 5).close()
                 return True
             time.sleep(0.1)
         return False
+
+    def ports(self) -> List[int]:
+        """The ports on which it listens."""
+        return [self.port]
 
     @classmethod
     def found(cls) -> Any:
@@ -123,6 +134,9 @@ class Proxy:
 
 class Nginx(Proxy):
     command = "nginx"
+
+    def ports(self) -> List[int]:
+        return [self.plain, self.port]
 
     def words(self, hall: int) -> List[str]:
         folder = self._folder
