@@ -24,6 +24,7 @@ from typing import Callable, Dict, List, Optional, Sequence, Set, Tuple
 from arena_lab.rules.limits import SMALL_NODES
 from bench.inputs import tournament
 from tests.support.counts import concluded
+from tests.support.servers import without_notes
 
 TOP = pathlib.Path(__file__).resolve().parents[2]
 LISTS = 10_000
@@ -203,7 +204,7 @@ def said(program: str, folder: pathlib.Path) -> Tuple[int, str]:
         stderr=subprocess.PIPE,
     )
     # a line of what helps begins with two spaces
-    lines = ran.stderr.decode().splitlines(keepends=True)
+    lines = without_notes(ran.stderr).decode().splitlines(keepends=True)
     return ran.returncode, "".join(line for line in lines if not line.startswith("  "))
 
 
