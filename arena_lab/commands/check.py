@@ -41,6 +41,7 @@ import arena_lab
 from arena_lab import api
 from arena_lab.commands.words import (
     add_engine,
+    add_timeout,
     at_least_one,
     home,
     ports,
@@ -57,7 +58,6 @@ from arena_lab.course.checked import (
     place,
 )
 from arena_lab.play.agent_files import NoAgent
-from arena_lab.play.bounds import LIMIT
 from arena_lab.play.games import Record, Row, play_again, rows_of
 from arena_lab.play.late_arrivals import LATE, kept_waiting
 from arena_lab.play.schedules import Schedule
@@ -171,14 +171,7 @@ def ports_word(word: str) -> str:
 
 def add_limits(parser: argparse.ArgumentParser) -> None:
     """The options that say how long it may take."""
-    parser.add_argument(
-        "--timeout",
-        dest="limit",
-        metavar="SECONDS",
-        type=float,
-        default=LIMIT,
-        help=f"how long an agent may take to send or to wait ({LIMIT})",
-    )
+    add_timeout(parser)
     parser.add_argument(
         "--seconds",
         metavar="S",

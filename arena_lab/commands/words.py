@@ -3,7 +3,7 @@ how many processes."""
 import argparse
 import os
 import re
-from typing import List, Optional, Set
+from typing import Any, List, Optional, Set
 
 from arena_lab.play.agent_files import NoAgent
 from arena_lab.play.bounds import LIMIT
@@ -94,6 +94,18 @@ class Once(argparse.Action):
             parser.error(f"{option} is given twice: name one")
         words.given_once = given | {option}
         setattr(words, self.dest, value)
+
+
+def add_timeout(parser: Any) -> None:
+    """The option that says how long an agent may take, of a parser or of a group."""
+    parser.add_argument(
+        "--timeout",
+        dest="limit",
+        metavar="SECONDS",
+        type=float,
+        default=LIMIT,
+        help=f"how long an agent may take to send or to wait ({LIMIT})",
+    )
 
 
 def add_match(parser: argparse.ArgumentParser, several: bool = False) -> None:
@@ -192,14 +204,7 @@ def add_match(parser: argparse.ArgumentParser, several: bool = False) -> None:
         type=int,
         help="how many agents there are (2, or as many as are named)",
     )
-    team.add_argument(
-        "--timeout",
-        dest="limit",
-        metavar="SECONDS",
-        type=float,
-        default=LIMIT,
-        help=f"how long an agent may take to send or to wait ({LIMIT})",
-    )
+    add_timeout(team)
     team.add_argument(
         "--spurious-wakeups",
         dest="naps",

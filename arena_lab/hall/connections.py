@@ -1,6 +1,6 @@
-"""The connections of a hall's web server, before anybody is asked who he is. An address
-has so many of them, so many bytes that wait, and so long for a request. Where there are
-more, one goes that waits, and whoever comes is taken."""
+"""Bounds on the connections of a hall's web server, before a token is looked at: how
+many an address has, how many bytes of its requests wait, and how long a request takes.
+Where a bound is passed, a connection that waits is closed, so that a new one is taken."""
 import collections
 import functools
 import time

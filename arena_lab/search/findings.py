@@ -51,8 +51,8 @@ class Fails:
 
 @dataclasses.dataclass(frozen=True)
 class Breaks:
-    """Under this schedule an agent fails: its program does, at the close or before, or
-    it sleeps for ever."""
+    """Under this schedule an agent fails: its program does, at the close or before; or
+    it says a command before it has entered; or it sleeps for ever."""
 
     agent: int
     failure: str

@@ -25,7 +25,7 @@ Other files try other attacks:
 - test_connections.py: connections and bytes, more than a server has room for, and slow
   ones
 - test_nginx.py: X_Forwarded_For through Caddy, and many requests at once through nginx
-- test_hall.py and test_hall.py: paths, SQL, HTML, formulas, requests of other sites,
+- test_hall.py and tests/lab/hall/test_hall.py: paths, SQL, HTML, formulas, requests of other sites,
   and links and bombs in zips
 
 Three attacks still win something. Wrong tokens from a team's own address make its
