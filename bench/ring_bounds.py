@@ -4,7 +4,7 @@ made, and what halves make at most.
     /usr/bin/python3 -m bench.ring_bounds [FILE]
 
 Writes an SVG picture to FILE (docs/ring-bounds.svg). Its lines are `least_moves` and
-the second bound of `bhs_bounds`, and `most_moves` of `bhs_protocols`, each divided by
+the second bound of `bhs_protocols_bounds`, and `most_moves` of `bhs_protocols`, each divided by
 the number of nodes n, over n. Its points are the most moves under every schedule in
 docs/EXPERIMENTS.md, by halves (`ring_step.py`) and by thirds (`ring3.py`). Needs
 python3-matplotlib.

@@ -73,31 +73,54 @@ DISPLAYED = [
         "ShuttleSolvesAllRings",
     ),
     Theorem(
-        "two_agents_with_a_map_solve", "bhs_mapped", "MapLaws", "TwoAgentsWithAMapSolve"
+        "two_agents_with_a_map_solve",
+        "bhs_protocols_mapped",
+        "MapLaws",
+        "TwoAgentsWithAMapSolve",
     ),
-    Theorem("two_agents_with_a_map_solve", "bhs_mapped", "MapLaws", "IsSearchedFrom"),
-    Theorem("tours_suffice", "bhs_mapped", "Tours", "HalvesSolveWithATour"),
+    Theorem(
+        "two_agents_with_a_map_solve",
+        "bhs_protocols_mapped",
+        "MapLaws",
+        "IsSearchedFrom",
+    ),
+    Theorem("tours_suffice", "bhs_protocols_mapped", "Tours", "HalvesSolveWithATour"),
     Theorem(
         "one_loss_is_needed_and_suffices",
-        "bhs_mapped",
+        "bhs_protocols_mapped",
         "MapLaws",
         "OneLossIsNeededAndSuffices",
     ),
-    Theorem("the_triangle_is_solved", "bhs_triangle", "Triangle", "TriangleIsSolved"),
+    Theorem(
+        "the_triangle_is_solved",
+        "bhs_protocols_triangle",
+        "Triangle",
+        "TriangleIsSolved",
+    ),
     Theorem("one_alone_fails", "bhs_protocols", "Alone", "OneAloneFailsOnNetworks"),
     Theorem(
         "accusations_come_last", "bhs_protocols", "LastWord", "AccusationsComeLast"
     ),
     Theorem("a_loss_is_needed", "bhs_protocols", "Losses", "EachBlackHoleDestroys"),
     Theorem("solvers_find", "bhs_protocols", "LastWord", "SolversFind"),
-    Theorem("two_must_move", "bhs_bounds", "Bound", "TwoMustMove"),
-    Theorem("two_must_move", "bhs_bounds", "Bound", "TwoMustMoveMore"),
-    Theorem("two_must_move", "bhs_bounds", "Bound", "TwoMustMoveOnAllRings"),
-    Theorem("two_must_move", "bhs_bounds", "Bound", "TwoMustMoveAtRest"),
-    Theorem("the_halves_are_within_two", "bhs_bounds", "Bound", "EveryTeamMoves"),
-    Theorem("the_halves_are_within_two", "bhs_bounds", "Bound", "EveryTeamMovesMore"),
+    Theorem("two_must_move", "bhs_protocols_bounds", "Bound", "TwoMustMove"),
+    Theorem("two_must_move", "bhs_protocols_bounds", "Bound", "TwoMustMoveMore"),
+    Theorem("two_must_move", "bhs_protocols_bounds", "Bound", "TwoMustMoveOnAllRings"),
+    Theorem("two_must_move", "bhs_protocols_bounds", "Bound", "TwoMustMoveAtRest"),
     Theorem(
-        "the_halves_are_within_two", "bhs_bounds", "Bound", "HalvesSolveWithinTwice"
+        "the_halves_are_within_two", "bhs_protocols_bounds", "Bound", "EveryTeamMoves"
+    ),
+    Theorem(
+        "the_halves_are_within_two",
+        "bhs_protocols_bounds",
+        "Bound",
+        "EveryTeamMovesMore",
+    ),
+    Theorem(
+        "the_halves_are_within_two",
+        "bhs_protocols_bounds",
+        "Bound",
+        "HalvesSolveWithinTwice",
     ),
     Theorem(
         "no_team_solves_two_sizes", "bhs_protocols", "Sizes", "NoTeamFindsOnTwoSizes"
@@ -107,17 +130,22 @@ DISPLAYED = [
     ),
     Theorem(
         "many_agents_are_needed",
-        "bhs_unmapped",
+        "bhs_protocols_unmapped",
         "Unmapped",
         "ManyAgentsAreNeededToFind",
     ),
     Theorem(
-        "many_agents_are_needed", "bhs_unmapped", "Unmapped", "ManyAgentsAreNeeded"
+        "many_agents_are_needed",
+        "bhs_protocols_unmapped",
+        "Unmapped",
+        "ManyAgentsAreNeeded",
     ),
-    Theorem("nobody_finds", "bhs_unmapped", "Ambiguity", "NobodyFinds"),
-    Theorem("nobody_finds", "bhs_unmapped", "Ambiguity", "NobodySolves"),
-    Theorem("no_team_passes_a_cut", "bhs_mapped", "Cuts", "NoTeamLooksBehindACut"),
-    Theorem("no_team_passes_a_cut", "bhs_mapped", "Cuts", "NoTeamPassesACut"),
+    Theorem("nobody_finds", "bhs_protocols_unmapped", "Ambiguity", "NobodyFinds"),
+    Theorem("nobody_finds", "bhs_protocols_unmapped", "Ambiguity", "NobodySolves"),
+    Theorem(
+        "no_team_passes_a_cut", "bhs_protocols_mapped", "Cuts", "NoTeamLooksBehindACut"
+    ),
+    Theorem("no_team_passes_a_cut", "bhs_protocols_mapped", "Cuts", "NoTeamPassesACut"),
 ]
 # what a premise looks like, and a word that its sentence, or the head of its section,
 # must have

@@ -9,7 +9,7 @@ forced, and how many nodes are new: nobody has reached them. It goes on until tw
 new, makes one of them the black hole, and plays on until nothing can happen any more.
 Every two agents that find the black hole of a ring of n nodes, wherever it is, come to
 R (n - 2) + 1 moves, with R the least number such that 2^R >= n - 1: that is proved
-(`bhs_bounds`).
+(`bhs_protocols_bounds`).
 
 A team that fails on the way is refuted: the command says why, and the exit status is 1.
 The schedule is written to a folder, with a script, a replay and a page, as those of

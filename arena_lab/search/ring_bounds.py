@@ -10,13 +10,13 @@ def rounds(nodes: int) -> int:
 
 
 def least_moves(nodes: int) -> int:
-    """The moves that every team must make (`least_moves` of `bhs_bounds`): R (n - 2) +
+    """The moves that every team must make (`least_moves` of `bhs_protocols_bounds`): R (n - 2) +
     1."""
     return rounds(nodes - 1) * (nodes - 2) + 1
 
 
 def more_moves(nodes: int) -> int:
-    """The most that the second bound from below gives (`more_moves` of `bhs_bounds`): k
+    """The most that the second bound from below gives (`more_moves` of `bhs_protocols_bounds`): k
     n + 3 (n - 2 - f_k) + 4 - f_(k+1) moves for some k with f_k at most n - 2, where
     f_0, f_1, f_2, .. are 1, 2, 3, 5, 8, .. ."""
     most = 0

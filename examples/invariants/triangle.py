@@ -1,4 +1,4 @@
-"""What holds of `examples/agents/triangle.py` at each time, as `Inv` of crates/bhs_triangle says it.
+"""What holds of `examples/agents/triangle.py` at each time, as `Inv` of crates/bhs_protocols_triangle says it.
 
     ./arena-lab invariant examples/invariants/triangle.py --network ring:3 --agent "examples/agents/triangle.py 0" \
         --agent "examples/agents/triangle.py 1"

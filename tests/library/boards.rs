@@ -1,6 +1,6 @@
 //! Whiteboards.
 
-use bhs_board::{Board, Swap};
+use bhs_state::{Board, Swap};
 
 #[test]
 fn a_write_is_too_long_or_differs_or_is_taken(rt: HostRuntime) {

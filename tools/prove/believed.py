@@ -50,8 +50,8 @@ HEADLINES = {
         "HalvesLaws",
         "HalvesSolveAllRings",
     ),
-    "a search of networks with a map: `laws::two_agents_with_a_map_solve` of `bhs_mapped`": (
-        "bhs_mapped",
+    "a search of networks with a map: `laws::two_agents_with_a_map_solve` of `bhs_protocols_mapped`": (
+        "bhs_protocols_mapped",
         "MapLaws",
         "TwoAgentsWithAMapSolve",
     ),

@@ -10,10 +10,10 @@ use Rattle.bhs_command_line.specs.Arguments.{all_said, number_within, numbered, 
 use Rattle.bhs_command_line.specs.declared.orders.AgentModule.{AgentModule}
 use Rattle.bhs_command_line.specs.declared.orders.Drawing.{Drawing}
 use Rattle.bhs_command_line.specs.declared.orders.Exploration.{Exploration}
-use Rattle.bhs_command_line.specs.declared.orders.Objective.{Objective}
-use Rattle.bhs_command_line.specs.declared.orders.Objective.TheVariants as hunts
-use Rattle.bhs_command_line.specs.declared.orders.Scheduler.{Scheduler}
-use Rattle.bhs_command_line.specs.declared.orders.Scheduler.TheVariants as schedulers
+use Rattle.bhs_model.specs.declared.schedules.Objective.{Objective}
+use Rattle.bhs_model.specs.declared.schedules.Objective.TheVariants as objectives
+use Rattle.bhs_model.specs.declared.schedules.Scheduler.{Scheduler}
+use Rattle.bhs_model.specs.declared.schedules.Scheduler.TheVariants as schedulers
 use Rattle.bhs_command_line.specs.declared.orders.TheConstants.{MAX_ARGUMENTS}
 
 -- at most how many states are visited
@@ -89,13 +89,13 @@ scheduler_in word =
     else (if bytes_eq word (codes "slow-agents") then Some schedulers.SlowAgents
     else (if bytes_eq word (codes "slow-links") then Some schedulers.SlowLinks else None))))
 
--- what is hunted for among drawn schedules, by its name
-abbrev pub hunt_in : Text → Option Objective
-hunt_in word =
-    if bytes_eq word (codes "moves") then Some hunts.Moves
-    else (if bytes_eq word (codes "lost") then Some hunts.Lost else None)
+-- the objective of drawn schedules, by its name
+abbrev pub objective_in : Text → Option Objective
+objective_in word =
+    if bytes_eq word (codes "moves") then Some objectives.Moves
+    else (if bytes_eq word (codes "lost") then Some objectives.Lost else None)
 
--- the same of a word that need not be given: the seed is 0, all agents are as likely, and nothing is hunted for
+-- the same of a word that need not be given: the seed is 0, all agents are as likely, and there is no objective
 abbrev pub seed_in : Option Text → Option ℕ
 seed_in (Some word) = number_within 0 4294967295 word
 seed_in None = Some 0
@@ -104,24 +104,24 @@ abbrev pub scheduler_by : Option Text → Option Scheduler
 scheduler_by (Some word) = scheduler_in word
 scheduler_by None = Some schedulers.Fair
 
-abbrev pub hunted_in : Option Text → Option (Option Objective)
-hunted_in (Some word) = option_map Some (hunt_in word)
-hunted_in None = Some None
+abbrev pub objective_by : Option Text → Option (Option Objective)
+objective_by (Some word) = option_map Some (objective_in word)
+objective_by None = Some None
 
 -- what is drawn by these, if all are there
-abbrev pub drawing_of : (schedules seed : Option ℕ) → Option Scheduler → (hunt : Option (Option Objective))
+abbrev pub drawing_of : (schedules seed : Option ℕ) → Option Scheduler → (objective : Option (Option Objective))
     → Option Drawing
-drawing_of (Some schedules) (Some seed) (Some scheduler) (Some hunt) =
-    Some (record { schedules = schedules; seed = seed; scheduler = scheduler; hunt = hunt })
+drawing_of (Some schedules) (Some seed) (Some scheduler) (Some objective) =
+    Some (record { schedules = schedules; seed = seed; scheduler = scheduler; objective = objective })
 drawing_of _ _ _ _ = None
 
 -- what is drawn by these words: nothing if there is none, and the others need one of how many schedules
-unfoldable pub drawing_in : (draws seed scheduler hunt : Option Text) → Option (Option Drawing)
+unfoldable pub drawing_in : (draws seed scheduler objective : Option Text) → Option (Option Drawing)
 drawing_in None None None None = Some None
-drawing_in (Some draws) seed scheduler hunt =
+drawing_in (Some draws) seed scheduler objective =
     option_map Some
-    (drawing_of (number_within 1 4294967295 draws) (seed_in seed) (scheduler_by scheduler) (hunted_in hunt))
-drawing_in None seed scheduler hunt = None
+    (drawing_of (number_within 1 4294967295 draws) (seed_in seed) (scheduler_by scheduler) (objective_by objective))
+drawing_in None seed scheduler objective = None
 
 -- an exploration by these, if all are there
 abbrev pub exploration_of : (game states wakeups : Option ℕ) → (drawing : Option (Option Drawing)) → Option Exploration

@@ -59,7 +59,7 @@ pub(crate) enum Takes {
     Number { least: u32, most: u32 },
     /// The name of a scheduler.
     Scheduler,
-    /// The name of what is hunted for.
+    /// The name of an objective.
     Objective,
     /// A team and its replay.
     TableEntry,

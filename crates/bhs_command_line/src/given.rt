@@ -3,8 +3,7 @@
 ghost use Rattle.std.specs.Prelude.{◌≡◌, ◌<◌, ◌^◌, IfOk, Some, map, option_and_then, option_map, codes};
 ghost use Rattle.bhs_command_line.specs.Arguments.{is_given, number_in, number_within, text_in, texts_in};
 ghost use Rattle.bhs_command_line.specs.Serving.{hosting_by};
-ghost use Rattle.bhs_command_line.specs.Exploring.{drawing_by, drawing_in, drawing_of, exploration_by, hunt_in};
-ghost use Rattle.bhs_command_line.specs.Exploring.{hunted_in, scheduler_in, scheduler_by, seed_in};
+ghost use Rattle.bhs_command_line.specs.Exploring.{drawing_by, exploration_by};
 ghost use Rattle.bhs_command_line.specs.CommandLine.{appeal_of, contest_table_by, entries_in, exploring_of};
 ghost use Rattle.bhs_command_line.specs.CommandLine.{is_one_word, judging_by, judging_of, order_by, recovery_by};
 ghost use Rattle.bhs_command_line.specs.CommandLine.{rehearsal_of, tabling_by};
@@ -15,7 +14,8 @@ use crate::commands::{
     Argument, REPLAY, TOURNAMENT, Takes, explain, explore, judge, recover, rehearse, serve, table,
     twin,
 };
-use crate::orders::{Appeal, Drawing, Entries, Exploration, Hosting, Objective, Order, Scheduler};
+use crate::drawings::drawing;
+use crate::orders::{Appeal, Drawing, Entries, Exploration, Hosting, Order};
 use crate::words::{entries_in, modules_in, number_within, text};
 use bhs_text::Text;
 use clap::ArgMatches;
@@ -306,108 +306,8 @@ fn drawing_given(
     let draws = text_if_any(alloc, words, &explore::DRAWS)?;
     let seed = text_if_any(alloc, words, &explore::SEED)?;
     let scheduler = text_if_any(alloc, words, &explore::SCHEDULER)?;
-    let hunt = text_if_any(alloc, words, &explore::OBJECTIVE)?;
-    Ok(drawing(draws, seed, scheduler, hunt))
-}
-
-// The schedules that these words have drawn: none if there is no word.
-#[tactic(auto, unfolding(crate::specs::Exploring::drawing_in))]
-fn drawing(
-    draws: Option<Text>,
-    seed: Option<Text>,
-    scheduler: Option<Text>,
-    hunt: Option<Text>,
-) -> Option<Option<Drawing>>
-    ensures { result ≡ drawing_in draws seed scheduler hunt }
-{
-    match (draws, seed, scheduler, hunt) {
-        (None, None, None, None) => Some(None),
-        (Some(draws), seed, scheduler, hunt) => match drawn_by(draws, seed, scheduler, hunt) {
-            Some(drawing) => Some(Some(drawing)),
-            None => None,
-        },
-        _ => None,
-    }
-}
-
-// The schedules that these words have drawn, if --draws is given.
-fn drawn_by(
-    draws: Text,
-    seed: Option<Text>,
-    scheduler: Option<Text>,
-    hunt: Option<Text>,
-) -> Option<Drawing>
-    ensures { result ≡ drawing_of (number_within 1 4294967295 draws)
-        (seed_in seed) (scheduler_by scheduler) (hunted_in hunt) }
-{
-    let schedules = number_by(explore::DRAWS.takes, draws.as_str())?;
-    let seed = seed_in(&seed)?;
-    let scheduler = scheduler_by(&scheduler)?;
-    let hunt = hunted_in(&hunt)?;
-    Some(Drawing {
-        schedules,
-        seed,
-        scheduler,
-        hunt,
-    })
-}
-
-// The seed of this word; 0 if there is none.
-fn seed_in(word: &Option<Text>) -> Option<u32>
-    ensures { result ≡ seed_in word.now }
-{
-    match word {
-        Some(word) => number_by(explore::SEED.takes, word.as_str()),
-        None => Some(0),
-    }
-}
-
-// Whose turn it is, by this word; each agent is as likely if there is none.
-fn scheduler_by(word: &Option<Text>) -> Option<Scheduler>
-    ensures { result ≡ scheduler_by word.now }
-{
-    match word {
-        Some(word) => scheduler_in(word.as_str()),
-        None => Some(Scheduler::Fair),
-    }
-}
-
-/// Whose turn it is, by its name.
-pub(crate) fn scheduler_in(word: &str) -> Option<Scheduler>
-    ensures { result ≡ scheduler_in word.now }
-{
-    match word {
-        "fair" => Some(Scheduler::Fair),
-        "last-departed" => Some(Scheduler::LastDeparted),
-        "starved" => Some(Scheduler::Starved),
-        "slow-agents" => Some(Scheduler::SlowAgents),
-        "slow-links" => Some(Scheduler::SlowLinks),
-        _ => None,
-    }
-}
-
-// What is hunted for, by this word; nothing if there is none.
-fn hunted_in(word: &Option<Text>) -> Option<Option<Objective>>
-    ensures { result ≡ hunted_in word.now }
-{
-    match word {
-        Some(word) => match hunt_in(word.as_str()) {
-            Some(hunt) => Some(Some(hunt)),
-            None => None,
-        },
-        None => Some(None),
-    }
-}
-
-/// What is hunted for, by its name.
-pub(crate) fn hunt_in(word: &str) -> Option<Objective>
-    ensures { result ≡ hunt_in word.now }
-{
-    match word {
-        "moves" => Some(Objective::Moves),
-        "lost" => Some(Objective::Lost),
-        _ => None,
-    }
+    let objective = text_if_any(alloc, words, &explore::OBJECTIVE)?;
+    Ok(drawing(draws, seed, scheduler, objective))
 }
 
 // The hosting that the words of `serve` say.

@@ -11,6 +11,7 @@ ghost use Rattle.clap.specs.declared.error.kind.ErrorKind.TheVariants.{OutOfMemo
 
 mod commands;
 mod declared;
+mod drawings;
 mod given;
 mod help;
 mod orders;
@@ -22,7 +23,7 @@ use clap::error::ErrorKind;
 use given::order_given;
 pub use orders::{
     AgentModule, AgentModules, Appeal, Drawing, Entries, Exploration, Hosting, MAX_ARGUMENTS,
-    MAX_SESSIONS, ModuleArguments, Objective, Order, Scheduler, TableEntry,
+    MAX_SESSIONS, ModuleArguments, Order, TableEntry,
 };
 use std::alloc::{AllocError, Global};
 use std::convert::AsStr;

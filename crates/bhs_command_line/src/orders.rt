@@ -2,6 +2,7 @@
 
 ghost use Rattle.std.specs.Prelude.{◌≡◌};
 
+use bhs_model::{Objective, Scheduler};
 use bhs_text::Text;
 use std::marker::Model;
 
@@ -119,28 +120,6 @@ pub struct Appeal {
     pub game: u16,
 }
 
-/// Whose turn it is in a drawn schedule, among the agents that can move.
-#[derive(Clone, Copy, Debug, PartialEq, Eq)]
-pub enum Scheduler {
-    /// Each agent is as likely.
-    Fair,
-    /// Agents go as far as they can, and of those on links the one arrives that departed last.
-    LastDeparted,
-    /// One agent moves only if no other can.
-    Starved,
-    /// Some agents are slow to be answered, and some to arrive.
-    SlowAgents,
-    /// Some links are slow.
-    SlowLinks,
-}
-
-/// What is hunted for among drawn schedules that do not fail.
-#[derive(Clone, Copy, Debug, PartialEq, Eq)]
-pub enum Objective {
-    Moves,
-    Lost,
-}
-
 /// Which schedules are drawn.
 #[derive(Clone, Copy, Debug, PartialEq, Eq)]
 pub struct Drawing {
@@ -150,8 +129,8 @@ pub struct Drawing {
     pub seed: u32,
     /// Whose turn it is.
     pub scheduler: Scheduler,
-    /// What is hunted for, if anything.
-    pub hunt: Option<Objective>,
+    /// What schedules that do not fail shall have most of, if anything.
+    pub objective: Option<Objective>,
 }
 
 /// Which schedules are tried: those that are drawn, or all.

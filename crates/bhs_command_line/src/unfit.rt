@@ -1,7 +1,8 @@
 //! What is told of a word that its command does not take.
 
 use crate::commands::{Argument, COMMANDS, Need, Takes, explore, judge, table};
-use crate::given::{hunt_in, number_by, scheduler_in};
+use crate::drawings::{objective_in, scheduler_in};
+use crate::given::number_by;
 use crate::orders::MAX_ARGUMENTS;
 use crate::words::{entry_in, module_in};
 use clap::ArgMatches;
@@ -95,7 +96,7 @@ fn is_fit(alloc: Global, takes: Takes, word: &str) -> Result<bool, AllocError> {
         Takes::Text => Ok(true),
         Takes::Number { .. } => Ok(number_by(takes, word).is_some()),
         Takes::Scheduler => Ok(scheduler_in(word).is_some()),
-        Takes::Objective => Ok(hunt_in(word).is_some()),
+        Takes::Objective => Ok(objective_in(word).is_some()),
         Takes::TableEntry => Ok(entry_in(alloc, word)?.is_some()),
         Takes::Module => Ok(module_in(alloc, word)?.is_some()),
     }

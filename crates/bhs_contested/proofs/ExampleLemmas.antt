@@ -13,9 +13,10 @@ use Rattle.bhs_explore.specs.declared.answers.Step.TheVariants.{Says, Stops}
 use Rattle.bhs_explore.specs.Strategies.{Heard, History}
 use Rattle.bhs_protocols.specs.AllRings.{IsSetOn}
 use Rattle.bhs_protocols.proofs.StandardNetworks.{standard_rings_are_set}
-use Rattle.bhs_triangle.specs.Triangle.{Phase, Begins, Departs, Goes, Turns, ComesBack, Accuses, Ends, does_in}
-use Rattle.bhs_triangle.specs.Triangle.{next_phase, phase_after, explorers}
-use Rattle.bhs_triangle.proofs.TriangleLemmas.{triangle_is_solved}
+use Rattle.bhs_protocols_triangle.specs.Triangle.{Phase, Begins, Departs, Goes, Turns, ComesBack, Accuses, Ends}
+use Rattle.bhs_protocols_triangle.specs.Triangle.{does_in}
+use Rattle.bhs_protocols_triangle.specs.Triangle.{next_phase, phase_after, explorers}
+use Rattle.bhs_protocols_triangle.proofs.TriangleLemmas.{triangle_is_solved}
 use Rattle.bhs_model.specs.Views.{Away, Ended as Stopped}
 use Rattle.bhs_match.specs.Decided.{is_done}
 use Rattle.bhs_lock.specs.Cells.{Given}

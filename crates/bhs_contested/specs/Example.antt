@@ -13,7 +13,7 @@ use Rattle.bhs_referee.specs.Verdicts.{verdict_of}
 use Rattle.bhs_explore.specs.Everywhere.{EveryScheduleSolves}
 use Rattle.bhs_explore.specs.Endings.{EveryScheduleCanRest}
 use Rattle.bhs_protocols.specs.StandardRings.{standard_ring}
-use Rattle.bhs_triangle.specs.Triangle.{explorers}
+use Rattle.bhs_protocols_triangle.specs.Triangle.{explorers}
 use Rattle.bhs_session.specs.declared.endings.Ended.TheVariants as endings
 use Rattle.bhs_session.specs.Texts.{text_of}
 use Rattle.bhs_server.specs.Exchanges.{Exchange, Took, Came, session_text, commands_in, receipts_in, kept_in}

@@ -41,70 +41,70 @@ use Rattle.bhs_deal.proofs.WaitingLemmas.{length_dues}
 -- ---- the first delivery of some turns
 
 abbrev Due : DeliveryTerms → List (Option ℕ) → (turn : ℕ) → Bool
-Due course dues turn = is_due (due_of dues (picked_by course turn)) turn
+Due terms dues turn = is_due (due_of dues (picked_by terms turn)) turn
 
-none_found : (course : DeliveryTerms) (dues : List (Option ℕ)) (from count : ℕ) →
-    first_delivery course dues from count ≡ None →
-    (turn : ℕ) → from ≤ turn → turn < from + count → Due course dues turn ≡ false
-none_found course dues from zero none turn later before = absurd (omega (arith, later, before))
-none_found course dues from (suc count) none turn later before =
-    let parts = split (Due course dues from) refl none in
+none_found : (terms : DeliveryTerms) (dues : List (Option ℕ)) (from count : ℕ) →
+    first_delivery terms dues from count ≡ None →
+    (turn : ℕ) → from ≤ turn → turn < from + count → Due terms dues turn ≡ false
+none_found terms dues from zero none turn later before = absurd (omega (arith, later, before))
+none_found terms dues from (suc count) none turn later before =
+    let parts = split (Due terms dues from) refl none in
     elim (eqb_tells turn from) [
-      | inl h ↦ ap (Due course dues) h.1 ∙ parts.0
-      | inr h ↦ none_found course dues (from + 1) count parts.1 turn (omega (arith, later, h.1))
+      | inl h ↦ ap (Due terms dues) h.1 ∙ parts.0
+      | inr h ↦ none_found terms dues (from + 1) count parts.1 turn (omega (arith, later, h.1))
           (omega (arith, before))
     ]
   where
-    split : (b : Bool) → Due course dues from ≡ b →
-        or_else (if b then Some (picked_by course from) else None) from (first_delivery course dues (from + 1) count)
+    split : (b : Bool) → Due terms dues from ≡ b →
+        or_else (if b then Some (picked_by terms from) else None) from (first_delivery terms dues (from + 1) count)
         ≡ None →
-        (Due course dues from ≡ false) × (first_delivery course dues (from + 1) count ≡ None)
+        (Due terms dues from ≡ false) × (first_delivery terms dues (from + 1) count ≡ None)
     split true same e = absurd (no e)
       where
-        no : ◌≡◌ {A = Option (ℕ × ℕ)} (Some (picked_by course from, from)) None → ⊥
+        no : ◌≡◌ {A = Option (ℕ × ℕ)} (Some (picked_by terms from, from)) None → ⊥
         no e = cc
     split false same e = (same, e)
 
 -- what is known of the first
-pub record IsFirstDue (course : DeliveryTerms) (dues : List (Option ℕ)) (from count agent turn : ℕ) : Type 0 where
+pub record IsFirstDue (terms : DeliveryTerms) (dues : List (Option ℕ)) (from count agent turn : ℕ) : Type 0 where
   pub later : from ≤ turn
   pub before : turn < from + count
-  pub picked : agent ≡ picked_by course turn
-  pub due : Due course dues turn ≡ true
-  pub none_before : (earlier : ℕ) → from ≤ earlier → earlier < turn → Due course dues earlier ≡ false
+  pub picked : agent ≡ picked_by terms turn
+  pub due : Due terms dues turn ≡ true
+  pub none_before : (earlier : ℕ) → from ≤ earlier → earlier < turn → Due terms dues earlier ≡ false
 
 same_pair : (one two : ℕ × ℕ) → ◌≡◌ {A = Option (ℕ × ℕ)} (Some one) (Some two) → one ≡ two
 same_pair one two e = cc
 
-one_found : (course : DeliveryTerms) (dues : List (Option ℕ)) (from count agent turn : ℕ) →
-    first_delivery course dues from count ≡ Some (agent, turn) → IsFirstDue course dues from count agent turn
-one_found course dues from zero agent turn found = absurd (no found)
+one_found : (terms : DeliveryTerms) (dues : List (Option ℕ)) (from count agent turn : ℕ) →
+    first_delivery terms dues from count ≡ Some (agent, turn) → IsFirstDue terms dues from count agent turn
+one_found terms dues from zero agent turn found = absurd (no found)
   where
     no : ◌≡◌ {A = Option (ℕ × ℕ)} None (Some (agent, turn)) → ⊥
     no e = cc
-one_found course dues from (suc count) agent turn found =
-    split (Due course dues from) refl found (one_found course dues (from + 1) count agent turn)
+one_found terms dues from (suc count) agent turn found =
+    split (Due terms dues from) refl found (one_found terms dues (from + 1) count agent turn)
   where
-    same_agent : ◌≡◌ {A = Option (ℕ × ℕ)} (Some (picked_by course from, from)) (Some (agent, turn)) →
-        picked_by course from ≡ agent
+    same_agent : ◌≡◌ {A = Option (ℕ × ℕ)} (Some (picked_by terms from, from)) (Some (agent, turn)) →
+        picked_by terms from ≡ agent
     same_agent e = ap (λ (pair : ℕ × ℕ). pair.0) (same_pair _ _ e)
 
-    same_turn : ◌≡◌ {A = Option (ℕ × ℕ)} (Some (picked_by course from, from)) (Some (agent, turn)) → from ≡ turn
+    same_turn : ◌≡◌ {A = Option (ℕ × ℕ)} (Some (picked_by terms from, from)) (Some (agent, turn)) → from ≡ turn
     same_turn e = ap (λ (pair : ℕ × ℕ). pair.1) (same_pair _ _ e)
 
-    split : (b : Bool) → Due course dues from ≡ b →
-        or_else (if b then Some (picked_by course from) else None) from (first_delivery course dues (from + 1) count)
+    split : (b : Bool) → Due terms dues from ≡ b →
+        or_else (if b then Some (picked_by terms from) else None) from (first_delivery terms dues (from + 1) count)
         ≡ Some (agent, turn) →
-        (first_delivery course dues (from + 1) count ≡ Some (agent, turn)
-        → IsFirstDue course dues (from + 1) count agent turn) →
-        IsFirstDue course dues from (suc count) agent turn
+        (first_delivery terms dues (from + 1) count ≡ Some (agent, turn)
+        → IsFirstDue terms dues (from + 1) count agent turn) →
+        IsFirstDue terms dues from (suc count) agent turn
     split true same e again =
         let at = same_turn e in
         record {
           later = omega (arith, at);
           before = omega (arith, at);
-          picked = sym (same_agent e) ∙ ap (picked_by course) at;
-          due = subst (λ (t : ℕ). Due course dues t ≡ true) at same;
+          picked = sym (same_agent e) ∙ ap (picked_by terms) at;
+          due = subst (λ (t : ℕ). Due terms dues t ≡ true) at same;
           none_before = λ earlier after before. absurd (omega (arith, at, after, before));
         }
     split false same e again =
@@ -115,7 +115,7 @@ one_found course dues from (suc count) agent turn found =
           picked = rest.picked;
           due = rest.due;
           none_before = λ earlier after before. elim (eqb_tells earlier from) [
-            | inl h ↦ ap (Due course dues) h.1 ∙ same
+            | inl h ↦ ap (Due terms dues) h.1 ∙ same
             | inr h ↦ rest.none_before earlier (omega (arith, after, h.1)) before
           ];
         }
@@ -124,59 +124,59 @@ one_found course dues from (suc count) agent turn found =
 
 -- what stands against an event at its turn
 abbrev pub Hinders : World → DeliveryTerms → (lost : ℕ → Bool) → TimedState → Event → (turn : ℕ) → Untimely → Type 0
-Hinders world course lost timed event turn Early = turn < timed.turn
-Hinders world course lost timed event turn (LeftOut agent at) =
-    (at < turn) × IsNext world (held_by course) (schedule_by course) lost timed
+Hinders world terms lost timed event turn Early = turn < timed.turn
+Hinders world terms lost timed event turn (LeftOut agent at) =
+    (at < turn) × IsNext world (held_by terms) (schedule_by terms) lost timed
     (record { event = Deliver agent; turn = at })
-Hinders world course lost timed event turn Late = (agent : ℕ) × (event ≡ Deliver agent)
+Hinders world terms lost timed event turn Late = (agent : ℕ) × (event ≡ Deliver agent)
 
 abbrev pub Judges : World → DeliveryTerms → (lost : ℕ → Bool) → TimedState → Event → (turn : ℕ) → Option Untimely
     → Type 0
-Judges world course lost timed event turn None =
-    IsNext world (held_by course) (schedule_by course) lost timed (record { event = event; turn = turn })
-Judges world course lost timed event turn (Some why) =
-    (IsNext world (held_by course) (schedule_by course) lost timed (record { event = event; turn = turn }) → ⊥)
-    × Hinders world course lost timed event turn why
+Judges world terms lost timed event turn None =
+    IsNext world (held_by terms) (schedule_by terms) lost timed (record { event = event; turn = turn })
+Judges world terms lost timed event turn (Some why) =
+    (IsNext world (held_by terms) (schedule_by terms) lost timed (record { event = event; turn = turn }) → ⊥)
+    × Hinders world terms lost timed event turn why
 
-module _ (course : DeliveryTerms) (world : World) (timed : TimedState) (lost : ℕ → Bool) (dues : List (Option ℕ))
-    (are : AreDue course lost timed dues) (gone : AllGone world lost timed.state)
-    (few : (turn : ℕ) → picked_by course turn < length dues) (unclosed : timed.state.closed ≡ false) where
+module _ (terms : DeliveryTerms) (world : World) (timed : TimedState) (lost : ℕ → Bool) (dues : List (Option ℕ))
+    (are : AreDue terms lost timed dues) (gone : AllGone world lost timed.state)
+    (few : (turn : ℕ) → picked_by terms turn < length dues) (unclosed : timed.state.closed ≡ false) where
   abbrev Next : Event → (turn : ℕ) → Type 0
   Next event turn =
-      IsNext world (held_by course) (schedule_by course) lost timed (record { event = event; turn = turn })
+      IsNext world (held_by terms) (schedule_by terms) lost timed (record { event = event; turn = turn })
 
   abbrev KeptIn : (turn : ℕ) → Bool
   KeptIn turn =
-      is_kept world timed.state lost (delivery_now (held_by course) (schedule_by course) (record timed { turn = turn }))
+      is_kept world timed.state lost (delivery_now (held_by terms) (schedule_by terms) (record timed { turn = turn }))
 
-  kept_as_due : (turn : ℕ) → KeptIn turn ≡ Due course dues turn
-  kept_as_due turn = kept_if_due course world timed lost unclosed dues turn are gone (few turn)
+  kept_as_due : (turn : ℕ) → KeptIn turn ≡ Due terms dues turn
+  kept_as_due turn = kept_if_due terms world timed lost unclosed dues turn are gone (few turn)
 
   -- the turns from now on and before this one
   within_count : (turn other : ℕ) → timed.turn ≤ turn → other < turn → other < timed.turn + (turn - timed.turn)
   within_count turn other later before = omega (arith, later, before)
 
   quiet_by : (turn : ℕ) → timed.turn ≤ turn →
-      first_delivery course dues timed.turn (turn - timed.turn) ≡ None →
+      first_delivery terms dues timed.turn (turn - timed.turn) ≡ None →
       (other : ℕ) → timed.turn ≤ other → other < turn → KeptIn other ≡ false
   quiet_by turn later none other from before =
       kept_as_due other
-      ∙ none_found course dues timed.turn (turn - timed.turn) none other from (within_count turn other later before)
+      ∙ none_found terms dues timed.turn (turn - timed.turn) none other from (within_count turn other later before)
 
-  deliver_now : (turn : ℕ) → Due course dues turn ≡ true →
-      IsNow world (held_by course) (schedule_by course) lost (record timed { turn = turn })
-      (Deliver (picked_by course turn))
-  deliver_now turn due = kept_delivery course world timed lost turn (kept_as_due turn ∙ due)
+  deliver_now : (turn : ℕ) → Due terms dues turn ≡ true →
+      IsNow world (held_by terms) (schedule_by terms) lost (record timed { turn = turn })
+      (Deliver (picked_by terms turn))
+  deliver_now turn due = kept_delivery terms world timed lost turn (kept_as_due turn ∙ due)
 
   same_agent : (a b : ℕ) → (a == b) ≡ true → a ≡ b
   same_agent a b e = elim (eqb_tells a b) [ inl h ↦ h.1 | inr h ↦ absurd (false≢true (sym h.0 ∙ e)) ]
 
   -- a Deliver of the agent that the turn delivers
-  own_delivery : (agent turn : ℕ) → late_in course dues (Deliver agent) turn ≡ None →
-      IsNow world (held_by course) (schedule_by course) lost (record timed { turn = turn }) (Deliver agent)
+  own_delivery : (agent turn : ℕ) → late_in terms dues (Deliver agent) turn ≡ None →
+      IsNow world (held_by terms) (schedule_by terms) lost (record timed { turn = turn }) (Deliver agent)
   own_delivery agent turn none =
-      let who = by (Due course dues turn) refl (in_time (is_agent (delivered_by course dues turn) agent) none) in
-      subst (λ (some : ℕ). IsNow world (held_by course) (schedule_by course) lost (record timed { turn = turn })
+      let who = by (Due terms dues turn) refl (in_time (is_agent (delivered_by terms dues turn) agent) none) in
+      subst (λ (some : ℕ). IsNow world (held_by terms) (schedule_by terms) lost (record timed { turn = turn })
       (Deliver some)) (sym who.1) (deliver_now turn who.0)
     where
       in_time : (b : Bool) → (if b then None else Some Late) ≡ None → b ≡ true
@@ -186,14 +186,14 @@ module _ (course : DeliveryTerms) (world : World) (timed : TimedState) (lost : �
           no : Some Late ≡ None → ⊥
           no e = cc
 
-      by : (b : Bool) → Due course dues turn ≡ b →
-          is_agent (if b then Some (picked_by course turn) else None) agent ≡ true →
-          (Due course dues turn ≡ true) × (agent ≡ picked_by course turn)
-      by true same e = (same, same_agent agent (picked_by course turn) e)
+      by : (b : Bool) → Due terms dues turn ≡ b →
+          is_agent (if b then Some (picked_by terms turn) else None) agent ≡ true →
+          (Due terms dues turn ≡ true) × (agent ≡ picked_by terms turn)
+      by true same e = (same, same_agent agent (picked_by terms turn) e)
       by false same e = absurd (false≢true e)
 
   is_next : (event : Event) (turn : ℕ) → keeps world timed.state lost event ≡ true → timed.turn ≤ turn →
-      first_delivery course dues timed.turn (turn - timed.turn) ≡ None → late_in course dues event turn ≡ None →
+      first_delivery terms dues timed.turn (turn - timed.turn) ≡ None → late_in terms dues event turn ≡ None →
       Next event turn
   is_next (Tell agent command) turn kept later none own =
       record { later = later; quiet = quiet_by turn later none; now = kept }
@@ -204,10 +204,10 @@ module _ (course : DeliveryTerms) (world : World) (timed : TimedState) (lost : �
 
   -- a delivery that was left out
   is_left_out : (event : Event) (turn agent at : ℕ) → timed.turn ≤ turn →
-      first_delivery course dues timed.turn (turn - timed.turn) ≡ Some (agent, at) →
-      Judges world course lost timed event turn (Some (LeftOut agent at))
+      first_delivery terms dues timed.turn (turn - timed.turn) ≡ Some (agent, at) →
+      Judges world terms lost timed event turn (Some (LeftOut agent at))
   is_left_out event turn agent at later found =
-      let first = one_found course dues timed.turn (turn - timed.turn) agent at found in
+      let first = one_found terms dues timed.turn (turn - timed.turn) agent at found in
       let before : at < turn = omega (arith, later, first.before) in (
         λ is. true≢false (sym (kept_as_due at ∙ first.due) ∙ is.quiet at first.later before),
         (
@@ -215,19 +215,19 @@ module _ (course : DeliveryTerms) (world : World) (timed : TimedState) (lost : �
           record {
             later = first.later;
             quiet = λ other from earlier. kept_as_due other ∙ first.none_before other from earlier;
-            now = subst (λ (some : ℕ). IsNow world (held_by course) (schedule_by course) lost
+            now = subst (λ (some : ℕ). IsNow world (held_by terms) (schedule_by terms) lost
                 (record timed { turn = at }) (Deliver some)) (sym first.picked) (deliver_now at first.due);
           },
         ),
       )
 
   -- a Deliver that its turn does not make
-  is_late : (event : Event) (turn : ℕ) (why : Untimely) → late_in course dues event turn ≡ Some why →
-      Judges world course lost timed event turn (Some why)
+  is_late : (event : Event) (turn : ℕ) (why : Untimely) → late_in terms dues event turn ≡ Some why →
+      Judges world terms lost timed event turn (Some why)
   is_late (Deliver agent) turn why found =
-      subst (λ (some : Untimely). Judges world course lost timed (Deliver agent) turn (Some some))
-      (known (is_agent (delivered_by course dues turn) agent) found).1 (
-        λ is. not_now (known (is_agent (delivered_by course dues turn) agent) found).0 is.now.0 is.now.1,
+      subst (λ (some : Untimely). Judges world terms lost timed (Deliver agent) turn (Some some))
+      (known (is_agent (delivered_by terms dues turn) agent) found).1 (
+        λ is. not_now (known (is_agent (delivered_by terms dues turn) agent) found).0 is.now.0 is.now.1,
         (agent, refl),
       )
     where
@@ -241,21 +241,21 @@ module _ (course : DeliveryTerms) (world : World) (timed : TimedState) (lost : �
           same : Some Late ≡ Some why → Late ≡ why
           same e = cc
 
-      own : Some (Deliver (picked_by course turn)) ≡ Some (Deliver agent) → agent ≡ picked_by course turn
+      own : Some (Deliver (picked_by terms turn)) ≡ Some (Deliver agent) → agent ≡ picked_by terms turn
       own e = cc
 
-      by_due : Due course dues turn ≡ true → agent ≡ picked_by course turn →
-          is_agent (delivered_by course dues turn) agent ≡ true
+      by_due : Due terms dues turn ≡ true → agent ≡ picked_by terms turn →
+          is_agent (delivered_by terms dues turn) agent ≡ true
       by_due due same =
           ap (λ (found : Option ℕ). is_agent found agent) (cond-true _ _ _ due)
-          ∙ elim (eqb_tells agent (picked_by course turn)) [ inl h ↦ h.0 | inr h ↦ absurd (h.1 same) ]
+          ∙ elim (eqb_tells agent (picked_by terms turn)) [ inl h ↦ h.0 | inr h ↦ absurd (h.1 same) ]
 
-      not_now : is_agent (delivered_by course dues turn) agent ≡ false →
-          delivery_now (held_by course) (schedule_by course) (record timed { turn = turn }) ≡ Some (Deliver agent) →
+      not_now : is_agent (delivered_by terms dues turn) agent ≡ false →
+          delivery_now (held_by terms) (schedule_by terms) (record timed { turn = turn }) ≡ Some (Deliver agent) →
           keeps world timed.state lost (Deliver agent) ≡ true → ⊥
       not_now none at kept =
           let is = ap (is_kept world timed.state lost) at ∙ kept in
-          let one = kept_delivery course world timed lost turn is in
+          let one = kept_delivery terms world timed lost turn is in
           true≢false (sym (by_due (sym (kept_as_due turn) ∙ is) (own (sym one.0 ∙ at))) ∙ none)
   is_late (Tell agent command) turn why found = absurd (no found)
     where
@@ -267,14 +267,14 @@ module _ (course : DeliveryTerms) (world : World) (timed : TimedState) (lost : �
       no e = cc
 
   pub judges : (event : Event) (turn : ℕ) → keeps world timed.state lost event ≡ true → (found : Option Untimely) →
-      untimely course dues timed.turn event turn ≡ found → Judges world course lost timed event turn found
+      untimely terms dues timed.turn event turn ≡ found → Judges world terms lost timed event turn found
   judges event turn kept found same =
       elim (cases_lt turn timed.turn) [
-        | inl early ↦ subst (λ (some : Option Untimely). Judges world course lost timed event turn some)
+        | inl early ↦ subst (λ (some : Option Untimely). Judges world terms lost timed event turn some)
             (sym (cond-true _ _ _ (lt-true turn timed.turn early)) ∙ same)
             (λ is. absurd (omega (arith, early, is.later)), early)
-        | inr later ↦ by_first (first_delivery course dues timed.turn (turn - timed.turn)) refl
-            (late_in course dues event turn) refl later
+        | inr later ↦ by_first (first_delivery terms dues timed.turn (turn - timed.turn)) refl
+            (late_in terms dues event turn) refl later
             (sym (cond-false _ _ _ (lt-false turn timed.turn later)) ∙ same)
       ]
     where
@@ -284,19 +284,19 @@ module _ (course : DeliveryTerms) (world : World) (timed : TimedState) (lost : �
       lt-false : (a b : ℕ) → b ≤ a → nat_lt a b ≡ false
       lt-false a b less = search (arith, less)
 
-      by_first : (first : Option (ℕ × ℕ)) → first_delivery course dues timed.turn (turn - timed.turn) ≡ first →
-          (own : Option Untimely) → late_in course dues event turn ≡ own → timed.turn ≤ turn →
-          left_out (first_delivery course dues timed.turn (turn - timed.turn)) (late_in course dues event turn)
+      by_first : (first : Option (ℕ × ℕ)) → first_delivery terms dues timed.turn (turn - timed.turn) ≡ first →
+          (own : Option Untimely) → late_in terms dues event turn ≡ own → timed.turn ≤ turn →
+          left_out (first_delivery terms dues timed.turn (turn - timed.turn)) (late_in terms dues event turn)
           ≡ found →
-          Judges world course lost timed event turn found
+          Judges world terms lost timed event turn found
       by_first None none None own later e =
-          subst (λ (some : Option Untimely). Judges world course lost timed event turn some)
+          subst (λ (some : Option Untimely). Judges world terms lost timed event turn some)
           (sym (ap₂ left_out none own) ∙ e) (is_next event turn kept later none own)
       by_first None none (Some why) own later e =
-          subst (λ (some : Option Untimely). Judges world course lost timed event turn some)
+          subst (λ (some : Option Untimely). Judges world terms lost timed event turn some)
           (sym (ap₂ left_out none own) ∙ e) (is_late event turn why own)
       by_first (Some at) one own is_own later e =
-          subst (λ (some : Option Untimely). Judges world course lost timed event turn some)
+          subst (λ (some : Option Untimely). Judges world terms lost timed event turn some)
           (sym (ap₂ left_out one is_own) ∙ e) (is_left_out event turn at.0 at.1 later one)
 
 -- ---- event by event
@@ -305,35 +305,35 @@ module _ (course : DeliveryTerms) (world : World) (timed : TimedState) (lost : �
 abbrev pub Reason : World → DeliveryTerms → (lost : ℕ → Bool) → TimedState → (before : List Stamped) → Stamped
     → Untimely →
     Type 0
-Reason world course lost timed before one Early = one.turn < turns_passed timed.turn before
-Reason world course lost timed before one (LeftOut agent turn) =
+Reason world terms lost timed before one Early = one.turn < turns_passed timed.turn before
+Reason world terms lost timed before one (LeftOut agent turn) =
     (turn < one.turn)
-    × Follows world (held_by course) (schedule_by course) lost timed
+    × Follows world (held_by terms) (schedule_by terms) lost timed
     (before ++ record { event = Deliver agent; turn = turn } ∷ [])
-Reason world course lost timed before one Late = (agent : ℕ) × (one.event ≡ Deliver agent)
+Reason world terms lost timed before one Late = (agent : ℕ) × (one.event ≡ Deliver agent)
 
 -- the first event that is not the next stands at this place, where the match stood like this before
-pub record IsUntimelyFrom (world : World) (course : DeliveryTerms) (lost : ℕ → Bool) (timed : TimedState)
+pub record IsUntimelyFrom (world : World) (terms : DeliveryTerms) (lost : ℕ → Bool) (timed : TimedState)
     (stamps : List Stamped) (place : ℕ) (why : Untimely) : Type 0 where
-  pub before : Follows world (held_by course) (schedule_by course) lost timed (take place stamps)
-  pub never : Follows world (held_by course) (schedule_by course) lost timed (take (suc place) stamps) → ⊥
+  pub before : Follows world (held_by terms) (schedule_by terms) lost timed (take place stamps)
+  pub never : Follows world (held_by terms) (schedule_by terms) lost timed (take (suc place) stamps) → ⊥
   pub one : Stamped
   pub there : slice_get stamps place ≡ Some one
-  pub reason : Reason world course lost timed (take place stamps) one why
+  pub reason : Reason world terms lost timed (take place stamps) one why
 
 -- what a pass from a place on finds
 abbrev pub Finds : World → DeliveryTerms → (lost : ℕ → Bool) → TimedState → List Stamped → (from : ℕ)
     → Option (ℕ × Untimely)
     → Type 0
-Finds world course lost timed stamps from None =
-    Follows world (held_by course) (schedule_by course) lost timed stamps
-Finds world course lost timed stamps from (Some at) =
-    (more : ℕ) × ((at.0 ≡ from + more) × IsUntimelyFrom world course lost timed stamps more at.1)
+Finds world terms lost timed stamps from None =
+    Follows world (held_by terms) (schedule_by terms) lost timed stamps
+Finds world terms lost timed stamps from (Some at) =
+    (more : ℕ) × ((at.0 ≡ from + more) × IsUntimelyFrom world terms lost timed stamps more at.1)
 
-module _ (world : World) (course : DeliveryTerms) where
+module _ (world : World) (terms : DeliveryTerms) where
   finds_here : (lost : ℕ → Bool) (timed : TimedState) (one : Stamped) (others : List Stamped) (from : ℕ)
-      (why : Untimely) → Judges world course lost timed one.event one.turn (Some why) →
-      Finds world course lost timed (one ∷ others) from (Some (from, why))
+      (why : Untimely) → Judges world terms lost timed one.event one.turn (Some why) →
+      Finds world terms lost timed (one ∷ others) from (Some (from, why))
   finds_here lost timed one others from why judged = (
     zero,
     (
@@ -348,18 +348,18 @@ module _ (world : World) (course : DeliveryTerms) where
     ),
   )
     where
-      reason_of : (some : Untimely) → Hinders world course lost timed one.event one.turn some →
-          Reason world course lost timed [] one some
+      reason_of : (some : Untimely) → Hinders world terms lost timed one.event one.turn some →
+          Reason world terms lost timed [] one some
       reason_of Early is = is
       reason_of (LeftOut agent turn) is = (is.0, (is.1, tt))
       reason_of Late is = is
 
   finds_later : (lost : ℕ → Bool) (timed : TimedState) (one : Stamped) (others : List Stamped) (from : ℕ)
       (found : Option (ℕ × Untimely)) →
-      IsNext world (held_by course) (schedule_by course) lost timed one →
-      Finds world course (lost_after world timed.state lost one.event) (behind world timed one) others
+      IsNext world (held_by terms) (schedule_by terms) lost timed one →
+      Finds world terms (lost_after world timed.state lost one.event) (behind world timed one) others
       (from + 1) found →
-      Finds world course lost timed (one ∷ others) from found
+      Finds world terms lost timed (one ∷ others) from found
   finds_later lost timed one others from None is finds = (is, finds)
   finds_later lost timed one others from (Some at) is finds = (
     suc finds.0,
@@ -376,15 +376,15 @@ module _ (world : World) (course : DeliveryTerms) where
   )
     where
       reason_of : (some : Untimely) →
-          Reason world course (lost_after world timed.state lost one.event) (behind world timed one)
+          Reason world terms (lost_after world timed.state lost one.event) (behind world timed one)
           (take finds.0 others) finds.1.1.one some →
-          Reason world course lost timed (one ∷ take finds.0 others) finds.1.1.one some
+          Reason world terms lost timed (one ∷ take finds.0 others) finds.1.1.one some
       reason_of Early reason = reason
       reason_of (LeftOut agent turn) reason = (reason.0, (is, reason.1))
       reason_of Late reason = reason
 
-  module _ (same_net : (node port : ℕ) → is_port_of course.net (node, port) ≡ nat_lt port (world.net.degree node))
-      (agents : ℕ) (few : (turn : ℕ) → picked_by course turn < agents) where
+  module _ (same_net : (node port : ℕ) → is_port_of terms.net (node, port) ≡ nat_lt port (world.net.degree node))
+      (agents : ℕ) (few : (turn : ℕ) → picked_by terms turn < agents) where
     open_now : (state : State) (lost : ℕ → Bool) (event : Event) → keeps world state lost event ≡ true →
         state.closed ≡ false
     open_now state lost (Tell agent command) kept =
@@ -407,10 +407,10 @@ module _ (world : World) (course : DeliveryTerms) where
     pub finds_from : (timed : TimedState) (before : List Event) (lost : ℕ → Bool) (dues : List (Option ℕ))
         (now place : ℕ)
         (log : List Kept) (turns : List ℕ) → timed.state ≡ run world before → IsStamped timed →
-        kept_from world timed.state lost (events_of log) ≡ events_of log → AreDue course lost timed dues →
+        kept_from world timed.state lost (events_of log) ≡ events_of log → AreDue terms lost timed dues →
         AllGone world lost timed.state → length dues ≡ agents → timed.turn ≡ now → length turns ≡ length log →
-        Finds world course lost timed (stamps_in log turns) place
-        (untimely_from course dues now place log (sites_from world timed.state (events_of log)) turns)
+        Finds world terms lost timed (stamps_in log turns) place
+        (untimely_from terms dues now place log (sites_from world timed.state (events_of log)) turns)
     finds_from timed before lost dues now place [] turns same stamped all are gone count is_now long = tt
     finds_from timed before lost dues now place (one ∷ log) [] same stamped all are gone count is_now long =
         absurd (omega (arith, long))
@@ -424,19 +424,19 @@ module _ (world : World) (course : DeliveryTerms) where
         let here : IsStamped (record timed { turn = turn }) =
         record { pasts = stamped.pasts; writes = stamped.writes } in
         let then_stamped = happened_stamped world (record timed { turn = turn }) one.event here in
-        let goes = goes_on course world same_net timed lost dues stamped legal are gone turn one.event is_kept.first in
-        by_found (untimely course dues now one.event turn)
-        (judges course world timed lost dues are gone
-        (λ at. subst (λ (n : ℕ). picked_by course at < n) (sym count) (few at))
+        let goes = goes_on terms world same_net timed lost dues stamped legal are gone turn one.event is_kept.first in
+        by_found (untimely terms dues now one.event turn)
+        (judges terms world timed lost dues are gone
+        (λ at. subst (λ (n : ℕ). picked_by terms at < n) (sym count) (few at))
         (open_now timed.state lost one.event is_kept.first) one.event turn is_kept.first
-        (untimely course dues now one.event turn)
-        (ap (λ (from : ℕ). untimely course dues from one.event turn) is_now))
-        (subst (λ (state : State). Finds world course (lost_after world timed.state lost one.event) there
+        (untimely terms dues now one.event turn)
+        (ap (λ (from : ℕ). untimely terms dues from one.event turn) is_now))
+        (subst (λ (state : State). Finds world terms (lost_after world timed.state lost one.event) there
         (stamps_in log turns) (place + 1)
-        (untimely_from course (dues_after course dues one.event (site world timed.state one.event) turn)
+        (untimely_from terms (dues_after terms dues one.event (site world timed.state one.event) turn)
         (turn_behind one.event turn) (place + 1) log (sites_from world state (events_of log)) turns)) after
         (finds_from there (before ++ one.event ∷ []) (lost_after world timed.state lost one.event)
-        (dues_after course dues one.event (site world timed.state one.event) turn) (turn_behind one.event turn)
+        (dues_after terms dues one.event (site world timed.state one.event) turn) (turn_behind one.event turn)
         (place + 1) log turns
         (after ∙ ap (λ (state : State). next world state one.event) same
         ∙ sym (run-append world initial before (one.event ∷ [])))
@@ -444,17 +444,17 @@ module _ (world : World) (course : DeliveryTerms) where
         (subst (λ (state : State). kept_from world state (lost_after world timed.state lost one.event) (events_of log)
         ≡ events_of log) (sym after) is_kept.others)
         goes.are_due goes.all_gone
-        (length_dues course dues one.event (site world timed.state one.event) turn ∙ count) refl (omega (arith, long))))
+        (length_dues terms dues one.event (site world timed.state one.event) turn ∙ count) refl (omega (arith, long))))
       where
-        by_found : (found : Option Untimely) → Judges world course lost timed one.event turn found →
-            Finds world course (lost_after world timed.state lost one.event)
+        by_found : (found : Option Untimely) → Judges world terms lost timed one.event turn found →
+            Finds world terms (lost_after world timed.state lost one.event)
             (behind world timed (record { event = one.event; turn = turn })) (stamps_in log turns) (place + 1)
-            (untimely_from course (dues_after course dues one.event (site world timed.state one.event) turn)
+            (untimely_from terms (dues_after terms dues one.event (site world timed.state one.event) turn)
             (turn_behind one.event turn) (place + 1) log
             (sites_from world (next world timed.state one.event) (events_of log)) turns) →
-            Finds world course lost timed (record { event = one.event; turn = turn } ∷ stamps_in log turns) place
+            Finds world terms lost timed (record { event = one.event; turn = turn } ∷ stamps_in log turns) place
             (at_or_later place found
-            (untimely_from course (dues_after course dues one.event (site world timed.state one.event) turn)
+            (untimely_from terms (dues_after terms dues one.event (site world timed.state one.event) turn)
             (turn_behind one.event turn) (place + 1) log
             (sites_from world (next world timed.state one.event) (events_of log)) turns))
         by_found None judged rest =
@@ -464,49 +464,49 @@ module _ (world : World) (course : DeliveryTerms) where
 
 -- ---- a whole log
 
-none_due : (course : DeliveryTerms) (agents : ℕ) → AreDue course nobody timed_initial (replicate agents None)
-none_due course zero agent within = absurd (omega (arith, within))
-none_due course (suc agents) zero within = refl
-none_due course (suc agents) (suc agent) within = none_due course agents agent (omega (arith, within))
+none_due : (terms : DeliveryTerms) (agents : ℕ) → AreDue terms nobody timed_initial (replicate agents None)
+none_due terms zero agent within = absurd (omega (arith, within))
+none_due terms (suc agents) zero within = refl
+none_due terms (suc agents) (suc agent) within = none_due terms agents agent (omega (arith, within))
 
-pub found_lemma : (course : DeliveryTerms) (play : Play) (turns : List ℕ) → course.net ≡ play.net →
-    course.agents ≡ play.setup.agents → kept (world_in play) (events_of play.log) ≡ events_of play.log →
+pub found_lemma : (terms : DeliveryTerms) (play : Play) (turns : List ℕ) → terms.net ≡ play.net →
+    terms.agents ≡ play.setup.agents → kept (world_in play) (events_of play.log) ≡ events_of play.log →
     length turns ≡ length play.log → 0 < play.setup.agents →
-    MatchOption (untimely_in course play turns)
-    (IsTimedLog (world_in play) (held_by course) (schedule_by course) (stamps_in play.log turns))
-    (λ at. IsUntimelyAt (world_in play) (held_by course) (schedule_by course) (stamps_in play.log turns) at.0 at.1)
-found_lemma course play turns same_net same_agents all long some =
-    go (untimely_in course play turns)
-    (finds_from (world_in play) course
+    MatchOption (untimely_in terms play turns)
+    (IsTimedLog (world_in play) (held_by terms) (schedule_by terms) (stamps_in play.log turns))
+    (λ at. IsUntimelyAt (world_in play) (held_by terms) (schedule_by terms) (stamps_in play.log turns) at.0 at.1)
+found_lemma terms play turns same_net same_agents all long some =
+    go (untimely_in terms play turns)
+    (finds_from (world_in play) terms
     (λ node port. ap (λ (net : Network). nat_lt port (degree_of net node)) same_net) play.setup.agents
-    (λ turn. subst (λ (n : ℕ). picked_by course turn < n) same_agents
-    (mod-lt ((words_by course.dealer).picks turn) (subst (λ (n : ℕ). 0 < n) (sym same_agents) some)))
+    (λ turn. subst (λ (n : ℕ). picked_by terms turn < n) same_agents
+    (mod-lt ((words_by terms.dealer).picks turn) (subst (λ (n : ℕ). 0 < n) (sym same_agents) some)))
     timed_initial [] nobody (replicate play.setup.agents None) 0 0 play.log turns refl initial_stamped all
-    (none_due course play.setup.agents) (λ agent is_lost. absurd (false≢true is_lost))
+    (none_due terms play.setup.agents) (λ agent is_lost. absurd (false≢true is_lost))
     (length-replicate play.setup.agents None) refl long)
   where
     stamps : List Stamped
     stamps = stamps_in play.log turns
 
     reason_of : (why : Untimely) (before : List Stamped) (one : Stamped) →
-        Reason (world_in play) course nobody timed_initial before one why →
-        IsReason why (world_in play) (held_by course) (schedule_by course) before one
+        Reason (world_in play) terms nobody timed_initial before one why →
+        IsReason why (world_in play) (held_by terms) (schedule_by terms) before one
     reason_of Early before one reason = reason
     reason_of (LeftOut agent turn) before one reason =
-        (reason.0, timed_by_steps (world_in play) (held_by course) (schedule_by course) _ reason.1)
+        (reason.0, timed_by_steps (world_in play) (held_by terms) (schedule_by terms) _ reason.1)
     reason_of Late before one reason = reason
 
-    go : (found : Option (ℕ × Untimely)) → Finds (world_in play) course nobody timed_initial stamps 0 found →
-        MatchOption found (IsTimedLog (world_in play) (held_by course) (schedule_by course) stamps)
-        (λ at. IsUntimelyAt (world_in play) (held_by course) (schedule_by course) stamps at.0 at.1)
-    go None finds = timed_by_steps (world_in play) (held_by course) (schedule_by course) stamps finds
+    go : (found : Option (ℕ × Untimely)) → Finds (world_in play) terms nobody timed_initial stamps 0 found →
+        MatchOption found (IsTimedLog (world_in play) (held_by terms) (schedule_by terms) stamps)
+        (λ at. IsUntimelyAt (world_in play) (held_by terms) (schedule_by terms) stamps at.0 at.1)
+    go None finds = timed_by_steps (world_in play) (held_by terms) (schedule_by terms) stamps finds
     go (Some at) finds =
         let same : finds.0 ≡ at.0 = omega (arith, finds.1.0) in
-        subst (λ (place : ℕ). IsUntimelyAt (world_in play) (held_by course) (schedule_by course) stamps place at.1) same
+        subst (λ (place : ℕ). IsUntimelyAt (world_in play) (held_by terms) (schedule_by terms) stamps place at.1) same
         (record {
-          before = timed_by_steps (world_in play) (held_by course) (schedule_by course) _ finds.1.1.before;
+          before = timed_by_steps (world_in play) (held_by terms) (schedule_by terms) _ finds.1.1.before;
           never = λ is. finds.1.1.never
-              (steps_of_timed (world_in play) (held_by course) (schedule_by course) _ is);
+              (steps_of_timed (world_in play) (held_by terms) (schedule_by terms) _ is);
           one = finds.1.1.one;
           there = finds.1.1.there;
           reason = reason_of at.1 (take finds.0 stamps) finds.1.1.one finds.1.1.reason;

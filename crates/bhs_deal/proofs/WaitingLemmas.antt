@@ -29,23 +29,23 @@ use Rattle.bhs_deal.specs.Links.{held_in, is_port_of}
 use Rattle.bhs_deal.specs.Scheduling.{whole_schedule}
 use Rattle.bhs_deal.specs.Timeliness.{DeliveryTerms, due_after, due_of, is_due, picked_by, due_on, dues_after}
 
--- the links that a course holds, and its schedule
+-- the links that a terms holds, and its schedule
 abbrev pub held_by : DeliveryTerms → Held
-held_by course = held_in course.held
+held_by terms = held_in terms.held
 
 abbrev pub schedule_by : DeliveryTerms → Schedule
-schedule_by course = whole_schedule course.dealer course.agents course.law
+schedule_by terms = whole_schedule terms.dealer terms.agents terms.law
 
 -- the due of an agent at this position, which departed after this many turns
 abbrev pub due_at : DeliveryTerms → (is_lost : Bool) → (agent departed : ℕ) → Position → Option ℕ
-due_at course is_lost agent departed (Bound node port) =
-    if is_lost then None else due_on course node port agent departed
-due_at course is_lost agent departed position = None
+due_at terms is_lost agent departed (Bound node port) =
+    if is_lost then None else due_on terms node port agent departed
+due_at terms is_lost agent departed position = None
 
 -- the dues are those of the match
 abbrev pub AreDue : DeliveryTerms → (lost : ℕ → Bool) → TimedState → List (Option ℕ) → Type 0
-AreDue course lost timed dues = (agent : ℕ) → agent < length dues →
-    due_of dues agent ≡ due_at course (lost agent) agent (departed_at (timed.pasts agent)) (timed.state.position agent)
+AreDue terms lost timed dues = (agent : ℕ) → agent < length dues →
+    due_of dues agent ≡ due_at terms (lost agent) agent (departed_at (timed.pasts agent)) (timed.state.position agent)
 
 -- whether an agent at this position may be lost: it is on a link that destroys, or has ended there
 abbrev pub may_be_lost : World → Position → Bool
@@ -58,7 +58,7 @@ AllGone world lost state = (agent : ℕ) → lost agent ≡ true → may_be_lost
 
 -- ---- whom a turn delivers
 
-module _ (course : DeliveryTerms) (world : World) (timed : TimedState) (lost : ℕ → Bool)
+module _ (terms : DeliveryTerms) (world : World) (timed : TimedState) (lost : ℕ → Bool)
     (unclosed : timed.state.closed ≡ false)
   where
     -- whether the match keeps a Deliver of an agent on a link, by what destroys
@@ -71,7 +71,7 @@ module _ (course : DeliveryTerms) (world : World) (timed : TimedState) (lost : �
 
     -- the delivery of an agent at this position, by whether it is ready and its link held
     abbrev Delivery : (who : ℕ) → (is_ready : Bool) → Option Event
-    Delivery who is_ready = delivery_if (held_by course) timed.state who is_ready
+    Delivery who is_ready = delivery_if (held_by terms) timed.state who is_ready
 
     abbrev IsKept : Option Event → Bool
     IsKept event = is_kept world timed.state lost event
@@ -80,7 +80,7 @@ module _ (course : DeliveryTerms) (world : World) (timed : TimedState) (lost : �
         is_bound position ≡ false → IsKept (Delivery who is_ready) ≡ false
     unready who false position at unbound = refl
     unready who true position at unbound =
-        cond_both (is_held (held_by course) (timed.state.position who)) None (Some (Deliver who))
+        cond_both (is_held (held_by terms) (timed.state.position who)) None (Some (Deliver who))
         (λ (event : Option Event). IsKept event ≡ false) (λ still. refl)
         (λ free. none_kept timed.state.closed (lost who) (timed.state.position who)
         (ap is_bound at ∙ unbound))
@@ -98,9 +98,9 @@ module _ (course : DeliveryTerms) (world : World) (timed : TimedState) (lost : �
 
     on_link : (who node port : ℕ) (turn : ℕ) → timed.state.position who ≡ Bound node port →
         (lost who ≡ true → doomed world node port ≡ true) →
-        IsKept (Delivery who (nat_le (due_after course who (departed_at (timed.pasts who))) turn))
-        ≡ is_due (due_at course (lost who) who (departed_at (timed.pasts who)) (Bound node port)) turn
-    on_link who node port turn at gone = go (nat_le (due_after course who (departed_at (timed.pasts who))) turn) refl
+        IsKept (Delivery who (nat_le (due_after terms who (departed_at (timed.pasts who))) turn))
+        ≡ is_due (due_at terms (lost who) who (departed_at (timed.pasts who)) (Bound node port)) turn
+    on_link who node port turn at gone = go (nat_le (due_after terms who (departed_at (timed.pasts who))) turn) refl
       where
         destroyed : (due : Option ℕ) → is_due (if lost who then None else due) turn
             ≡ (if lost who then false else is_due due turn)
@@ -116,12 +116,12 @@ module _ (course : DeliveryTerms) (world : World) (timed : TimedState) (lost : �
         not_lost true = refl
         not_lost false = refl
 
-        by_due : (is_ready : Bool) → nat_le (due_after course who (departed_at (timed.pasts who))) turn ≡ is_ready →
-            is_due (due_on course node port who (departed_at (timed.pasts who))) turn
-            ≡ (if held_in course.held node port then false else is_ready)
-        by_due is_ready same = cond_both (held_in course.held node port) None
-            (Some (due_after course who (departed_at (timed.pasts who))))
-            (λ (due : Option ℕ). is_due due turn ≡ (if held_in course.held node port then false else is_ready))
+        by_due : (is_ready : Bool) → nat_le (due_after terms who (departed_at (timed.pasts who))) turn ≡ is_ready →
+            is_due (due_on terms node port who (departed_at (timed.pasts who))) turn
+            ≡ (if held_in terms.held node port then false else is_ready)
+        by_due is_ready same = cond_both (held_in terms.held node port) None
+            (Some (due_after terms who (departed_at (timed.pasts who))))
+            (λ (due : Option ℕ). is_due due turn ≡ (if held_in terms.held node port then false else is_ready))
             (λ still. sym (cond-true _ _ _ still)) (λ free. same ∙ sym (cond-false _ _ _ free))
 
         keeps_it : keeps world timed.state lost (Deliver who) ≡ not (lost who)
@@ -130,11 +130,11 @@ module _ (course : DeliveryTerms) (world : World) (timed : TimedState) (lost : �
             || ((not closed && is_doomed world place) && not (lost who))) unclosed at
             ∙ kept_by (doomed world node port) (lost who) gone
 
-        ready_kept : IsKept (Delivery who true) ≡ (if held_in course.held node port then false else not (lost who))
-        ready_kept = cond_both (is_held (held_by course) (timed.state.position who)) None (Some (Deliver who))
-            (λ (event : Option Event). IsKept event ≡ (if held_in course.held node port then false else not (lost who)))
-            (λ still. sym (cond-true _ _ _ (sym (ap (is_held (held_by course)) at) ∙ still)))
-            (λ free. keeps_it ∙ sym (cond-false _ _ _ (sym (ap (is_held (held_by course)) at) ∙ free)))
+        ready_kept : IsKept (Delivery who true) ≡ (if held_in terms.held node port then false else not (lost who))
+        ready_kept = cond_both (is_held (held_by terms) (timed.state.position who)) None (Some (Deliver who))
+            (λ (event : Option Event). IsKept event ≡ (if held_in terms.held node port then false else not (lost who)))
+            (λ still. sym (cond-true _ _ _ (sym (ap (is_held (held_by terms)) at) ∙ still)))
+            (λ free. keeps_it ∙ sym (cond-false _ _ _ (sym (ap (is_held (held_by terms)) at) ∙ free)))
 
         swap : (still is_lost : Bool) → (if still then false else not is_lost)
             ≡ (if is_lost then false else (if still then false else true))
@@ -149,126 +149,126 @@ module _ (course : DeliveryTerms) (world : World) (timed : TimedState) (lost : �
         never false true = refl
         never false false = refl
 
-        go : (is_ready : Bool) → nat_le (due_after course who (departed_at (timed.pasts who))) turn ≡ is_ready →
-            IsKept (Delivery who (nat_le (due_after course who (departed_at (timed.pasts who))) turn))
-            ≡ is_due (due_at course (lost who) who (departed_at (timed.pasts who)) (Bound node port)) turn
+        go : (is_ready : Bool) → nat_le (due_after terms who (departed_at (timed.pasts who))) turn ≡ is_ready →
+            IsKept (Delivery who (nat_le (due_after terms who (departed_at (timed.pasts who))) turn))
+            ≡ is_due (due_at terms (lost who) who (departed_at (timed.pasts who)) (Bound node port)) turn
         go is_ready same =
             ap (λ (is : Bool). IsKept (Delivery who is)) same ∙ by_ready is_ready
             ∙ ap (λ (own : Bool). if lost who then false else own) (sym (by_due is_ready same))
-            ∙ sym (destroyed (due_on course node port who (departed_at (timed.pasts who))))
+            ∙ sym (destroyed (due_on terms node port who (departed_at (timed.pasts who))))
           where
             by_ready : (is : Bool) → IsKept (Delivery who is)
-                ≡ (if lost who then false else (if held_in course.held node port then false else is))
-            by_ready true = ready_kept ∙ swap (held_in course.held node port) (lost who)
-            by_ready false = never (held_in course.held node port) (lost who)
+                ≡ (if lost who then false else (if held_in terms.held node port then false else is))
+            by_ready true = ready_kept ∙ swap (held_in terms.held node port) (lost who)
+            by_ready false = never (held_in terms.held node port) (lost who)
 
     at_position : (who turn : ℕ) (position : Position) → timed.state.position who ≡ position →
         (lost who ≡ true → may_be_lost world position ≡ true) →
-        IsKept (Delivery who (nat_le (due_after course who (departed_at (timed.pasts who))) turn))
-        ≡ is_due (due_at course (lost who) who (departed_at (timed.pasts who)) position) turn
+        IsKept (Delivery who (nat_le (due_after terms who (departed_at (timed.pasts who))) turn))
+        ≡ is_due (due_at terms (lost who) who (departed_at (timed.pasts who)) position) turn
     at_position who turn (Bound node port) at gone = on_link who node port turn at gone
     at_position who turn Before at gone = unready who _ Before at refl
     at_position who turn (At node came) at gone = unready who _ (At node came) at refl
     at_position who turn After at gone = unready who _ After at refl
 
     -- a turn makes a delivery that is kept exactly if the agent that it picks is due
-    pub kept_if_due : (dues : List (Option ℕ)) (turn : ℕ) → AreDue course lost timed dues →
-        AllGone world lost timed.state → picked_by course turn < length dues →
+    pub kept_if_due : (dues : List (Option ℕ)) (turn : ℕ) → AreDue terms lost timed dues →
+        AllGone world lost timed.state → picked_by terms turn < length dues →
         is_kept world timed.state lost
-        (delivery_now (held_by course) (schedule_by course) (record timed { turn = turn }))
-        ≡ is_due (due_of dues (picked_by course turn)) turn
+        (delivery_now (held_by terms) (schedule_by terms) (record timed { turn = turn }))
+        ≡ is_due (due_of dues (picked_by terms turn)) turn
     kept_if_due dues turn are gone within =
-        let who = picked_by course turn in
+        let who = picked_by terms turn in
         ap (λ (event : Option Event). IsKept event) (cond-false _ _ _ unclosed)
         ∙ at_position who turn (timed.state.position who) refl (gone who)
         ∙ ap (λ (due : Option ℕ). is_due due turn) (sym (are who within))
 
 -- and the delivery is that of this agent
-pub kept_delivery : (course : DeliveryTerms) (world : World) (timed : TimedState) (lost : ℕ → Bool) (turn : ℕ) →
-    is_kept world timed.state lost (delivery_now (held_by course) (schedule_by course) (record timed { turn = turn }))
+pub kept_delivery : (terms : DeliveryTerms) (world : World) (timed : TimedState) (lost : ℕ → Bool) (turn : ℕ) →
+    is_kept world timed.state lost (delivery_now (held_by terms) (schedule_by terms) (record timed { turn = turn }))
     ≡ true →
-    (delivery_now (held_by course) (schedule_by course) (record timed { turn = turn })
-    ≡ Some (Deliver (picked_by course turn)))
-    × (keeps world timed.state lost (Deliver (picked_by course turn)) ≡ true)
-kept_delivery course world timed lost turn kept =
+    (delivery_now (held_by terms) (schedule_by terms) (record timed { turn = turn })
+    ≡ Some (Deliver (picked_by terms turn)))
+    × (keeps world timed.state lost (Deliver (picked_by terms turn)) ≡ true)
+kept_delivery terms world timed lost turn kept =
     elim (either timed.state.closed
-    ((schedule_by course).ready (picked_by course turn) (departed_at (timed.pasts (picked_by course turn))) turn)) [
+    ((schedule_by terms).ready (picked_by terms turn) (departed_at (timed.pasts (picked_by terms turn))) turn)) [
       | inl none ↦ absurd (false≢true (sym (ap (is_kept world timed.state lost) none) ∙ kept))
       | inr one ↦ (one, sym (ap (is_kept world timed.state lost) one) ∙ kept)
     ]
   where
     either : (closed is_ready : Bool) →
-        ((if closed then None else delivery_if (held_by course) timed.state (picked_by course turn) is_ready) ≡ None)
-        ⊎ ((if closed then None else delivery_if (held_by course) timed.state (picked_by course turn) is_ready)
-        ≡ Some (Deliver (picked_by course turn)))
+        ((if closed then None else delivery_if (held_by terms) timed.state (picked_by terms turn) is_ready) ≡ None)
+        ⊎ ((if closed then None else delivery_if (held_by terms) timed.state (picked_by terms turn) is_ready)
+        ≡ Some (Deliver (picked_by terms turn)))
     either true is_ready = inl refl
     either false false = inl refl
     either false true =
-        cond_both (is_held (held_by course) (timed.state.position (picked_by course turn))) None
-        (Some (Deliver (picked_by course turn)))
-        (λ (event : Option Event). (event ≡ None) ⊎ (event ≡ Some (Deliver (picked_by course turn))))
+        cond_both (is_held (held_by terms) (timed.state.position (picked_by terms turn))) None
+        (Some (Deliver (picked_by terms turn)))
+        (λ (event : Option Event). (event ≡ None) ⊎ (event ≡ Some (Deliver (picked_by terms turn))))
         (λ yes. inl refl) (λ no. inr refl)
 
 -- ---- the dues after an event
 
-pub length_dues : (course : DeliveryTerms) (dues : List (Option ℕ)) (event : Event) (where_said : Option ℕ) (turn : ℕ) →
-    length (dues_after course dues event where_said turn) ≡ length dues
-length_dues course dues (Tell agent (Depart port)) (Some node) turn =
-    cond_both (is_port_of course.net (node, port)) (slice_set dues agent (due_on course node port agent turn)) dues
+pub length_dues : (terms : DeliveryTerms) (dues : List (Option ℕ)) (event : Event) (where_said : Option ℕ) (turn : ℕ) →
+    length (dues_after terms dues event where_said turn) ≡ length dues
+length_dues terms dues (Tell agent (Depart port)) (Some node) turn =
+    cond_both (is_port_of terms.net (node, port)) (slice_set dues agent (due_on terms node port agent turn)) dues
     (λ (after : List (Option ℕ)). length after ≡ length dues) (λ yes. length-set dues agent _) (λ no. refl)
-length_dues course dues (Tell agent (Depart port)) None turn = refl
-length_dues course dues (Tell agent Leave) where_said turn = length-set dues agent None
-length_dues course dues (Tell agent Enter) where_said turn = refl
-length_dues course dues (Tell agent Look) where_said turn = refl
-length_dues course dues (Tell agent (Write expect put)) where_said turn = refl
-length_dues course dues (Tell agent (Accuse port)) where_said turn = refl
-length_dues course dues (Tell agent Bad) where_said turn = refl
-length_dues course dues (Deliver agent) where_said turn = length-set dues agent None
-length_dues course dues Close where_said turn = refl
+length_dues terms dues (Tell agent (Depart port)) None turn = refl
+length_dues terms dues (Tell agent Leave) where_said turn = length-set dues agent None
+length_dues terms dues (Tell agent Enter) where_said turn = refl
+length_dues terms dues (Tell agent Look) where_said turn = refl
+length_dues terms dues (Tell agent (Write expect put)) where_said turn = refl
+length_dues terms dues (Tell agent (Accuse port)) where_said turn = refl
+length_dues terms dues (Tell agent Bad) where_said turn = refl
+length_dues terms dues (Deliver agent) where_said turn = length-set dues agent None
+length_dues terms dues Close where_said turn = refl
 
-told_other : (course : DeliveryTerms) (dues : List (Option ℕ)) (agent other : ℕ) (command : Command)
+told_other : (terms : DeliveryTerms) (dues : List (Option ℕ)) (agent other : ℕ) (command : Command)
     (where_said : Option ℕ)
     (turn : ℕ) → (other ≡ agent → ⊥) →
-    due_of (dues_after course dues (Tell agent command) where_said turn) other ≡ due_of dues other
-told_other course dues agent other (Depart port) (Some node) turn apart =
-    cond_both (is_port_of course.net (node, port)) (slice_set dues agent (due_on course node port agent turn)) dues
+    due_of (dues_after terms dues (Tell agent command) where_said turn) other ≡ due_of dues other
+told_other terms dues agent other (Depart port) (Some node) turn apart =
+    cond_both (is_port_of terms.net (node, port)) (slice_set dues agent (due_on terms node port agent turn)) dues
     (λ (after : List (Option ℕ)). due_of after other ≡ due_of dues other)
     (λ yes. get_or-set_other dues agent other _ None apart) (λ no. refl)
-told_other course dues agent other (Depart port) None turn apart = refl
-told_other course dues agent other Leave where_said turn apart = get_or-set_other dues agent other None None apart
-told_other course dues agent other Enter where_said turn apart = refl
-told_other course dues agent other Look where_said turn apart = refl
-told_other course dues agent other (Write expect put) where_said turn apart = refl
-told_other course dues agent other (Accuse port) where_said turn apart = refl
-told_other course dues agent other Bad where_said turn apart = refl
+told_other terms dues agent other (Depart port) None turn apart = refl
+told_other terms dues agent other Leave where_said turn apart = get_or-set_other dues agent other None None apart
+told_other terms dues agent other Enter where_said turn apart = refl
+told_other terms dues agent other Look where_said turn apart = refl
+told_other terms dues agent other (Write expect put) where_said turn apart = refl
+told_other terms dues agent other (Accuse port) where_said turn apart = refl
+told_other terms dues agent other Bad where_said turn apart = refl
 
-module _ (course : DeliveryTerms) (world : World) (same_net : (node port : ℕ) → is_port_of course.net (node, port)
+module _ (terms : DeliveryTerms) (world : World) (same_net : (node port : ℕ) → is_port_of terms.net (node, port)
     ≡ nat_lt port (world.net.degree node)) (dues : List (Option ℕ)) (agent turn : ℕ) (within : agent < length dues)
     (past : TimedView) (glance : TimedGlance) (is_lost : Bool) (room : Bool) where
   -- what is known of the agent, which is at this position
   abbrev IsDue : Position → Type 0
-  IsDue position = due_of dues agent ≡ due_at course is_lost agent (departed_at past) position
+  IsDue position = due_of dues agent ≡ due_at terms is_lost agent (departed_at past) position
 
   abbrev BecomesDue : Position → Command → Type 0
   BecomesDue position command =
-      due_of (dues_after course dues (Tell agent command) (node_said world position command) turn) agent
-      ≡ due_at course is_lost agent (departed_at (ToldAt past turn command glance))
+      due_of (dues_after terms dues (Tell agent command) (node_said world position command) turn) agent
+      ≡ due_at terms is_lost agent (departed_at (ToldAt past turn command glance))
       (position_after world position command)
 
   departs : (node port : ℕ) (came : Option ℕ) → is_lost ≡ false → departed_at (ToldAt past turn (Depart port) glance)
       ≡ turn → IsDue (At node came) → BecomesDue (At node came) (Depart port)
   departs node port came unlost now known =
-      ap (λ (b : Bool). due_of (if b then slice_set dues agent (due_on course node port agent turn) else dues) agent)
+      ap (λ (b : Bool). due_of (if b then slice_set dues agent (due_on terms node port agent turn) else dues) agent)
       (same_net node port)
       ∙ by_port (nat_lt port (world.net.degree node))
     where
-      left : due_on course node port agent turn
-          ≡ due_at course is_lost agent (departed_at (ToldAt past turn (Depart port) glance)) (Bound node port)
-      left = ap (due_on course node port agent) (sym now) ∙ sym (cond-false _ _ _ unlost)
+      left : due_on terms node port agent turn
+          ≡ due_at terms is_lost agent (departed_at (ToldAt past turn (Depart port) glance)) (Bound node port)
+      left = ap (due_on terms node port agent) (sym now) ∙ sym (cond-false _ _ _ unlost)
 
       by_port : (b : Bool) →
-          due_of (if b then slice_set dues agent (due_on course node port agent turn) else dues) agent
-          ≡ due_at course is_lost agent (departed_at (ToldAt past turn (Depart port) glance))
+          due_of (if b then slice_set dues agent (due_on terms node port agent turn) else dues) agent
+          ≡ due_at terms is_lost agent (departed_at (ToldAt past turn (Depart port) glance))
           (if b then Bound node port else At node came)
       by_port true = get_or-set_same dues agent _ None within ∙ left
       by_port false = known
@@ -276,15 +276,15 @@ module _ (course : DeliveryTerms) (world : World) (same_net : (node port : ℕ) 
   -- an agent that stays on its link
   stays : (node port : ℕ) (command : Command) → is_away (standing (bare past)) ≡ true → IsDue (Bound node port) →
       due_of dues agent
-      ≡ due_at course is_lost agent (departed_at (ToldAt past turn command glance)) (Bound node port)
+      ≡ due_at terms is_lost agent (departed_at (ToldAt past turn command glance)) (Bound node port)
   stays node port command away known =
-      known ∙ ap (λ (departed : ℕ). due_at course is_lost agent departed (Bound node port)) (sym (cond-true _ _ _ away))
+      known ∙ ap (λ (departed : ℕ). due_at terms is_lost agent departed (Bound node port)) (sym (cond-true _ _ _ away))
 
   accuses : (node port : ℕ) (came : Option ℕ) → IsDue (At node came) → BecomesDue (At node came) (Accuse port)
   accuses node port came known =
       cond_both (nat_lt port (world.net.degree node)) After (At node came)
       (λ (there : Position). due_of dues agent
-      ≡ due_at course is_lost agent (departed_at (ToldAt past turn (Accuse port) glance)) there)
+      ≡ due_at terms is_lost agent (departed_at (ToldAt past turn (Accuse port) glance)) there)
       (λ yes. known) (λ no. known)
 
   told_own : (position : Position) (command : Command) → is_away (standing (bare past)) ≡ is_bound position →
@@ -333,9 +333,9 @@ gone_own world Before room command hears_it gone = absurd (false≢true gone)
 gone_own world (At node came) room command hears_it gone = absurd (false≢true gone)
 gone_own world After room command hears_it gone = absurd (false≢true hears_it)
 
-module _ (course : DeliveryTerms) (world : World) (same_net : (node port : ℕ) → is_port_of course.net (node, port)
+module _ (terms : DeliveryTerms) (world : World) (same_net : (node port : ℕ) → is_port_of terms.net (node, port)
     ≡ nat_lt port (world.net.degree node)) (timed : TimedState) (lost : ℕ → Bool) (dues : List (Option ℕ))
-    (stamped : IsStamped timed) (legal : AllLegal world timed.state) (are : AreDue course lost timed dues)
+    (stamped : IsStamped timed) (legal : AllLegal world timed.state) (are : AreDue terms lost timed dues)
     (gone : AllGone world lost timed.state) (turn : ℕ) where
   abbrev now : TimedState
   now = record timed { turn = turn }
@@ -348,25 +348,25 @@ module _ (course : DeliveryTerms) (world : World) (same_net : (node port : ℕ) 
       (legal agent).standing (and_parts _ _ (and_parts _ _ is_heard).1).1
 
   told_due : (agent : ℕ) (command : Command) → heard world timed.state agent command ≡ true →
-      AreDue course lost (told_then world now agent command)
-      (dues_after course dues (Tell agent command) (node_said world (timed.state.position agent) command) turn)
+      AreDue terms lost (told_then world now agent command)
+      (dues_after terms dues (Tell agent command) (node_said world (timed.state.position agent) command) turn)
   told_due agent command is_heard other within =
       let inside : other < length dues =
-      subst (λ (n : ℕ). other < n) (length_dues course dues (Tell agent command)
+      subst (λ (n : ℕ). other < n) (length_dues terms dues (Tell agent command)
       (node_said world (timed.state.position agent) command) turn) within in
       elim (eqb_tells other agent) [
-        | inl h ↦ rw h.0 (subst (λ (who : ℕ). due_of (dues_after course dues (Tell agent command)
+        | inl h ↦ rw h.0 (subst (λ (who : ℕ). due_of (dues_after terms dues (Tell agent command)
             (node_said world (timed.state.position agent) command) turn) who
-            ≡ due_at course (lost who) who (departed_at (ToldAt (timed.pasts agent) turn command
+            ≡ due_at terms (lost who) who (departed_at (ToldAt (timed.pasts agent) turn command
             (glance_then world now (timed.state.position agent) command)))
             (position_after world (timed.state.position agent) command)) (sym h.1)
-            (told_own course world same_net dues agent turn
+            (told_own terms world same_net dues agent turn
             (subst (λ (who : ℕ). who < length dues) h.1 inside) (timed.pasts agent)
             (glance_then world now (timed.state.position agent) command) (lost agent)
             (nat_lt (used (timed.state.past agent)) world.quota) (timed.state.position agent) command
             (away_by_past world timed agent stamped legal) (accepted agent command is_heard) (gone agent)
             (are agent (subst (λ (who : ℕ). who < length dues) h.1 inside))))
-        | inr h ↦ rw h.0 (told_other course dues agent other command
+        | inr h ↦ rw h.0 (told_other terms dues agent other command
             (node_said world (timed.state.position agent) command) turn h.1 ∙ are other inside)
       ]
 
@@ -395,21 +395,21 @@ module _ (course : DeliveryTerms) (world : World) (same_net : (node port : ℕ) 
 
   rest_due : (agent other : ℕ) (struck : Bool) → other < length dues → (other ≡ agent → ⊥) →
       due_of (slice_set dues agent None) other
-      ≡ due_at course (Marks agent struck other) other (departed_at (timed.pasts other)) (timed.state.position other)
+      ≡ due_at terms (Marks agent struck other) other (departed_at (timed.pasts other)) (timed.state.position other)
   rest_due agent other struck inside apart =
       get_or-set_other dues agent other None None apart ∙ are other inside
-      ∙ ap (λ (is_lost : Bool). due_at course is_lost other (departed_at (timed.pasts other))
+      ∙ ap (λ (is_lost : Bool). due_at terms is_lost other (departed_at (timed.pasts other))
       (timed.state.position other)) (sym (marks_other agent other struck apart))
 
   -- nobody has a due at a node, or that is lost
-  none_lost : (agent departed : ℕ) (position : Position) → due_at course true agent departed position ≡ None
+  none_lost : (agent departed : ℕ) (position : Position) → due_at terms true agent departed position ≡ None
   none_lost agent departed (Bound node port) = refl
   none_lost agent departed Before = refl
   none_lost agent departed (At node came) = refl
   none_lost agent departed After = refl
 
   come_due : (agent : ℕ) (struck : Bool) (position : Position) → is_let_through world position ≡ true →
-      AreDue course (Marks agent struck) (arrived_then world now agent position) (slice_set dues agent None)
+      AreDue terms (Marks agent struck) (arrived_then world now agent position) (slice_set dues agent None)
   come_due agent struck (Bound node port) through other within =
       let inside : other < length dues = subst (λ (n : ℕ). other < n) (length-set dues agent None) within in
       elim (eqb_tells other agent) [
@@ -421,15 +421,15 @@ module _ (course : DeliveryTerms) (world : World) (same_net : (node port : ℕ) 
   come_due agent struck (At node came) through other within = absurd (false≢true through)
   come_due agent struck After through other within = absurd (false≢true through)
 
-  lost_due : (agent : ℕ) → AreDue course (changed lost agent true) now (slice_set dues agent None)
+  lost_due : (agent : ℕ) → AreDue terms (changed lost agent true) now (slice_set dues agent None)
   lost_due agent other within =
       let inside : other < length dues = subst (λ (n : ℕ). other < n) (length-set dues agent None) within in
       elim (eqb_tells other agent) [
         | inl h ↦ subst (λ (who : ℕ). due_of (slice_set dues agent None) who
-            ≡ due_at course (changed lost agent true who) who (departed_at (timed.pasts who))
+            ≡ due_at terms (changed lost agent true who) who (departed_at (timed.pasts who))
             (timed.state.position who)) (sym h.1)
             (no_due agent (subst (λ (who : ℕ). who < length dues) h.1 inside)
-            ∙ sym (ap (λ (is_lost : Bool). due_at course is_lost agent (departed_at (timed.pasts agent))
+            ∙ sym (ap (λ (is_lost : Bool). due_at terms is_lost agent (departed_at (timed.pasts agent))
             (timed.state.position agent)) (marks_own agent)
             ∙ none_lost agent (departed_at (timed.pasts agent)) (timed.state.position agent)))
         | inr h ↦ rest_due agent other true inside h.1
@@ -499,9 +499,9 @@ module _ (course : DeliveryTerms) (world : World) (same_net : (node port : ℕ) 
 
   -- what is known after an event that is kept
   pub record Goes (event : Event) : Type 0 where
-    pub are_due : AreDue course (lost_after world timed.state lost event)
+    pub are_due : AreDue terms (lost_after world timed.state lost event)
         (behind world timed (record { event = event; turn = turn }))
-        (dues_after course dues event (site world timed.state event) turn)
+        (dues_after terms dues event (site world timed.state event) turn)
     pub all_gone : AllGone world (lost_after world timed.state lost event)
         (behind world timed (record { event = event; turn = turn })).state
 
@@ -516,11 +516,11 @@ module _ (course : DeliveryTerms) (world : World) (same_net : (node port : ℕ) 
   delivers agent kept = record {
     are_due = cond_both (arrives world timed.state agent)
         (arrived_then world now agent (timed.state.position agent)) now
-        (λ (there : TimedState). AreDue course (lost_after world timed.state lost (Deliver agent))
+        (λ (there : TimedState). AreDue terms (lost_after world timed.state lost (Deliver agent))
         (record there { turn = turn + 1 }) (slice_set dues agent None))
         (λ yes. come_due agent (not timed.state.closed && is_doomed world (timed.state.position agent))
         (timed.state.position agent) (and_parts (not timed.state.closed) _ yes).1)
-        (λ none. subst (λ (struck : Bool). AreDue course (Marks agent struck) now (slice_set dues agent None))
+        (λ none. subst (λ (struck : Bool). AreDue terms (Marks agent struck) now (slice_set dues agent None))
         (sym (struck_by agent kept none)) (lost_due agent));
     all_gone = cond_both (arrives world timed.state agent)
         (arrived_then world now agent (timed.state.position agent)) now

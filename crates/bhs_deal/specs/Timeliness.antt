@@ -34,8 +34,8 @@ pub record DeliveryTerms : Type 0 where
 
 -- after how many turns an agent that departed after this many is ready to arrive
 abbrev pub due_after : DeliveryTerms → (agent departed : ℕ) → ℕ
-due_after course agent departed =
-    departed + delay course.law.odds course.law.scales (delay_word course.dealer agent departed)
+due_after terms agent departed =
+    departed + delay terms.law.odds terms.law.scales (delay_word terms.dealer agent departed)
 
 -- The dues of a match, by agent: after how many turns an agent on a link is ready to arrive. There is none for an agent
 -- that is on no link, on a held one, or was destroyed.
@@ -49,12 +49,12 @@ is_due (Some due) turn = nat_le due turn
 
 -- the agent that a turn picks
 abbrev pub picked_by : DeliveryTerms → (turn : ℕ) → ℕ
-picked_by course turn = (words_by course.dealer).picks turn % course.agents
+picked_by terms turn = (words_by terms.dealer).picks turn % terms.agents
 
 -- the agent that a turn delivers, if it delivers one
 abbrev pub delivered_by : DeliveryTerms → List (Option ℕ) → (turn : ℕ) → Option ℕ
-delivered_by course dues turn =
-    if is_due (due_of dues (picked_by course turn)) turn then Some (picked_by course turn) else None
+delivered_by terms dues turn =
+    if is_due (due_of dues (picked_by terms turn)) turn then Some (picked_by terms turn) else None
 
 -- the agent and the turn, if there is an agent
 abbrev pub or_else : Option ℕ → (turn : ℕ) → Option (ℕ × ℕ) → Option (ℕ × ℕ)
@@ -63,22 +63,22 @@ or_else (Some agent) turn later = Some (agent, turn)
 
 -- the first of this many turns from one on that delivers an agent, and which
 abbrev pub first_delivery : DeliveryTerms → List (Option ℕ) → (from count : ℕ) → Option (ℕ × ℕ)
-first_delivery course dues from zero = None
-first_delivery course dues from (suc count) =
-    or_else (delivered_by course dues from) from (first_delivery course dues (from + 1) count)
+first_delivery terms dues from zero = None
+first_delivery terms dues from (suc count) =
+    or_else (delivered_by terms dues from) from (first_delivery terms dues (from + 1) count)
 
 -- the due of an agent that departs by a port of a node
 abbrev pub due_on : DeliveryTerms → (node port agent turn : ℕ) → Option ℕ
-due_on course node port agent turn =
-    if held_in course.held node port then None else Some (due_after course agent turn)
+due_on terms node port agent turn =
+    if held_in terms.held node port then None else Some (due_after terms agent turn)
 
 -- the dues after an event with this site and turn
 abbrev pub dues_after : DeliveryTerms → List (Option ℕ) → Event → (site : Option ℕ) → (turn : ℕ) → List (Option ℕ)
-dues_after course dues (Tell agent (Depart port)) (Some node) turn =
-    if is_port_of course.net (node, port) then slice_set dues agent (due_on course node port agent turn) else dues
-dues_after course dues (Tell agent Leave) site turn = slice_set dues agent None
-dues_after course dues (Deliver agent) site turn = slice_set dues agent None
-dues_after course dues event site turn = dues
+dues_after terms dues (Tell agent (Depart port)) (Some node) turn =
+    if is_port_of terms.net (node, port) then slice_set dues agent (due_on terms node port agent turn) else dues
+dues_after terms dues (Tell agent Leave) site turn = slice_set dues agent None
+dues_after terms dues (Deliver agent) site turn = slice_set dues agent None
+dues_after terms dues event site turn = dues
 
 -- whether this is the agent
 abbrev pub is_agent : Option ℕ → (agent : ℕ) → Bool
@@ -87,9 +87,9 @@ is_agent (Some other) agent = agent == other
 
 -- what is wrong with an event in its own turn
 abbrev pub late_in : DeliveryTerms → List (Option ℕ) → Event → (turn : ℕ) → Option Untimely
-late_in course dues (Deliver agent) turn =
-    if is_agent (delivered_by course dues turn) agent then None else Some Late
-late_in course dues event turn = None
+late_in terms dues (Deliver agent) turn =
+    if is_agent (delivered_by terms dues turn) agent then None else Some Late
+late_in terms dues event turn = None
 
 -- what is wrong, if a delivery was left out before
 abbrev pub left_out : Option (ℕ × ℕ) → Option Untimely → Option Untimely
@@ -98,9 +98,9 @@ left_out (Some found) own = Some (LeftOut found.0 found.1)
 
 -- what is wrong with an event at its turn, if this many turns have passed before it
 abbrev pub untimely : DeliveryTerms → List (Option ℕ) → (now : ℕ) → Event → (turn : ℕ) → Option Untimely
-untimely course dues now event turn =
+untimely terms dues now event turn =
     if nat_lt turn now then Some Early
-    else left_out (first_delivery course dues now (turn - now)) (late_in course dues event turn)
+    else left_out (first_delivery terms dues now (turn - now)) (late_in terms dues event turn)
 
 -- what was found here, or what is found later
 abbrev pub at_or_later : (place : ℕ) → Option Untimely → Option (ℕ × Untimely) → Option (ℕ × Untimely)
@@ -111,15 +111,15 @@ at_or_later place (Some why) later = Some (place, why)
 abbrev pub untimely_from : DeliveryTerms → List (Option ℕ) → (now place : ℕ) → List Kept → List (Option ℕ)
     → (turns : List ℕ)
     → Option (ℕ × Untimely)
-untimely_from course dues now place (one ∷ log) (site ∷ sites) (turn ∷ turns) =
-    at_or_later place (untimely course dues now one.event turn)
-    (untimely_from course (dues_after course dues one.event site turn) (turn_behind one.event turn) (place + 1) log
+untimely_from terms dues now place (one ∷ log) (site ∷ sites) (turn ∷ turns) =
+    at_or_later place (untimely terms dues now one.event turn)
+    (untimely_from terms (dues_after terms dues one.event site turn) (turn_behind one.event turn) (place + 1) log
     sites turns)
-untimely_from course dues now place log sites turns = None
+untimely_from terms dues now place log sites turns = None
 
 abbrev pub untimely_in : DeliveryTerms → Play → (turns : List ℕ) → Option (ℕ × Untimely)
-untimely_in course play turns =
-    untimely_from course (replicate play.setup.agents None) 0 0 play.log
+untimely_in terms play turns =
+    untimely_from terms (replicate play.setup.agents None) 0 0 play.log
     (sites (world_in play) (events_of play.log)) turns
 
 -- why an event of a log, with its turn, is not the next behind the events before it

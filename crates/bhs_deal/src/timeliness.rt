@@ -53,12 +53,12 @@ impl<'a> Model for DeliveryTerms<'a> {
 
     ghost Value = { Terms };
 
-    ghost view = { λ course. record {
-      dealer = course.dealer.now;
-      law = course.delays;
-      held = course.held.now;
-      net = course.net.now;
-      agents = course.agents;
+    ghost view = { λ terms. record {
+      dealer = terms.dealer.now;
+      law = terms.delays;
+      held = terms.held.now;
+      net = terms.net.now;
+      agents = terms.agents;
     } };
 }
 
@@ -277,7 +277,7 @@ pub fn first_untimely(
         (stamps_in sealed.now.log turns.now) at.0 at.1)) }
 {
     let agents = sealed.setup().agents;
-    let course = DeliveryTerms {
+    let terms = DeliveryTerms {
         dealer: schedule.dealer,
         delays: schedule.delays,
         held: schedule.held,
@@ -285,5 +285,5 @@ pub fn first_untimely(
         agents,
     };
     let mut dues = Vec::from_elem(alloc, None, usize::from(agents))?;
-    Ok(course.first_untimely(&mut dues, sealed.log(), sealed.sites(), turns))
+    Ok(terms.first_untimely(&mut dues, sealed.log(), sealed.sites(), turns))
 }

@@ -11,9 +11,9 @@ ghost use Rattle.bhs_deal.specs.Delaying.{schedule_by, departed_in, drawn_in};
 use crate::dealers::Dealer;
 use crate::draws::Drawn;
 use crate::held::Held;
-use bhs_agent::Standing;
 use bhs_match::Match;
 use bhs_model::Event;
+use bhs_state::Standing;
 use bhs_time::Delays;
 
 /// What the oblivious schedule knows of a match besides its words.

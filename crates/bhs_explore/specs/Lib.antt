@@ -12,6 +12,7 @@ pub mod Endings
 pub mod Paths
 pub mod Lassos
 pub mod Graphs
+pub mod Keeping
 pub mod Results
 pub mod Counting
 pub mod Laws

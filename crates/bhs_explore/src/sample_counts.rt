@@ -4,23 +4,29 @@ ghost use Rattle.std.specs.Prelude.{◌≡◌, IsTrue, false};
 ghost use Rattle.bhs_explore.specs.Counting.{AreUpTo, GoesWith, IsWorst, is_excess, is_failure};
 
 use crate::results::Finding;
-use crate::sampling::{Objective, SampleRequest, SampleResult};
+use crate::sampling::{SampleRequest, SampleResult};
+use bhs_model::Objective;
 
 /// Whether each schedule was counted, one is told that fails exactly if some failed, and else the worst is told. An
 /// agent that wants more commands than its quota ends the drawing, so then nothing is asked.
-pub(crate) fn goes_with(drawn: &SampleResult, draws: SampleRequest) -> bool
-    ensures { IsTrue result → is_excess drawn.now.found ≡ false → GoesWith draws drawn.now }
+pub(crate) fn goes_with(sample: &SampleResult, request: SampleRequest) -> bool
+    ensures { IsTrue result → is_excess sample.now.found ≡ false → GoesWith request sample.now }
 {
-    if is_excess(&drawn.found) {
+    if is_excess(&sample.found) {
         return true;
     }
-    if u64::from(drawn.solved) + u64::from(drawn.failed) != u64::from(draws.schedules) {
+    if u64::from(sample.solved) + u64::from(sample.failed) != u64::from(request.schedules) {
         return false;
     }
-    if is_failure(&drawn.found) != (drawn.failed > 0) {
+    if is_failure(&sample.found) != (sample.failed > 0) {
         return false;
     }
-    is_worst(draws.hunt, &drawn.found, &drawn.moves, &drawn.lost)
+    is_worst(
+        request.objective,
+        &sample.found,
+        &sample.moves,
+        &sample.lost,
+    )
 }
 
 // Whether a schedule is told that fails, or under which an agent fails.
@@ -39,17 +45,17 @@ fn is_excess(found: &Finding) -> bool
 
 // Whether no schedule that was counted is worse than one that is told to be solved.
 fn is_worst(
-    hunt: Option<Objective>,
+    objective: Option<Objective>,
     found: &Finding,
     moves: &[(u32, u32)],
     lost: &[(u32, u32)],
 ) -> bool
-    ensures { IsTrue result → IsWorst hunt found.now moves.now lost.now }
+    ensures { IsTrue result → IsWorst objective found.now moves.now lost.now }
 {
     let Finding::Comes { verdict, .. } = found else {
         return true;
     };
-    match hunt {
+    match objective {
         Some(Objective::Lost) => are_up_to(u32::from(verdict.lost), lost),
         Some(Objective::Moves) => are_up_to(verdict.moves, moves),
         None => are_up_to(verdict.moves, moves),

@@ -3,7 +3,8 @@
 use crate::answers::Step;
 use crate::lookups::{get, set};
 use crate::state_graph::StateGraph;
-use bhs_agent::Standing;
+use bhs_model::Scheduler;
+use bhs_state::Standing;
 use bhs_world::World;
 use rand_chacha::ChaCha8Rng;
 use rand_core::SeedableRng;
@@ -15,22 +16,6 @@ const SPEEDS: [u32; 5] = [2, 30, 100, 100, 500];
 
 // The weights of sleepers.
 const WAKINGS: [u32; 2] = [1, 10];
-
-/// How the agent that moves next is drawn among those that can.
-#[derive(Clone, Copy, Debug, PartialEq, Eq)]
-pub enum Scheduler {
-    /// Each is as likely.
-    Fair,
-    /// Agents go as far as they can, and of those on links the one arrives that departed last.
-    LastDeparted,
-    /// One agent moves only if no other can. It is the one whose number is that of the schedule, counted round the
-    /// team.
-    Starved,
-    /// Some agents are slow to be answered, and some to arrive, for the whole schedule; sleepers wake seldom.
-    SlowAgents,
-    /// Some links are slow, each in its two directions, for the whole schedule.
-    SlowLinks,
-}
 
 /// Draws whose turn it is. What is drawn for a schedule is a function of the seed and of the schedule's number.
 #[derive(Drop)]
@@ -133,7 +118,7 @@ impl SchedulerState {
         let mut total = 0u32;
         for agent in 0..self.weights.len() {
             let local = get(row, agent);
-            let weight = if graph.lead(local).is_still {
+            let weight = if graph.summary(local).is_still {
                 0
             } else {
                 self.weight(graph, local, agent)
@@ -179,7 +164,7 @@ impl SchedulerState {
         let mut found = None;
         let mut latest = 0;
         for (departed, agent) in self.departed.iter().zip(0u16..) {
-            if graph.lead(get(row, usize::from(agent))).is_still {
+            if graph.summary(get(row, usize::from(agent))).is_still {
                 continue;
             }
             if found.is_none() || *departed > latest {

@@ -26,7 +26,7 @@ use Rattle.bhs_model.specs.Cuts.{node_reached}
 use Rattle.bhs_model.specs.Sites.{node_said, site, sites}
 use Rattle.bhs_model.proofs.AddLemmas.{kept-append}
 use Rattle.bhs_model.proofs.SiteLemmas.{length_sites, sites_more}
-use Rattle.bhs_agent.specs.Agents.{link_of}
+use Rattle.bhs_state.specs.Agents.{link_of}
 use Rattle.bhs_world.specs.Faults.{IsWithinLimits}
 use Rattle.bhs_world.specs.Tables.{Table, agent_at, board_at, world_in, StandsFor, keeps_next, log_after}
 use Rattle.bhs_world.proofs.ListLemmas.{each_set, lt_tells}

@@ -14,7 +14,7 @@ use Rattle.bhs_model.specs.Worlds.{World}
 use Rattle.bhs_model.specs.Runs.{Position, Before, At, Bound as OnLink, After, State, changed, position_after, is_bound}
 use Rattle.bhs_model.specs.Runs.{departed_after, told, arrived, delivered, arrives, heard, next}
 use Rattle.bhs_model.specs.Draws.{pool}
-use Rattle.bhs_agent.specs.Agents.{link_of}
+use Rattle.bhs_state.specs.Agents.{link_of}
 use Rattle.bhs_world.proofs.ListLemmas.{changed_same}
 use Rattle.bhs_match.specs.declared.pools.Bound.{Bound}
 use Rattle.bhs_match.specs.Matches.{bound_at, bounds}

@@ -14,7 +14,7 @@ use Rattle.bhs_model.specs.Kept.{kept}
 use Rattle.bhs_model.specs.Marks.{events_of}
 use Rattle.bhs_model.specs.Cuts.{node_reached}
 use Rattle.bhs_model.specs.Sites.{node_said, sites}
-use Rattle.bhs_agent.specs.Agents.{link_of}
+use Rattle.bhs_state.specs.Agents.{link_of}
 use Rattle.bhs_world.specs.Faults.{IsWithinLimits}
 use Rattle.bhs_world.specs.Tables.{Table, agent_at, world_in, StandsFor}
 use Rattle.bhs_match.specs.declared.pools.Bound.{Bound}

@@ -13,7 +13,7 @@ use Rattle.bhs_model.specs.Runs.{Position, Before, At, State, run}
 use Rattle.bhs_model.specs.Draws.{pool}
 use Rattle.bhs_model.specs.Setups.{world_of}
 use Rattle.bhs_model.specs.Marks.{events_of}
-use Rattle.bhs_agent.specs.Agents.{link_of}
+use Rattle.bhs_state.specs.Agents.{link_of}
 use Rattle.bhs_match.specs.declared.pools.Bound.{Bound}
 
 -- a network, how a match on it is set up, and its log

@@ -11,16 +11,16 @@ ghost use Rattle.bhs_model.specs.Marks.{events_of, read, read_if, text_at, board
 ghost use Rattle.bhs_model.specs.InOrder.{replies};
 ghost use Rattle.bhs_model.specs.Sites.{sites};
 ghost use Rattle.bhs_model.specs.Setups.{IsNormal};
-ghost use Rattle.bhs_agent.specs.Agents.{position_of};
+ghost use Rattle.bhs_state.specs.Agents.{position_of};
 ghost use Rattle.bhs_world.specs.Faults.{IsWithinLimits};
 ghost use Rattle.bhs_match.specs.Laws.{IsLogOf};
 ghost use Rattle.bhs_match.specs.Matches.{world_in, state_of, most_kept};
 
 use crate::games::Match;
 use crate::sites::Site;
-use bhs_agent::Standing;
 use bhs_model::{Kept, Mark, Reply, Setup};
 use bhs_net::{Memory, Net};
+use bhs_state::Standing;
 use std::marker::Model;
 
 /// A match that has ended, for reading alone.

@@ -4,8 +4,8 @@ ghost use Rattle.std.specs.Prelude.{◌≡◌, ◌<◌, IfSome};
 ghost use Rattle.bhs_net.specs.Network.{nodes_of};
 ghost use Rattle.bhs_match.specs.Keeping.{said_by, bound_for, site_by};
 
-use bhs_agent::Standing;
 use bhs_model::{Command, Event};
+use bhs_state::Standing;
 use bhs_world::World;
 use std::marker::Model;
 

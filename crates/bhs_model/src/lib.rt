@@ -13,6 +13,7 @@ mod limits;
 mod marks;
 mod port_marks;
 mod replies;
+mod schedules;
 mod setups;
 mod small;
 
@@ -29,5 +30,6 @@ pub use limits::{
 pub use marks::{Kept, Mark, read, text_at, text_shared};
 pub use port_marks::{is_port_marked, make_room, mark_port, no_port_marks};
 pub use replies::{Reply, Why};
+pub use schedules::{Objective, Scheduler};
 pub use setups::Setup;
 pub use small::is_small;

@@ -12,10 +12,10 @@ ghost use Rattle.bhs_referee.specs.Walks.{found_in};
 
 use crate::links::{is_dark, is_right, is_same_link};
 use crate::walks::Walk;
-use bhs_agent::Standing;
 use bhs_match::Sealed;
 use bhs_model::Setup;
 use bhs_net::Net;
+use bhs_state::Standing;
 
 /// Whether some accusation is wrong.
 pub(crate) fn is_wrong(net: &Net, setup: &Setup, walk: &Walk) -> bool

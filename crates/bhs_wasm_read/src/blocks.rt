@@ -197,7 +197,7 @@ impl<'m> Body<'m> {
         Ok(())
     }
 
-    /// Pops operands of these types, and pushes what was popped: an operand of which no type is known stays one.
+    /// Pops operands of these types, and pushes what was popped: an operand of unknown type stays so.
     pub(crate) fn pop_and_push(&mut self, values: &[ValueType]) -> Result<(), FaultKind>
         ensures { OnOk result (flow_of self.new
             ≡ specs.raised (length values.now) (specs.lowered (length values.now) (flow_of self.old))) }

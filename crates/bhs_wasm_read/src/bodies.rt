@@ -414,7 +414,7 @@ fn is_control(opcode: u8) -> bool
     matches!(opcode, 0x02..=0x11)
 }
 
-// The type of what is chosen between two values: that which is wanted, or else that of the value of which it is known.
+// The type of what is chosen between two values: the wanted type, or else the known type of one of the values.
 fn chosen_type(
     wanted: Option<ValueType>,
     value: ValueType,

@@ -11,7 +11,7 @@ use Rattle.bhs_model.specs.Runs.{is_doomed, is_let_through}
 use Rattle.bhs_model.specs.Runs.{run}
 use Rattle.bhs_model.specs.Kept.{destroys, keeps, lost}
 use Rattle.bhs_model.specs.Marks.{events_of}
-use Rattle.bhs_agent.specs.Agents.{AgentState}
+use Rattle.bhs_state.specs.Agents.{AgentState}
 use Rattle.bhs_world.specs.Tables.{Table, agent_at, world_in, Agrees, StandsFor}
 use Rattle.bhs_world.specs.Tables.{keeps_next}
 use Rattle.bhs_world.specs.Steps.{IsSound, heard_in, table_heard}

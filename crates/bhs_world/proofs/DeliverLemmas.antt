@@ -17,7 +17,7 @@ use Rattle.bhs_model.specs.Runs.{next, run, reply}
 use Rattle.bhs_model.specs.Kept.{destroys, lost_after, keeps, lost}
 use Rattle.bhs_model.specs.Marks.{events_of, read_if}
 use Rattle.bhs_model.specs.Places.{written, place_shown}
-use Rattle.bhs_agent.specs.Agents.{AgentState, newcomer}
+use Rattle.bhs_state.specs.Agents.{AgentState, newcomer}
 use Rattle.bhs_world.specs.Tables.{Table, agent_at, world_in, IsCourseOf, Agrees, IsNamed, StandsFor}
 use Rattle.bhs_world.specs.Steps.{mark_here}
 use Rattle.bhs_world.specs.Steps.{table_delivered, mark_delivered, table_after, mark_after}

@@ -14,8 +14,8 @@ use Rattle.bhs_model.specs.Setups.{normal, IsNormal, nodes_where, links_where}
 use Rattle.bhs_model.specs.Dooms.{Signs, AreSignsOf}
 use Rattle.bhs_model.specs.PortMarks.{mark_at}
 use Rattle.bhs_model.proofs.SameDoomLemmas.{same_holes, same_dark, is_named}
-use Rattle.bhs_agent.specs.Agents.{AgentState, newcomer}
-use Rattle.bhs_board.specs.Boards.{Whiteboard}
+use Rattle.bhs_state.specs.Agents.{AgentState, newcomer}
+use Rattle.bhs_state.specs.Boards.{Whiteboard}
 use Rattle.bhs_world.specs.Tables.{agent_at, board_at, untouched}
 use Rattle.bhs_world.specs.Steps.{IsPlaced, IsSound}
 use Rattle.bhs_world.proofs.ListLemmas.{lt_tells}

@@ -19,9 +19,9 @@ use Rattle.bhs_model.specs.Setups.{world_of}
 use Rattle.bhs_model.specs.Runs.{Position, Before, At, Bound, After, State, changed, sight_at, glance}
 use Rattle.bhs_model.specs.Runs.{last_writes_after}
 use Rattle.bhs_model.specs.Marks.{put_of, text_at, read}
-use Rattle.bhs_board.specs.declared.swaps.Swap.{Swap}
-use Rattle.bhs_board.specs.declared.swaps.Swap.TheVariants.{Long, Differs, Took}
-use Rattle.bhs_board.specs.Boards.{Whiteboard, last_after}
+use Rattle.bhs_state.specs.declared.swaps.Swap.{Swap}
+use Rattle.bhs_state.specs.declared.swaps.Swap.TheVariants.{Long, Differs, Took}
+use Rattle.bhs_state.specs.Boards.{Whiteboard, last_after}
 use Rattle.bhs_world.specs.Tables.{board_at, untouched, Shows, IsNamed}
 use Rattle.bhs_model.specs.Standings.{standing_at}
 use Rattle.bhs_world.specs.Steps.{IsPlaced, swap_at, board_written, boards_told, mark_here, mark_of_swap, mark_told}

@@ -14,9 +14,9 @@ use Rattle.bhs_model.specs.Worlds.{World}
 use Rattle.bhs_model.specs.Runs.{Position, Before, At, Bound, After, position_after}
 use Rattle.bhs_model.specs.Marks.{read, board_of}
 use Rattle.bhs_model.specs.Places.{is_written, is_at, place_shown}
-use Rattle.bhs_board.specs.declared.swaps.Swap.{Swap}
-use Rattle.bhs_board.specs.declared.swaps.Swap.TheVariants.{Long, Differs, Took}
-use Rattle.bhs_board.specs.Boards.{Whiteboard, last_after}
+use Rattle.bhs_state.specs.declared.swaps.Swap.{Swap}
+use Rattle.bhs_state.specs.declared.swaps.Swap.TheVariants.{Long, Differs, Took}
+use Rattle.bhs_state.specs.Boards.{Whiteboard, last_after}
 use Rattle.bhs_world.specs.Tables.{board_at, untouched}
 use Rattle.bhs_world.specs.Steps.{IsPlaced, swap_at, board_written, boards_told, mark_of_swap, mark_told}
 use Rattle.bhs_world.proofs.ListLemmas.{each_set}

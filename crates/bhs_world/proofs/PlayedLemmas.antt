@@ -14,8 +14,8 @@ use Rattle.bhs_model.specs.Kept.{lost_after, lost, nobody}
 use Rattle.bhs_model.specs.Marks.{events_of, read_if, board_of}
 use Rattle.bhs_model.specs.Places.{written_after, unwritten, written}
 use Rattle.bhs_model.specs.Places.{named, names}
-use Rattle.bhs_agent.specs.Agents.{AgentState}
-use Rattle.bhs_board.specs.Boards.{Whiteboard}
+use Rattle.bhs_state.specs.Agents.{AgentState}
+use Rattle.bhs_state.specs.Boards.{Whiteboard}
 use Rattle.bhs_world.specs.Tables.{Table, board_at, world_in, Agrees, IsNamed, StandsFor}
 use Rattle.bhs_world.specs.Tables.{keeps_next, log_after}
 use Rattle.bhs_world.proofs.GrowthLemmas.{run_from_more, lost_from_more, written_from_more, names_from_more}

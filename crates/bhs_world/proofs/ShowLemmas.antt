@@ -15,8 +15,8 @@ use Rattle.bhs_model.specs.Marks.{events_of, read}
 use Rattle.bhs_model.specs.Replying.{refusal}
 use Rattle.bhs_model.specs.Worlds.{World}
 use Rattle.bhs_model.specs.Runs.{Position, Before, At, Bound, After, run, reply}
-use Rattle.bhs_board.specs.declared.swaps.Swap.TheVariants.{Long, Differs, Took}
-use Rattle.bhs_board.specs.Boards.{Whiteboard}
+use Rattle.bhs_state.specs.declared.swaps.Swap.TheVariants.{Long, Differs, Took}
+use Rattle.bhs_state.specs.Boards.{Whiteboard}
 use Rattle.bhs_model.specs.Marks.{text_at}
 use Rattle.bhs_world.specs.Tables as tables
 use Rattle.bhs_world.specs.Tables.{Table, agent_at, board_at, world_in, StandsFor}

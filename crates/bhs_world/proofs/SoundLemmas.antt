@@ -11,8 +11,8 @@ use Rattle.bhs_model.specs.declared.commands.Command.TheVariants.{Enter, Look, W
 use Rattle.bhs_model.specs.declared.marks.Kept.{Kept}
 use Rattle.bhs_model.specs.Runs.{Position, Before, At, Bound, After, position_after}
 use Rattle.bhs_model.specs.Setups.{world_of}
-use Rattle.bhs_board.specs.Boards.{Whiteboard}
-use Rattle.bhs_agent.specs.Agents.{AgentState, newcomer}
+use Rattle.bhs_state.specs.Boards.{Whiteboard}
+use Rattle.bhs_state.specs.Agents.{AgentState, newcomer}
 use Rattle.bhs_world.specs.Tables.{Table, agent_at, board_at, untouched, world_in}
 use Rattle.bhs_world.specs.Steps.{IsSound, IsPlaced, agent_told, boards_told, board_written, table_heard}
 use Rattle.bhs_world.proofs.ListLemmas.{each_set, lt_tells}

@@ -25,7 +25,7 @@ use Rattle.bhs_model.specs.Kept.{lost}
 use Rattle.bhs_model.specs.Marks.{events_of, read, read_if, board_of}
 use Rattle.bhs_model.specs.Places.{is_written, is_at, written_after, written, position_by, place_shown}
 use Rattle.bhs_model.specs.Places.{named}
-use Rattle.bhs_agent.specs.Agents.{newcomer}
+use Rattle.bhs_state.specs.Agents.{newcomer}
 use Rattle.bhs_world.specs.Tables.{Table, agent_at, board_at, world_in, IsCourseOf, Shows, Agrees, IsNamed, StandsFor}
 use Rattle.bhs_model.specs.Standings.{standing_at}
 use Rattle.bhs_world.specs.Steps.{IsSound, agent_told, boards_told, hears_in, heard_in, table_heard}

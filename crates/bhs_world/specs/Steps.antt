@@ -19,10 +19,10 @@ use Rattle.bhs_model.specs.Runs.{Position, At, Bound, position_after}
 use Rattle.bhs_model.specs.Standings.{standing_at}
 use Rattle.bhs_model.specs.Setups.{IsNormal}
 use Rattle.bhs_model.specs.Marks.{text_at}
-use Rattle.bhs_agent.specs.Agents.{AgentState}
-use Rattle.bhs_board.specs.declared.swaps.Swap.{Swap}
-use Rattle.bhs_board.specs.declared.swaps.Swap.TheVariants.{Long, Differs, Took}
-use Rattle.bhs_board.specs.Boards.{Whiteboard, swap_of, last_after}
+use Rattle.bhs_state.specs.Agents.{AgentState}
+use Rattle.bhs_state.specs.declared.swaps.Swap.{Swap}
+use Rattle.bhs_state.specs.declared.swaps.Swap.TheVariants.{Long, Differs, Took}
+use Rattle.bhs_state.specs.Boards.{Whiteboard, swap_of, last_after}
 use Rattle.bhs_world.specs.Faults.{IsWithinLimits}
 use Rattle.bhs_world.specs.Tables.{Table, agent_at, board_at, world_in}
 

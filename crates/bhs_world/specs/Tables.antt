@@ -18,8 +18,8 @@ use Rattle.bhs_model.specs.Kept.{lost, keeps}
 use Rattle.bhs_model.specs.Places.{written, names}
 use Rattle.bhs_model.specs.Setups.{world_of}
 use Rattle.bhs_model.specs.Marks.{events_of, put_at, read_if, board_of}
-use Rattle.bhs_agent.specs.Agents.{AgentState, newcomer}
-use Rattle.bhs_board.specs.Boards.{Whiteboard}
+use Rattle.bhs_state.specs.Agents.{AgentState, newcomer}
+use Rattle.bhs_state.specs.Boards.{Whiteboard}
 
 -- a network, how a match on it is set up, its agents by number, its whiteboards by node, and whether it has ended
 pub record Table : Type 0 where

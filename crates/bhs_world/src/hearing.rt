@@ -5,15 +5,14 @@ ghost use Rattle.bhs_net.specs.Network.{nodes_of};
 ghost use Rattle.bhs_model.specs.Views.{counts};
 ghost use Rattle.bhs_model.specs.Replying.{accepts};
 ghost use Rattle.bhs_model.specs.Setups.{world_of};
-ghost use Rattle.bhs_agent.specs.Agents.{position_of};
+ghost use Rattle.bhs_state.specs.Agents.{position_of};
 ghost use Rattle.bhs_model.specs.Standings.{standing_at};
 ghost use Rattle.bhs_world.specs.Steps.{refusal_of, agent_told, mark_here, mark_of_swap, swap_at, board_written};
 ghost use Rattle.bhs_world.specs.Steps.{boards_told, mark_told, IsPlaced, shows_from};
 
-use bhs_agent::{Agent, Standing};
-use bhs_board::{Board, Swap};
 use bhs_model::{Command, Kept, MAX_QUOTA, Mark, Setup, Why, text_at};
 use bhs_net::Net;
+use bhs_state::{Agent, Board, Standing, Swap};
 
 /// Why a command is not heard of an agent in this standing; `room` says that its quota is not used up.
 pub(crate) fn refusal(standing: Standing, room: bool, command: &Command) -> Option<Why>

@@ -4,15 +4,14 @@ ghost use Rattle.std.specs.Prelude.{◌≡◌, ◌⊎◌, IfOk, IfErr, OnOk, IsT
 ghost use Rattle.bhs_net.specs.Network.{nodes_of};
 ghost use Rattle.bhs_model.specs.Dooms.{AreSignsOf};
 ghost use Rattle.bhs_model.specs.Setups.{normal};
-ghost use Rattle.bhs_agent.specs.Agents.{newcomer};
+ghost use Rattle.bhs_state.specs.Agents.{newcomer};
 ghost use Rattle.bhs_world.specs.Faults.{first_fault, is_hole_fit, are_holes_fit, is_port_of, are_links_fit};
 ghost use Rattle.bhs_world.specs.Faults.{IsWithinLimits};
 
 use crate::faults::SetupFault;
-use bhs_agent::Agent;
-use bhs_board::Board;
 use bhs_model::{Dooms, MAX_AGENTS, MAX_BOARD, MAX_QUOTA, Setup};
 use bhs_net::Net;
+use bhs_state::{Agent, Board};
 use std::alloc::{AllocError, Global};
 
 // Whether a black hole is a node other than home.

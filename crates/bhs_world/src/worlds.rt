@@ -13,17 +13,16 @@ ghost use Rattle.bhs_world.specs.Faults.{first_fault, IsWithinLimits};
 ghost use Rattle.bhs_world.specs.Tables.{agent_at, board_at, world_in, StandsFor, keeps_next, log_after};
 ghost use Rattle.bhs_world.specs.Tables.{is_of_board_if};
 ghost use Rattle.bhs_model.specs.Standings.{standing_at};
-ghost use Rattle.bhs_agent.specs.Agents.{newcomer, position_of};
+ghost use Rattle.bhs_state.specs.Agents.{newcomer, position_of};
 ghost use Rattle.bhs_world.specs.Steps.{IsSound, IsPlaced, refusal_of, hears_in, table_heard, mark_heard, table_after};
 ghost use Rattle.bhs_world.specs.Steps.{mark_after, mark_of_command, heard_in, keeps_delivered, keeps_in, shows_in};
 
 use crate::faults::SetupFault;
 use crate::hearing::{advance, answer, here, refusal, shows_from};
 use crate::making::{empty_boards, in_order, judged, newcomers};
-use bhs_agent::{Agent, Standing};
-use bhs_board::Board;
 use bhs_model::{Command, Dooms, Event, Kept, Mark, Setup, Why};
 use bhs_net::Net;
+use bhs_state::{Agent, Board, Standing};
 use std::alloc::Global;
 use std::marker::Model;
 

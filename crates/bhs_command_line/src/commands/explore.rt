@@ -107,5 +107,5 @@ pub(crate) const NEED_DRAWS: &str =
 /// The names of schedulers.
 pub(crate) const SCHEDULERS: &str = "fair, last-departed, starved, slow-agents, slow-links";
 
-/// The names of what is hunted for.
+/// The names of objectives.
 pub(crate) const HUNTS: &str = "moves, lost";

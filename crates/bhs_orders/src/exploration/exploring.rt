@@ -12,7 +12,7 @@ use crate::exploration::links::held_links;
 use crate::exploration::worlds::world_of;
 use crate::reporting::faults::{Fault, report};
 use crate::tournaments::checking::lineup_of;
-use bhs_command_line::{Drawing, Exploration, Objective, Scheduler};
+use bhs_command_line::{Drawing, Exploration};
 use bhs_explore::{ExploreFault, Explored, Explorer, SampleRequest};
 use bhs_lineup::Ready;
 use bhs_model::Text;
@@ -153,23 +153,11 @@ fn tried<R: Input, W: Output>(
 
 /// The schedules to draw, each of at most this many turns.
 pub(crate) fn draws_of(drawing: Drawing, turns: u32) -> SampleRequest {
-    let scheduler = match drawing.scheduler {
-        Scheduler::Fair => bhs_explore::Scheduler::Fair,
-        Scheduler::LastDeparted => bhs_explore::Scheduler::LastDeparted,
-        Scheduler::Starved => bhs_explore::Scheduler::Starved,
-        Scheduler::SlowAgents => bhs_explore::Scheduler::SlowAgents,
-        Scheduler::SlowLinks => bhs_explore::Scheduler::SlowLinks,
-    };
-    let hunt = match drawing.hunt {
-        Some(Objective::Moves) => Some(bhs_explore::Objective::Moves),
-        Some(Objective::Lost) => Some(bhs_explore::Objective::Lost),
-        None => None,
-    };
     SampleRequest {
         schedules: drawing.schedules,
         seed: u64::from(drawing.seed),
-        scheduler,
-        hunt,
+        scheduler: drawing.scheduler,
+        objective: drawing.objective,
         turns,
     }
 }

@@ -1,5 +1,5 @@
 use Rattle.std.proofs.Common.{◌≡◌, replicate}
-use Rattle.bhs_agent.specs.Agents.{newcomer}
+use Rattle.bhs_state.specs.Agents.{newcomer}
 use Rattle.bhs_world.proofs.making.newcomers.Given as goal
 
 abbrev pub invariant-loop : goal.invariant-loop

@@ -13,7 +13,7 @@ returns-clause-learns g c =
     (notes_in c.follow.new.search.graph) (notes_in c.found_of.new.search.graph) (ap notes_in c.found_of.ensures.graph)
     (learns_on g.T.Team.answers c.args.team.now c.all_played.new.team c.follow.new.team
     (notes_in c.self.inside.search.graph) (notes_in c.all_played.new.search.graph)
-    (notes_in c.follow.new.search.graph) c.in_ok-drawer.ensures.learns c.in_ok-follow.ensures.learns))
+    (notes_in c.follow.new.search.graph) c.in_ok-sampler.ensures.learns c.in_ok-follow.ensures.learns))
 
 pub returns-clause-some : goal.returns-clause-some
 returns-clause-some g c = once_answered _ (c.in_ok-is_asked_once.ensures c.if-not-branch.false)

@@ -1,5 +1,0 @@
-use Rattle.bhs_bounds.proofs.BesideHalves.{halves_on_eight}
-use Rattle.bhs_bounds.proofs.worked_examples.Goals as goal
-
-pub returns : goal.returns
-returns c = halves_on_eight

@@ -1,0 +1,20 @@
+//! How many agents a search without a map needs. The functions do nothing: their contracts are laws.
+
+#![tactic(auto)]
+
+ghost use Rattle.bhs_protocols_unmapped.specs.Unmapped.{HalvesSolveNetworks, ManyAgentsAreNeeded};
+ghost use Rattle.bhs_protocols_unmapped.specs.Unmapped.{ManyAgentsAreNeededToFind};
+
+pub mod laws;
+
+/// No team of as many agents as a node has links finds the black hole on all networks of this degree without a map, so
+/// none solves them all.
+pub fn many_agents_are_needed()
+    ensures finds { ManyAgentsAreNeededToFind }
+    ensures solves { ManyAgentsAreNeeded }
+{}
+
+/// Two agents that search by halves solve all networks whose greatest degree is 2.
+pub fn two_agents_suffice_on_rings()
+    ensures { HalvesSolveNetworks }
+{}

@@ -1,0 +1,43 @@
+-- An agent of a match.
+use Rattle.std.specs.Prelude.{ℕ, Bool, false, true, Option, Some, None}
+use Rattle.bhs_model.specs.Runs.{Position, Before, At, Bound, After}
+use Rattle.bhs_state.specs.declared.standings.Standing.{Standing}
+use Rattle.bhs_state.specs.declared.standings.Standing.TheVariants.{Outside, Present, Away, Ended}
+
+-- where an agent is, how many commands it has used of its quota, and whether it is lost
+pub record AgentState : Type 0 where
+  pub position : Position
+  pub used : ℕ
+  pub lost : Bool
+
+-- an agent at first
+abbrev pub newcomer : AgentState
+newcomer = record { position = Before; used = 0; lost = false }
+
+-- the position that a standing tells
+abbrev pub position_of : Standing → Position
+position_of Outside = Before
+position_of (Present node came) = At node came
+position_of (Away node port) = Bound node port
+position_of Ended = After
+
+-- the node where the agent is
+abbrev pub node_of : Position → Option ℕ
+node_of (At node came) = Some node
+node_of position = None
+
+-- the label of the link by which it came there
+abbrev pub label_of : Position → Option ℕ
+label_of (At node came) = came
+label_of position = None
+
+-- the departure node and port of the link that it is on
+abbrev pub link_of : Position → Option (ℕ × ℕ)
+link_of (Bound node port) = Some (node, port)
+link_of position = None
+
+-- whether it has entered and not ended
+abbrev pub is_inside : Position → Bool
+is_inside (At node came) = true
+is_inside (Bound node port) = true
+is_inside position = false

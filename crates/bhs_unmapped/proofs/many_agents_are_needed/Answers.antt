@@ -1,5 +1,0 @@
-use Rattle.bhs_unmapped.proofs.UnmappedLemmas.{many_agents_are_needed_to_find, many_agents_are_needed}
-use Rattle.bhs_unmapped.proofs.many_agents_are_needed.Goals as goal
-
-pub returns : goal.returns
-returns c = record { finds = many_agents_are_needed_to_find; solves = many_agents_are_needed }
