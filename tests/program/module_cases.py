@@ -338,6 +338,30 @@ def writing(text: bytes) -> bytes:
     )
 
 
+@case("agents fail whose Write makes a line of more than 65,536 bytes, with escapes")
+def long_lines(stage: Stage) -> None:
+    room = 65_536 - len('{"do":"write","expect":"","put":""}')
+    for byte, width in ((0x61, 1), (0x22, 2), (0, 6)):
+        most = room // width
+        for old in (0, most // 2, most):
+            for more, found in (
+                (0, b'"outcome":"silent"'),
+                (1, b'"failure":"command"'),
+            ):
+                ran = tried(stage, filling(byte, old, most - old + more))
+                if ran.status != FAILING or found not in ran.printed:
+                    raise Wrong(f"{byte}, {old}, {more}: {ran.printed!r}")
+
+
+def filling(byte: int, expect: int, put: int) -> bytes:
+    """A module that enters, and writes so many bytes in place of so many, all alike."""
+    enters, writes_it = (CALL + bytes([place]) for place in range(2))
+    fills = constant(I32, 0) + constant(I32, byte) + constant(I32, 65_536) + FILL
+    texts = (constant(I32, 0) + constant(I32, length) for length in (expect, put))
+    body = enters + DROP + fills + b"".join(texts) + writes_it + DROP
+    return running(body, "enter", "write")
+
+
 @case("agents whose memory grows are explored until memory runs out, and no longer")
 def grown(stage: Stage) -> None:
     enters, looks = (CALL + bytes([place]) + DROP for place in range(2))

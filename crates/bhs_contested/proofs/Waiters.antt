@@ -1,8 +1,9 @@
 -- Programs whose agents wait once they have departed.
 use Rattle.std.proofs.Common.{ℕ, ◌≡◌, Bool, true, false, ◌==◌, Option, Some, None, List, refl}
-use Rattle.std.proofs.Common.{nat_lt, if◌then◌else◌, unwrap_or}
+use Rattle.std.proofs.Common.{nat_le, nat_lt, if◌then◌else◌, unwrap_or}
 use Rattle.bhs_model.specs.declared.commands.Command.{Command}
 use Rattle.bhs_model.specs.declared.commands.Command.TheVariants.{Depart, Accuse}
+use Rattle.bhs_model.specs.declared.limits.TheConstants.{MAX_LINE}
 use Rattle.bhs_model.specs.declared.replies.Reply.TheVariants.{Gone}
 use Rattle.bhs_model.proofs.LegalLemmas.{either}
 use Rattle.bhs_explore.specs.declared.answers.Step.{Step}
@@ -25,7 +26,7 @@ use Rattle.bhs_wasm.specs.Contents.{Contents}
 use Rattle.bhs_wasm.specs.States.{State, operand}
 use Rattle.bhs_wasm_team.specs.declared.saving.Status.{Status}
 use Rattle.bhs_wasm_team.specs.declared.saving.Status.TheVariants as statuses
-use Rattle.bhs_wasm_team.specs.Agents.{said, writes, text_in, does, does_at, after_at, memory_after}
+use Rattle.bhs_wasm_team.specs.Agents.{said, writes, write_length, text_in, does, does_at, after_at, memory_after}
 use Rattle.bhs_contested.specs.Contests.{WaitsOnLinks}
 use Rattle.bhs_contested.specs.Instances.{ProgramsWait}
 
@@ -79,16 +80,21 @@ waits_shuttle n m ways.Ends port is = absurd (cc)
 
 -- ---- modules
 
+not_if : (b : Bool) (step : Step) {doing : Step} → (step ≡ doing → ⊥) → (Fails ≡ doing → ⊥)
+    → unwrap_or (if b then Some step else None) Fails ≡ doing → ⊥
+not_if true step says fails is = says is
+not_if false step says fails is = fails is
+
 not_write : (expect put : Option (List ℕ)) (port : ℕ) → unwrap_or (writes expect put) Fails ≡ Says (Depart port) → ⊥
 not_write None None port is = cc
 not_write None (Some put) port is = cc
 not_write (Some expect) None port is = cc
-not_write (Some expect) (Some put) port is = cc
+not_write (Some expect) (Some put) port is =
+    not_if (nat_le (write_length expect put) MAX_LINE) _ (λ said. cc) (λ said. cc) is
 
 not_accuse : (b : Bool) (at port : ℕ)
     → unwrap_or (if b then Some (Says (Accuse at)) else None) Fails ≡ Says (Depart port) → ⊥
-not_accuse true at port is = cc
-not_accuse false at port is = cc
+not_accuse b at port is = not_if b (Says (Accuse at)) (λ said. cc) (λ said. cc) is
 
 abbrev waits_by : Contents → (fuel : ℕ) → Status → State → Type 0
 waits_by program fuel status state = does (after_at program fuel status state (Heard Gone)) ≡ Stops

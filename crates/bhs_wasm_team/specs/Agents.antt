@@ -1,9 +1,11 @@
 -- Agents that run a module: their memories, what they do next, and their memories after something has happened.
-use Rattle.std.specs.Prelude.{ℕ, ◌-◌, ◌^◌, Bool, true, false, nat_lt, nat_le, Option, Some, None, List, []}
-use Rattle.std.specs.Prelude.{◌∷◌}
+use Rattle.std.specs.Prelude.{ℕ, ◌+◌, ◌-◌, ◌^◌, Bool, true, false, nat_lt, nat_le, Option, Some, None, List, []}
+use Rattle.std.specs.Prelude.{◌∷◌, length}
 use Rattle.std.specs.Prelude.{if◌then◌else◌, unwrap_or, ◌&&◌}
 use Rattle.std.specs.Str.{is_utf8}
+use Rattle.json.specs.Print.{escape}
 use Rattle.bhs_model.specs.declared.commands.Command.TheVariants as commands
+use Rattle.bhs_model.specs.declared.limits.TheConstants.{MAX_LINE}
 use Rattle.bhs_model.specs.declared.replies.Reply.TheVariants as replies
 use Rattle.bhs_explore.specs.declared.answers.Step.{Step}
 use Rattle.bhs_explore.specs.declared.answers.Step.TheVariants as steps
@@ -73,12 +75,19 @@ in_utf8 (Some bytes) = if is_utf8 bytes then Some bytes else None
 abbrev pub text_in : (at count : ℕ) → State → Option (List ℕ)
 text_in at count state = if nat_le count 65536 then in_utf8 (bytes_in at count state) else None
 
+-- The length of the line by which a client writes: braces, keys and quotation marks have 35 bytes, and in the texts
+-- some bytes are escaped.
+abbrev pub write_length : (expect put : List ℕ) → ℕ
+write_length expect put = 35 + (length (escape expect) + length (escape put))
+
+-- a command to write, if both are texts, and a server takes its line
 abbrev pub writes : Option (List ℕ) → Option (List ℕ) → Option Step
-writes (Some expect) (Some put) = Some (steps.Says (commands.Write expect put))
+writes (Some expect) (Some put) =
+    if nat_le (write_length expect put) MAX_LINE then Some (steps.Says (commands.Write expect put)) else None
 writes expect put = None
 
 -- What an agent does that has called this: it says a command, or sleeps. None if this is no command, the port is no
--- port, or a text lies outside of the memory or is not in UTF-8.
+-- port, a text lies outside of the memory or is not in UTF-8, or the line of a Write is longer than a server takes.
 abbrev pub said : HostFunction → State → Option Step
 said imports.Enter state = Some (steps.Says commands.Enter)
 said imports.Look state = Some (steps.Says commands.Look)

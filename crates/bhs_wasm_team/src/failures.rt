@@ -9,7 +9,8 @@ pub enum FailureCause {
     Fuel,
     /// An instruction trapped.
     Trap,
-    /// A port is no port, or a text lies outside of the memory or is not in UTF-8.
+    /// A port is no port, a text lies outside of the memory or is not in UTF-8, or the line of a Write is longer than a
+    /// server takes.
     Command,
 }
 

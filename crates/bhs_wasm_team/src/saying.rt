@@ -1,15 +1,20 @@
 //! What agents say, and what replies tell them.
 
-ghost use Rattle.std.specs.Prelude.{◌≡◌, ℕ, List, IfOk, OnOk, if◌then◌else◌, Some, None};
+ghost use Rattle.std.specs.Prelude.{◌≡◌, ◌-◌, ℕ, nat_le, List, length, IfOk, OnOk, if◌then◌else◌, Some, None};
 ghost use Rattle.std.specs.Str.{is_utf8};
+ghost use Rattle.json.specs.Print.{escape, escape_byte};
+ghost use Rattle.bhs_model.specs.declared.limits.TheConstants.{MAX_LINE};
 ghost use Rattle.bhs_explore.specs.Dialogues.{item_with};
 ghost use Rattle.bhs_wasm.specs.States.{state_of};
 ghost use Rattle.bhs_wasm_team.specs.Agents as specs;
 
 use bhs_explore::{Latest, Step};
-use bhs_model::{Command, Mark, Text};
+use bhs_model::{Command, MAX_LINE, Mark, Text};
 use bhs_wasm::{HostFunction, Interpreter};
 use std::alloc::{AllocError, Global};
+
+// How many bytes the line by which a client writes has beside the texts: its braces, keys and quotation marks.
+const WRITE_FRAME: usize = 35;
 
 /// Notes what a reply says.
 pub(crate) fn see(
@@ -95,7 +100,8 @@ pub(crate) fn number_of(latest: Latest) -> u32
     }
 }
 
-/// What an agent does that has called this. None if it is no command, the port is no port, or a text is none.
+/// What an agent does that has called this. None if it is no command, the port is no port, a text is none, or the line
+/// of a Write is longer than a server takes.
 pub(crate) fn said_by(
     alloc: Global,
     interpreter: &Interpreter,
@@ -145,9 +151,50 @@ fn written(alloc: Global, interpreter: &Interpreter) -> Result<Option<Step>, All
         interpreter.operand(1),
         interpreter.operand(0),
     )?;
-    match (expect, put) {
-        (Some(expect), Some(put)) => Ok(Some(Step::Says(Command::Write { expect, put }))),
-        _ => Ok(None),
+    let (Some(expect), Some(put)) = (expect, put) else {
+        return Ok(None);
+    };
+    if !is_line(expect.as_str(), put.as_str()) {
+        return Ok(None);
+    }
+    Ok(Some(Step::Says(Command::Write { expect, put })))
+}
+
+// Whether a server takes the line by which a client writes.
+fn is_line(expect: &str, put: &str) -> bool
+    ensures { result ≡ nat_le (specs.write_length expect.now put.now) MAX_LINE }
+{
+    match room_after(MAX_LINE - WRITE_FRAME, expect) {
+        Some(room) => room_after(room, put).is_some(),
+        None => false,
+    }
+}
+
+// What is left of this many bytes after a text in a JSON string. None if the text needs more.
+fn room_after(room: usize, text: &str) -> Option<usize>
+    ensures { result ≡ (if nat_le (length (escape text.now)) room then Some (room - length (escape text.now))
+        else None) }
+{
+    let mut left = room;
+    for byte in text.as_bytes() {
+        let width = width_of(*byte);
+        if width > left {
+            return None;
+        }
+        left -= width;
+    }
+    Some(left)
+}
+
+// How many bytes stand for a byte in a JSON string.
+#[tactic(auto, unfolding(json::specs::Print::escape_byte))]
+fn width_of(byte: u8) -> usize
+    ensures { result ≡ length (escape_byte byte) }
+{
+    match byte {
+        8 | 9 | 10 | 12 | 13 | b'"' | b'\\' => 2,
+        0..32 => 6,
+        _ => 1,
     }
 }
 
