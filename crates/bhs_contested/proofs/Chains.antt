@@ -7,7 +7,8 @@ use Rattle.serde_json.specs.Read.{read}
 use Rattle.serde_json.specs.Written.{compact_text}
 use Rattle.bhs_model.specs.declared.commands.Command.{Command}
 use Rattle.bhs_model.specs.declared.replies.Reply.{Reply}
-use Rattle.bhs_wire.specs.First.{first_of_read}
+use Rattle.bhs_wire.specs.First.{first_of_read, says_as}
+use Rattle.bhs_wire.specs.declared.kinds.LineKind.{LineKind}
 use Rattle.bhs_wire.specs.declared.kinds.LineKind.TheVariants.{Whole}
 use Rattle.bhs_wire.specs.LineKind.{line_kind}
 use Rattle.bhs_wire.specs.Lines.{Line, lines, rest, rest_after, found_in, as_held}
@@ -22,7 +23,7 @@ use Rattle.bhs_searcher.specs.CommandLines.{data_of, PortFits}
 use Rattle.bhs_searcher.specs.Talks.{IsLineOf, Talks, Meets, begins, goes_on, speaks}
 use Rattle.bhs_searcher.proofs.CommandLemmas.{first_in-data_of, is_plain}
 use Rattle.bhs_searcher.proofs.ReplyLemmas.{reply_on-line}
-use Rattle.bhs_contested.specs.Contests.{Transcript, unused, Writes, Reads}
+use Rattle.bhs_searcher.specs.Transcripts.{Transcript, unused, Writes, Reads}
 use Rattle.bhs_contested.proofs.Spelling.{commands_said, reply_flat}
 
 -- lines behind whole lines
@@ -55,8 +56,9 @@ pub record IsSpelled (key : List ℕ) (command : Command) : Type 0 where
 line_is : (key : List ℕ) (command : Command) → IsSpelled key command
     → IsLineOf key command (compact_text (data_of key command))
 line_is key command spelled = record {
-  means = ap (λ b. first_of_read (cond b (read (compact_text (data_of key command))) None)) spelled.utf8
-      ∙ ap first_of_read spelled.reads ∙ first_in-data_of key command spelled.fits;
+  means = ap (λ (kind : LineKind). says_as kind (compact_text (data_of key command))) spelled.kind
+      ∙ ap Some (ap (λ b. first_of_read (cond b (read (compact_text (data_of key command))) None)) spelled.utf8
+      ∙ ap first_of_read spelled.reads ∙ first_in-data_of key command spelled.fits);
   flat = text_flat (data_of key command) (is_plain key command spelled.fits);
 }
 
@@ -70,7 +72,7 @@ says_then strategy key history said heard command reply says spelled fits talked
     let told : Transcript = record talked.transcript { said = talked.transcript.said ++ (line ++ 10 ∷ []) } in
     let new : Transcript = record told { heard = told.heard ++ (line_of reply ++ 10 ∷ []) } in
     let meets : Meets Writes Reads key (Says command) talked.transcript (Heard reply) new =
-    speaks reply told new (line, line_is key command spelled, (spelled.kind, refl))
+    speaks reply told new (line, line_is key command spelled, refl)
     (line_of reply, reply_on-line reply fits, (reply_flat reply fits, refl)) in
     record {
       transcript = new;
@@ -81,7 +83,7 @@ says_then strategy key history said heard command reply says spelled fits talked
           ∙ ap (λ (first : List Command). first ++ map command_of (lines (line ++ 10 ∷ []))) talked.said_is
           ∙ ap (λ (last : List Command). said ++ last)
           (ap (λ (bytes : List ℕ). map command_of (lines bytes)) (sym (append-nil (line ++ 10 ∷ [])))
-          ∙ commands_said key line [] command (line_is key command spelled) spelled.kind);
+          ∙ commands_said key line [] command (line_is key command spelled));
       whole = rest_after-append [] talked.transcript.said (line ++ 10 ∷ [])
           ∙ rest_of_line talked.transcript.said line talked.whole;
       heard_is = ap (λ (bytes : List ℕ). bytes ++ text_of reply) talked.heard_is;

@@ -33,12 +33,13 @@ use Rattle.bhs_theorems.specs.Met.{Meeting, Hears, Refuses, Arrives, view_from, 
 use Rattle.bhs_theorems.specs.ContestMet.{Attended, TookPart, IsLeftAs, IsLeftAway, IsSentAsMet, is_whole, AreSaid}
 use Rattle.bhs_theorems.proofs.ContestMetLemmas.{sent_as_met_lemma}
 use Rattle.bhs_contested.specs.Contests.{IsPlayedOut, IsPlayedBy, IsPlayedIn, IsPlainMatch, IsOrderly, trial_in}
-use Rattle.bhs_contested.specs.Contests.{ContestsAreSolved, ContestsAreNeverWrong}
+use Rattle.bhs_contested.specs.Contests.{ContestsAreSolved, ContestsAreNeverWrong, ContestsStayWithin}
 use Rattle.bhs_contested.proofs.Steps.{steps, steps_met, steps-view_from}
 use Rattle.bhs_contested.proofs.Doings.{Doing, met_in, naps_in, Follows, with_arrival, arrival_met, arrival_naps}
 use Rattle.bhs_contested.proofs.Doings.{arrival_follows}
 use Rattle.bhs_contested.proofs.Scenes.{Keeps, IsPlayedTo}
 use Rattle.bhs_contested.proofs.Heart.{heart}
+use Rattle.bhs_contested.proofs.Early.{within_early}
 use Rattle.bhs_contested.proofs.Final.{judged, never_wrong}
 use Rattle.bhs_contested.proofs.Talking.{spoken, naps_spoken}
 use Rattle.bhs_contested.proofs.Plain.{IsPlainPast, plain_past, plain_met}
@@ -282,5 +283,11 @@ contests_are_solved play held wakeups strategies moves lost clients played plain
 pub contests_are_never_wrong : ContestsAreNeverWrong
 contests_are_never_wrong play held wakeups strategies moves lost clients played plain orderly solves rests =
     never_wrong (trial_in play held wakeups strategies) (λ agent. (state_of play).past agent) moves lost solves rests
+    (events_of play.log)
+    (played_to play held wakeups strategies plain moves lost clients played orderly solves rests)
+
+pub contests_stay_within : ContestsStayWithin
+contests_stay_within play held wakeups strategies moves lost clients played plain orderly solves rests =
+    within_early (trial_in play held wakeups strategies) (λ agent. (state_of play).past agent) moves lost solves rests
     (events_of play.log)
     (played_to play held wakeups strategies plain moves lost clients played orderly solves rests)

@@ -4,10 +4,12 @@ use Rattle.std.specs.Prelude.{slice_get, option_map}
 use Rattle.std.proofs.lemmas.Option.{get_or_from_slice_get, slice_get-map}
 use mathlib.Core.Path.{fun_ext}
 use Rattle.bhs_net.specs.Network.{Network}
+use Rattle.bhs_match.specs.Matches.{Play}
 use Rattle.bhs_model.specs.declared.setups.Setup.{Setup}
 use Rattle.bhs_wasm.specs.Contents.{Contents, contents_of}
 use Rattle.bhs_explore.specs.declared.results.Bounds.{Bounds}
 use Rattle.bhs_explore.specs.Answers.{is_held}
+use Rattle.bhs_explore.specs.Schedules.{Trial}
 use Rattle.bhs_explore.specs.Strategies.{Strategies, Strategy}
 use Rattle.bhs_wasm_read.specs.Modules.{module_in}
 use Rattle.bhs_wasm_team.specs.declared.agents.Role.{Role}
@@ -17,9 +19,9 @@ use Rattle.bhs_wasm_team.specs.Agents.{strategy_of}
 use Rattle.bhs_wasm_team.specs.Laws.{IsSolved, trial_in as trial_of_roles}
 use Rattle.bhs_wasm_team.specs.Roles.{all_roles, role_at, role_of, role_number, strategies_in}
 use Rattle.bhs_orders.specs.ModuleExploration.{ModuleLine, arguments_of, programs_of}
-use Rattle.bhs_contested.specs.Contests.{WaitsOnLinks, trial_in}
-use Rattle.bhs_contested.specs.ModuleContests.{ModulesSolveContests, RunsItsFile}
-use Rattle.bhs_contested.proofs.Contest.{contests_are_solved}
+use Rattle.bhs_contested.specs.Contests.{IsOrderly, WaitsOnLinks, trial_in}
+use Rattle.bhs_contested.specs.ModuleContests.{IsModuleContest, ModulesAreNeverWrong, ModulesSolveContests, RunsItsFile}
+use Rattle.bhs_contested.proofs.Contest.{contests_are_solved, contests_are_never_wrong, contests_stay_within}
 use Rattle.bhs_contested.proofs.Orderly.{waiters_are_orderly}
 use Rattle.bhs_contested.proofs.Waiters.{programs_wait}
 
@@ -67,21 +69,46 @@ module _ (lines : List ModuleLine) (roles : Roles)
   strategies_are strategies run =
       sym (fun_ext (λ (agent : ℕ). runs_its_role agent (strategies agent) (run agent)))
 
+module _ (play : Play) (bounds : Bounds) (it : IsModuleContest play bounds) where
+  abbrev links : List (ℕ × ℕ)
+  links = it.report.is_found.links
+
+  abbrev wakeups : ℕ
+  wakeups = it.exploration.wakeups
+
+  abbrev trial : Trial
+  trial = trial_in play (is_held links) wakeups it.strategies
+
+  same : strategies_in it.roles FUEL ≡ it.strategies
+  same = strategies_are it.report.lines it.roles it.report.are (it.report.have ∙ sym it.all) it.strategies it.runs
+
+  by : IsSolved trial bounds
+  by =
+      let solved : IsSolved (trial_of_roles play.net play.setup links wakeups it.roles FUEL) bounds =
+      subst (λ (n : Network). IsSolved (trial_of_roles n play.setup links wakeups it.roles FUEL) bounds) it.net
+      (subst (λ (s : Setup). IsSolved (trial_of_roles it.ready.game.net s links wakeups it.roles FUEL) bounds) it.setup
+      (it.report.is_found.is_found.solved bounds it.solves)) in
+      subst (λ (s : Strategies). IsSolved (trial_in play (is_held links) wakeups s) bounds) same solved
+
+  orderly : IsOrderly trial
+  orderly =
+      let waits : (agent : ℕ) → WaitsOnLinks (it.strategies agent) = λ agent. subst WaitsOnLinks
+      (ap (λ (s : Strategies). s agent) same) (programs_wait.modules_wait (contents_of (role_of it.roles agent).program)
+      (role_of it.roles agent).arguments.items FUEL) in
+      waiters_are_orderly trial it.enters waits
+
 pub modules_solve_contests : ModulesSolveContests
-modules_solve_contests play ready exploration roles arguments text code bounds strategies clients report all told net
-    setup run begin played plain done =
-    let links : List (ℕ × ℕ) = report.is_found.links in
-    let wakeups : ℕ = exploration.wakeups in
-    let solved : IsSolved (trial_of_roles play.net play.setup links wakeups roles FUEL) bounds =
-    subst (λ (n : Network). IsSolved (trial_of_roles n play.setup links wakeups roles FUEL) bounds) net
-    (subst (λ (s : Setup). IsSolved (trial_of_roles ready.game.net s links wakeups roles FUEL) bounds) setup
-    (report.is_found.is_found.solved bounds told)) in
-    let same : strategies_in roles FUEL ≡ strategies =
-    strategies_are report.lines roles report.are (report.have ∙ sym all) strategies run in
-    let by : IsSolved (trial_in play (is_held links) wakeups strategies) bounds =
-    subst (λ (s : Strategies). IsSolved (trial_in play (is_held links) wakeups s) bounds) same solved in
-    let waits : (agent : ℕ) → WaitsOnLinks (strategies agent) = λ agent. subst WaitsOnLinks
-    (ap (λ (s : Strategies). s agent) same) (programs_wait.modules_wait (contents_of (role_of roles agent).program)
-    (role_of roles agent).arguments.items FUEL) in
-    contests_are_solved play (is_held links) wakeups strategies bounds.moves bounds.lost clients played plain done
-    (waiters_are_orderly (trial_in play (is_held links) wakeups strategies) begin waits) by.solves by.rests
+modules_solve_contests play bounds it done =
+    contests_are_solved play (is_held (links play bounds it)) (wakeups play bounds it) it.strategies bounds.moves
+    bounds.lost it.clients it.played it.plain done (orderly play bounds it) (by play bounds it).solves
+    (by play bounds it).rests
+
+pub modules_are_never_wrong : ModulesAreNeverWrong
+modules_are_never_wrong play bounds it = (
+  contests_are_never_wrong play (is_held (links play bounds it)) (wakeups play bounds it) it.strategies bounds.moves
+      bounds.lost it.clients it.played it.plain (orderly play bounds it) (by play bounds it).solves
+      (by play bounds it).rests,
+  contests_stay_within play (is_held (links play bounds it)) (wakeups play bounds it) it.strategies bounds.moves
+      bounds.lost it.clients it.played it.plain (orderly play bounds it) (by play bounds it).solves
+      (by play bounds it).rests,
+)

@@ -1,5 +1,5 @@
 -- What is found in events is found in those that are kept.
-use Rattle.std.proofs.Common.{ℕ, ◌≡◌, ◌∙◌, Bool, false, not, Option, None, List, [], ◌∷◌, refl, sym, ap, ap₂}
+use Rattle.std.proofs.Common.{ℕ, ◌≡◌, ◌∙◌, Bool, false, not, Option, List, [], ◌∷◌, refl, sym, ap, ap₂}
 use Rattle.std.proofs.Common.{nat_lt}
 use Rattle.std.proofs.lemmas.Bool.{true≢false, cond_both, or_parts, and_from}
 use Rattle.bhs_model.specs.declared.commands.Command.{Command}

@@ -6,6 +6,7 @@ pub mod Scenes
 pub mod Heart
 pub mod Findings
 pub mod Final
+pub mod Early
 pub mod Spelling
 pub mod Talking
 pub mod Plain
@@ -13,7 +14,7 @@ pub mod PlayingOut
 pub mod Contest
 pub mod Orderly
 pub mod Waiters
-pub mod HalvesContest
+pub mod InstanceLemmas
 pub mod FileContest
 pub mod Chains
 pub mod ExampleLemmas

@@ -184,7 +184,7 @@ module _ (strategy : Strategy) (key : List ℕ) (quota limit : ℕ) (last : List
       let all : first ∷ others ≡ command ∷ map command_of (lines more) =
       lines_are ∙ ap (λ (bytes : List ℕ). map command_of (lines bytes))
       (said_is ∙ ap (λ (bytes : List ℕ). bytes ++ more) spoken.is)
-      ∙ commands_said key spoken.line more command spoken.is_line spoken.whole in
+      ∙ commands_said key spoken.line more command spoken.is_line in
       let same : command ≡ first = cc in
       rest (is ∙ ap Says same) (cc)
   hears_command history view meeting met most own more said first others takes Stops is spoken said_is lines_are rest =

@@ -2,21 +2,21 @@
 use Rattle.std.proofs.Common.{ℕ, ◌≡◌, ◌∙◌, Bool, true, ◌||◌, Some, None, List, [], ◌∷◌, ◌++◌}
 use Rattle.std.proofs.Common.{map, refl, sym, ap, ap₂, subst, arith, append_assoc}
 use Rattle.std.specs.List.{list_any}
+use Rattle.std.specs.Prelude.{Option, option_to_list}
+use Rattle.std.proofs.lemmas.List.{map-append}
+use Rattle.std.proofs.lemmas.Simd.{map-map}
 use Rattle.std.proofs.lemmas.Bool.{true≢false, or_parts}
 use Rattle.bhs_model.specs.declared.commands.Command.{Command}
 use Rattle.bhs_model.specs.declared.commands.Command.TheVariants.{Enter, Look, Write, Depart, Accuse, Leave, Bad}
 use Rattle.bhs_model.specs.declared.replies.Reply.{Reply}
 use Rattle.bhs_model.specs.declared.replies.Reply.TheVariants as replies
 use Rattle.bhs_wire.specs.declared.commands.First.{First}
-use Rattle.bhs_wire.specs.declared.kinds.LineKind.{LineKind}
-use Rattle.bhs_wire.specs.declared.kinds.LineKind.TheVariants.{Whole}
-use Rattle.bhs_wire.specs.LineKind.{line_kind}
-use Rattle.bhs_wire.specs.Lines.{is_line_feed, given_as, lines}
+use Rattle.bhs_wire.specs.Lines.{is_line_feed, given, lines, said_by}
 use Rattle.bhs_wire.specs.Reply.{line as line_of}
 use Rattle.bhs_wire.specs.ReplyNumbers.{NumbersFit}
 use Rattle.bhs_wire.proofs.ReplyLines.{compact_text-data_of}
 use Rattle.bhs_wire.proofs.ReplyData.{data_of}
-use Rattle.bhs_wire.proofs.StreamLaws.{lines-ended}
+use Rattle.bhs_wire.proofs.StreamLaws.{lines-ended, says_given}
 use Rattle.bhs_replay.proofs.Flat.{IsFlat, IsPlain, text_flat}
 use Rattle.bhs_session.specs.Texts.{command_by, command_of, text_of}
 use Rattle.bhs_searcher.specs.CommandLines.{meant}
@@ -35,14 +35,16 @@ command_meant key (Accuse port) = refl
 command_meant key Leave = refl
 command_meant key Bad = refl
 
--- a line that is whole gives its command, and then come the others
-pub commands_said : (key line more : List ℕ) (command : Command) → IsLineOf key command line → line_kind line ≡ Whole
+-- a line that a server takes for a command gives that command, and then come the others
+pub commands_said : (key line more : List ℕ) (command : Command) → IsLineOf key command line
     → map command_of (lines ((line ++ 10 ∷ []) ++ more)) ≡ command ∷ map command_of (lines more)
-commands_said key line more command is whole =
+commands_said key line more command is =
     ap (λ (bytes : List ℕ). map command_of (lines bytes)) (append_assoc line (10 ∷ []) more)
     ∙ ap (map command_of) (lines-ended line more is.flat)
-    ∙ ap (λ (kind : LineKind). map command_of (given_as kind line ++ lines more)) whole
-    ∙ ap (λ (first : First). command_by first ∷ map command_of (lines more)) is.means
+    ∙ map-append command_of (given line) (lines more)
+    ∙ ap (λ (said : List Command). said ++ map command_of (lines more))
+    (sym (map-map command_by said_by (given line)) ∙ ap (map command_by) (says_given line)
+    ∙ ap (λ (first : Option First). map command_by (option_to_list first)) is.means)
     ∙ ap (λ (said : Command). said ∷ map command_of (lines more)) (command_meant key command)
 
 -- ---- what it reads

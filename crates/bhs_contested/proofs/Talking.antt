@@ -4,8 +4,6 @@ use Rattle.std.proofs.Common.{arith, append_assoc, append-nil}
 use Rattle.std.specs.List.{list_any}
 use Rattle.bhs_model.specs.declared.commands.Command.{Command}
 use Rattle.bhs_model.specs.declared.replies.Reply.{Reply}
-use Rattle.bhs_wire.specs.declared.kinds.LineKind.TheVariants.{Whole}
-use Rattle.bhs_wire.specs.LineKind.{line_kind}
 use Rattle.bhs_wire.specs.Lines.{is_line_feed}
 use Rattle.bhs_explore.specs.declared.answers.Step.{Step}
 use Rattle.bhs_explore.specs.declared.answers.Step.TheVariants.{Says, Sleeps, Stops, Fails}
@@ -13,13 +11,13 @@ use Rattle.bhs_explore.specs.Strategies.{History, Observation, Heard, Woke, Stra
 use Rattle.bhs_searcher.specs.ReplyLines.{reply_on}
 use Rattle.bhs_searcher.specs.Talks.{IsLineOf, Says as SaysTo, Meets, speaks, sleeps, Talks, begins}
 use Rattle.bhs_searcher.specs.Talks.{goes_on}
-use Rattle.bhs_contested.specs.Contests.{Transcript, unused, Writes, Reads, naps}
+use Rattle.bhs_searcher.specs.Transcripts.{Transcript, unused, Writes, Reads}
+use Rattle.bhs_contested.specs.Contests.{naps}
 
 -- what an agent says that does this next
 pub record IsLineSaid (key : List ℕ) (command : Command) (own : List ℕ) : Type 0 where
   pub line : List ℕ
   pub is_line : IsLineOf key command line
-  pub whole : line_kind line ≡ Whole
   pub is : own ≡ line ++ 10 ∷ []
 
 abbrev pub IsOwn : (key : List ℕ) → Step → (own : List ℕ) → Type 0
@@ -118,9 +116,9 @@ adds_own : (key : List ℕ) (step : Step) (here told : Transcript) → SaysTo Wr
     → AddsOwn key step here told
 adds_own key (Says command) here told says = record {
   own = says.0 ++ 10 ∷ [];
-  is_own = record { line = says.0; is_line = says.1; whole = says.2.0; is = refl };
-  said = ap (λ (transcript : Transcript). transcript.said) says.2.1;
-  heard = ap (λ (transcript : Transcript). transcript.heard) says.2.1;
+  is_own = record { line = says.0; is_line = says.1; is = refl };
+  said = ap (λ (transcript : Transcript). transcript.said) says.2;
+  heard = ap (λ (transcript : Transcript). transcript.heard) says.2;
 }
 adds_own key Stops here told says = record {
   own = [];

@@ -20,6 +20,10 @@ use Rattle.bhs_protocols.specs.declared.shuttle.Memory.{Memory as ShuttleMemory}
 use Rattle.bhs_protocols.specs.declared.shuttle.Phase.{Phase as ShuttlePhase}
 use Rattle.bhs_protocols.specs.declared.shuttle.Phase.TheVariants as ways
 use Rattle.bhs_protocols.specs.Programs.{held_after, strategies_by}
+use Rattle.bhs_protocols_mapped.specs.Exploring as exploring
+use Rattle.bhs_protocols_mapped.specs.Exploring.{explorers}
+use Rattle.bhs_protocols_mapped.specs.Exploring.{Memory as ExplorerMemory, Phase as ExplorerPhase}
+use Rattle.bhs_protocols_mapped.specs.Guides.{Guide}
 use Rattle.bhs_wasm.specs.declared.instructions.HostFunction.{HostFunction}
 use Rattle.bhs_wasm.specs.declared.instructions.HostFunction.TheVariants as imports
 use Rattle.bhs_wasm.specs.Contents.{Contents}
@@ -78,6 +82,22 @@ waits_shuttle n m (ways.Returns steps) port is = absurd (cc)
 waits_shuttle n m ways.Writes port is = absurd (cc)
 waits_shuttle n m ways.Ends port is = absurd (cc)
 
+-- ---- the search with a map
+
+abbrev does_explorer : (n : ℕ) → Guide → ExplorerMemory → Step
+does_explorer n guide m = exploring.does_in n guide m m.phase
+
+waits_explorer : (n : ℕ) (guide : Guide) (m : ExplorerMemory) (phase : ExplorerPhase) (port : ℕ)
+    → exploring.does_in n guide m phase ≡ Says (Depart port)
+    → does_explorer n guide (exploring.after_in guide m phase (Heard Gone)) ≡ Stops
+waits_explorer n guide m exploring.Begins port is = absurd (cc)
+waits_explorer n guide m (exploring.GoesOut step) port is = refl
+waits_explorer n guide m (exploring.Leaves step) port is = absurd (cc)
+waits_explorer n guide m (exploring.ComesBack step) port is = refl
+waits_explorer n guide m (exploring.Returns step) port is = absurd (cc)
+waits_explorer n guide m exploring.Writes port is = absurd (cc)
+waits_explorer n guide m exploring.Ends port is = absurd (cc)
+
 -- ---- modules
 
 not_if : (b : Bool) (step : Step) {doing : Step} → (step ≡ doing → ⊥) → (Fails ≡ doing → ⊥)
@@ -128,11 +148,19 @@ pub halves_wait : (n agent : ℕ) → WaitsOnLinks (strategies_by (halves n) age
 halves_wait n agent history port is =
     let m : Memory = held_after (halves n) agent history in waits_halves n m m.phase port is
 
+pub shuttles_wait : (n agent : ℕ) → WaitsOnLinks (strategies_by (shuttle n) agent)
+shuttles_wait n agent history port is =
+    let m : ShuttleMemory = held_after (shuttle n) agent history in waits_shuttle n m m.phase port is
+
+pub explorers_wait : (n : ℕ) (guide : Guide) (agent : ℕ) → WaitsOnLinks (strategies_by (explorers n guide) agent)
+explorers_wait n guide agent history port is =
+    let m : ExplorerMemory = held_after (explorers n guide) agent history in waits_explorer n guide m m.phase port is
+
 pub programs_wait : ProgramsWait
 programs_wait = record {
   halves_wait = halves_wait;
-  shuttles_wait = λ n agent history port is.
-      let m : ShuttleMemory = held_after (shuttle n) agent history in waits_shuttle n m m.phase port is;
+  shuttles_wait = shuttles_wait;
+  explorers_wait = explorers_wait;
   modules_wait = λ program arguments fuel history port is.
       let m = memory_after program arguments fuel history in
       waits_module program fuel m.status m.state port is;

@@ -1,6 +1,6 @@
 -- Contests whose agents were played by clients that follow their strategies.
 use Rattle.std.specs.Prelude.{ℕ, ◌+◌, ◌<◌, ◌≤◌, ◌≡◌, ◌≢◌, ◌⊎◌, false, List, [], ◌∷◌, ◌++◌, map, length}
-use Rattle.std.specs.List.{list_any, AllByRecursion}
+use Rattle.std.specs.List.{AllByRecursion}
 use Rattle.bhs_net.specs.Network.{IsPortLabelled}
 use Rattle.bhs_model.specs.declared.commands.Command.{Command}
 use Rattle.bhs_model.specs.declared.commands.Command.TheVariants.{Enter, Write, Depart}
@@ -15,12 +15,11 @@ use Rattle.bhs_model.specs.Kept.{kept}
 use Rattle.bhs_model.specs.Marks.{events_of}
 use Rattle.bhs_match.specs.Decided.{AreAllDone}
 use Rattle.bhs_match.specs.Matches.{Play, world_in, state_of}
-use Rattle.bhs_wire.specs.declared.kinds.LineKind.TheVariants.{Whole}
-use Rattle.bhs_wire.specs.LineKind.{line_kind}
-use Rattle.bhs_wire.specs.Lines.{is_line_feed, lines}
+use Rattle.bhs_wire.specs.Lines.{lines}
 use Rattle.bhs_session.specs.declared.endings.Ended.TheVariants as endings
 use Rattle.bhs_session.specs.Texts.{command_of}
 use Rattle.bhs_referee.specs.declared.verdicts.Outcome.TheVariants.{Wrong}
+use Rattle.bhs_referee.specs.declared.verdicts.Verdict.{Verdict}
 use Rattle.bhs_referee.specs.Verdicts.{verdict_of}
 use Rattle.bhs_explore.specs.declared.answers.Step.TheVariants.{Says, Stops}
 use Rattle.bhs_explore.specs.Strategies.{History, Heard, Woke, Strategy, Strategies}
@@ -28,26 +27,8 @@ use Rattle.bhs_explore.specs.Schedules.{Trial, under, position_of}
 use Rattle.bhs_explore.specs.Everywhere.{IsSolvedWithin, EveryScheduleSolves, step_after}
 use Rattle.bhs_explore.specs.Endings.{EveryScheduleCanRest}
 use Rattle.bhs_searcher.specs.Talks.{Talks}
+use Rattle.bhs_searcher.specs.Transcripts.{Transcript, unused, Writes, Reads}
 use Rattle.bhs_theorems.specs.ContestMet.{Attended, fed, TookPart}
-
--- ---- what a client writes and reads
-
--- the bytes that a client has written, and those that it has read
-pub record Transcript : Type 0 where
-  pub said : List ℕ
-  pub heard : List ℕ
-
-abbrev pub unused : Transcript
-unused = record { said = []; heard = [] }
-
--- a line and its line feed were written; the line is neither blank nor longer than a server takes
-abbrev pub Writes : (old : Transcript) → (line : List ℕ) → (new : Transcript) → Type 0
-Writes old line new = (line_kind line ≡ Whole) × (new ≡ record old { said = old.said ++ (line ++ 10 ∷ []) })
-
--- a line and its line feed were read
-abbrev pub Reads : (old : Transcript) → (line : List ℕ) → (new : Transcript) → Type 0
-Reads old line new =
-    (list_any is_line_feed line ≡ false) × (new ≡ record old { heard = old.heard ++ (line ++ 10 ∷ []) })
 
 -- how often an agent woke
 abbrev pub naps : History → ℕ
@@ -153,3 +134,17 @@ ContestsAreNeverWrong = (play : Play) (held : Held) (wakeups : ℕ) (strategies 
     → IsPlainMatch held play → IsOrderly (trial_in play held wakeups strategies)
     → EveryScheduleSolves (trial_in play held wakeups strategies) moves lost
     → EveryScheduleCanRest (trial_in play held wakeups strategies) → (verdict_of play).outcome ≢ Wrong
+
+-- the verdict counts at most these moves and lost agents
+pub record IsWithin (most_moves most_lost : ℕ) (verdict : Verdict) : Type 0 where
+  pub moves : verdict.moves ≤ most_moves
+  pub lost : verdict.lost ≤ most_lost
+
+-- Nor were more moves made, or more agents lost.
+abbrev pub ContestsStayWithin : Type 0
+ContestsStayWithin = (play : Play) (held : Held) (wakeups : ℕ) (strategies : Strategies) (moves lost : ℕ)
+    (clients : (agent : ℕ) → Attended)
+    → ((agent : ℕ) → agent < play.setup.agents → IsPlayedIn play wakeups strategies agent (clients agent))
+    → IsPlainMatch held play → IsOrderly (trial_in play held wakeups strategies)
+    → EveryScheduleSolves (trial_in play held wakeups strategies) moves lost
+    → EveryScheduleCanRest (trial_in play held wakeups strategies) → IsWithin moves lost (verdict_of play)

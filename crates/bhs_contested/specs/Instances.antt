@@ -1,16 +1,20 @@
--- Contests of teams that are known to solve: that search by halves, and that run modules.
-use Rattle.std.specs.Prelude.{ℕ, ◌<◌, ◌≤◌, List}
-use Rattle.bhs_net.specs.Network.{nodes_of}
+-- Contests of teams that are known to solve: by halves, by the shuttle, and with a map.
+use Rattle.std.specs.Prelude.{ℕ, ◌+◌, ◌-◌, ◌*◌, ◌<◌, ◌≤◌, ◌≡◌, List}
+use Rattle.bhs_net.specs.Network.{Network, IsNetwork, nodes_of}
+use Rattle.bhs_model.specs.Setups.{network_of}
 use Rattle.bhs_model.specs.Examples.{none_held}
 use Rattle.bhs_match.specs.Decided.{AreAllDone}
 use Rattle.bhs_match.specs.Matches.{Play}
 use Rattle.bhs_referee.specs.Verdicts.{verdict_of}
 use Rattle.bhs_explore.specs.Everywhere.{IsSolvedWithin}
-use Rattle.bhs_protocols.specs.AllRings.{IsSetOn}
+use Rattle.bhs_protocols.specs.AllRings.{IsSetOn, ring_bounds}
 use Rattle.bhs_protocols.specs.Halves.{halves}
 use Rattle.bhs_protocols.specs.Shuttle.{shuttle}
 use Rattle.bhs_protocols.specs.Halving.{most_commands, most_moves}
 use Rattle.bhs_protocols.specs.Programs.{strategies_by}
+use Rattle.bhs_protocols_mapped.specs.Exploring.{explorers}
+use Rattle.bhs_protocols_mapped.specs.Guides.{Guide, IsGuide}
+use Rattle.bhs_protocols_mapped.specs.MapLaws.{IsSetAt}
 use Rattle.bhs_wasm.specs.Contents.{Contents}
 use Rattle.bhs_wasm_team.specs.Agents.{strategy_of}
 use Rattle.bhs_theorems.specs.ContestMet.{Attended}
@@ -20,6 +24,7 @@ use Rattle.bhs_contested.specs.Contests.{WaitsOnLinks, IsPlayedIn, IsPlainMatch}
 pub record ProgramsWait : Type 0 where
   pub halves_wait : (n agent : ℕ) → WaitsOnLinks (strategies_by (halves n) agent)
   pub shuttles_wait : (n agent : ℕ) → WaitsOnLinks (strategies_by (shuttle n) agent)
+  pub explorers_wait : (n : ℕ) (guide : Guide) (agent : ℕ) → WaitsOnLinks (strategies_by (explorers n guide) agent)
   pub modules_wait : (program : Contents) (arguments : List ℕ) (fuel : ℕ)
       → WaitsOnLinks (strategy_of program arguments fuel)
 
@@ -33,3 +38,30 @@ HalvesSolveContests = (play : Play) (hole wakeups : ℕ) (clients : (agent : ℕ
     → IsPlayedIn play wakeups (strategies_by (halves (nodes_of play.net))) agent (clients agent))
     → IsPlainMatch none_held play → AreAllDone play
     → IsSolvedWithin (most_moves (nodes_of play.net)) 1 (verdict_of play)
+
+-- The same of the shuttle, as in the theorem on it, within its moves.
+abbrev pub ShuttleSolvesContests : Type 0
+ShuttleSolvesContests = (play : Play) (hole wakeups : ℕ) (clients : (agent : ℕ) → Attended)
+    → IsSetOn play.net play.setup hole → 4 ≤ play.setup.board
+    → (nodes_of play.net - 2) * (nodes_of play.net - 1) + 2 * nodes_of play.net ≤ play.setup.quota
+    → ((agent : ℕ) → agent < play.setup.agents
+    → IsPlayedIn play wakeups (strategies_by (shuttle (nodes_of play.net))) agent (clients agent))
+    → IsPlainMatch none_held play → AreAllDone play
+    → IsSolvedWithin (ring_bounds (nodes_of play.net)).moves 1 (verdict_of play)
+
+-- There is a guide for this network, from this home base, by which two clients solve each contest there that settled
+-- and in which both have ended or are lost, whichever other node is the black hole.
+pub record IsSearchedInContests (net : Network) (home : ℕ) : Type 0 where
+  pub guide : Guide
+  pub guides : IsGuide (network_of net) home (nodes_of net) guide
+  pub solves : (play : Play) (hole wakeups : ℕ) (clients : (agent : ℕ) → Attended)
+      → play.net ≡ net → IsSetAt net home play.setup hole → 4 ≤ play.setup.board
+      → (nodes_of net - 2) * (nodes_of net - 1) + 2 * nodes_of net ≤ play.setup.quota
+      → ((agent : ℕ) → agent < play.setup.agents
+      → IsPlayedIn play wakeups (strategies_by (explorers (nodes_of net) guide)) agent (clients agent))
+      → IsPlainMatch none_held play → AreAllDone play
+      → IsSolvedWithin (ring_bounds (nodes_of net)).moves 1 (verdict_of play)
+
+-- So it is on each network of a file, from each home base. The guide is chosen by both alone.
+abbrev pub MapsSolveContests : Type 0
+MapsSolveContests = (net : Network) (home : ℕ) → IsNetwork net → home < nodes_of net → IsSearchedInContests net home

@@ -1,9 +1,10 @@
 -- Contests of agents that run the files which `arena explore --module` told of: from a file's bytes to a verdict.
-use Rattle.std.specs.Prelude.{ℕ, ◌<◌, ◌≡◌, List, [], Some, slice_get}
+use Rattle.std.specs.Prelude.{ℕ, ◌<◌, ◌≡◌, ◌≢◌, List, [], Some, slice_get}
 use Rattle.bhs_wasm.specs.Contents.{Contents}
 use Rattle.bhs_match.specs.Decided.{AreAllDone}
 use Rattle.bhs_match.specs.Matches.{Play}
 use Rattle.bhs_model.specs.declared.commands.Command.TheVariants.{Enter}
+use Rattle.bhs_referee.specs.declared.verdicts.Outcome.TheVariants.{Wrong}
 use Rattle.bhs_referee.specs.Verdicts.{verdict_of}
 use Rattle.bhs_explore.specs.declared.answers.Step.TheVariants.{Says}
 use Rattle.bhs_explore.specs.declared.results.Bounds.{Bounds}
@@ -21,7 +22,7 @@ use Rattle.bhs_lineup.specs.declared.lineups.Ready.{Ready}
 use Rattle.bhs_orders.specs.Discoveries.{found_in}
 use Rattle.bhs_orders.specs.ModuleExploration.{IsModuleReport, ModuleLine, arguments_of}
 use Rattle.bhs_theorems.specs.ContestMet.{Attended}
-use Rattle.bhs_contested.specs.Contests.{IsPlayedIn, IsPlainMatch}
+use Rattle.bhs_contested.specs.Contests.{IsPlayedIn, IsPlainMatch, IsWithin}
 
 -- The strategy of an agent is what the bytes of a file say, run with these arguments: the file and the arguments of the
 -- line of the agent's role.
@@ -32,19 +33,35 @@ pub record RunsItsFile (lines : List ModuleLine) (roles : Roles) (agent : ℕ) (
   pub says : module_in line.file ≡ Some program
   pub runs : strategy ≡ strategy_of program line.arguments FUEL
 
--- Let `arena explore --module` have told that every schedule of a match solves it. Then a contest of the same network
--- and setup that settled, each of whose agents was played by the file of its line and first says Enter, and in which
--- all agents have ended or are lost, is solved within the moves and lost agents that were told.
+-- Of this match `arena explore --module` has told that every schedule solves it within these bounds. The contest has
+-- the same network and setup; each of its agents was played by the file of its line, and first says Enter.
+pub record IsModuleContest (play : Play) (bounds : Bounds) : Type 0 where
+  pub ready : Ready
+  pub exploration : Exploration
+  pub roles : Roles
+  pub arguments : List (List ℕ)
+  pub text : List ℕ
+  pub code : ℕ
+  pub report : IsModuleReport ready exploration roles arguments text code
+  pub all : arguments_of roles ≡ arguments
+  pub solves : found_in report.found ≡ found.Solves bounds
+  pub net : ready.game.net ≡ play.net
+  pub setup : ready.game.setup ≡ play.setup
+  pub strategies : Strategies
+  pub runs : (agent : ℕ) → RunsItsFile report.lines roles agent (strategies agent)
+  pub enters : (agent : ℕ) → strategies agent [] ≡ Says Enter
+  pub clients : (agent : ℕ) → Attended
+  pub played : (agent : ℕ) → agent < play.setup.agents
+      → IsPlayedIn play exploration.wakeups strategies agent (clients agent)
+  pub plain : IsPlainMatch (is_held report.is_found.links) play
+
+-- If such a contest gave the match back settled, and all agents have ended or are lost, then it is solved within the
+-- moves and lost agents that were told.
 abbrev pub ModulesSolveContests : Type 0
-ModulesSolveContests = (play : Play) (ready : Ready) (exploration : Exploration) (roles : Roles)
-    (arguments : List (List ℕ)) (text : List ℕ) (code : ℕ) (bounds : Bounds) (strategies : Strategies)
-    (clients : (agent : ℕ) → Attended)
-    → (report : IsModuleReport ready exploration roles arguments text code) → arguments_of roles ≡ arguments
-    → found_in report.found ≡ found.Solves bounds
-    → ready.game.net ≡ play.net → ready.game.setup ≡ play.setup
-    → ((agent : ℕ) → RunsItsFile report.lines roles agent (strategies agent))
-    → ((agent : ℕ) → strategies agent [] ≡ Says Enter)
-    → ((agent : ℕ) → agent < play.setup.agents
-    → IsPlayedIn play exploration.wakeups strategies agent (clients agent))
-    → IsPlainMatch (is_held report.is_found.links) play → AreAllDone play
+ModulesSolveContests = (play : Play) (bounds : Bounds) → IsModuleContest play bounds → AreAllDone play
     → IsSolvedWithin bounds.moves bounds.lost (verdict_of play)
+
+-- And whenever it ended, no accusation is wrong, and no more moves were made and no more agents lost.
+abbrev pub ModulesAreNeverWrong : Type 0
+ModulesAreNeverWrong = (play : Play) (bounds : Bounds) → IsModuleContest play bounds
+    → ((verdict_of play).outcome ≢ Wrong) × IsWithin bounds.moves bounds.lost (verdict_of play)

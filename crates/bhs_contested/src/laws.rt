@@ -1,16 +1,20 @@
 //! What a team solves under every schedule it solves in a contest. The functions do nothing.
 
-ghost use Rattle.bhs_contested.specs.Contests.{ContestsAreNeverWrong, ContestsAreSolved, WaitersAreOrderly};
+ghost use Rattle.bhs_contested.specs.Contests.{ContestsAreNeverWrong, ContestsAreSolved, ContestsStayWithin};
+ghost use Rattle.bhs_contested.specs.Contests.{WaitersAreOrderly};
 ghost use Rattle.bhs_contested.specs.Example.{ItIsSolved, TheLawSpeaksOfIt};
-ghost use Rattle.bhs_contested.specs.Instances.{HalvesSolveContests, ProgramsWait};
-ghost use Rattle.bhs_contested.specs.ModuleContests.{ModulesSolveContests};
+ghost use Rattle.bhs_contested.specs.Instances.{HalvesSolveContests, MapsSolveContests, ProgramsWait};
+ghost use Rattle.bhs_contested.specs.Instances.{ShuttleSolvesContests};
+ghost use Rattle.bhs_contested.specs.ModuleContests.{ModulesAreNeverWrong, ModulesSolveContests};
 
 /// Let every schedule solve a match for the strategies of its agents, and a contest give this match back settled, where
 /// a client played each agent by its strategy, line by line. If all agents have ended or are lost, the contest solved
-/// the match within the same moves and lost agents. Whenever it ended, no accusation was wrong.
+/// the match within the same moves and lost agents. Whenever it ended, no accusation was wrong, and no more moves were
+/// made and no more agents lost.
 pub fn contests_are_solved()
     ensures solved { ContestsAreSolved }
     ensures never_wrong { ContestsAreNeverWrong }
+    ensures within { ContestsStayWithin }
 {}
 
 /// Teams whose agents first say Enter, and wait once they have departed, are orderly in each match.
@@ -18,7 +22,7 @@ pub fn waiters_are_orderly()
     ensures { WaitersAreOrderly }
 {}
 
-/// Agents that search by halves, run the shuttle or run a module wait once they have departed.
+/// Agents that search by halves or by the shuttle, follow a guide, or run a module wait once they have departed.
 pub fn programs_wait()
     ensures { ProgramsWait }
 {}
@@ -28,11 +32,24 @@ pub fn the_halves_solve_contests()
     ensures { HalvesSolveContests }
 {}
 
+/// Two clients that search a ring of a file by the shuttle solve it in a contest, within (n - 1)^2 moves, one agent
+/// lost.
+pub fn the_shuttle_solves_contests()
+    ensures { ShuttleSolvesContests }
+{}
+
+/// On each network of a file there is a guide by which two clients that follow it solve each contest, within (n - 1)^2
+/// moves, one agent lost.
+pub fn maps_solve_contests()
+    ensures { MapsSolveContests }
+{}
+
 /// What `arena explore --module` told that every schedule solves, a settled contest solves within the moves and lost
 /// agents that were told, if each agent was played by the file of its line and first says Enter, and all agents have
-/// ended or are lost.
+/// ended or are lost. Whenever it ended, no accusation was wrong, and no more moves were made and no more agents lost.
 pub fn modules_solve_contests()
-    ensures { ModulesSolveContests }
+    ensures solved { ModulesSolveContests }
+    ensures never_wrong { ModulesAreNeverWrong }
 {}
 
 /// A contest of two agents on the triangle, worked out by hand: the law speaks of it, and its verdict.

@@ -1,14 +1,20 @@
 -- What a client writes is read as the command that it was written for.
-use Rattle.std.proofs.Common.{◌≡◌, ℕ, ◌<◌, ◌≤◌, ◌^◌, List, true, false, cond, nat_lt, None, Some, refl, ap, arith}
-use Rattle.std.proofs.Common.{lt-ltb, ◌∙◌}
+use Rattle.std.proofs.Common.{◌≡◌, ℕ, ◌<◌, ◌≤◌, ◌^◌, List, length, true, false, cond, nat_lt, None, Some, refl}
+use Rattle.std.proofs.Common.{ap, arith}
+use Rattle.std.proofs.Common.{lt-ltb, le-ltb, ◌∙◌}
+use Rattle.std.specs.Prelude.{Result, Ok, Err, IfOk}
+use Rattle.std.specs.List.{list_all}
 use Rattle.std.specs.Str.{IsUtf8}
 use Rattle.std.proofs.lemmas.Str.{is_utf8-from_IsUtf8}
 use Rattle.serde_json.specs.Data.{depth}
 use Rattle.serde_json.specs.Read.{read, max_depth}
-use Rattle.serde_json.specs.Written.{has_float}
+use Rattle.serde_json.specs.Written.{compact_text, has_float}
 use Rattle.bhs_model.specs.declared.commands.Command.{Command}
 use Rattle.bhs_model.specs.declared.commands.Command.TheVariants.{Enter, Look, Write, Depart, Accuse, Leave, Bad}
-use Rattle.bhs_wire.specs.First.{first_of, first_of_read, first_in}
+use Rattle.bhs_model.specs.declared.limits.TheConstants.{MAX_LINE}
+use Rattle.bhs_wire.specs.First.{first_of, first_of_read, first_in, says, says_as}
+use Rattle.bhs_wire.specs.declared.kinds.LineKind.TheVariants.{Over, Blank, Whole}
+use Rattle.bhs_wire.specs.LineKind.{is_space}
 use Rattle.bhs_replay.proofs.Flat.{IsPlain}
 use Rattle.bhs_searcher.specs.CommandLines.{data_of, meant, PortFits}
 
@@ -59,3 +65,28 @@ is_plain key (Depart port) fits = (tt, (omega arith, tt))
 is_plain key (Accuse port) fits = (tt, (omega arith, tt))
 is_plain key Leave fits = (tt, tt)
 is_plain key Bad fits = tt
+
+-- the text of such an object is not blank
+visible : (key : List ℕ) (command : Command) → list_all is_space (compact_text (data_of key command)) ≡ false
+visible key Enter = refl
+visible key Look = refl
+visible key (Write expect put) = refl
+visible key (Depart port) = refl
+visible key (Accuse port) = refl
+visible key Leave = refl
+visible key Bad = refl
+
+-- a server takes such a text for the command, unless it is too long
+pub says-data_of : (line key : List ℕ) (command : Command) → line ≡ compact_text (data_of key command)
+    → first_of line ≡ meant key command → length line ≤ MAX_LINE → says line ≡ Some (meant key command)
+says-data_of line key command text first short =
+    ap (λ b. says_as (cond b Over (cond (list_all is_space line) Blank Whole)) line)
+    (le-ltb MAX_LINE (length line) short)
+    ∙ ap (λ b. says_as (cond b Blank Whole) line) (ap (list_all is_space) text ∙ visible key command)
+    ∙ ap Some first
+
+-- what follows from two facts of what is given
+pub ok_by_both : {T E : Type 0} (result : Result T E) (P Q R : T → Type 0) → ((x : T) → P x → Q x → R x)
+    → IfOk result P → IfOk result Q → IfOk result R
+ok_by_both (Ok x) P Q R both first second = both x first second
+ok_by_both (Err fault) P Q R both first second = tt

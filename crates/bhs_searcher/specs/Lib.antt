@@ -4,3 +4,4 @@ pub mod Modules
 pub mod Protocols
 pub mod Searchers
 pub mod Talks
+pub mod Transcripts

@@ -4,7 +4,7 @@ use Rattle.std.specs.List.{list_any}
 use Rattle.bhs_model.specs.declared.commands.Command.{Command}
 use Rattle.bhs_model.specs.declared.replies.Reply.{Reply}
 use Rattle.bhs_model.specs.declared.replies.Reply.TheVariants.{Noted, Bye, Over}
-use Rattle.bhs_wire.specs.First.{first_of}
+use Rattle.bhs_wire.specs.First.{says as says_of}
 use Rattle.bhs_wire.specs.Lines.{is_line_feed}
 use Rattle.bhs_explore.specs.declared.answers.Step.{Step}
 use Rattle.bhs_explore.specs.declared.answers.Step.TheVariants as step
@@ -19,9 +19,9 @@ use Rattle.bhs_searcher.specs.declared.searchers.SearcherFault.TheVariants as se
 use Rattle.bhs_searcher.specs.CommandLines.{meant}
 use Rattle.bhs_searcher.specs.ReplyLines.{reply_on}
 
--- a line that a server takes for this command of an agent that enters with this key
+-- a line that a server takes for this command of an agent that enters with this key: it is neither blank nor too long
 pub record IsLineOf (key : List ℕ) (command : Command) (line : List ℕ) : Type 0 where
-  pub means : first_of line ≡ meant key command
+  pub means : says_of line ≡ Some (meant key command)
   pub flat : list_any is_line_feed line ≡ false
 
 -- What an agent says that does this next, before it hears: the line of its command, or nothing if it has stopped. One

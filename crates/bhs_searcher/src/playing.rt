@@ -9,7 +9,7 @@ use crate::commands::line_of;
 use crate::replies::reply_of;
 use crate::searchers::{AgentNews, Searcher, SearcherFault};
 use bhs_explore::Step;
-use bhs_model::{Command, Reply, Why};
+use bhs_model::{Command, MAX_LINE, Reply, Why};
 use std::alloc::{AllocError, Global};
 use thiserror::Error;
 
@@ -59,6 +59,8 @@ pub enum PlayFault {
     Lost,
     #[error("the agent fails")]
     Failed,
+    #[error("a command makes a line of more than 65,536 bytes, which a server does not take")]
+    Long,
     #[error("the server refuses a command")]
     Refused(Why),
     #[error("a line of the server is no reply")]
@@ -154,7 +156,7 @@ fn meet<C: ServerConnection>(
     }
 }
 
-// Says a command.
+// Says a command, unless its line is longer than a server takes.
 fn say<C: ServerConnection>(
     alloc: Global,
     connection: &mut C,
@@ -167,6 +169,9 @@ fn say<C: ServerConnection>(
     ensures fault { IfErr result (λ fault. fault ≢ PlayFault.Failed) }
 {
     let line = line_of(alloc, key, command)?;
+    if line.len() > MAX_LINE {
+        return Err(PlayFault::Long);
+    }
     Ok(connection.say(line.as_str())?)
 }
 

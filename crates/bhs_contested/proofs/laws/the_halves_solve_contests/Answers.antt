@@ -1,4 +1,4 @@
-use Rattle.bhs_contested.proofs.HalvesContest.{halves_solve_contests}
+use Rattle.bhs_contested.proofs.InstanceLemmas.{halves_solve_contests}
 use Rattle.bhs_contested.proofs.laws.the_halves_solve_contests.Goals as goal
 
 pub returns : goal.returns

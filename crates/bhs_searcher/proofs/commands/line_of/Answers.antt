@@ -7,7 +7,7 @@ use Rattle.serde_json.specs.View.{view}
 use Rattle.serde_json.specs.Written.{compact_text, has_float}
 use Rattle.bhs_replay.proofs.Flat.{IsFlat, text_flat}
 use Rattle.bhs_searcher.specs.CommandLines.{data_of, PortFits}
-use Rattle.bhs_searcher.proofs.CommandLemmas.{first_of-data_of, shallow, no_float, is_plain}
+use Rattle.bhs_searcher.proofs.CommandLemmas.{first_of-data_of, says-data_of, shallow, no_float, is_plain, ok_by_both}
 use Rattle.bhs_searcher.proofs.commands.line_of.Goals as goal
 
 pub returns-clause-meant : goal.returns-clause-meant
@@ -18,9 +18,12 @@ returns-clause-meant c =
     let fits : PortFits command = c.in_ok-value_of.ensures.fits in
     let deep : depth (view c.in_ok-value_of.field-0) ≤ max_depth =
     subst (λ (value : Data). depth value ≤ max_depth) (sym same) (shallow key command) in
-    IfOk-weaker c.to_string.result _ _
-    (λ line back. first_of-data_of (string_bytes line) key command fits (IsUtf8-string_bytes line)
-    (back deep ∙ ap Some same)) c.to_string.ensures.reads_back
+    let plain : has_float (view c.in_ok-value_of.field-0) ≡ false =
+    subst (λ (value : Data). has_float value ≡ false) (sym same) (no_float key command) in
+    ok_by_both c.to_string.result _ _ _
+    (λ line back text short. says-data_of (string_bytes line) key command (text plain ∙ ap compact_text same)
+    (first_of-data_of (string_bytes line) key command fits (IsUtf8-string_bytes line) (back deep ∙ ap Some same)) short)
+    c.to_string.ensures.reads_back c.to_string.ensures.text
 
 pub returns-clause-flat : goal.returns-clause-flat
 returns-clause-flat c =
