@@ -1,3 +1,4 @@
 pub mod Agents
+pub mod Clients
 pub mod Entrants
 pub mod Wires

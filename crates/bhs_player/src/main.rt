@@ -3,6 +3,7 @@
 #![tactic(auto)]
 
 pub mod agents;
+pub mod laws;
 pub mod playing;
 pub mod wire;
 pub mod words;
@@ -11,7 +12,6 @@ use agents::{PlayedAgent, agent_of, failure_of};
 use bhs_searcher::{PlayEnd, PlayFault};
 use playing::played;
 use std::fmt::Display;
-use std::io::BufReader;
 use std::net::TcpStream;
 use std::process::ExitCode;
 use std::{env, io};
@@ -80,6 +80,7 @@ fn entered(
         let mut wire = Wire {
             rt,
             reader: rt.reader(),
+            held: Vec::new(rt.alloc()),
             writer: io::writer(rt),
         };
         return played(&mut wire, entrant.key, agent);
@@ -87,12 +88,10 @@ fn entered(
     let Ok(stream) = connected(rt, entrant) else {
         return Err(PlayFault::Lost);
     };
-    let Ok(reader) = BufReader::new(rt.alloc(), &stream) else {
-        return Err(PlayFault::Memory);
-    };
     let mut wire = Wire {
         rt,
-        reader,
+        reader: &stream,
+        held: Vec::new(rt.alloc()),
         writer: &stream,
     };
     played(&mut wire, entrant.key, agent)

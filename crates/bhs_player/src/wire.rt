@@ -1,33 +1,62 @@
 //! Lines to a server and from it.
 
-ghost use Rattle.bhs_player.specs.Wires.{IsCut, IsHeard, IsSaid, IsUnheard};
+ghost use Rattle.std.specs.Prelude.{◌≡◌, ◌++◌, false, string_bytes, IfOk, IfSome, None};
+ghost use Rattle.std.specs.List.{list_any};
+ghost use Rattle.bhs_wire.specs.Lines.{is_line_feed};
+ghost use Rattle.bhs_player.specs.Wires.{IsCut, IsHeard, IsSaid, IsUnheard, ended};
 
 use bhs_searcher::{Lost, ServerConnection};
-use bhs_stream::{Output, finish, send};
+use bhs_stream::{BUFFER, Input, Output, finish, send};
 use bhs_wire::split_line;
-use std::io::BufRead;
 use std::thread;
 use std::time::Duration;
 
 // How many milliseconds an agent sleeps.
 const REST: u64 = 1_000;
 
-/// Where lines come from and go to.
+// By how many reads a line comes, at most.
+const MOST_READS: u32 = 16_777_216;
+
+/// Where lines come from and go to. What was read behind the last line is held.
 #[derive(Drop)]
 pub struct Wire<'r, R, W> {
     pub rt: &'r HostRuntime,
     pub reader: R,
+    pub held: Vec<u8>,
     pub writer: W,
 }
 
-impl<R: BufRead + Drop, W: Output + Drop> ServerConnection for Wire<'_, R, W> {
+impl<R: Input + Drop, W: Output + Drop> Wire<'_, R, W> {
+    // The first line of what is held, if it is whole. It is held no more.
+    fn held_line(&mut self) -> Result<Option<String>, Lost>
+        ensures same { (self.new.reader ≡ self.old.reader) × (self.new.writer ≡ self.old.writer) }
+        ensures line { IfOk result (λ found. IfSome found (λ line.
+            (self.old.held.items ≡ ended (string_bytes line) ++ self.new.held.items)
+            × (list_any is_line_feed (string_bytes line) ≡ false))) }
+        ensures none { IfOk result (λ found. found ≡ None → self.new.held ≡ self.old.held) }
+    {
+        let alloc = self.rt.alloc();
+        let Some((text, rest)) = split_line(&self.held) else {
+            return Ok(None);
+        };
+        let Ok(text) = str::from_utf8(text) else {
+            return Err(Lost);
+        };
+        let line = String::from_str(alloc, text).map_err(|_| Lost)?;
+        let rest = Vec::from_slice(alloc, rest).map_err(|_| Lost)?;
+        self.held = rest;
+        Ok(Some(line))
+    }
+}
+
+impl<R: Input + Drop, W: Output + Drop> ServerConnection for Wire<'_, R, W> {
     ghost says = { IsSaid W.takes W.flushes };
 
-    ghost hears = { IsHeard R.remaining };
+    ghost hears = { IsHeard R.gives };
 
     ghost cuts = { IsCut W.takes W.flushes };
 
-    ghost loses = { IsUnheard R.remaining };
+    ghost loses = { IsUnheard };
 
     fn say(&mut self, line: &str) -> Result<(), Lost> {
         let Ok(text) = format!(in self.rt.alloc(); "{line}\n") else {
@@ -38,20 +67,19 @@ impl<R: BufRead + Drop, W: Output + Drop> ServerConnection for Wire<'_, R, W> {
     }
 
     fn hear(&mut self) -> Result<String, Lost> {
-        let mut line = Vec::new(self.rt.alloc());
-        if self.reader.read_until(b'\n', &mut line).is_err() {
-            return Err(Lost);
+        let mut buffer = [0u8; BUFFER];
+        for _ in 0..MOST_READS {
+            if let Some(line) = self.held_line()? {
+                return Ok(line);
+            }
+            let Ok(count) = self.reader.read_some(&mut buffer) else {
+                return Err(Lost);
+            };
+            if count == 0 || self.held.extend_from_slice(&buffer[..count]).is_err() {
+                return Err(Lost);
+            }
         }
-        let Some((text, rest)) = split_line(&line) else {
-            return Err(Lost);
-        };
-        let Ok(text) = str::from_utf8(text) else {
-            return Err(Lost);
-        };
-        if !rest.is_empty() {
-            return Err(Lost);
-        }
-        String::from_str(self.rt.alloc(), text).map_err(|_| Lost)
+        Err(Lost)
     }
 
     fn sleep(&self) {

@@ -1,14 +1,15 @@
 -- What a client writes is read as the command that it was written for.
 use Rattle.std.proofs.Common.{◌≡◌, ℕ, ◌<◌, ◌≤◌, ◌^◌, List, length, true, false, cond, nat_lt, None, Some, refl}
-use Rattle.std.proofs.Common.{ap, arith}
+use Rattle.std.proofs.Common.{◌+◌, ◌++◌, [], ◌∷◌, ap, arith, codes, length-append}
 use Rattle.std.proofs.Common.{lt-ltb, le-ltb, ◌∙◌}
 use Rattle.std.specs.Prelude.{Result, Ok, Err, IfOk}
 use Rattle.std.specs.List.{list_all}
 use Rattle.std.specs.Str.{IsUtf8}
 use Rattle.std.proofs.lemmas.Str.{is_utf8-from_IsUtf8}
-use Rattle.serde_json.specs.Data.{depth}
+use Rattle.serde_json.specs.Data.{depth, member, no_members, string}
 use Rattle.serde_json.specs.Read.{read, max_depth}
-use Rattle.serde_json.specs.Written.{compact_text, has_float}
+use Rattle.json.specs.Print.{escape, escape_byte}
+use Rattle.serde_json.specs.Written.{compact_text, has_float, members_text}
 use Rattle.bhs_model.specs.declared.commands.Command.{Command}
 use Rattle.bhs_model.specs.declared.commands.Command.TheVariants.{Enter, Look, Write, Depart, Accuse, Leave, Bad}
 use Rattle.bhs_model.specs.declared.limits.TheConstants.{MAX_LINE}
@@ -16,6 +17,7 @@ use Rattle.bhs_wire.specs.First.{first_of, first_of_read, first_in, says, says_a
 use Rattle.bhs_wire.specs.declared.kinds.LineKind.TheVariants.{Over, Blank, Whole}
 use Rattle.bhs_wire.specs.LineKind.{is_space}
 use Rattle.bhs_replay.proofs.Flat.{IsPlain}
+use Rattle.bhs_wasm_team.specs.Agents.{write_length}
 use Rattle.bhs_searcher.specs.CommandLines.{data_of, meant, PortFits}
 
 small : (port : ℕ) → port < 2 ^ 16 → nat_lt port (2 ^ 16) ≡ true
@@ -90,3 +92,27 @@ pub ok_by_both : {T E : Type 0} (result : Result T E) (P Q R : T → Type 0) →
     → IfOk result P → IfOk result Q → IfOk result R
 ok_by_both (Ok x) P Q R both first second = both x first second
 ok_by_both (Err fault) P Q R both first second = tt
+
+-- ---- the length of a line
+
+last_length : (put : List ℕ) → length (members_text true (member (codes "put") (string put) no_members))
+    ≡ 10 + length (escape put)
+unfolding escape_byte
+last_length put =
+    let own : length (escape put ++ 34 ∷ []) ≡ length (escape put) + 1 = length-append (escape put) (34 ∷ []) in
+    let all : length ((escape put ++ 34 ∷ []) ++ 125 ∷ []) ≡ length (escape put ++ 34 ∷ []) + 1 =
+    length-append (escape put ++ 34 ∷ []) (125 ∷ []) in
+    omega (arith, own, all)
+
+-- the line of a Write has the length by which a module is judged
+pub write_line_length : (key expect put : List ℕ)
+    → length (compact_text (data_of key (Write expect put))) ≡ write_length expect put
+unfolding escape_byte
+write_line_length key expect put =
+    let last : List ℕ = members_text true (member (codes "put") (string put) no_members) in
+    let behind : length last ≡ 10 + length (escape put) = last_length put in
+    let own : length (escape expect ++ 34 ∷ []) ≡ length (escape expect) + 1 =
+    length-append (escape expect) (34 ∷ []) in
+    let all : length ((escape expect ++ 34 ∷ []) ++ last) ≡ length (escape expect ++ 34 ∷ []) + length last =
+    length-append (escape expect ++ 34 ∷ []) last in
+    omega (arith, behind, own, all)

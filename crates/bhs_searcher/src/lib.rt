@@ -10,7 +10,7 @@ mod replies;
 mod searchers;
 
 pub use commands::line_of;
-pub use laws::replies_are_read;
+pub use laws::{replies_are_read, writes_have_this_length};
 pub use module_agent::ModuleAgent;
 pub use playing::{Lost, PlayEnd, PlayFault, ServerConnection, play};
 pub use protocol_agent::{Protocol, ProtocolAgent, ProtocolMemory};

@@ -18,7 +18,11 @@ use Rattle.bhs_theorems.specs.Met.{Meeting, Hears, Refuses, Arrives, view_of, an
 use Rattle.bhs_session.specs.Answering.{MayLack}
 use Rattle.bhs_server.specs.Ports.{IsOfCell}
 use Rattle.bhs_session.specs.Texts.{text_of}
-use Rattle.bhs_server.specs.Written.{IsFew, MayBeOver, IsWrittenBy, is_between}
+use Rattle.bhs_server.specs.Written.{IsAttended, IsFew, MayBeOver, IsWrittenBy, is_between}
+use Rattle.bhs_server.specs.declared.ports.SessionAgent.{SessionAgent}
+use Rattle.bhs_lineup.specs.KeyTable.{Seat}
+use Rattle.bhs_session.specs.Texts.{command_of}
+use Rattle.bhs_stream.specs.Streams.{Chunk, WriteAnswer}
 
 -- ---- a session whose match settled
 
@@ -56,6 +60,35 @@ pub record TookPart (one : Attended) : Type 0 where
   -- as `attend` says it
   pub wrote : IsWrittenBy one.pass one.said one.written one.ended
   pub none_more : is_between one.ended ≡ true → one.more ≡ []
+
+-- what a session was that `attend` served on this pass, in a match that has settled
+abbrev pub session_of : {I O : Type 0} → (gives : I → Chunk → I → Type 0)
+    → (takes : O → List ℕ → WriteAnswer → O → Type 0) → (keys : List Seat) (cells : List Given)
+    (input_old input_new : I) (output_old output_new : O) (turns : ℕ) (played : SessionAgent) (ended : Ended) → Play
+    → IsAttended gives takes keys cells input_old input_new output_old output_new turns (Some played) ended → Attended
+session_of gives takes keys cells input_old input_new output_old output_new turns played ended play attended = record {
+  play = play;
+  pass = played.pass;
+  said = map command_of attended.serves.taken;
+  more = map command_of attended.more;
+  written = attended.serves.written;
+  ended = ended;
+}
+
+-- What `attend`, `settle` and `Sealed` say of a session is what is asked of one that took part: `attend` served it on a
+-- pass of this cell, the cell settled with the pass, and the match is as it is shown.
+abbrev pub AttendedTookPart : {I O : Type 0} → (gives : I → Chunk → I → Type 0)
+    → (takes : O → List ℕ → WriteAnswer → O → Type 0) → Type 0
+AttendedTookPart {I} {O} gives takes =
+    (keys : List Seat) (cells : List Given) (input_old input_new : I) (output_old output_new : O) (turns : ℕ)
+    (played : SessionAgent) (ended : Ended) (play : Play) (given : Given) (passes : List Passed) (index : ℕ)
+    (attended : IsAttended gives takes keys cells input_old input_new output_old output_new turns (Some played) ended)
+    → kept (world_in play) (events_of play.log) ≡ events_of play.log
+    → map (λ entry. read_if play.log entry.mark) play.log ≡ replies (world_in play) (events_of play.log)
+    → slice_get cells played.game ≡ Some given → AreInAccord given play passes
+    → slice_get passes index ≡ Some played.pass
+    → TookPart (session_of gives takes keys cells input_old input_new output_old output_new turns played ended play
+    attended)
 
 -- ---- what its agent met
 

@@ -5,9 +5,16 @@ ghost use Rattle.bhs_theorems.specs.ContestExample.{TheReceiptsAreThese};
 ghost use Rattle.bhs_theorems.specs.ContestExample.{ThePastIsOfWhatWasMet, TheTextIsOfWhatWasMet};
 ghost use Rattle.bhs_theorems.specs.ContestExample.{TheHeadlineSpeaksOfTheOther, ThePastsAreEqual, TheSameWasFed};
 ghost use Rattle.bhs_theorems.specs.ContestExample.{TheHeadlineSpeaksOfWhoIsOnALink};
-ghost use Rattle.bhs_theorems.specs.ContestMet.{EqualPastsAreSentEqualBytes, SentAsMet};
+ghost use Rattle.bhs_theorems.specs.ContestMet.{AttendedTookPart, EqualPastsAreSentEqualBytes, SentAsMet};
 ghost use Rattle.bhs_theorems.specs.ContestTime.{EqualWaitsInContests, EveryArrivalInContests};
 ghost use Rattle.bhs_theorems.specs.TimeExample.{TheTheoremOfTimeSpeaksOfThem};
+
+use bhs_stream::{Input, Output};
+
+/// A session that `attend` served took part in its match, once the match's cell settled with the session's pass.
+pub fn attended_sessions_took_part<I: Input, O: Output>()
+    ensures { AttendedTookPart I.gives O.takes }
+{}
 
 /// A session whose pass settled with its match wrote the bytes of what its agent met in the log, and behind them at
 /// most one line; or a front of that, if a write failed or memory ran out.
