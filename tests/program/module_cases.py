@@ -2,6 +2,7 @@
 agents that fail, files with changed bytes, and each instruction on integers as node's
 own WebAssembly has it."""
 import hashlib
+import itertools
 import random
 import shutil
 import subprocess
@@ -18,9 +19,11 @@ from tests.program.program_cases import (
     case,
     writes,
 )
-from tests.support.counts import require
+from tests.program.unmapped_networks import explored
+from tests.support.counts import require, wants
 from tests.support.program_rows import DONE, REFUSED_TEXT, Stage, Wrong, expect
 from tests.support.servers import Run
+from tests.support.tournaments import TRIANGLE as NETWORK
 from tests.support.wasm_encoding import (
     I32,
     I64,
@@ -360,6 +363,14 @@ def filling(byte: int, expect: int, put: int) -> bytes:
     texts = (constant(I32, 0) + constant(I32, length) for length in (expect, put))
     body = enters + DROP + fills + b"".join(texts) + writes_it + DROP
     return running(body, "enter", "write")
+
+
+@case("agents that know the number of links solve a triangle without a map")
+def unmapped(stage: Stage) -> None:
+    for home, hole in itertools.permutations(range(3), 2):
+        for links in (3, 0):
+            found = explored(stage.program, NETWORK, home, hole, links)
+            wants(f"what is found of {home}, {hole}, {links}", found, "solves")
 
 
 @case("agents whose memory grows are explored until memory runs out, and no longer")
