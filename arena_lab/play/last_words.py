@@ -71,6 +71,16 @@ def line_like(lines: Sequence[str], pattern: str) -> Optional[str]:
     return next((line for line in lines if re.match(pattern, line)), None)
 
 
+def where_of(line: str) -> str:
+    """The place that a frame of Python names, if it is of the agent's own files."""
+    found = FRAME.match(line)
+    if found is None:
+        return ""
+    path = pathlib.PurePath(found[1])
+    is_own = path.name != "client.py" and "/lib/python3" not in str(path)
+    return f" ({path.name}, line {found[2]})" if is_own else ""
+
+
 def of_python(lines: Sequence[str]) -> Optional[str]:
     """The line behind the frames of the last traceback, with the last frame of the
     agent's own file; or of a file that cannot be read."""
@@ -80,17 +90,7 @@ def of_python(lines: Sequence[str]) -> Optional[str]:
         if line.startswith("Traceback (most recent call last)")
     ]
     if places:
-        frames = [
-            (pathlib.PurePath(it[1]), it[2])
-            for line in lines[places[-1] :]
-            if (it := FRAME.match(line))
-        ]
-        own = [
-            (path.name, line)
-            for path, line in frames
-            if path.name != "client.py" and "/lib/python3" not in str(path)
-        ]
-        where = " ({}, line {})".format(*own[-1]) if own else ""
+        own = [where for line in lines[places[-1] :] if (where := where_of(line))]
         said = next(
             (
                 line
@@ -99,9 +99,12 @@ def of_python(lines: Sequence[str]) -> Optional[str]:
             ),
             None,
         )
-        return said and f"{said}{where}"
-    start = first(lines, r'  File ".*", line \d+')
-    return None if start is None else line_like(lines[start:], NAMED)
+        return said and said + "".join(own[-1:])
+    start = next((it for it, line in enumerate(lines) if FRAME.match(line)), None)
+    if start is None:
+        return None
+    said = line_like(lines[start:], NAMED)
+    return said and said + where_of(lines[start])
 
 
 def of_java(lines: Sequence[str]) -> Optional[str]:

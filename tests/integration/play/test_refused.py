@@ -57,6 +57,18 @@ class Refused(InFolder):
             *more,
         )
 
+    def test_the_kit_in_python_says_where_it_was_refused(self) -> None:
+        ran(main, ["new", "python", str(self.folder / "kit")])
+        path = self.folder / "kit" / "careful.py"
+        departs = "found = agent.depart(ahead"
+        lines = path.read_text().splitlines()
+        line = next(it for it, text in enumerate(lines, 1) if departs in text)
+        lines[line - 1] = lines[line - 1].replace(departs, f"{departs} + 2")
+        path.write_text("\n".join(lines))
+        command = f"{sys.executable} {path} {{host}} {{port}} {{key}} {{nodes}}"
+        told = self.said("run", "--network", "ring:8", "--command", command)
+        self.assertIn(f": client.NoSuchPort: port (careful.py, line {line})\n", told)
+
     def test_run_replay_and_the_page_tell_them(self) -> None:
         out = self.folder / "out"
         said = self.played(*LINES, more=("--keep", str(out)))

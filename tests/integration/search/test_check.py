@@ -159,7 +159,7 @@ class Checks(InFolder):
         self.impatient(
             reads,
             f"        self._socket.settimeout(2)\n{reads}",
-            r"has ended \(refused: timed out\)",
+            r"has ended \(client.Disconnected: timed out \(careful.py, line \d+\)\)",
         )
 
     def test_a_program_that_asks_what_takes_so_long(self) -> None:

@@ -48,7 +48,7 @@ PRINTED: Dict[str, Tuple[str, str]] = {
         "    def f(\n"
         "         ^\n"
         "SyntaxError: '(' was never closed\n",
-        "SyntaxError: '(' was never closed",
+        "SyntaxError: '(' was never closed (agent.py, line 3)",
     ),
     "JavaScript": (
         "/x/c.js:1\n"
