@@ -28,6 +28,7 @@ def text_of(hall: Hall, names: Mapping[str, str], more: Mapping[str, Any] = {}) 
         "holes": given.holes,
         "schedulers": given.schedulers,
         "seeds": given.seeds,
+        **({"packages": given.packages} if given.packages else {}),
         **more,
     }
     return rows_in(rows) + "".join(terms_on(hall, *it) for it in names.items())

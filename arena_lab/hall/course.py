@@ -59,6 +59,7 @@ Each [[network]] has these keys:
     deadline      a time, such as "2026-12-18 18:00"; after it nothing is taken, and the last hand-ins are graded.
     a_day         how many hand-ins a team has a day (10).
     agents        how many agents a team has (as in practice on that network, or 2).
+    packages      packages of Debian that programs see, such as ["gcc", "libc6-dev", "make"] ([]).
     holes, schedulers, seeds
                   as in a course of `grade` (2, ["fair", "slow-agents"], 2).
 
@@ -182,6 +183,7 @@ HAND_INS = {
     "deadline": TIME,
     "a_day": fields.count(10),
     "agents": fields.maybe(AGENTS),
+    "packages": fields.MAYBE_NAMES,
     "holes": fields.count(2),
     "schedulers": Field(is_texts, "a list of names", ["fair", "slow-agents"]),
     "seeds": fields.count(2),
@@ -236,6 +238,7 @@ class HandInRules(NamedTuple):
     deadline: Optional[datetime.datetime]
     a_day: int
     agents: Union[None, int, str]
+    packages: List[str]
     holes: int
     schedulers: List[str]
     seeds: int

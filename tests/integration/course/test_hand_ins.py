@@ -4,6 +4,7 @@ import os
 import pathlib
 import shutil
 import tempfile
+import unittest
 from typing import Any, Dict, Tuple
 from unittest import mock
 
@@ -18,6 +19,9 @@ from tests.support.matches import AGENTS
 from tests.support.output import ran
 
 RING = "python3 ring.py {host} {port} {key} {nodes}"
+# of a program that is compiled where it runs, as docs/HALL.md has it
+MADE = "sh -c 'make -s >&2 && exec ./careful $*' sh {host} {port} {key} {nodes}"
+HAS_COMPILER = all(map(shutil.which, ("make", "gcc")))
 # writes texts of odd characters on a whiteboard until it is ended, and as odd ones to
 # standard error
 LOUD = r"""import json, socket, sys
@@ -53,6 +57,15 @@ class HandIns(Course):
             [row["outcome"] for row in rows["right"]], ["solved"] * len(rows["right"])
         )
         return rows["evil"][0]
+
+    @unittest.skipUnless(HAS_COMPILER, "make or gcc is not installed")
+    def test_make_builds_a_kit_where_the_program_runs(self) -> None:
+        for name in ("careful.c", "client.c", "client.h", "Makefile"):
+            shutil.copy(AGENTS / "c" / name, self.team)
+        needed = 'packages = ["gcc", "libc6-dev", "make"]\n'
+        rows = self.graded(HEAD + needed + team("evil", ["evil"], MADE))
+        found = {(row["outcome"], row["fault"]) for row in rows["evil"]}
+        self.assertEqual(found, {("solved", "")})
 
     def imports(self, name: str) -> None:
         with (self.team / "ring.py").open("a") as file:

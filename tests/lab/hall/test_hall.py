@@ -230,12 +230,14 @@ class Courses(unittest.TestCase):
         self.assertEqual(ports, {"ring:6": False, "hypercube:3": True})
         homes = {it.home for it in cases if it.network == "hypercube:3"}
         self.assertGreater(len(homes), 1)
-        # what [hand_ins] says of agents is for all networks
+        # what [hand_ins] says of agents and of packages is for all networks
         said = text + "agents = 3\n" + 'deadline = "2099-01-01 12:00"\n' + own
         self.assertIn("agents = 3\n", conditions.text_of(self.read(said), names))
         self.assertEqual(
             conditions.text_of(self.read(said), names).count("agents ="), 1
         )
+        packed = self.read(text + 'packages = ["gcc"]\n' + own)
+        self.assertIn('packages = ["gcc"]\n', conditions.text_of(packed, names))
 
     def test_networks_of_hand_ins_may_be_files_beside_the_course(self) -> None:
         with tempfile.TemporaryDirectory() as name:
