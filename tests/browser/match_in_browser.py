@@ -182,10 +182,10 @@ def steps(browser: Browser, name: str, replay: str) -> None:
         "return arguments[0].map((line) => shown(line))", lines
     )
     browser.check(
-        browser.text("count") == f"event {len(lines)} of {len(lines)}",
-        f"{name} opens at another event",
+        browser.text("count") == f"event 0 of {len(lines)}"
+        and "Play" in browser.text("says"),
+        f"{name} opens at {browser.text('count')}: {browser.text('says')}",
     )
-    browser.press(Keys.HOME)
     for place, line in enumerate(shown, 1):
         browser.press(Keys.ARROW_RIGHT)
         browser.check(

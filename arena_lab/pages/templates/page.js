@@ -100,7 +100,7 @@ function words(event, reply) {
 function tell() {
   byId("count").textContent = `event ${place} of ${last}`;
   const hidden = place > 0 && eyes >= 0 && !owns(place - 1);
-  if (place === 0) { byId("says").textContent = "Before the first event."; put(byId("line"), ""); }
+  if (place === 0) { byId("says").textContent = "Before the first event: Play shows the match."; put(byId("line"), ""); }
   else if (hidden) { byId("says").textContent = `Agent ${eyes} meets nothing of this event.`; put(byId("line"), ""); }
   else {
     byId("says").textContent = words(match.events[place - 1], match.reply(place - 1));
@@ -212,7 +212,10 @@ about();
 jumps();
 choices();
 look(twin ? 0 : -1);
-go(last);
+// a match that is over begins with its first event, or with the one that the address names
+const named = /^#event(\d+)$/.exec(location.hash);
+go(named ? Number(named[1]) : data.news ? last : 0);
+if (location.hash === "#play") play();
 if (data.news) {
   new EventSource(`${data.news}/news`).onmessage = follow;
 }
