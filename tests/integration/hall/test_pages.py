@@ -13,12 +13,24 @@ from tests.integration.hall.hall_pages import (
 )
 
 from django.conf import settings
+from django.template import engines
 from django.test import Client, RequestFactory
 
 from arena_lab.hall.attempts import seen
 from arena_lab.hall.attempts.models import Attempt
 from arena_lab.hall.teams import guards, logins
 from arena_lab.hall.teams.models import Entry, Switch, Team
+
+
+class Frame(Hall):
+    def test_the_frame_leaves_a_page_the_names_that_it_gives(self) -> None:
+        text = (
+            '{% extends "base.html" %}'
+            "{% block main %}{{ language }} {{ languages }}{% endblock %}"
+        )
+        page = engines["django"].from_string(text)
+        told = page.render({"language": "python", "languages": "all kits"})
+        self.assertIn("python all kits", told)
 
 
 class Logins(Hall):
