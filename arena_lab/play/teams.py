@@ -17,8 +17,8 @@ from arena_lab.play.bounds import LIMIT
 from arena_lab.play.matches import Team
 from arena_lab.play.own_modules import OwnModules
 from arena_lab.play.players import Team as Inside
+from arena_lab.play.programs import Ground, LocalRunner, seeds_of
 from arena_lab.play.programs import Team as Outside
-from arena_lab.play.programs import seeds_of
 from arena_lab.play.steps import Step, is_step
 from arena_lab.play.wasm_modules import is_module
 from arena_lab.rules import draws
@@ -48,6 +48,13 @@ class AgentWords(NamedTuple):
     words: str
     # an agent inside that is a function of this process, whatever the words
     function: Optional[Callable[..., None]] = None
+    # makes where a program of its own runs, each time that it is started
+    ground: Callable[[], Ground] = LocalRunner
+
+    def __repr__(self) -> str:
+        """What it is, and not where it runs: as rows of courses have had it."""
+        named = zip(self._fields[:-1], self[:-1])
+        return f"AgentWords({', '.join(f'{name}={it!r}' for name, it in named)})"
 
     def name(self) -> str:
         """What it is called in a title: its file, or the function that it is."""
@@ -140,6 +147,15 @@ def filled(
     return list(named) * wanted if len(named) == 1 else list(named)
 
 
+def grounds_of(agents: Sequence[AgentWords]) -> Dict[int, Ground]:
+    """Where the programs of a team run, by the numbers of their agents."""
+    return {
+        number: agent.ground()
+        for number, agent in enumerate(agents)
+        if agent.kind == OUTSIDE
+    }
+
+
 class Together:
     """A team of players inside the lab and outside."""
 
@@ -159,7 +175,8 @@ class Together:
         self._teams: List[Team] = (
             [Inside(fixture.keys, inside, seconds)] if inside else []
         )
-        self._teams += [Outside(fixture, outside, seconds)] if outside else []
+        grounds = grounds_of(agents)
+        self._teams += [Outside(fixture, outside, seconds, grounds)] if outside else []
         players = [player for team in self._teams for player in team.players]
         self.players = sorted(players, key=lambda player: player.number)
 
@@ -181,7 +198,8 @@ def alone(
     if agent.kind == INSIDE:
         script = agent.script(again.setup)
         return Inside(again.keys, {number: script}, seconds, seeds)
-    return Outside(again, {number: agent.words}, seconds, seeds=seeds)
+    grounds = {number: agent.ground()}
+    return Outside(again, {number: agent.words}, seconds, grounds, seeds=seeds)
 
 
 class Matches(NamedTuple):

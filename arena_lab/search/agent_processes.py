@@ -123,9 +123,8 @@ class AgentProcesses:
             one = AgentProcess(player)
             player.go_on()
         else:
-            player = programs.Player(
-                self._outside, agent, words, programs.LocalRunner()
-            )
+            ground = self._agents[agent].ground()
+            player = programs.Player(self._outside, agent, words, ground)
             player.start()
             player.begin()
             player.settle()

@@ -1,0 +1,62 @@
+"""A sandbox that is made when its program starts and removed when it ends: for commands
+that start programs one by one, such as those that try every schedule."""
+import contextlib
+import subprocess
+from typing import Any, Mapping, Optional, Sequence
+
+from arena_lab.play.programs import Started
+from arena_lab.sandbox.sandboxes import (
+    ProgramFiles,
+    Sandbox,
+    SandboxOptions,
+    sandboxes_for,
+)
+
+
+class OwnSandbox:
+    """Where one program runs."""
+
+    def __init__(self, options: SandboxOptions, kept: ProgramFiles) -> None:
+        self.facts: Mapping[str, str] = kept.facts
+        self._options = options
+        self._kept = kept
+        self._held = contextlib.ExitStack()
+        self._sandbox: Optional[Sandbox] = None
+        self._fault = ""
+
+    def start(self, words: Sequence[str], seed: int, errors: Any) -> Started:
+        made = sandboxes_for(self._options, self._kept, 1)
+        self._sandbox = self._held.enter_context(made)[0]
+        return self._sandbox.start(words, seed, errors)
+
+    def kill(self, child: "subprocess.Popen[bytes]") -> None:
+        if self._sandbox is not None:
+            self._sandbox.kill(child)
+            # its control group is gone with it
+            self._fault = self._fault or self._sandbox.fault()
+        self._held.close()
+
+    def hurry(self, child: "subprocess.Popen[bytes]") -> None:
+        if self._sandbox is not None:
+            self._sandbox.hurry(child)
+
+    def told(self, text: str) -> str:
+        return text if self._sandbox is None else self._sandbox.told(text)
+
+    def hint(self, words: str) -> str:
+        return "" if self._sandbox is None else self._sandbox.hint(words)
+
+    def fault(self) -> str:
+        return self._fault
+
+
+class OwnSandboxes:
+    """Makes a sandbox for each program that is started, all with the same files. As the
+    `ground` of an agent it confines the agent's program in each command."""
+
+    def __init__(self, options: SandboxOptions, kept: ProgramFiles) -> None:
+        self._options = options
+        self._kept = kept
+
+    def __call__(self) -> OwnSandbox:
+        return OwnSandbox(self._options, self._kept)
