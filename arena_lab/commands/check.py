@@ -35,7 +35,7 @@ import contextlib
 import json
 import pathlib
 import sys
-from typing import Any, Dict, List, NamedTuple, Optional, Sequence, Tuple
+from typing import Any, Callable, Dict, List, NamedTuple, Optional, Sequence, Tuple
 
 import arena_lab
 from arena_lab import api
@@ -101,6 +101,7 @@ class ToMend(NamedTuple):
 # what an agent is right on, as a part of the last line, and what is to be mended first,
 # if anything is
 Step = Tuple[str, Optional[ToMend]]
+CheckStep = Callable[[Checked, Tried], Step]
 
 
 def add_words(parser: argparse.ArgumentParser) -> None:
@@ -248,15 +249,26 @@ def asked_by(words: argparse.Namespace) -> Checked:
 
 def checked(asked: Checked) -> Step:
     """What the agent is right on, and what is to be mended first, if anything is."""
-    right: List[str] = []
     tried = Tried(asked.seconds)
-    for step in (matches, wait, search, every):
-        said, wrong = step(asked, tried)
-        if wrong is not None:
-            return "", wrong
-        right += [said] if said else []
+    right, wrong = by_steps(asked, (matches, wait, search, every), tried)
+    if wrong is not None:
+        return "", wrong
     over = f"; left out after {asked.seconds:g} s: {listed(tried.left_out)}"
     return f"Right {listed(right)}: {tried}{over if tried.left_out else ''}", None
+
+
+def by_steps(
+    asked: Checked, steps: Sequence[CheckStep], tried: Tried
+) -> Tuple[List[str], Optional[ToMend]]:
+    """What the agent is right on by these steps, up to the first that finds what is to
+    be mended."""
+    right: List[str] = []
+    for step in steps:
+        said, wrong = step(asked, tried)
+        if wrong is not None:
+            return [], wrong
+        right += [said] if said else []
+    return right, None
 
 
 def matches(asked: Checked, tried: Tried) -> Step:
@@ -316,6 +328,12 @@ def search(asked: Checked, tried: Tried) -> Step:
         f"{drawn} schedules of {', '.join(names)} were drawn and {found} were hunted: none fails"
     )
     return f"under {drawn} schedules that were drawn and {found} that were hunted", None
+
+
+def draw_few(asked: Checked, tried: Tried) -> Step:
+    """Draws schedules alone, as many as somebody waits for who writes an agent."""
+    drawn, wrong = draw(asked, asked.smallest(SEARCHED)[:2], tried)
+    return f"under {drawn} schedules that were drawn", wrong
 
 
 def draw(

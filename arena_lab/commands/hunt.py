@@ -39,7 +39,7 @@ from arena_lab.search.hunt import (
     RUNS,
     Hunt,
     Hunter,
-    Trial,
+    HuntedMatch,
     hunted,
 )
 from arena_lab.support.progress import bar
@@ -112,7 +112,7 @@ def run(words: argparse.Namespace) -> int:
 
 
 def report_hunt(
-    hunter: Hunter, best: Trial, keep: pathlib.Path, program: Optional[str]
+    hunter: Hunter, best: HuntedMatch, keep: pathlib.Path, program: Optional[str]
 ) -> int:
     """Says what was found, and keeps it."""
     looked_for = hunter.asked.looked_for

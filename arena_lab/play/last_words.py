@@ -9,6 +9,8 @@ import pathlib
 import re
 from typing import Callable, List, Optional, Sequence, Tuple
 
+# with what lines begin that are no words of the program: see course/sent_lines.py
+MARK = "\x1e"
 # characters of a line that are looked at
 WIDEST = 1000
 NAMED = r"(?:[\w.]+\.)?\w*(?:Error|Exception|Interrupt|Warning|Rejection)\b"
@@ -175,7 +177,9 @@ def error_in(text: str) -> str:
     """The line of what a program wrote to standard error that names its error: by
     language, else the first that looks like an error, else the last."""
     lines: List[str] = [
-        line[:WIDEST].rstrip() for line in text.split("\n") if line.strip()
+        line[:WIDEST].rstrip()
+        for line in text.split("\n")
+        if line.strip() and not line.startswith(MARK)
     ]
     found = next((said for said in (of(lines) for of in LANGUAGES) if said), None)
     if found is None:

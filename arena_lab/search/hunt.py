@@ -74,7 +74,7 @@ class Stop(Exception):
     """A schedule is what was looked for: Hypothesis makes it small."""
 
 
-class Trial(NamedTuple):
+class HuntedMatch(NamedTuple):
     """A schedule that was tried, and what it is worth."""
 
     worth: int
@@ -91,7 +91,7 @@ class Hunter:
         self.tried = 0
         # how many schedules were tried when the team failed first
         self.failed_at: Optional[int] = None
-        self.best: Optional[Trial] = None
+        self.best: Optional[HuntedMatch] = None
         self.wanted: Optional[int] = None
         self.was_stopped = False
         self._shown = shown
@@ -105,7 +105,9 @@ class Hunter:
         is_any = asked.any_home or game.home is None
         self._homes = range(nodes) if is_any and not game.match else [game.home]
 
-    def play(self, home: Optional[int], match: int, scheduler: Scheduler) -> Trial:
+    def play(
+        self, home: Optional[int], match: int, scheduler: Scheduler
+    ) -> HuntedMatch:
         """Plays a schedule, and keeps it if it is the best."""
         fixture = self._fixture(match, home)
         game = self.asked.game
@@ -121,7 +123,7 @@ class Hunter:
         worth = {FAILURE: 0, MOVES: verdict.moves, LOST: verdict.lost}[
             self.asked.looked_for
         ]
-        trial = Trial(worth, played.has_failed(), fixture, played)
+        trial = HuntedMatch(worth, played.has_failed(), fixture, played)
         self.tried += 1
         if trial.has_failed and self.failed_at is None:
             self.failed_at = self.tried

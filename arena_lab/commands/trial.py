@@ -1,0 +1,238 @@
+"""Tries a program while somebody writes it: plays a match to be watched, checks it, or
+tries every schedule of a small network. A process of its own, which a hall starts in a
+folder, so that nothing of the program is in a process of the hall.
+
+    python3 -m arena_lab.commands.trial FOLDER
+
+FOLDER has the program's files in `files`, and `asked.json`: what is tried (`play`,
+`check` or `explore`), the `command` of an agent, the `conditions` as in the file of a
+course, the `scheduler` and `seed` of a match, how many `seconds` it may take, and how
+many of them each `line` of an agent.
+`found.json` is written there, and of a match its replay and its page. What is found has
+sentences, and marks: lines of the program's files, each with what is wrong there.
+"""
+import contextlib
+import io
+import json
+import os
+import pathlib
+import sys
+from typing import Any, Dict, List, NamedTuple, Optional, Tuple
+
+from arena_lab.commands import check
+from arena_lab.course import hand_in, sent_lines
+from arena_lab.course.checked import Checked, Tried, conditions_of, listed
+from arena_lab.course.hand_in import NETWORK, HandIn
+from arena_lab.course.mistaken_lines import marks_of
+from arena_lab.course.trials import (
+    ASKED,
+    CHECK,
+    EXPLORE,
+    FILES,
+    FOUND,
+    PAGE,
+    PLAY,
+    REPLAY,
+)
+from arena_lab.pages import page
+from arena_lab.play import games, kept_matches, programs
+from arena_lab.play.games import Record
+from arena_lab.play.matches import play
+from arena_lab.play.mistakes import plain
+from arena_lab.play.schedules import Schedule, schedule_of
+from arena_lab.play.teams import OUTSIDE, AgentWords
+from arena_lab.rules import networks
+from arena_lab.rules.fixtures import Fixture
+from arena_lab.sandbox import calls, sandboxes
+from arena_lab.sandbox.own_sandboxes import OwnSandboxes
+from arena_lab.sandbox.sandboxes import ProgramFiles, SandboxOptions
+from arena_lab.support.faults import Fault
+
+STEPS = {CHECK: (check.matches, check.draw_few), EXPLORE: (check.every,)}
+# seconds before the end of the time for a line at which a program says where it is
+BEFORE = 1
+# bytes of the lines of a match in all
+ROOM = 1 << 20
+# what is told at most: sentences, characters of each, and of what a program wrote
+MOST_SAID = 20
+LONGEST = 400
+MOST_WRITTEN = 20_000
+
+
+class TrialRequest(NamedTuple):
+    """What is tried: `asked.json`."""
+
+    kind: str
+    command: str
+    conditions: Dict[str, Any]
+    scheduler: str
+    seed: int
+    seconds: int
+    line: int
+    program: Optional[str]
+
+
+class TriedProgram:
+    """A program that is tried in a folder."""
+
+    def __init__(self, folder: pathlib.Path, asked: TrialRequest) -> None:
+        self.folder = folder
+        self.asked = asked
+        self.handed_in = hand_in.read([folder / FILES], folder)
+
+    def agent(self, handed_in: HandIn, fixture: Optional[Fixture] = None) -> AgentWords:
+        """An agent that runs these files in a sandbox; of a match that is known it may
+        have the map."""
+        words = self.asked.command
+        files: Dict[str, bytes] = {}
+        if "{network}" in words:
+            if fixture is None:
+                raise Fault("a program that has the map is tried by matches alone")
+            setup = fixture.setup
+            known = networks.Network(setup.nodes, setup.links)
+            files[NETWORK] = networks.text_of(known).encode()
+        kept = ProgramFiles(
+            handed_in.archive(**files),
+            {"network": NETWORK} if files else {},
+            calls.language_of(words, handed_in.content_of),
+        )
+        options = SandboxOptions(sandboxes.strongest())
+        return AgentWords(OUTSIDE, words, ground=OwnSandboxes(options, kept))
+
+    def marked(self) -> HandIn:
+        """The program with a client that says by which line it sends."""
+        return sent_lines.marked(self.handed_in, self.asked.line - BEFORE)
+
+    def checked(self, agent: AgentWords) -> Checked:
+        asked = self.asked
+        given = conditions_of(asked.conditions, self.folder, agent)
+        return Checked(
+            agent, given, self.asked.line, asked.program, asked.seconds, True
+        )
+
+    def watched(self) -> Tuple[Record, Dict[str, Any]]:
+        """Plays the match of a scheduler and a seed, and writes what shows it."""
+        nobody = self.checked(AgentWords(OUTSIDE, "nobody"))
+        name = nobody.networks[0]
+        case = nobody.conditions.case(name, self.asked.scheduler, self.asked.seed)
+        fixture = nobody.conditions.fixture(case)
+        agent = self.agent(self.marked(), fixture)
+        agents = [agent] * fixture.setup.agents
+        origin = f"{case.scheduler} {case.seed} on {name}"
+        empty = schedule_of(fixture, agents, origin, [], self.asked.line)
+        record = self.played(empty)
+        verdict = record.judged()
+        return record, {
+            "right": not record.has_failed,
+            "verdict": str(verdict),
+            "said": [*record.told(), *record.faults(), *record.played.refused],
+            **self.shown(record),
+        }
+
+    def played(self, empty: Schedule) -> Record:
+        """Plays under the scheduler, within bounds of time and of lines."""
+        agents = dict(enumerate(empty.agents))
+        team = programs.Team(
+            empty.fixture,
+            {number: it.words for number, it in agents.items()},
+            self.asked.line,
+            {number: it.ground() for number, it in agents.items()},
+            self.asked.seconds,
+            room=ROOM,
+        )
+        engine = kept_matches.engine_of(empty, self.asked.program)
+        scheduler = games.maker_of(self.asked.scheduler)(self.asked.seed)
+        played = play(engine, team, scheduler, empty.fixture)
+        schedule = empty._replace(choices=played.choices)
+        return Record(schedule, played, self.asked.program)
+
+    def shown(self, record: Record) -> Dict[str, Any]:
+        """Writes a match's replay and its page; gives by which lines of the program its
+        events came, what programs wrote, and what is wrong in which line."""
+        replay = self.folder / REPLAY
+        replay.write_bytes(record.played.replay)
+        refused = record.played.refused
+        page.write_page(record.program, replay, self.folder / PAGE, None, "", refused)
+        written, places = sent_lines.parted(record.played.errors)
+        sent = sent_lines.along(record.played.match.log, places)
+        lines = [
+            [event.get("agent", -1), it.file, it.line]
+            for event, it in zip(record.played.match.log, sent)
+        ]
+        return {
+            "lines": lines,
+            "written": written,
+            "marks": marks_of(record, written, places, self.handed_in),
+        }
+
+    def checks(self) -> Dict[str, Any]:
+        """Checks the program by the steps of its kind."""
+        log = io.StringIO()
+        tried = Tried(self.asked.seconds)
+        asked = self.checked(self.agent(self.handed_in))
+        with contextlib.redirect_stdout(log), contextlib.redirect_stderr(io.StringIO()):
+            right, wrong = check.by_steps(asked, STEPS[self.asked.kind], tried)
+        if wrong is not None:
+            return self.to_mend(wrong)
+        if not right:
+            lines = log.getvalue().strip().split("\n")[-1:]
+            left = f"not within {self.asked.seconds} s: {listed(tried.left_out)}"
+            return {"right": False, "said": [left] if tried.left_out else lines}
+        more = [f"left out: {listed(tried.left_out)}"] if tried.left_out else []
+        return {"right": True, "said": [f"Right {listed(right)}.", *more]}
+
+    def to_mend(self, wrong: check.ToMend) -> Dict[str, Any]:
+        """What is to be mended first, and the match that shows it: played again with a
+        client that says by which line it sends."""
+        record = wrong.record
+        schedule = record.schedule
+        agent = self.agent(self.marked(), schedule.fixture)
+        with contextlib.suppress(Fault):
+            again = schedule._replace(agents=[agent] * len(schedule.agents))
+            found = games.play_again(again, self.asked.program)
+            if found.played.replay == record.played.replay:
+                record = found
+        said = [f"To mend first: {wrong.said[0]}", *wrong.said[1:]]
+        return {"right": False, "said": said, **self.shown(record)}
+
+    def found(self) -> Dict[str, Any]:
+        if self.asked.kind == PLAY:
+            return self.watched()[1]
+        return self.checks()
+
+
+def bounded(found: Dict[str, Any]) -> Dict[str, Any]:
+    """What is found, as it may be kept and shown."""
+    said = list(dict.fromkeys(plain(it)[:LONGEST] for it in found["said"]))
+    written = {
+        agent: "\n".join(map(plain, text.split("\n")))[-MOST_WRITTEN:]
+        for agent, text in found.get("written", {}).items()
+        if text
+    }
+    marks: List[Dict[str, Any]] = found.get("marks", [])
+    return {
+        "verdict": "",
+        "lines": [],
+        **found,
+        "said": said[:MOST_SAID],
+        "written": written,
+        "marks": [
+            {**it, "said": plain(it["said"])[:LONGEST]} for it in marks[:MOST_SAID]
+        ],
+    }
+
+
+def main(name: str) -> None:
+    folder = pathlib.Path(name).resolve()
+    asked = TrialRequest(**json.loads((folder / ASKED).read_text(encoding="utf-8")))
+    # where the words of a command name files
+    os.chdir(folder / FILES)
+    found = bounded(TriedProgram(folder, asked).found())
+    (folder / FOUND).write_text(json.dumps(found), encoding="utf-8")
+
+
+if __name__ == "__main__":
+    try:
+        main(sys.argv[1])
+    except (Fault, OSError) as fault:
+        sys.exit(f"trial: {fault}")

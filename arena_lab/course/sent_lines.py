@@ -1,0 +1,166 @@
+"""Which line of a program has sent each of its commands, while somebody watches: the
+client of the kit is given some lines more, by which it says so on standard error.
+
+These lines are in no program that is handed in or kept. A program may write such marks
+itself; they say nothing but lines of its own files, which its team alone is shown.
+"""
+import re
+from typing import Any, Dict, List, NamedTuple, Sequence, Tuple
+
+from arena_lab.course.hand_in import HandIn, HandInEntry
+from arena_lab.play.last_words import MARK
+
+# a mark: the number of the command, the file and the line
+MARKED = re.compile(rf"(?:{MARK}|\\x1e)(\d{{1,5}}) ([\w.-]{{1,60}}):(\d{{1,6}})$")
+# what is put behind the client in Python: a mark for each line that is sent, by the
+# frame that called the client, and where a program is that sends nothing for seconds
+PYTHON = """
+
+def _marks(send):
+    def marked(self, line):
+        frame = sys._getframe(1)
+        while frame is not None and frame.f_code.co_filename == __file__:
+            frame = frame.f_back
+        _sent[0] += 1
+        if frame is not None:
+            file = frame.f_code.co_filename.rpartition("/")[2]
+            sys.stderr.write(f"\\x1e{_sent[0]} {file}:{frame.f_lineno}\\n")
+            sys.stderr.flush()
+        return send(self, line)
+    return marked
+
+
+def _waits(receive):
+    def waited(self):
+        faulthandler.cancel_dump_traceback_later()
+        try:
+            return receive(self)
+        finally:
+            faulthandler.dump_traceback_later(SILENT)
+    return waited
+
+
+import faulthandler
+_sent = [0]
+faulthandler.dump_traceback_later(SILENT)
+Lines.send, Lines.receive = _marks(Lines.send), _waits(Lines.receive)
+"""
+JAVASCRIPT = """
+
+let _sent = 0;
+const _ask = Agent.prototype.ask;
+Agent.prototype.ask = function (command) {
+    const frames = new Error().stack.split("\\n").filter((it) => !/client\\.js:|node:/.test(it));
+    const from = frames.map((it) => /([\\w.-]+):(\\d+):\\d+\\)?$/.exec(it)).find(Boolean);
+    _sent += 1;
+    if (from) require("node:fs").writeSync(2, `\\x1e${_sent} ${from[1]}:${from[2]}\\n`);
+    return _ask.call(this, command);
+};
+"""
+# before the last line of the header, which ends it
+C = """
+static inline int arena_mark(const char *file, int line)
+{
+    extern int arena_sent;
+    return fprintf(stderr, "\\x1e%d %s:%d\\n", ++arena_sent, file, line);
+}
+#ifndef ARENA_CLIENT
+#define agent_join(...) (arena_mark(__FILE__, __LINE__), agent_join(__VA_ARGS__))
+#define agent_look(...) (arena_mark(__FILE__, __LINE__), agent_look(__VA_ARGS__))
+#define agent_write(...) (arena_mark(__FILE__, __LINE__), agent_write(__VA_ARGS__))
+#define agent_depart(...) (arena_mark(__FILE__, __LINE__), agent_depart(__VA_ARGS__))
+#define agent_accuse(...) (arena_mark(__FILE__, __LINE__), agent_accuse(__VA_ARGS__))
+#define agent_leave(...) (arena_mark(__FILE__, __LINE__), agent_leave(__VA_ARGS__))
+#endif
+"""
+C_BEFORE = "#define ARENA_CLIENT\nint arena_sent;\n"
+ENDS = "#endif"
+
+
+class SentBy(NamedTuple):
+    """The place of a program that sent a command; no place has line 0."""
+
+    file: str
+    line: int
+
+
+NOWHERE = SentBy("", 0)
+
+
+def marked(handed_in: HandIn, silent: float) -> HandIn:
+    """The program with a client that marks what it sends, if it has a kit's client. A
+    program in Python that sends nothing for so many seconds says where it is."""
+    python = PYTHON.replace("SILENT", f"{silent:g}")
+    changed = {
+        name: text
+        for name, text in (
+            ("client.py", behind(handed_in, "client.py", python, "class Lines")),
+            ("client.js", behind(handed_in, "client.js", JAVASCRIPT, "class Agent")),
+            ("client.h", in_header(handed_in)),
+            ("client.c", in_client(handed_in)),
+        )
+        if text
+    }
+    return HandIn(
+        {
+            name: HandInEntry(entry.kind, changed[name].encode(), entry.is_program)
+            if name in changed
+            else entry
+            for name, entry in handed_in.entries.items()
+        }
+    )
+
+
+def text_of(handed_in: HandIn, name: str) -> str:
+    return (handed_in.content_of(name) or b"").decode(errors="replace")
+
+
+def behind(handed_in: HandIn, name: str, more: str, has: str) -> str:
+    """A client with these lines behind it, if it is as in the kit."""
+    text = text_of(handed_in, name)
+    return text + more if has in text else ""
+
+
+def in_header(handed_in: HandIn) -> str:
+    text = text_of(handed_in, "client.h")
+    before, ends, rest = text.rpartition(ENDS)
+    return before + C + ends + rest if "agent_look" in text else ""
+
+
+def in_client(handed_in: HandIn) -> str:
+    text = text_of(handed_in, "client.c")
+    return C_BEFORE + text if in_header(handed_in) and text else ""
+
+
+def parted(errors: Dict[int, str]) -> Tuple[Dict[int, str], Dict[int, List[SentBy]]]:
+    """What programs wrote to standard error themselves, and the places by which each
+    agent sent its commands."""
+    written: Dict[int, str] = {}
+    places: Dict[int, Dict[int, SentBy]] = {}
+    for agent, text in errors.items():
+        own = []
+        found = places.setdefault(agent, {})
+        for line in text.split("\n"):
+            mark = MARKED.match(line)
+            if mark is None:
+                own.append(line)
+            else:
+                found[int(mark[1])] = SentBy(mark[2], int(mark[3]))
+        written[agent] = "\n".join(own).strip()
+    return written, {agent: in_order(found) for agent, found in places.items()}
+
+
+def in_order(found: Dict[int, SentBy]) -> List[SentBy]:
+    """The places by the numbers of commands. What was cut has none."""
+    return [found.get(it, NOWHERE) for it in range(1, max(found, default=0) + 1)]
+
+
+def along(log: Sequence[Any], places: Dict[int, List[SentBy]]) -> List[SentBy]:
+    """Of each event of a log the place that sent it, or none."""
+    left = {agent: iter(found) for agent, found in places.items()}
+    return [
+        NOWHERE
+        if event["do"] in ("deliver", "close")
+        else next(left.get(event["agent"], iter(())), NOWHERE)
+        for event in log
+    ]
