@@ -31,7 +31,7 @@ from typing import Any, Callable, Dict
 
 from arena_lab.commands.words import add_program, at_least_one, not_negative
 from arena_lab.hall import backup, entry, place, serving
-from arena_lab.hall.course import Hall, NoHall, is_zone, read
+from arena_lab.hall.course import CODEMIRROR, PACKAGE, Hall, NoHall, is_zone, read
 from arena_lab.hall.place import HallFolder, folder_of
 from arena_lab.rules.engines import program_at
 from arena_lab.sandbox import sandboxes
@@ -206,15 +206,24 @@ def begin(of: HallFolder) -> None:
 
 def check_walls(words: argparse.Namespace, hall: Hall) -> None:
     """Refuses to take programs of strangers where nothing keeps them from the hall."""
-    if hall.hand_ins is not None and sandboxes.strongest() is not Isolation.ALL:
+    takes = hall.hand_ins is not None or hall.editor is not None
+    if takes and sandboxes.strongest() is not Isolation.ALL:
         if not words.weak_walls:
             raise NoHall(
-                f"{sandboxes.weakness()}: programs that are handed in could read the hall. Remove [hand_ins], "
-                "or say --weak-walls if you trust all teams"
+                f"{sandboxes.weakness()}: programs of teams could read the hall. Remove [hand_ins] and "
+                "[editor], or say --weak-walls if you trust all teams"
             )
         print(
             f"hall: {sandboxes.weakness()}; {sandboxes.strongest().value}",
             file=sys.stderr,
+        )
+
+
+def check_editor(hall: Hall) -> None:
+    """Refuses a page on which one writes where there is no editor for it."""
+    if hall.editor is not None and not CODEMIRROR.is_dir():
+        raise NoHall(
+            f"[editor] needs Debian's {PACKAGE}: `apt-get install {PACKAGE}`, or remove it"
         )
 
 
@@ -237,6 +246,7 @@ def serve(words: argparse.Namespace, of: HallFolder) -> int:
     os.umask(0o077)
     hall = of.to_serve()
     check_walls(words, hall)
+    check_editor(hall)
     of.make()
     with serving.alone(of):
         of.write(hall)

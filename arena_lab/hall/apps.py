@@ -18,6 +18,11 @@ class HandIns(AppConfig):
     verbose_name = _("Hand-ins")
 
 
+class Writing(AppConfig):
+    name = "arena_lab.hall.drafts"
+    verbose_name = _("Programs that teams write")
+
+
 class Standings(AppConfig):
     name = "arena_lab.hall.standings"
     verbose_name = _("Standings")

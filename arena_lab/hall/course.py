@@ -63,9 +63,17 @@ Each [[network]] has these keys:
     holes, schedulers, seeds
                   as in a course of `grade` (2, ["fair", "slow-agents"], 2).
 
+    [editor]
+    languages     the kits with which teams begin in the browser: "python", "javascript", "c", "cpp" (["python"]).
+    seconds       how long a match that is tried there may take (20).
+    search        how long a check or a search through all schedules may take (60).
+    trials        how many programs are tried at a time (2).
+    a_day         how many programs a team tries a day (500).
+
 Hand-ins are graded by the agents, quota, whiteboards and labels that practice has on the same network.
 
-Without [hand_ins] nothing is handed in, and nobody is ranked. Times are of the zone.
+Without [hand_ins] nothing is handed in, and nobody is ranked; without [editor] nobody
+writes in the browser. Times are of the zone.
 """
 import datetime
 import functools
@@ -92,6 +100,10 @@ from arena_lab.support.fields import (
 from arena_lab.sweep.grid import AGENTS, DEGREE, MAY_BE_TEXT
 
 LANGUAGES = ("en", "de", "fr")
+# kits that may be written in the browser, and the editor there, of Debian's package
+KITS = ("python", "javascript", "c", "cpp")
+CODEMIRROR = pathlib.Path("/usr/share/javascript/codemirror")
+PACKAGE = "libjs-codemirror"
 DRAWN = "drawn"
 FIXED = "fixed"
 # a table of earlier files, which is passed over
@@ -138,6 +150,7 @@ FIELDS = {
     RATED: Field(lambda it: True, "", None),
     "limits": fields.table("limits", {}),
     "hand_ins": fields.table("hand_ins", None),
+    "editor": fields.table("editor", None),
 }
 LIMITS = {
     "at_once": fields.count(2),
@@ -187,6 +200,19 @@ HAND_INS = {
     "holes": fields.count(2),
     "schedulers": Field(is_texts, "a list of names", ["fair", "slow-agents"]),
     "seeds": fields.count(2),
+}
+
+
+EDITOR = {
+    "languages": Field(
+        lambda it: is_texts(it) and set(it) <= set(KITS),
+        f"a list of {', '.join(KITS)}",
+        ["python"],
+    ),
+    "seconds": fields.count(20),
+    "search": fields.count(60),
+    "trials": fields.count(2),
+    "a_day": fields.count(500),
 }
 
 
@@ -244,6 +270,17 @@ class HandInRules(NamedTuple):
     seeds: int
 
 
+class EditorRules(NamedTuple):
+    """What teams may try in the browser: with which kits, for how many seconds, how many
+    programs at a time, and how many a day."""
+
+    languages: List[str]
+    seconds: int
+    search: int
+    trials: int
+    a_day: int
+
+
 class Hall(NamedTuple):
     """What a hall's file says."""
 
@@ -267,6 +304,7 @@ class Hall(NamedTuple):
     nets: Dict[str, Net]
     limits: TeamLimits
     hand_ins: Optional[HandInRules]
+    editor: Optional[EditorRules]
     # what the teacher is told when the hall starts
     notes: List[str]
 
@@ -311,6 +349,9 @@ def hall_of(text: str, path: pathlib.Path) -> Hall:
         hand_ins=None
         if said["hand_ins"] is None
         else hand_ins_of(said["hand_ins"], zone, path.parent),
+        editor=None
+        if said["editor"] is None
+        else EditorRules(**fields.values_of(said["editor"], EDITOR, "editor")),
         notes=notes_of(found),
     )
 

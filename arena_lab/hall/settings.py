@@ -3,11 +3,12 @@ folder."""
 import pathlib
 import socket
 import urllib.parse
-from typing import Any, Dict
+from typing import Any, Dict, List
 
 import django
 
 from arena_lab.hall import place
+from arena_lab.hall.course import CODEMIRROR
 
 PLACE = place.current()
 HALL = PLACE.hall()
@@ -28,7 +29,7 @@ ROOT_URLCONF = "arena_lab.hall.urls"
 INSTALLED_APPS = [
     *(
         f"arena_lab.hall.apps.{name}"
-        for name in ("Teams", "Attempts", "HandIns", "Standings")
+        for name in ("Teams", "Attempts", "HandIns", "Writing", "Standings")
     ),
     "django.contrib.admin",
     "django.contrib.auth",
@@ -129,7 +130,9 @@ if django.VERSION < (4,):
 TIME_ZONE = HALL.zone
 
 STATIC_URL = "/static/"
-STATICFILES_DIRS = [HERE / "static"]
+STATICFILES_DIRS: List[Any] = [HERE / "static"]
+if HALL.editor is not None and CODEMIRROR.is_dir():
+    STATICFILES_DIRS.append(("codemirror", CODEMIRROR))
 WHITENOISE_USE_FINDERS = True
 WHITENOISE_MAX_AGE = 3600
 LOGIN_URL = "/login"

@@ -158,11 +158,13 @@ class WorkLost(Exception):
 
 
 class Lease:
-    """The hold that a worker has on the work that it does, as long as it counts on."""
+    """The hold that a worker has on the work that it does, as long as it counts on, every
+    so many seconds."""
 
-    def __init__(self, work: Work, holder: str) -> None:
+    def __init__(self, work: Work, holder: str, renewed: float = RENEWED) -> None:
         self._work = work
         self._holder = holder
+        self._every = renewed
         self._renewed = time.monotonic()
 
     def renew(self) -> None:
@@ -170,14 +172,14 @@ class Lease:
             raise WorkLost
         self._renewed = time.monotonic()
 
-    def wait(self) -> None:
+    def wait(self, seconds: float = LOOK) -> None:
         """Lets a moment pass, and counts on in time. A database that does not answer is
         asked again, as long as the lease holds."""
-        time.sleep(LOOK)
+        time.sleep(seconds)
         silent = time.monotonic() - self._renewed
         if STOPPED.is_set():
             raise WorkerStopped
-        if silent > RENEWED:
+        if silent > self._every:
             try:
                 self.renew()
             except OperationalError:

@@ -8,13 +8,16 @@ from django.contrib import admin
 from django.db import OperationalError
 from django.http import HttpResponse, JsonResponse
 from django.urls import include, path, re_path, register_converter
-from django.urls.converters import IntConverter
+from django.urls.converters import IntConverter, SlugConverter
 from django.utils.translation import gettext as _
 from django.views.defaults import server_error
 
 from arena_lab.hall.attempts import views as attempts
 from arena_lab.hall.attempts.api import Attempts, Networks
 from arena_lab.hall.attempts.models import Attempt
+from arena_lab.hall.drafts import views as drafts
+from arena_lab.hall.drafts.api import Drafts, Trials
+from arena_lab.hall.drafts.models import Trial
 from arena_lab.hall.handins import views as handins
 from arena_lab.hall.handins.api import HandIns
 from arena_lab.hall.handins.models import Grading
@@ -37,7 +40,14 @@ class Number(IntConverter):
     regex = "[0-9]{1,9}"
 
 
+class Language(SlugConverter):
+    """The name of a kit."""
+
+    regex = "[a-z0-9-]{1,40}"
+
+
 register_converter(Number, "number")
+register_converter(Language, "language")
 
 
 def no_icon(request: Any) -> HttpResponse:
@@ -50,7 +60,7 @@ def health(request: Any) -> JsonResponse:
     a program is graded is nobody's business, as those that fail take long. Without its
     database it answers 503."""
     waiting = sum(
-        kind.objects.filter(state=WAITING).count() for kind in (Attempt, Grading)
+        kind.objects.filter(state=WAITING).count() for kind in (Attempt, Grading, Trial)
     )
     return JsonResponse(
         {
@@ -86,6 +96,17 @@ API = [
     ),
     path("hand-ins", HandIns.as_view({"get": "list", "post": "create"})),
     path("hand-ins/<number:number>", HandIns.as_view({"get": "retrieve"})),
+    path("drafts", Drafts.as_view({"get": "list"})),
+    path(
+        "drafts/<language:language>",
+        Drafts.as_view({"get": "retrieve", "put": "update"}),
+    ),
+    path("drafts/<language:language>/hand-in", Drafts.as_view({"post": "hand_in"})),
+    path("trials", Trials.as_view({"get": "list", "post": "create"})),
+    path("trials/<number:number>", Trials.as_view({"get": "retrieve"})),
+    path("trials/<number:number>/close", Trials.as_view({"post": "close"})),
+    path("trials/<number:number>/files", Trials.as_view({"get": "files"})),
+    path("trials/<number:number>/replay", Trials.as_view({"get": "replay"})),
     path("standings", standings.Standings.as_view()),
     path("contests", standings.Contests.as_view()),
     path("contests/<number:number>", standings.Standings.as_view()),
@@ -105,6 +126,8 @@ urlpatterns = [
     path("matches/<number:number>/close", attempts.close),
     path("matches/<number:number>/<number:match>/replay", attempts.replay),
     path("matches/<number:number>/<number:match>/page", attempts.page),
+    path("write", drafts.page),
+    path("write/trials/<number:number>/page", drafts.watched),
     path("hand-ins", handins.listed),
     path("hand-ins/take", handins.take),
     path("hand-ins/conditions.toml", handins.conditions),

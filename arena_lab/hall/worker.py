@@ -15,13 +15,16 @@ from django.utils import timezone
 from arena_lab.hall import machine
 from arena_lab.hall.attempts import playing
 from arena_lab.hall.attempts.models import Attempt, Pages
+from arena_lab.hall.drafts import playing as tried
+from arena_lab.hall.drafts import trying
+from arena_lab.hall.drafts.models import Trial
 from arena_lab.hall.handins import grading
 from arena_lab.hall.handins.models import Grading
 from arena_lab.hall.handins.taking import grade_secretly
 from arena_lab.hall.place import tell
 from arena_lab.hall.steps import STOPPED, Watch, claimed
 
-KINDS = (Attempt, Pages, Grading)
+KINDS = (Attempt, Pages, Grading, Trial)
 # seconds between two looks, and between two that ask for gradings by the secret draw
 LOOK = 0.25
 SECRETLY = 2.0
@@ -47,7 +50,14 @@ def due(resting: Dict[Any, Set[int]]) -> List[Job]:
             .order_by("pk")[: max(0, 2 - pages)]
         ),
         *((grading.grade, it) for it in grading.due(limits.gradings, resting[Grading])),
+        *((tried.play, it) for it in due_trials(resting[Trial])),
     ]
+
+
+def due_trials(resting: Set[int]) -> List[Trial]:
+    """The trials that may begin, beside gradings and matches."""
+    rules = settings.HALL.editor
+    return [] if rules is None else trying.due(rules.trials, resting)
 
 
 def due_attempts(most: int, resting: Collection[int] = ()) -> List[Any]:

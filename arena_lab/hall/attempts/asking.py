@@ -10,6 +10,7 @@ from arena_lab.hall import machine
 from arena_lab.hall.attempts.models import Attempt
 from arena_lab.hall.attempts.playing import forget
 from arena_lab.hall.course import Net
+from arena_lab.hall.drafts.models import Draft, Trial
 from arena_lab.hall.handins.models import Grading, HandIn
 from arena_lab.hall.steps import step
 from arena_lab.hall.teams.models import Switch, Team, note, today
@@ -109,12 +110,14 @@ def bytes_of(team: Team) -> int:
 
 
 def own_bytes(team: Team) -> int:
-    """The bytes of all files of a team: matches, hand-ins, and what came of grading
-    them."""
+    """The bytes of all files of a team: matches, hand-ins and what came of grading
+    them, drafts and trials."""
     kinds = (
         Attempt.objects.filter(team=team),
         HandIn.objects.filter(team=team),
         Grading.objects.filter(hand_in__team=team),
+        Draft.objects.filter(team=team),
+        Trial.objects.filter(team=team),
     )
     found = (rows.aggregate(all=models.Sum("size"))["all"] for rows in kinds)
     return sum(it or 0 for it in found)

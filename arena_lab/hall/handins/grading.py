@@ -8,12 +8,9 @@ import contextlib
 import csv
 import datetime
 import hashlib
-import os
 import pathlib
 import shutil
-import subprocess
 import sys
-import tempfile
 from typing import Any, Collection, Dict, List
 
 from django.conf import settings
@@ -22,13 +19,11 @@ from django.utils import timezone
 
 from arena_lab.hall import conditions, machine, packing
 from arena_lab.hall.attempts.asking import bytes_of, own_bytes
-from arena_lab.hall.attempts.servers import bound
+from arena_lab.hall.children import LOG, child_of, last_line
 from arena_lab.hall.handins.models import Grading
 from arena_lab.hall.handins.windows import window_of
-from arena_lab.hall.place import SECRET, temporary_of, write_whole
+from arena_lab.hall.place import SECRET, write_whole
 from arena_lab.hall.steps import Lease, WorkLost, begun, step
-from arena_lab.sandbox import sandboxes
-from arena_lab.support.built import TOP
 from arena_lab.support.faults import Fault
 
 # for how long it is known how long a team's programs took
@@ -36,7 +31,6 @@ RECENT = datetime.timedelta(days=1)
 COURSE = "course.toml"
 FILES = "files"
 OUT = "out"
-LOG = "log.txt"
 TEAM_PAGE = "team-{team}.html"
 # of matches: failed and solved ones
 MATCHES = ("failed", "solved")
@@ -103,11 +97,6 @@ def run(work: Grading, holder: str, folder: pathlib.Path) -> None:
     program does, `grade` tells it in its rows: if it fails itself, the machine has a
     fault."""
     words = [
-        # if memory is short, it ends before the hall's own processes
-        "choom",
-        "-n",
-        "1000",
-        "--",
         sys.executable,
         "-m",
         "arena_lab",
@@ -122,43 +111,14 @@ def run(work: Grading, holder: str, folder: pathlib.Path) -> None:
         "--program",
         settings.PLACE.program,
     ]
-    variables = {
-        "PATH": os.environ.get("PATH", "/usr/bin:/bin"),
-        "PYTHONPATH": str(TOP),
-        "PYTHONHASHSEED": "0",
-    }
-    # of which nothing is left, whatever ends the worker: place.remove_left
-    temporary = tempfile.mkdtemp(prefix=temporary_of(settings.PLACE.folder))
-    # programs have users of their own where there are no walls
-    os.chmod(temporary, 0o711)
-    variables["TMPDIR"] = temporary
-    with (folder / LOG).open("wb") as log:
-        child = subprocess.Popen(
-            bound(words),
-            cwd=folder,
-            stdin=subprocess.DEVNULL,
-            stdout=log,
-            stderr=log,
-            env=variables,
-        )
     lease = Lease(work, holder)
-    try:
+    with child_of(words, folder) as child:
         while child.poll() is None:
             lease.wait()
-    finally:
-        child.kill()
-        child.wait()
-        sandboxes.remove(pathlib.Path(temporary))
     if child.returncode != 0:
         raise machine.MachineFault(
             f"`grade` ended with status {child.returncode}: {last_line(folder / LOG)}"
         )
-
-
-def last_line(path: pathlib.Path) -> str:
-    """The last line of a log."""
-    lines = path.read_text(encoding="utf-8", errors="replace").splitlines()
-    return lines[-1][:200] if lines else ""
 
 
 def finish(work: Grading, holder: str, folder: pathlib.Path) -> None:

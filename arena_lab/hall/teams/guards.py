@@ -28,6 +28,8 @@ BOXED = (
     "sandbox allow-scripts; default-src 'none'; style-src 'unsafe-inline'; script-src 'unsafe-inline'; "
     "base-uri 'none'; form-action 'none'; frame-ancestors 'none'"
 )
+# such a page where the hall's own page has it in a frame
+BOXED_INSIDE = BOXED.replace("frame-ancestors 'none'", "frame-ancestors 'self'")
 # what each answer has: nothing is taken from elsewhere, framed or kept
 HEADERS = {
     "Content-Security-Policy": STRICT,

@@ -136,4 +136,5 @@ def shown(request: Any) -> Dict[str, Any]:
         "hall": hall,
         "team": getattr(request, "team", None),
         "takes_hand_ins": hall.hand_ins is not None,
+        "has_editor": hall.editor is not None,
     }

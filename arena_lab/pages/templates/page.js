@@ -2,6 +2,8 @@
 const MOST_JUMPS = 40;
 const byId = (id) => document.getElementById(id);
 const pasts = new Map();
+// as a part of a page that writes programs: that page is told the place, and names events to go to
+const INSIDE = "inside", isInside = window.name === INSIDE;
 let data, match, twin, last, place = 0, eyes = -1, playing = null, pictures = [];
 
 function take(given) {
@@ -163,7 +165,11 @@ function show() {
   tell();
   tables();
 }
-function go(to) { place = Math.max(0, Math.min(last, to)); show(); }
+function go(to) {
+  place = Math.max(0, Math.min(last, to));
+  show();
+  if (isInside) window.parent.postMessage({ place }, "*");
+}
 function look(agent) { eyes = agent; byId("eyes").value = agent; figures(); track(); show(); }
 function along(step) {
   if (eyes < 0) return;
@@ -218,4 +224,10 @@ go(named ? Number(named[1]) : data.news ? last : 0);
 if (location.hash === "#play") play();
 if (data.news) {
   new EventSource(`${data.news}/news`).onmessage = follow;
+}
+if (isInside) {
+  document.body.classList.add(INSIDE);
+  window.addEventListener("message", (said) => {
+    if (said.source === window.parent && typeof said.data?.event === "number") go(said.data.event);
+  });
 }

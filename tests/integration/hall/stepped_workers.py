@@ -18,7 +18,7 @@ halls.begun()
 
 from django.db import connection, connections  # noqa: E402
 
-from arena_lab.hall import steps, worker  # noqa: E402
+from arena_lab.hall import children, steps, worker  # noqa: E402
 from arena_lab.hall.handins import grading  # noqa: E402
 
 READS = "SELECT"
@@ -177,8 +177,8 @@ class Workers:
             (worker, "threading", mock.Mock(Thread=Thread)),
             (worker, "tell", lambda line: self.broken_rules.append(line)),
             (steps, "tell", lambda line: None),
-            (grading.subprocess, "Popen", graded),
-            (grading.sandboxes, "remove", shutil.rmtree),
+            (children.subprocess, "Popen", graded),
+            (children.sandboxes, "remove", shutil.rmtree),
         ):
             self._held.enter_context(mock.patch.object(module, name, instead))
 

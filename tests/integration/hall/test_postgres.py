@@ -96,9 +96,27 @@ class Postgres(halls.Playing):
             self.addCleanup(clean)
         return child
 
+    def tried(self, hall: Served, token: str) -> None:
+        """A draft is kept and tried, and its trial is over."""
+        draft = hall.ask("GET", "/api/drafts/python", token).json()
+        draft["files"]["agent.py"] += "# \u20ac\n"
+        told = hall.ask("PUT", "/api/drafts/python", token, draft)
+        self.assertEqual(told.json()["version"], 1)
+        asked = {**draft, "kind": "play", "network": "ring of 5"}
+        made = hall.ask("POST", "/api/trials", token, asked).json()
+        path = f"/api/trials/{made['id']}"
+
+        def over() -> Any:
+            found = hall.ask("GET", path, token).json()
+            return found if found["state"] == "over" else None
+
+        found = hall.wait(over, "the trial is over")
+        self.assertTrue(found["found"]["right"], found)
+
     def test_matches_go_on_whoever_is_killed(self) -> None:
         database = f'database = "postgresql://hall@127.0.0.1:{self.port}/hall"'
-        with halls.served(database, workers=0) as hall:
+        more = database + '\neditor = { languages = ["python"] }'
+        with halls.served(more, workers=0) as hall:
             tokens = hall.tokens()
             others = [self.machine(hall), self.machine(hall)]
             first = hall.asked(tokens["amber"])
@@ -107,6 +125,7 @@ class Postgres(halls.Playing):
             self.assertEqual(
                 (before["solved"], before["matches"][0]["host"]), (1, "localhost")
             )
+            self.tried(hall, tokens["birch"])
             numbers = {name: hall.asked(token) for name, token in tokens.items()}
             for name, number in numbers.items():
                 hall.begins(tokens[name], number)

@@ -2,9 +2,21 @@
 import re
 from typing import Dict
 
-from tests.integration.hall.hall_pages import Hall, contest_of, graded, played
+from tests.integration.hall.hall_pages import (
+    Hall,
+    contest_of,
+    graded,
+    halled,
+    played,
+)
 
+from arena_lab.commands.trial import bounded
+from arena_lab.course.mistaken_lines import LineMark
 from arena_lab.hall.attempts.models import Attempt
+from arena_lab.hall.course import EditorRules
+from arena_lab.hall.drafts.models import Trial
+
+FOUND = bounded({"right": False, "said": ["wrong"]})
 
 
 class Documented(Hall):
@@ -19,12 +31,26 @@ class Documented(Hall):
         self.rest("post", "/api/matches", body={"network": "torus with a map"})
         contest = contest_of()
         graded("amber", contest=contest)
+        given = halled(editor=EditorRules(["python"], 20, 60, 2, 500))
+        given.start()
+        self.addCleanup(given.stop)
+        trial = Trial.objects.create(
+            team=self.team("amber"),
+            language="python",
+            kind="play",
+            network="ring of 5",
+            files={"a.py": ""},
+            size=1,
+            found={**FOUND, "marks": [LineMark("a.py", 1, "wrong", 0)._asdict()]},
+        )
         answers = {
             "/networks": {},
             "/matches": {},
             "/standings": {},
             "/hand-ins": {},
             "/contests": {},
+            "/drafts": {},
+            "/trials": {},
         }
         numbers = [it.pk for it in Attempt.objects.all()]
         paths: Dict[str, str] = {
@@ -32,6 +58,9 @@ class Documented(Hall):
             "/openapi.json": "/openapi.json",
             **{f"/matches/{number}": "/matches/{id}" for number in numbers},
             f"/contests/{contest.pk}": "/contests/{id}",
+            "/drafts/python": "/drafts/{language}",
+            f"/trials/{trial.pk}": "/trials/{id}",
+            f"/trials/{trial.pk}/files": "/trials/{id}/files",
         }
         for path, name in paths.items():
             told = self.rest("get", f"/api{path}")
@@ -50,8 +79,8 @@ class Documented(Hall):
         found = {
             "/"
             + re.sub(
-                "<number:(number|match)>",
-                lambda it: {"number": "{id}", "match": "{match}"}[it[1]],
+                "<(?:number|language):(number|match|language)>",
+                lambda it: "{id}" if it[1] == "number" else f"{{{it[1]}}}",
                 str(entry.pattern),
             )
             for entry in API

@@ -28,7 +28,7 @@ from django.db import models  # noqa: E402
 from django.test import TestCase  # noqa: E402
 from django.utils import timezone  # noqa: E402
 
-from arena_lab.hall import worker  # noqa: E402
+from arena_lab.hall import children, worker  # noqa: E402
 from arena_lab.hall.attempts import asking, playing  # noqa: E402
 from arena_lab.hall.attempts.models import Attempt  # noqa: E402
 from arena_lab.hall.handins import grading  # noqa: E402
@@ -51,8 +51,8 @@ def after_seconds(seconds: float, since: float = time.monotonic()) -> Any:
 @contextlib.contextmanager
 def runs(program: Any) -> Iterator[None]:
     """Another program in the place of `grade`, while the block goes on."""
-    with mock.patch.object(grading.subprocess, "Popen", program), mock.patch.object(
-        grading.sandboxes, "remove", shutil.rmtree
+    with mock.patch.object(children.subprocess, "Popen", program), mock.patch.object(
+        children.sandboxes, "remove", shutil.rmtree
     ):
         yield
 

@@ -239,6 +239,14 @@ class Courses(unittest.TestCase):
         packed = self.read(text + 'packages = ["gcc"]\n' + own)
         self.assertIn('packages = ["gcc"]\n', conditions.text_of(packed, names))
 
+    def test_kits_that_nobody_writes_in_the_browser_are_refused(self) -> None:
+        self.assertIsNone(self.read(COURSE).editor)
+        rules = self.read(COURSE + "[editor]\n").editor
+        assert rules is not None
+        self.assertEqual((rules.languages, rules.trials), (["python"], 2))
+        with self.assertRaisesRegex(WrongFile, "languages must be a list of python, "):
+            self.read(COURSE + '[editor]\nlanguages = ["cobol"]\n')
+
     def test_networks_of_hand_ins_may_be_files_beside_the_course(self) -> None:
         with tempfile.TemporaryDirectory() as name:
             course = pathlib.Path(name) / "course.toml"

@@ -1,0 +1,57 @@
+"""Commands of the lab that a worker starts, in which programs of strangers play: they end
+with the worker, and leave nothing."""
+import contextlib
+import os
+import pathlib
+import subprocess
+import tempfile
+from typing import Iterator, Sequence
+
+from django.conf import settings
+
+from arena_lab.hall.attempts.servers import bound
+from arena_lab.hall.place import temporary_of
+from arena_lab.sandbox import sandboxes
+from arena_lab.support.built import TOP
+
+LOG = "log.txt"
+# if memory is short, such a command ends before the hall's own processes
+FIRST = ("choom", "-n", "1000", "--")
+
+
+@contextlib.contextmanager
+def child_of(
+    words: Sequence[str], folder: pathlib.Path
+) -> Iterator["subprocess.Popen[bytes]"]:
+    """A command in a folder, in which it writes its log, as long as it is open."""
+    variables = {
+        "PATH": os.environ.get("PATH", "/usr/bin:/bin"),
+        "PYTHONPATH": str(TOP),
+        "PYTHONHASHSEED": "0",
+    }
+    # of which nothing is left, whatever ends the worker: place.remove_left
+    temporary = tempfile.mkdtemp(prefix=temporary_of(settings.PLACE.folder))
+    # programs have users of their own where there are no walls
+    os.chmod(temporary, 0o711)
+    variables["TMPDIR"] = temporary
+    with (folder / LOG).open("wb") as log:
+        child = subprocess.Popen(
+            bound([*FIRST, *words]),
+            cwd=folder,
+            stdin=subprocess.DEVNULL,
+            stdout=log,
+            stderr=log,
+            env=variables,
+        )
+    try:
+        yield child
+    finally:
+        child.kill()
+        child.wait()
+        sandboxes.remove(pathlib.Path(temporary))
+
+
+def last_line(path: pathlib.Path) -> str:
+    """The last line of a log."""
+    lines = path.read_text(encoding="utf-8", errors="replace").splitlines()
+    return lines[-1][:200] if lines else ""

@@ -1,0 +1,1 @@
+"""Programs that teams write in the browser, and what came of trying them."""

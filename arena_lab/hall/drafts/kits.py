@@ -1,0 +1,74 @@
+"""Kits as they are written in the browser: their files, and the words that start their
+agents."""
+import pathlib
+from typing import Any, Dict, List, NamedTuple
+
+from django.conf import settings
+from django.utils.translation import gettext as _
+
+from arena_lab.hall.attempts.asking import RequestRefused
+from arena_lab.play.agent_files import AGENTS
+from arena_lab.play.kits import KITS
+
+# of each kit the files that are written, the first being the agent
+SOURCES: Dict[str, List[str]] = {
+    "python": ["careful.py", "../client.py"],
+    "javascript": ["careful.js", "client.js", "package.json"],
+    "c": ["careful.c", "client.c", "client.h", "Makefile"],
+    "cpp": ["careful.cpp", "client.hpp", "Makefile"],
+}
+WORDS = "{host} {port} {key} {nodes}"
+# seconds for a line, and for the first one of a program that is compiled before
+LINE = 5
+COMPILED_LINE = 20
+
+
+class WrittenKit(NamedTuple):
+    """A kit: its language, its name, its files, the words that start its agent, how many
+    seconds an agent has for a line, and whether it is handed in here."""
+
+    language: str
+    name: str
+    files: Dict[str, str]
+    command: str
+    line: int
+    is_handed_in: bool
+
+    @property
+    def main(self) -> str:
+        """The file of the agent."""
+        return next(iter(self.files))
+
+
+def languages() -> List[str]:
+    """The kits with which teams may begin here."""
+    rules = settings.HALL.editor
+    return [] if rules is None else list(rules.languages)
+
+
+def kit_of(language: Any) -> WrittenKit:
+    """A kit. If hand-ins are of its language, its agent has the name and is started by
+    the words of hand-ins."""
+    if language not in languages():
+        raise RequestRefused(404, _("there is no such kit here"))
+    files = files_of(language)
+    kit = KITS[language]
+    given = settings.HALL.hand_ins
+    main = next(iter(files))
+    line = COMPILED_LINE if kit.build else LINE
+    if (
+        given is not None
+        and pathlib.Path(given.file).suffix == pathlib.Path(main).suffix
+    ):
+        named = {given.file if it == main else it: text for it, text in files.items()}
+        return WrittenKit(language, kit.name, named, given.command, line, True)
+    words = f"{kit.play} {WORDS}"
+    if kit.build:
+        words = f"sh -c '{kit.build} -s >&2 && exec {kit.play} $*' sh {WORDS}"
+    return WrittenKit(language, kit.name, files, words, line, False)
+
+
+def files_of(language: str) -> Dict[str, str]:
+    """The files of a kit, by their names."""
+    paths = [AGENTS / language / name for name in SOURCES[language]]
+    return {path.name: path.read_text(encoding="utf-8") for path in paths}

@@ -1,0 +1,64 @@
+"""Programs that teams write in the browser, one for each kit, and what came of trying
+them."""
+import pathlib
+
+from django.conf import settings
+from django.db import models
+from django.db.models.signals import post_delete
+from django.utils import timezone
+from django.utils.translation import gettext_lazy as _
+
+from arena_lab.hall.steps import Work, remove_folder
+from arena_lab.hall.teams.models import Team
+
+
+class Draft(models.Model):
+    """What a team writes with a kit, file by file. Each change has a number, so that
+    members of a team who write at the same time lose nothing of each other."""
+
+    team = models.ForeignKey(Team, models.CASCADE, related_name="drafts")
+    language = models.CharField(max_length=40)
+    files = models.JSONField(default=dict)
+    version = models.PositiveIntegerField(default=0)
+    at = models.DateTimeField(default=timezone.now)
+    # the bytes of its files
+    size = models.BigIntegerField(default=0)
+    # of an exercise: whether an answer was right
+    is_done = models.BooleanField(default=False)
+
+    class Meta:
+        verbose_name = _("draft")
+        verbose_name_plural = _("drafts")
+        unique_together = [("team", "language")]
+
+
+class Trial(Work):
+    """A match, a check or a search by which a team tries a draft. It has the files as
+    they were: so it is an earlier version of them, until they are removed."""
+
+    team = models.ForeignKey(Team, models.CASCADE, related_name="trials")
+    language = models.CharField(max_length=40)
+    kind = models.CharField(max_length=10)
+    network = models.CharField(max_length=60)
+    scheduler = models.CharField(max_length=20)
+    seed = models.PositiveIntegerField(default=0)
+    files = models.JSONField(default=dict)
+    # what came of it: see arena_lab/commands/trial.py
+    found = models.JSONField(null=True)
+    has_page = models.BooleanField(default=False)
+    # the bytes of its files, and of what came of it
+    size = models.BigIntegerField(default=0)
+
+    class Meta:
+        verbose_name = _("trial")
+        verbose_name_plural = _("trials")
+        ordering = ["-pk"]
+        indexes = [models.Index(fields=["team", "asked"], name="trials_of_team")]
+
+    @property
+    def folder(self) -> pathlib.Path:
+        """Where its replay and its page are."""
+        return pathlib.Path(settings.PLACE.folder) / "trials" / str(self.pk)
+
+
+post_delete.connect(remove_folder, Trial)

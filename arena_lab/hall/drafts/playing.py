@@ -1,0 +1,140 @@
+"""Has a program tried by a process of its own, which ends with the worker; the program
+runs in sandboxes."""
+import json
+import pathlib
+import shutil
+import sys
+import time
+from typing import Any, Dict
+
+from django.conf import settings
+from django.db import transaction
+
+from arena_lab.course.trials import ASKED, CHECK, EXPLORE, FILES, FOUND, PAGE, PLAY
+from arena_lab.hall import conditions, machine, packing
+from arena_lab.hall.children import LOG, child_of, last_line
+from arena_lab.hall.drafts.kits import WrittenKit, kit_of
+from arena_lab.hall.drafts.models import Trial
+from arena_lab.hall.handins.windows import window_of
+from arena_lab.hall.place import write_whole
+from arena_lab.hall.steps import Lease, WorkLost, begun, step
+from arena_lab.rules import draws
+from arena_lab.support import fields
+from arena_lab.support.faults import Fault
+
+# seconds that the process may take beside its programs, and bytes of what it finds
+BESIDE = 20
+MOST_FOUND = 1 << 20
+# seconds between two looks at the process, and between two that ask whether the team
+# has stopped it
+LOOK = 0.05
+ASKS = 0.7
+# what a check plays if nothing is handed in
+USUAL: Dict[str, Any] = {"holes": 1, "schedulers": ["fair", "slow-agents"], "seeds": 1}
+RINGS = ["ring:3", "ring:4", "ring:5", "ring:8"]
+
+
+def play(number: int, holder: str) -> None:
+    """Tries a program, if this holder holds the work."""
+    with begun(Trial, number, holder, "team") as work:
+        if work is None:
+            return
+        # a worker that comes back too late finds the files of no other
+        folder = work.folder.with_name(f"{work.folder.name}.{holder}")
+        try:
+            prepare(work, folder)
+            run(work, holder, folder)
+            finish(work, holder, folder)
+        finally:
+            shutil.rmtree(folder, ignore_errors=True)
+
+
+def prepare(work: Trial, folder: pathlib.Path) -> None:
+    """Writes the program, and what is asked for."""
+    (folder / FILES).mkdir(mode=0o700, parents=True)
+    for name, text in work.files.items():
+        path = folder / FILES / name
+        path.write_text(text, encoding="utf-8", newline="\n")
+    kit = kit_of(work.language)
+    asked = {
+        "kind": work.kind,
+        "command": kit.command,
+        "conditions": conditions_of(work, kit),
+        "scheduler": work.scheduler,
+        "seed": work.seed,
+        "seconds": seconds_of(work),
+        "line": kit.line,
+        "program": settings.PLACE.program,
+    }
+    write_whole(folder / ASKED, json.dumps(asked))
+
+
+def seconds_of(work: Trial) -> int:
+    """How long its programs may take."""
+    rules = settings.HALL.editor
+    return int(rules.seconds if work.kind == PLAY else rules.search)
+
+
+def conditions_of(work: Trial, kit: WrittenKit) -> Dict[str, Any]:
+    """By what the program is tried, as the file of a course says it: what is handed in
+    is checked by what it is graded by."""
+    window = window_of(None)
+    if work.kind == CHECK and kit.is_handed_in and window is not None:
+        return fields.table_of(conditions.text_of(settings.HALL, window.public, {}))
+    if work.kind == CHECK:
+        return {**USUAL, "networks": RINGS}
+    if work.kind == EXPLORE:
+        return {**USUAL, "networks": [work.network], "ports": draws.GIVEN}
+    net = settings.HALL.nets.get(work.network)
+    if net is None:
+        raise Fault("the hall has no such network any more")
+    return {
+        **USUAL,
+        "networks": [net.word],
+        "holes": net.holes,
+        "schedulers": [work.scheduler],
+        "agents": net.agents,
+        "quota": net.quota,
+        "board": net.board,
+        "ports": draws.DRAWN if net.labels == draws.DRAWN else draws.GIVEN,
+    }
+
+
+def run(work: Trial, holder: str, folder: pathlib.Path) -> None:
+    """Runs the process, until it ends, its time is up or its team stops it."""
+    words = [sys.executable, "-m", "arena_lab.commands.trial", str(folder)]
+    lease = Lease(work, holder, ASKS)
+    seconds = seconds_of(work) + BESIDE
+    until = time.monotonic() + seconds
+    with child_of(words, folder) as child:
+        while child.poll() is None:
+            lease.wait(LOOK)
+            if time.monotonic() > until:
+                raise Fault(f"it was ended after {seconds} s")
+    if child.returncode != 0:
+        raise Fault(f"it could not be tried: {last_line(folder / LOG)}")
+
+
+def finish(work: Trial, holder: str, folder: pathlib.Path) -> None:
+    """Notes what came of it, and puts its files where they are looked at, both or
+    neither."""
+    path = folder / FOUND
+    if path.stat().st_size > MOST_FOUND:
+        raise Fault("what came of it is too much to be told")
+    text = path.read_text(encoding="utf-8")
+    path.unlink()
+    shutil.rmtree(folder / FILES)
+    packed = packing.pack(folder)
+    with transaction.atomic():
+        is_mine = step(
+            work,
+            machine.FINISH,
+            holder,
+            found=json.loads(text),
+            has_page=packing.place(folder / PAGE).exists(),
+            size=work.size + len(text) + packed,
+        )
+        if not is_mine:
+            raise WorkLost
+        shutil.rmtree(work.folder, ignore_errors=True)
+        folder.rename(work.folder)

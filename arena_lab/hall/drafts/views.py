@@ -1,0 +1,80 @@
+"""The page on which a team writes and tries a program."""
+from typing import Any, Dict, List
+
+from django.conf import settings
+from django.http import Http404, HttpResponse, StreamingHttpResponse
+from django.shortcuts import render
+from django.utils import timezone
+
+from arena_lab.course.trials import PAGE, REPLAY
+from arena_lab.hall.attempts.asking import RequestRefused, open_networks
+from arena_lab.hall.attempts.views import sent
+from arena_lab.hall.drafts import kits, trying, words, writing
+from arena_lab.hall.drafts.models import Trial
+from arena_lab.hall.handins.windows import Window, windows
+from arena_lab.hall.teams import guards
+from arena_lab.hall.teams.models import Team
+from arena_lab.hall.teams.views import for_teams, owned
+from arena_lab.play.kits import KITS
+
+# the page has a match in a frame, which is a page of the hall
+CONTENT = f"{guards.STRICT}; frame-src 'self'"
+
+
+def own(request: Any, number: int) -> Trial:
+    """A trial."""
+    found: Trial = owned(request, Trial, number, "drafts.view_trial")
+    return found
+
+
+def taking_now(team: Team) -> List[Window]:
+    """The windows in which a team may hand in now."""
+    now = timezone.now()
+    return [
+        it
+        for it in windows()
+        if it.has_begun() and ((end := it.end_for(team)) is None or end >= now)
+    ]
+
+
+@for_teams
+def page(request: Any) -> HttpResponse:
+    """Where a team writes with a kit."""
+    if settings.HALL.editor is None:
+        raise Http404
+    language = request.GET.get("language") or kits.languages()[0]
+    try:
+        kit = kits.kit_of(language)
+        draft = writing.shown(writing.draft_of(request.team, language))
+    except RequestRefused:
+        raise Http404 from None
+    given: Dict[str, Any] = {
+        "draft": {**draft, "kit": kit.files, "team": request.team.name},
+        "kits": [(it, KITS[it].name) for it in kits.languages()],
+        "chosen": language,
+        "networks": open_networks(),
+        "small": trying.SMALL,
+        "schedulers": trying.SCHEDULERS,
+        "open": taking_now(request.team) if kit.is_handed_in else [],
+        "words": words.words(),
+        "most_seed": trying.MOST_SEED,
+    }
+    response = render(request, "write.html", given)
+    response["Content-Security-Policy"] = CONTENT
+    return response
+
+
+def watched(request: Any, number: int) -> StreamingHttpResponse:
+    """The page of a match that was tried. What programs said stands in it, so it may
+    reach nothing; the hall's own page alone has it in a frame."""
+    trial = own(request, number)
+    response = sent(trial.folder / PAGE, "text/html; charset=utf-8")
+    response["Content-Security-Policy"] = guards.BOXED_INSIDE
+    response["X-Frame-Options"] = "SAMEORIGIN"
+    return response
+
+
+def replay(request: Any, number: int) -> StreamingHttpResponse:
+    """The replay of a match that was tried."""
+    path = own(request, number).folder / REPLAY
+    return sent(path, "text/plain; charset=utf-8", f"trial{number}.jsonl")

@@ -1,0 +1,33 @@
+"""The words of the page on which one writes, in the language of who reads it: its script
+has none of its own."""
+from typing import Dict
+
+from django.utils.translation import gettext as _
+
+
+def words() -> Dict[str, str]:
+    return {
+        "saved": _("saved"),
+        "saving": _("saving .."),
+        "unsaved": _("not saved yet, kept in this browser"),
+        "theirs": _("take theirs"),
+        "mine": _("keep mine"),
+        "waits": _("waits for its turn"),
+        "play": _("plays"),
+        "check": _("checks"),
+        "explore": _("tries every schedule"),
+        "seconds": _("s"),
+        "stopped": _("stopped"),
+        "failed": _("not tried"),
+        "right": _("right"),
+        "mend": _("to mend"),
+        "line": _("line"),
+        "event": _("event"),
+        "agent": _("agent"),
+        "handed_in": _("handed in as"),
+        "program": _("program"),
+        "old": _("This browser has what you wrote on an older version."),
+        "anew": _(
+            "Begin anew from the kit? What you wrote stays in the earlier versions if you have tried it."
+        ),
+    }

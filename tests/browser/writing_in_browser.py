@@ -1,0 +1,229 @@
+"""Writes an agent in headless Chromium on the page of a hall, as two members of a team.
+
+    /usr/bin/python3 -m tests.browser.writing_in_browser PROGRAM [FOLDER]
+
+Runs the kit, makes a mistake, sees it at its line, takes the earlier version back, tries
+every schedule, stops a check, and hands in; loses the network while it writes, and
+writes what another member has changed; by the keyboard alone, in three languages, dark,
+and on a phone. Finds no error in the console. Screenshots go to the folder.
+`tools/nightly` installs what it needs.
+"""
+import os
+import pathlib
+import sys
+import tempfile
+from typing import Any
+
+from selenium import webdriver
+from selenium.webdriver.common.action_chains import ActionChains
+from selenium.webdriver.common.keys import Keys
+from selenium.webdriver.support.ui import WebDriverWait
+
+from tests.browser.hall_in_browser import Walk
+from tests.browser.watch_in_browser import SECONDS, browser
+from tests.support import halls
+
+EDITOR = 'editor = { languages = ["python", "javascript", "c"] }'
+RIGHT = "agent.accuse(ahead)"
+WRONG = "agent.accuse(1 - ahead)"
+
+
+class Writing(Walk):
+    """A member of a team who writes."""
+
+    def begin(self, name: str) -> None:
+        self.log_in(name)
+        self.open("/write")
+        self.waits("return editor.current", "agent.py")
+
+    def waits(self, script: str, wanted: Any) -> None:
+        """Waits until a script gives what is wanted."""
+        found = []
+
+        def holds(_: Any) -> bool:
+            found[:] = [self._page.execute_script(script)]
+            return bool(found[0] == wanted)
+
+        try:
+            WebDriverWait(self._page, SECONDS).until(holds)
+        except Exception:
+            raise SystemExit(f"{script}: {found} and not {wanted!r}: {self.text()}")
+
+    def state(self, word: str) -> None:
+        """Waits until a trial has ended so."""
+        self.until(word)
+        self.waits("return document.getElementById('play').disabled", False)
+
+    def change(self, old: str, new: str) -> int:
+        """Changes the agent as one who types does; gives the line."""
+        text = str(self._page.execute_script("return editor.mirror.getValue()"))
+        line = text[: text.index(old)].count("\n")
+        column = len(text[: text.index(old)].rpartition("\n")[2])
+        self._page.execute_script(
+            "editor.mirror.setSelection({line: arguments[0], ch: arguments[1]},"
+            " {line: arguments[0], ch: arguments[2]}); editor.mirror.focus()",
+            line,
+            column,
+            column + len(old),
+        )
+        self.press(new)
+        return line + 1
+
+    def press(self, *keys: str) -> None:
+        ActionChains(self._page).send_keys(*keys).perform()
+
+    def run_by_keys(self) -> None:
+        chain = ActionChains(self._page).key_down(Keys.CONTROL).send_keys(Keys.ENTER)
+        chain.key_up(Keys.CONTROL).perform()
+
+    def saved(self) -> None:
+        self.waits("return document.getElementById('saved').textContent", "saved")
+
+    def marked(self) -> Any:
+        """The lines with a mark."""
+        return self._page.execute_script(
+            "return editor.marks.map(([, , line]) => line.lineNo() + 1)"
+        )
+
+    def first_match(self) -> None:
+        """The kit is played, and shown beside its lines."""
+        self.find("#play").click()
+        self.state("\u2713 solved")
+        self.shoot("solved")
+        self.waits("return editor.sent.length > 0", True)
+        frame = self.find("#watch")
+        self._page.switch_to.frame(frame)
+        if self._page.execute_script("return document.body.className") != "inside":
+            raise SystemExit("the match in the frame does not know that it is inside")
+        self._page.switch_to.default_content()
+
+    def mistake(self) -> None:
+        """A mistake stands at its line, and its event is shown."""
+        line = self.change(RIGHT, WRONG)
+        self.saved()
+        self.run_by_keys()
+        self.state("\u2717")
+        if line not in self.marked():
+            raise SystemExit(f"line {line} is not marked, but {self.marked()}")
+        self.wants("leads to a safe node")
+        self.shoot("mistake")
+        self.find("#explore").click()
+        self.state("To mend first")
+        self.wants("leads to a safe node")
+        self.shoot("explored")
+
+    def earlier(self) -> None:
+        """The version that was right is taken back."""
+        options = self._page.execute_script(
+            "return [...document.getElementById('earlier').options].map((it) =>"
+            " [it.value, it.text])"
+        )
+        number = next(value for value, text in options if "solved" in text)
+        self._page.execute_script(
+            "const list = document.getElementById('earlier'); list.value = arguments[0];"
+            " list.dispatchEvent(new Event('change'))",
+            number,
+        )
+        self.state("\u2713 solved")
+        self.waits(f"return editor.mirror.getValue().includes('{RIGHT}')", True)
+        self.saved()
+
+    def stop(self) -> None:
+        self.find("#check").click()
+        self.waits("return document.getElementById('stop').hidden", False)
+        self.find("#stop").click()
+        self.state("stopped")
+
+    def hand_in(self, folder: pathlib.Path) -> None:
+        self.find(".hand-in").click()
+        self.until("handed in as")
+
+    def offline(self, is_off: bool) -> None:
+        """Takes the network away, or gives it back."""
+        values = {"latency": 0, "downloadThroughput": -1, "uploadThroughput": -1}
+        self._page.execute_cdp_cmd("Network.enable", {})
+        self._page.execute_cdp_cmd(
+            "Network.emulateNetworkConditions", {"offline": is_off, **values}
+        )
+
+    def lost_network(self) -> None:
+        """What is written without a network is there after a reload, and saved."""
+        self.offline(True)
+        self.change("import os", "import os  # offline")
+        self.until("not saved yet")
+        self.offline(False)
+        self._page.refresh()
+        self.waits("return editor.mirror.getValue().includes('# offline')", True)
+        self.saved()
+
+    def looks(self) -> None:
+        """Languages, a dark page, and the way out of the editor by keys."""
+        for language, word in (("de", "Starten"), ("fr", "Lancer"), ("en", "Run")):
+            self.find(f"button[value={language}]").click()
+            self.until(word)
+        self.open("/write")
+        self.waits("return editor.current", "agent.py")
+        scheme = [{"name": "prefers-color-scheme", "value": "dark"}]
+        self._page.execute_cdp_cmd("Emulation.setEmulatedMedia", {"features": scheme})
+        self.shoot("dark")
+        self._page.execute_script("editor.mirror.focus()")
+        self.press(Keys.ESCAPE)
+        self.waits("return document.activeElement.id", "play")
+
+    def quiet(self, but: str = "") -> None:
+        """The console has no error, but for those that are named."""
+        for entry in self._page.get_log("browser"):
+            is_error = entry["level"] == "SEVERE"
+            if is_error and (not but or but not in entry["message"]):
+                raise SystemExit(f"the console says {entry['message']}")
+
+
+def conflict(one: Writing, other: Writing) -> None:
+    """Of two members who write at the same time nobody loses a line."""
+    other.begin("amber")
+    one.change("import sys", "import sys  # mine")
+    one.saved()
+    other.change("import sys", "import sys  # theirs")
+    other.until("somebody of your team has changed it meanwhile")
+    other.shoot("conflict")
+    other.find("#saved button:last-of-type").click()
+    other.saved()
+    one.open("/write")
+    one.waits("return editor.mirror.getValue().includes('# theirs')", True)
+
+
+def main(program: str, folder: pathlib.Path) -> int:
+    os.environ["ARENA_PROGRAM"] = program
+    folder.mkdir(parents=True, exist_ok=True)
+    with halls.served(EDITOR) as hall:
+        page = browser()
+        second: webdriver.Chrome = browser()
+        try:
+            one = Writing(hall, page, folder)
+            other = Writing(hall, second, folder)
+            one.begin("amber")
+            one.shoot("write")
+            one.first_match()
+            one.mistake()
+            one.earlier()
+            one.stop()
+            one.hand_in(folder)
+            one.quiet()
+            one.lost_network()
+            one.quiet("ERR_INTERNET_DISCONNECTED")
+            conflict(one, other)
+            other.quiet("409")
+            one.looks()
+            one.quiet()
+        finally:
+            page.quit()
+            second.quit()
+    print("1 passed, 0 failed")
+    return 0
+
+
+if __name__ == "__main__":
+    if len(sys.argv) not in (2, 3):
+        sys.exit((__doc__ or "").strip())
+    shots = sys.argv[2] if len(sys.argv) == 3 else tempfile.mkdtemp()
+    sys.exit(main(sys.argv[1], pathlib.Path(shots)))

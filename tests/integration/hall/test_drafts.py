@@ -1,0 +1,288 @@
+"""What teams write in the browser: by the page and by REST, as a team, two members of it,
+another team and a stranger ask."""
+import json
+import shutil
+import tarfile
+from typing import Any, Dict
+from unittest import mock
+
+from tests.integration.hall.hall_pages import PLACE, Hall, halled
+
+from django.db import connection
+from django.test import Client
+from django.utils import timezone
+
+from arena_lab.hall import backup, machine
+from arena_lab.hall.attempts import asking
+from arena_lab.hall.course import EditorRules
+from arena_lab.hall.drafts import trying, writing
+from arena_lab.hall.drafts.models import Draft, Trial
+from arena_lab.hall.handins.models import HandIn
+from arena_lab.play.agent_files import AGENTS
+
+RULES = EditorRules(["python", "c"], 20, 60, 2, 500)
+FILES = {"agent.py": "print(1)\n", "client.py": "x\n"}
+TRIED = {"language": "python", "kind": "play", "network": "ring of 5", "files": FILES}
+
+
+class Written(Hall):
+    def setUp(self) -> None:
+        super().setUp()
+        writing.saved.clear()
+        given = halled(editor=RULES)
+        given.start()
+        self.addCleanup(given.stop)
+        self.addCleanup(shutil.rmtree, PLACE.folder / "trials", True)
+
+    def put(self, files: Any, version: Any, name: str = "amber") -> Any:
+        body = {"files": files, "version": version}
+        return self.rest("put", "/api/drafts/python", name, body)
+
+    def tries(self, name: str = "amber", **given: Any) -> Any:
+        return self.rest("post", "/api/trials", name, {**TRIED, **given})
+
+    def over(self, number: int, **given: Any) -> Trial:  # type: ignore[override]
+        """A trial that is over, with a page."""
+        folder = PLACE.folder / "trials" / str(number)
+        folder.mkdir(parents=True)
+        (folder / "m0.html").write_text("<script>watch()</script>")
+        (folder / "m0.jsonl").write_text("a replay\n")
+        found: Dict[str, Any] = {"right": True, "verdict": "solved", "said": []}
+        rows = Trial.objects.filter(pk=number)
+        rows.update(
+            **{
+                "state": machine.OVER,
+                "has_page": True,
+                "found": found,
+                "size": 9_000,
+                **given,
+            }
+        )
+        return rows.get()
+
+
+class Drafts(Written):
+    def test_a_draft_is_the_kit_at_first_and_then_what_was_written(self) -> None:
+        told = self.rest("get", "/api/drafts/python").json()
+        self.assertEqual(list(told["files"]), ["agent.py", "client.py"])
+        kit = (AGENTS / "python" / "careful.py").read_text()
+        self.assertEqual(told["files"]["agent.py"], kit)
+        self.assertEqual((told["version"], told["main"]), (0, "agent.py"))
+        self.assertEqual(self.put(FILES, 0).json()["version"], 1)
+        told = self.rest("get", "/api/drafts/python").json()
+        self.assertEqual((told["files"], told["version"]), (FILES, 1))
+        # no other team has it
+        other = self.rest("get", "/api/drafts/python", "birch").json()
+        self.assertEqual(other["version"], 0)
+        kits = self.rest("get", "/api/drafts").json()
+        self.assertEqual([it["language"] for it in kits], ["python", "c"])
+
+    def test_two_members_lose_nothing_of_each_other(self) -> None:
+        mine = {**FILES, "agent.py": "mine"}
+        theirs = {**FILES, "agent.py": "theirs"}
+        self.assertEqual(self.put(mine, 0).status_code, 200)
+        self.assertEqual(self.put(theirs, 0).status_code, 409)
+        self.assertEqual(Draft.objects.get().files, mine)
+        # the same again is no change, whatever its version
+        self.assertEqual(self.put(mine, 0).json()["version"], 1)
+        self.assertEqual(self.put(theirs, 1).json()["version"], 2)
+
+    def test_what_is_no_draft_is_refused(self) -> None:
+        wrong = [
+            *({name: "x"} for name in ("", "..", "../a.py", "a/b.py", ".x", "-x")),
+            *({name: "x"} for name in ("a" * 61, "ä.py", "a b", "a\0")),
+            {f"a{number}": "x" for number in range(13)},
+            {"a.py": "\0"},
+            {"a.py": "\ud800"},
+            {"a.py": 1},
+            {},
+            [],
+            "x",
+            None,
+        ]
+        for files in wrong:
+            with self.subTest(repr(files)[:60]):
+                self.assertEqual(self.put(files, 0).status_code, 400)
+                self.assertEqual(self.tries(files=files).status_code, 400)
+        self.assertEqual(self.put({"a.py": "x" * 131_073}, 0).status_code, 413)
+        deep = self.rest("put", "/api/drafts/python").status_code
+        self.assertEqual(deep, 400)
+        self.assertEqual(self.put({"a.py": "x" * 131_072}, 0).status_code, 200)
+        for language in ("rust", "javascript", "x"):
+            path = f"/api/drafts/{language}"
+            self.assertEqual(self.rest("get", path).status_code, 404)
+        self.assertEqual(Draft.objects.count(), 1)
+
+    def test_a_team_that_saves_too_often_is_told_so(self) -> None:
+        with mock.patch.object(writing.saved, "wait", return_value=1.0):
+            self.assertEqual(self.put(FILES, 0).status_code, 429)
+
+    def test_what_is_written_and_tried_is_counted(self) -> None:
+        team = self.team("amber")
+        self.put(FILES, 0)
+        self.assertEqual(asking.own_bytes(team), 11)
+        number = self.tries().json()["id"]
+        self.assertEqual(asking.own_bytes(team), 22)
+        self.over(number)
+        self.assertEqual(asking.own_bytes(team), 9_011)
+        team.disk = 0
+        team.save()
+        self.assertEqual(self.put({"a.py": "more"}, 1).status_code, 429)
+        self.assertEqual(self.tries().status_code, 429)
+
+    def test_a_copy_of_the_hall_has_drafts_and_trials(self) -> None:
+        self.put(FILES, 0)
+        self.over(self.tries().json()["id"])
+        archive = PLACE.folder.parent / "copy.tar.gz"
+        self.addCleanup(archive.unlink)
+        with mock.patch.object(
+            backup, "dumped", return_value=PLACE.folder / "hall.json"
+        ):
+            backup.write(PLACE, archive)
+        with tarfile.open(archive) as tar:
+            names = tar.getnames()
+        self.assertIn(f"{PLACE.folder.name}/trials/1/m0.html", names)
+        self.assertIn("drafts_draft", connection.introspection.table_names())
+
+    def test_what_was_written_is_handed_in(self) -> None:
+        told = self.rest("post", "/api/drafts/python/hand-in", body={"files": FILES})
+        self.assertEqual(told.status_code, 201)
+        folder = HandIn.objects.get(pk=told.json()["id"]).folder / "files"
+        found = {it.name: it.read_text() for it in folder.iterdir()}
+        self.assertEqual(found, FILES)
+        # hand-ins are of Python here
+        told = self.rest("post", "/api/drafts/c/hand-in", body={"files": FILES})
+        self.assertEqual(told.status_code, 400)
+
+
+class Trials(Written):
+    def test_what_cannot_be_tried_is_refused(self) -> None:
+        for given in (
+            {"kind": "no"},
+            {"kind": None},
+            {"network": "ring of 99"},
+            {"network": ["ring of 5"]},
+            {"scheduler": "mine.py:x"},
+            {"scheduler": None},
+            {"seed": -1},
+            {"seed": 1_000_000},
+            {"seed": "1"},
+            {"seed": True},
+            {"kind": "explore"},
+            {"kind": "explore", "network": "ring:6"},
+        ):
+            with self.subTest(given):
+                self.assertEqual(self.tries(**given).status_code, 400)
+        self.assertEqual(self.tries(language="no").status_code, 404)
+        self.assertEqual(Trial.objects.count(), 0)
+
+    def test_a_team_has_one_at_a_time_and_some_a_day(self) -> None:
+        first = self.tries()
+        self.assertEqual(first.status_code, 201)
+        self.assertEqual(self.tries().status_code, 429)
+        self.assertEqual(self.tries("birch").status_code, 201)
+        closed = self.rest("post", f"/api/trials/{first.json()['id']}/close").json()
+        self.assertEqual(closed["state"], machine.CANCELLED)
+        with halled(editor=RULES._replace(a_day=1)):
+            self.assertIn("today", self.tries().json()["error"])
+        self.assertEqual(self.tries(kind="explore", network="ring:4").status_code, 201)
+
+    def test_of_old_trials_nothing_is_left(self) -> None:
+        with mock.patch.object(trying, "KEPT", 2):
+            folders = []
+            for _ in range(4):
+                found = self.over(self.tries().json()["id"])
+                folders.append(found.folder)
+            self.tries()
+            self.assertEqual(
+                [it.exists() for it in folders], [False, False, True, True]
+            )
+            kept = self.rest("get", "/api/trials").json()
+            self.assertEqual(len(kept), 2 + 1)
+            # they count for the day, and are gone the next
+            self.assertEqual(Trial.objects.count(), 5)
+            Trial.objects.update(
+                asked=timezone.now() - timezone.timedelta(days=2), state=machine.OVER
+            )
+            self.tries()
+            self.assertEqual(Trial.objects.count(), 3)
+
+    def test_others_see_nothing_of_it(self) -> None:
+        number = self.tries().json()["id"]
+        self.over(number)
+        rest = [f"/api/trials/{number}{it}" for it in ("", "/files", "/replay")]
+        pages = [f"/write/trials/{number}/page"]
+        for path in rest:
+            told = self.rest("get", path)
+            self.assertEqual(told.status_code, 200)
+            self.assertEqual(self.rest("get", path, "birch").status_code, 404)
+            self.assertEqual(self.rest("get", path, "").status_code, 401)
+        path = f"/api/trials/{number}/close"
+        self.assertEqual(self.rest("post", path, "birch").status_code, 404)
+        for path in pages:
+            told = self.client_of("amber").get(path)
+            self.assertEqual(told.status_code, 200)
+            self.assertEqual(self.client_of("birch").get(path).status_code, 404)
+            self.assertEqual(Client().get(path).status_code, 404)
+        # a session needs the secret of the page
+        client = Client(enforce_csrf_checks=True)
+        client.cookies = self.client_of("amber").cookies
+        told = client.post("/api/trials", json.dumps(TRIED), "application/json")
+        self.assertEqual(told.status_code, 403)
+
+    def test_the_match_may_reach_nothing_and_stands_in_the_halls_page_alone(
+        self,
+    ) -> None:
+        number = self.tries().json()["id"]
+        self.over(number)
+        told = self.client_of("amber").get(f"/write/trials/{number}/page")
+        policy = told["Content-Security-Policy"]
+        self.assertIn("sandbox allow-scripts; default-src 'none'", policy)
+        self.assertIn("frame-ancestors 'self'", policy)
+        self.assertEqual(told["X-Frame-Options"], "SAMEORIGIN")
+        self.assertEqual(self.rest("get", f"/api/trials/{number}").json()["id"], number)
+
+    def test_matches_come_before_searches_and_leave_one_place(self) -> None:
+        for name, kind, network in (
+            ("amber", "check", "ring of 5"),
+            ("birch", "explore", "ring:4"),
+            ("cedar", "play", "ring of 5"),
+        ):
+            self.tries(name, kind=kind, network=network)
+        self.assertEqual(
+            [it.kind for it in trying.due(3)], ["play", "check", "explore"]
+        )
+        self.assertEqual([it.kind for it in trying.due(2)], ["play", "check"])
+        Trial.objects.filter(kind="check").update(state=machine.RUNNING)
+        self.assertEqual([it.kind for it in trying.due(2)], ["play"])
+        Trial.objects.filter(kind="play").delete()
+        self.assertEqual([it.kind for it in trying.due(2)], [])
+        self.assertEqual([it.kind for it in trying.due(3)], ["explore"])
+
+
+class Page(Written):
+    def test_the_page_has_the_draft_and_frames_its_own_alone(self) -> None:
+        self.put({"agent.py": "</script><script>alert(1)</script>"}, 0)
+        told = self.client_of("amber").get("/write")
+        self.assertNotContains(told, "<script>alert(1)")
+        self.assertContains(told, "codemirror/lib/codemirror.js")
+        self.assertIn("frame-src 'self'", told["Content-Security-Policy"])
+        self.assertIn("default-src 'none'", told["Content-Security-Policy"])
+        other = self.client_of("amber").get("/matches")
+        self.assertNotIn("frame-src", other["Content-Security-Policy"])
+        self.assertContains(other, "/write")
+
+    def test_there_is_none_of_another_kit_or_without_an_editor(self) -> None:
+        client = self.client_of("amber")
+        self.assertEqual(client.get("/write?language=rust").status_code, 404)
+        self.assertEqual(Client().get("/write").status_code, 302)
+        with halled(editor=None):
+            self.assertEqual(client.get("/write").status_code, 404)
+            self.assertEqual(self.put(FILES, 0).status_code, 404)
+            self.assertEqual(self.tries().status_code, 404)
+            self.assertNotContains(client.get("/matches"), "/write")
+
+    def test_its_script_speaks_the_language_of_who_reads(self) -> None:
+        client = self.client_of("amber")
+        client.post("/language/setlang/", {"language": "de"})
+        self.assertTrue("wartet" in client.get("/write").content.decode())

@@ -1,0 +1,181 @@
+"""Programs that teams try, by the process that a worker starts: what is found, and at
+which lines; programs that hang, flood and attack; and trials that are stopped."""
+import json
+import time
+import unittest
+from typing import Any, Dict
+from unittest import mock
+
+from tests.integration.hall.test_drafts import RULES, Written
+from tests.integration.hall.hall_pages import PLACE, halled
+
+from arena_lab.hall import machine
+from arena_lab.hall.drafts import kits, playing
+from arena_lab.hall.drafts.models import Trial
+from arena_lab.hall.steps import claimed, step
+from arena_lab.play.agent_files import AGENTS
+from arena_lab.sandbox import sandboxes
+
+CAREFUL = (AGENTS / "python" / "careful.py").read_text()
+CLIENT = (AGENTS / "client.py").read_text()
+# what a kit's agent is changed in, and the line and the words by which that is told
+MISTAKES = (
+    (
+        "    while True:\n        theirs",
+        "    while True\n        theirs",
+        "expected ':'",
+    ),
+    ("theirs = safe_on", "theirs = save_on", "NameError: name 'save_on'"),
+    ("agent.depart(ahead)", "agent.depart(ahead + 2)", "has the ports 0 to 1"),
+    ("agent.accuse(ahead)", "agent.accuse(1 - ahead)", "leads to a safe node"),
+    ("agent.accuse(ahead)", "agent.leave()", "nobody has accused a port"),
+    ("    mine = 0\n", "    mine = 0\n    while mine < 5: pass\n", "no line for 5 s"),
+)
+# tries to reach what is not its own, and says what it has reached
+REACHES = """import socket, sys
+for path in ({paths}):
+    try:
+        print("REACHED", path, open(path).read()[:20], file=sys.stderr)
+    except OSError:
+        pass
+try:
+    socket.create_connection(("127.0.0.1", {port}), 1)
+    print("REACHED the hall", file=sys.stderr)
+except OSError:
+    pass
+print("<script>alert(1)</script>\\x1b[2J", file=sys.stderr)
+print("\\x1e1 client.py:1\\n\\x1e2 ../key.txt:1\\n\\x1e999999 agent.py:7", file=sys.stderr)
+raise SystemExit("the end")
+"""
+FLOOD = """import sys
+while True:
+    sys.stderr.write("x" * 100_000 + "\\n")
+"""
+
+
+class Tried(Written):
+    def setUp(self) -> None:
+        super().setUp()
+        if sandboxes.weakness():
+            raise unittest.SkipTest(f"no walls here: {sandboxes.weakness()}")
+
+    def tried(self, agent: str, language: str = "python", **given: Any) -> Trial:
+        """A trial of this agent, which has come to its end."""
+        kit = kits.kit_of(language)
+        files = {**kit.files, kit.main: agent}
+        told = self.tries(language=language, files=files, **given)
+        self.assertEqual(told.status_code, 201, told.content)
+        trial = Trial.objects.get(pk=told.json()["id"])
+        holder = claimed(trial)
+        assert holder is not None
+        playing.play(trial.pk, holder)
+        return Trial.objects.get(pk=trial.pk)
+
+    def found(self, agent: str, **given: Any) -> Dict[str, Any]:
+        trial = self.tried(agent, **given)
+        self.assertEqual((trial.state, trial.fault), (machine.OVER, ""))
+        found: Dict[str, Any] = trial.found
+        return found
+
+
+class Found(Tried):
+    def test_a_match_has_the_line_that_sent_each_event(self) -> None:
+        trial = self.tried(CAREFUL)
+        found = trial.found
+        self.assertTrue(found["right"], found)
+        self.assertTrue(found["verdict"].startswith("solved"), found["verdict"])
+        log = [
+            json.loads(line)
+            for line in (trial.folder / "m0.jsonl").read_text().splitlines()[1:-1]
+        ]
+        self.assertEqual(len(found["lines"]), len(log))
+        lines = CAREFUL.splitlines()
+        sends = {
+            "enter": ".enter(",
+            "write": ".write(",
+            "depart": ".depart(",
+            "accuse": ".accuse(",
+        }
+        for (agent, file, line), event in zip(found["lines"], log):
+            if event["do"] in sends:
+                self.assertEqual((file, agent), ("agent.py", event["agent"]))
+                self.assertIn(sends[event["do"]], lines[line - 1])
+            else:
+                self.assertEqual(line, 0)
+        page = self.rest("get", f"/api/trials/{trial.pk}").json()["page"]
+        self.assertEqual(self.client_of("amber").get(page).status_code, 200)
+        self.assertGreater(trial.size, len(CAREFUL))
+        # what plays knows nothing of the hall any more
+        self.assertEqual(list((PLACE.folder / "trials").iterdir()), [trial.folder])
+
+    def test_the_likeliest_mistake_stands_at_its_line(self) -> None:
+        for right, wrong, said in MISTAKES:
+            with self.subTest(said):
+                self.assertIn(right, CAREFUL)
+                agent = CAREFUL.replace(right, wrong)
+                before = CAREFUL[: CAREFUL.index(right)]
+                first = next(
+                    place
+                    for place, (a, b) in enumerate(
+                        zip(CAREFUL.splitlines(), agent.splitlines()), 1
+                    )
+                    if a != b
+                )
+                self.assertGreaterEqual(first, before.count("\n") + 1)
+                found = self.found(agent)
+                self.assertFalse(found["right"])
+                marks = [(it["file"], it["line"]) for it in found["marks"]]
+                self.assertIn(("agent.py", first), marks, found)
+                told = [it["said"] for it in found["marks"] if it["line"] == first]
+                self.assertTrue(any(said in it for it in told), told)
+                Trial.objects.all().delete()
+
+    def test_what_to_mend_first_is_shown_by_the_match_that_shows_it(self) -> None:
+        """It accuses the other side: under every schedule of a ring."""
+        agent = CAREFUL.replace("agent.accuse(ahead)", "agent.accuse(1 - ahead)")
+        for kind, network in (("check", "ring of 5"), ("explore", "ring:3")):
+            with self.subTest(kind):
+                found = self.found(agent, kind=kind, network=network)
+                self.assertTrue(found["said"][0].startswith("To mend first: "), found)
+                self.assertIn("leads to a safe node", found["marks"][0]["said"])
+                self.assertGreater(found["marks"][0]["event"], 0)
+                Trial.objects.all().delete()
+
+
+class Hostile(Tried):
+    def test_it_reaches_nothing_and_says_nothing_but_text(self) -> None:
+        key = PLACE.folder / "key.txt"
+        self.assertTrue(key.exists())
+        paths = [str(key), "/etc/shadow", f"{PLACE.folder}/hall.sqlite3"]
+        agent = REACHES.format(paths=", ".join(map(repr, [*paths, ""])), port=22)
+        found = self.found(agent)
+        self.assertNotIn("REACHED", json.dumps(found))
+        self.assertIn("alert(1)</script>\\x1b[2J", found["written"]["0"])
+        # forged marks are of its own files, and of events that it has sent
+        self.assertEqual(found["lines"], [[-1, "", 0]])
+        self.assertEqual({it["file"] for it in found["marks"]} - {"agent.py"}, set())
+
+    def test_a_flood_is_cut(self) -> None:
+        with halled(editor=RULES._replace(seconds=6)):
+            found = self.found(FLOOD)
+        self.assertFalse(found["right"])
+        self.assertLess(len(json.dumps(found)), 60_000)
+
+    def test_a_trial_that_does_not_end_is_ended(self) -> None:
+        with mock.patch.object(playing, "BESIDE", -19):
+            trial = self.tried(FLOOD)
+        self.assertEqual(trial.state, machine.LOST)
+        self.assertEqual(trial.fault, "it was ended after 1 s")
+        self.assertEqual(list((PLACE.folder / "trials").iterdir()), [])
+
+    def test_a_team_stops_its_trial(self) -> None:
+        def stopped(lease: Any, _: float) -> None:
+            step(Trial.objects.get(), machine.CANCEL)
+            lease.renew()
+
+        begun = time.monotonic()
+        with mock.patch.object(playing.Lease, "wait", stopped):
+            trial = self.tried(FLOOD)
+        self.assertEqual((trial.state, trial.found), (machine.CANCELLED, None))
+        self.assertLess(time.monotonic() - begun, 30)
+        self.assertEqual(list((PLACE.folder / "trials").iterdir()), [])
