@@ -32,6 +32,7 @@ class Command(NamedTuple):
 # by their names, which are those of the modules that have their words and run them
 COMMANDS = {
     "new": Command("begin an agent in one of seven languages or as a module", ()),
+    "exercise": Command("learn to write agents, one exercise after the other"),
     "examples": Command("say where the examples stand, or copy them", ()),
     "play": Command(
         "be the agents yourself, in the terminal or on a page", PAGES + ("aiohttp",)

@@ -5,7 +5,7 @@ folder, so that nothing of the program is in a process of the hall.
     python3 -m arena_lab.commands.trial FOLDER
 
 FOLDER has the program's files in `files`, and `asked.json`: what is tried (`play`,
-`check` or `explore`), the `command` of an agent, the `conditions` as in the file of a
+`check` or `explore`) or the name of an `exercise`, the `command` of an agent, the `conditions` as in the file of a
 course, the `scheduler` and `seed` of a match, how many `seconds` it may take, and how
 many of them each `line` of an agent.
 `found.json` is written there, and of a match its replay and its page. What is found has
@@ -20,10 +20,10 @@ import sys
 from typing import Any, Dict, List, NamedTuple, Optional, Tuple
 
 from arena_lab.commands import check
-from arena_lab.course import hand_in, sent_lines
+from arena_lab.course import exercises, hand_in, sent_lines
 from arena_lab.course.checked import Checked, Tried, conditions_of, listed
 from arena_lab.course.hand_in import NETWORK, HandIn
-from arena_lab.course.mistaken_lines import marks_of
+from arena_lab.course.mistaken_lines import LEAVES, marks_of
 from arena_lab.course.trials import (
     ASKED,
     CHECK,
@@ -63,6 +63,7 @@ class TrialRequest(NamedTuple):
     """What is tried: `asked.json`."""
 
     kind: str
+    exercise: str
     command: str
     conditions: Dict[str, Any]
     scheduler: str
@@ -195,7 +196,23 @@ class TriedProgram:
         said = [f"To mend first: {wrong.said[0]}", *wrong.said[1:]]
         return {"right": False, "said": said, **self.shown(record)}
 
+    def answer(self) -> Dict[str, Any]:
+        """Plays the matches of an exercise."""
+        exercise = exercises.read(self.asked.exercise)
+        marked = self.marked()
+        found = exercises.answered(
+            exercise, lambda it: self.agent(marked, it), self.asked.program
+        )
+        right = f"Right in all {len(exercise.matches)} matches."
+        shown = self.shown(found.record)
+        # an exercise may be about something else than the black hole
+        marks = [it for it in shown["marks"] if LEAVES not in it["said"]]
+        said = found.said or [right]
+        return {"right": not found.said, "said": said, **shown, "marks": marks}
+
     def found(self) -> Dict[str, Any]:
+        if self.asked.exercise:
+            return self.answer()
         if self.asked.kind == PLAY:
             return self.watched()[1]
         return self.checks()

@@ -13,6 +13,8 @@ PLACE = re.compile(
     r'(?:File ")?(?:/agent/|\./|\b)([\w/-]+\.(?:py|js|c|h|cpp|hpp|java|rs|go))'
     r'(?:", line |:)(\d{1,6})'
 )
+# what is said of an agent whose match nobody can solve any more
+LEAVES = "leaves here, and nobody has accused a port"
 OF_AGENT = re.compile(r"agent (\d+)")
 
 
@@ -78,7 +80,7 @@ def of_events(record: Record, sent: Sequence[SentBy]) -> Iterator[LineMark]:
         if isinstance(reply, dict) and "no" in reply:
             said = refusal_of(agent, record.played.refused) or f"refused: {reply['no']}"
         elif event["do"] == "leave" and not match.accused:
-            said = f"agent {agent} leaves here, and nobody has accused a port"
+            said = f"agent {agent} {LEAVES}"
         elif event["do"] == "accuse" and is_wrong(record, event):
             said = f"agent {agent} accuses a port here that leads to a safe node"
         if said:

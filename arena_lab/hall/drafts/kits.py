@@ -1,11 +1,13 @@
-"""Kits as they are written in the browser: their files, and the words that start their
-agents."""
+"""Kits as they are written in the browser, and exercises, which are kits too: their
+files, and the words that start their agents."""
+import functools
 import pathlib
-from typing import Any, Dict, List, NamedTuple
+from typing import Any, Dict, List, NamedTuple, Optional
 
 from django.conf import settings
 from django.utils.translation import gettext as _
 
+from arena_lab.course.exercises import Exercise, exercises
 from arena_lab.hall.attempts.asking import RequestRefused
 from arena_lab.play.agent_files import AGENTS
 from arena_lab.play.kits import KITS
@@ -46,9 +48,32 @@ def languages() -> List[str]:
     return [] if rules is None else list(rules.languages)
 
 
+@functools.lru_cache(maxsize=1)
+def all_exercises() -> Dict[str, Exercise]:
+    """The exercises, which are part of the lab and do not change."""
+    return exercises()
+
+
+def exercise_of(language: Any) -> Optional[Exercise]:
+    """The exercise of this name, if it is one and there is an editor."""
+    if settings.HALL.editor is None or not isinstance(language, str):
+        return None
+    return all_exercises().get(language)
+
+
 def kit_of(language: Any) -> WrittenKit:
     """A kit. If hand-ins are of its language, its agent has the name and is started by
     the words of hand-ins."""
+    exercise = exercise_of(language)
+    if exercise is not None:
+        return WrittenKit(
+            exercise.name,
+            exercise.title,
+            exercise.files(),
+            exercise.command,
+            LINE,
+            False,
+        )
     if language not in languages():
         raise RequestRefused(404, _("there is no such kit here"))
     files = files_of(language)

@@ -13,8 +13,9 @@ from django.db import transaction
 from arena_lab.course.trials import ASKED, CHECK, EXPLORE, FILES, FOUND, PAGE, PLAY
 from arena_lab.hall import conditions, machine, packing
 from arena_lab.hall.children import LOG, child_of, last_line
-from arena_lab.hall.drafts.kits import WrittenKit, kit_of
-from arena_lab.hall.drafts.models import Trial
+from arena_lab.hall.drafts import writing
+from arena_lab.hall.drafts.kits import WrittenKit, exercise_of, kit_of
+from arena_lab.hall.drafts.models import Draft, Trial
 from arena_lab.hall.handins.windows import window_of
 from arena_lab.hall.place import write_whole
 from arena_lab.hall.steps import Lease, WorkLost, begun, step
@@ -56,10 +57,12 @@ def prepare(work: Trial, folder: pathlib.Path) -> None:
         path = folder / FILES / name
         path.write_text(text, encoding="utf-8", newline="\n")
     kit = kit_of(work.language)
+    exercise = exercise_of(work.language)
     asked = {
         "kind": work.kind,
+        "exercise": exercise.name if exercise else "",
         "command": kit.command,
-        "conditions": conditions_of(work, kit),
+        "conditions": {} if exercise else conditions_of(work, kit),
         "scheduler": work.scheduler,
         "seed": work.seed,
         "seconds": seconds_of(work),
@@ -122,6 +125,7 @@ def finish(work: Trial, holder: str, folder: pathlib.Path) -> None:
     if path.stat().st_size > MOST_FOUND:
         raise Fault("what came of it is too much to be told")
     text = path.read_text(encoding="utf-8")
+    found = json.loads(text)
     path.unlink()
     shutil.rmtree(folder / FILES)
     packed = packing.pack(folder)
@@ -130,11 +134,23 @@ def finish(work: Trial, holder: str, folder: pathlib.Path) -> None:
             work,
             machine.FINISH,
             holder,
-            found=json.loads(text),
+            found=found,
             has_page=packing.place(folder / PAGE).exists(),
             size=work.size + len(text) + packed,
         )
         if not is_mine:
             raise WorkLost
+        if found["right"] and exercise_of(work.language):
+            note_done(work)
         shutil.rmtree(work.folder, ignore_errors=True)
         folder.rename(work.folder)
+
+
+def note_done(work: Trial) -> None:
+    """Notes that a team has done an exercise."""
+    kept, _ = Draft.objects.get_or_create(
+        team=work.team,
+        language=work.language,
+        defaults={"files": work.files, "size": writing.size_of(work.files)},
+    )
+    Draft.objects.filter(pk=kept.pk).update(is_done=True)

@@ -11,15 +11,18 @@ from arena_lab.hall import machine
 from arena_lab.hall.attempts.asking import RequestRefused, make_room, open_networks
 from arena_lab.hall.attempts.shown import time_of
 from arena_lab.hall.drafts import writing
-from arena_lab.hall.drafts.kits import kit_of
-from arena_lab.hall.drafts.models import Trial
+from arena_lab.hall.drafts.kits import all_exercises, exercise_of, kit_of
+from arena_lab.hall.drafts.models import Draft, Trial
 from arena_lab.hall.steps import step
 from arena_lab.hall.teams.models import Team, note, today
+from arena_lab.play.schedulers import NAMED
 
 # where every schedule is tried: of larger networks nobody waits for all
 SMALL = ("ring:3", "ring:4", "ring:5")
-SCHEDULERS = ("fair", "slow-agents", "slow-links", "last-departed")
+SCHEDULERS = tuple(NAMED)
 MOST_SEED = 999_999
+# what is asked for if nothing is said
+USUAL = {"kind": PLAY, "network": "", "scheduler": SCHEDULERS[0], "seed": 0}
 # trials of a team that are kept
 KEPT = 30
 
@@ -28,13 +31,12 @@ def ask(team: Team, given: Dict[str, Any]) -> Trial:
     """Has a draft tried."""
     kit = kit_of(given.get("language"))
     files = writing.checked(given.get("files"))
-    asked = {
-        "kind": given.get("kind"),
-        "network": given.get("network", ""),
-        "scheduler": given.get("scheduler", SCHEDULERS[0]),
-        "seed": given.get("seed", 0),
-    }
-    check(**asked)
+    asked = {name: given.get(name, usual) for name, usual in USUAL.items()}
+    if exercise_of(kit.language) is None:
+        check(**asked)
+    else:
+        # it has matches of its own
+        asked = {**USUAL, "network": ""}
     size = writing.size_of(files)
     with transaction.atomic():
         team = Team.objects.select_for_update().get(pk=team.pk)
@@ -104,6 +106,16 @@ def due(most: int, resting: Collection[int] = ()) -> List[Trial]:
         if len(found) < free and (trial.kind == PLAY or searches <= max(1, most - 1)):
             found.append(trial)
     return found
+
+
+def exercises_of(team: Team) -> List[Dict[str, Any]]:
+    """The exercises, and which of them a team has done."""
+    drafts = Draft.objects.filter(team=team, is_done=True)
+    done = set(drafts.values_list("language", flat=True))
+    return [
+        {"name": name, "title": one.title, "is_done": name in done}
+        for name, one in all_exercises().items()
+    ]
 
 
 def close(trial: Trial) -> bool:

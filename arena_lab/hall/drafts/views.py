@@ -48,7 +48,10 @@ def page(request: Any) -> HttpResponse:
         draft = writing.shown(writing.draft_of(request.team, language))
     except RequestRefused:
         raise Http404 from None
+    exercise = kits.exercise_of(language)
     given: Dict[str, Any] = {
+        "exercise": exercise,
+        "exercises": trying.exercises_of(request.team),
         "draft": {**draft, "kit": kit.files, "team": request.team.name},
         "kits": [(it, KITS[it].name) for it in kits.languages()],
         "chosen": language,

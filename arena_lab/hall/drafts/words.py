@@ -26,6 +26,7 @@ def words() -> Dict[str, str]:
         "agent": _("agent"),
         "handed_in": _("handed in as"),
         "program": _("program"),
+        "next": _("next"),
         "old": _("This browser has what you wrote on an older version."),
         "anew": _(
             "Begin anew from the kit? What you wrote stays in the earlier versions if you have tried it."

@@ -114,12 +114,23 @@ function show(behind) {
   byId("said").replaceChildren(...found.said.map((text) => sentence(text, found.marks)));
   for (const it of found.marks) editor.mark(it, it.event && button(`${words.event} ${it.event}`, () => event(it.event)));
   if (found.marks.length) editor.go(found.marks[0]);
+  const next = nextExercise();
+  if (found.right && next) byId("said").append(next);
   const printed = Object.entries(found.written).map(([agent, text]) => `${words.agent} ${agent}:\n${text}`).join("\n\n");
   byId("written").hidden = !printed;
   byId("written").querySelector("pre").textContent = printed;
   byId("watch").hidden = !trial.page;
   const first = found.marks.find((it) => it.event);
   if (trial.page) byId("watch").src = `${trial.page}#${first ? `event${first.event}` : "play"}`;
+}
+// an exercise that is done leads to the next one
+function nextExercise() {
+  const list = byId("language"), chosen = list.selectedOptions[0];
+  const next = chosen.closest("optgroup") && chosen.nextElementSibling;
+  if (!next) return null;
+  const item = document.createElement("li");
+  item.append(button(`${words.next}: ${next.textContent}`, () => { location.search = `?language=${next.value}`; }));
+  return item;
 }
 // a sentence, which leads to its line if it is of one
 function sentence(text, marks) {

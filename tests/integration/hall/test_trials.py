@@ -9,6 +9,7 @@ from unittest import mock
 from tests.integration.hall.test_drafts import RULES, Written
 from tests.integration.hall.hall_pages import PLACE, halled
 
+from arena_lab.course import exercises
 from arena_lab.hall import machine
 from arena_lab.hall.drafts import kits, playing
 from arena_lab.hall.drafts.models import Trial
@@ -140,6 +141,30 @@ class Found(Tried):
                 self.assertIn("leads to a safe node", found["marks"][0]["said"])
                 self.assertGreater(found["marks"][0]["event"], 0)
                 Trial.objects.all().delete()
+
+
+class Exercised(Tried):
+    def test_an_exercise_is_done_once_an_answer_is_right(self) -> None:
+        one = exercises.read("2-two-answers")
+        wrong = one.solution().replace("str(here.came)", '"0"')
+        found = self.found(wrong, language=one.name)
+        self.assertFalse(found["right"])
+        self.assertIn("`came` is the port of the node", found["said"][0])
+        page = self.client_of("amber").get(f"/write?language={one.name}")
+        self.assertContains(page, "A departure is answered twice")
+        self.assertNotContains(page, "\u2713 ")
+        found = self.found(one.solution(), language=one.name)
+        self.assertEqual(found["said"], ["Right in all 2 matches."])
+        self.assertEqual(found["marks"], [])
+        self.assertEqual([it for _, _, it in found["lines"]][:3], [8, 9, 0])
+        page = self.client_of("amber").get("/write")
+        self.assertContains(page, "&#10003; 2. A departure is answered twice")
+        other = self.client_of("birch").get("/write")
+        self.assertNotContains(other, "&#10003; 2.")
+        # what is written of an exercise is kept as any draft is
+        told = self.rest("get", f"/api/drafts/{one.name}").json()
+        self.assertEqual(told["files"]["agent.py"], one.solution())
+        self.assertEqual((told["version"], told["hand_in"]), (0, False))
 
 
 class Hostile(Tried):

@@ -1,0 +1,91 @@
+"""Learns to write agents step by step: each exercise is a text, a program to complete, and
+a check that says what is wrong.
+
+    ./arena-lab exercise                        lists the exercises
+    ./arena-lab exercise 1-enter-and-look       writes its files to the folder of this name, and says what to do
+    ./arena-lab exercise 1-enter-and-look       once the folder is there: checks the program in it
+    ./arena-lab exercise 1-enter-and-look --hint
+
+Complete `agent.py` in the folder, and call the same command again. It plays the matches
+of the exercise by the Python model of the lab; the first sentence names what to mend
+first. The exit status is 0 if the program is right, and 1 if it is not. The exercises
+are those of the page on which one writes in a hall.
+"""
+import argparse
+import functools
+import pathlib
+import textwrap
+
+import arena_lab
+from arena_lab.course import exercises
+from arena_lab.course.exercises import AGENT, Exercise, answered
+from arena_lab.play.programs import LocalRunner
+from arena_lab.play.teams import OUTSIDE, AgentWords
+from arena_lab.support.faults import Fault
+
+WIDE = 100
+
+
+def add_words(parser: argparse.ArgumentParser) -> None:
+    """The words of the command `exercise`."""
+    parser.add_argument(
+        "name", metavar="NAME", nargs="?", default="", help="the name of an exercise"
+    )
+    parser.add_argument(
+        "--folder",
+        metavar="FOLDER",
+        type=pathlib.Path,
+        help="where its files are, or are to be (the name)",
+    )
+    parser.add_argument("--hint", action="store_true", help="print its hint")
+    parser.add_argument(
+        "--keep",
+        metavar="FOLDER",
+        type=pathlib.Path,
+        help="write the match that shows what to mend there",
+    )
+
+
+def run(words: argparse.Namespace) -> int:
+    found = exercises.exercises()
+    if not words.name:
+        for name, one in found.items():
+            print(f"{name:22}{one.title}")
+        return 0
+    if words.name not in found:
+        raise Fault(
+            f"{words.name}: there is no such exercise; there are {', '.join(found)}"
+        )
+    exercise = found[words.name]
+    folder = words.folder or pathlib.Path(words.name)
+    if words.hint:
+        print(textwrap.fill(exercise.hint, WIDE))
+        return 0
+    if not folder.exists():
+        return begin(exercise, folder)
+    return check(exercise, folder, words.keep)
+
+
+def begin(exercise: Exercise, folder: pathlib.Path) -> int:
+    """Writes what one begins with."""
+    folder.mkdir(parents=True)
+    for name, text in exercise.files().items():
+        (folder / name).write_text(text, encoding="utf-8")
+    again = f"{arena_lab.called()} exercise {exercise.name}"
+    print(f"{exercise.title}\n\n{textwrap.fill(exercise.text, WIDE)}\n")
+    print(f"Complete {folder / AGENT}, and check it by `{again}`")
+    return 0
+
+
+def check(exercise: Exercise, folder: pathlib.Path, keep: pathlib.Path) -> int:
+    """Checks what stands in a folder."""
+    ground = functools.partial(LocalRunner, str(folder))
+    agent = AgentWords(OUTSIDE, exercise.command, ground=ground)
+    found = answered(exercise, lambda _: agent)
+    if not found.said:
+        print(f"Right in all {len(exercise.matches)} matches.")
+        return 0
+    print("\n  ".join([f"To mend first: {found.said[0]}", *found.said[1:]]))
+    if keep:
+        print(found.record.keep(keep)[-1])
+    return 1

@@ -1,0 +1,8 @@
+import sys
+
+from client import Agent
+
+agent = Agent.connect(sys.argv[1], int(sys.argv[2]))
+key = sys.argv[3]
+
+# enter, look, leave

@@ -1,0 +1,24 @@
+"""Does the home base show how many nodes there are?"""
+from typing import List
+
+from arena_lab.course.exercises import board_at_home, done
+from arena_lab.rules.model import Match
+
+
+def check(match: Match) -> List[str]:
+    nodes = match.setup.nodes
+    moves = len(done(match, "depart"))
+    board = board_at_home(match)
+    if board == str(nodes):
+        return []
+    if not moves:
+        return ["your agent never departed: it cannot count what it has not seen"]
+    if moves < nodes:
+        return [
+            f"your agent made {moves} moves and wrote {board!r}, and the ring has {nodes} nodes: it was not home "
+            "again, or took another node for it; a mark on the whiteboard tells"
+        ]
+    return [
+        f"the whiteboard of the home base shows {board!r}, and the ring has {nodes} nodes: is each counted once, "
+        "and the number written at home?"
+    ]

@@ -1,0 +1,12 @@
+import sys
+
+from client import Agent
+
+agent = Agent.connect(sys.argv[1], int(sys.argv[2]))
+key = sys.argv[3]
+
+agent.enter(key)
+swap = agent.write("", "taken")
+side = 0 if swap.written else 1
+here = agent.depart(side)
+# your agent is not lost: what does it know now, and where does it say so?
