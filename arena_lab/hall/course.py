@@ -69,6 +69,7 @@ Each [[network]] has these keys:
     search        how long a check or a search through all schedules may take (60).
     trials        how many programs are tried at a time (2).
     a_day         how many programs a team tries a day (500).
+    guests        how many people without a token write and try at a time (0); they hand in nothing.
 
 Hand-ins are graded by the agents, quota, whiteboards and labels that practice has on the same network.
 
@@ -213,6 +214,7 @@ EDITOR = {
     "search": fields.count(60),
     "trials": fields.count(2),
     "a_day": fields.count(500),
+    "guests": Field(is_number, "a whole number", 0),
 }
 
 
@@ -279,6 +281,7 @@ class EditorRules(NamedTuple):
     search: int
     trials: int
     a_day: int
+    guests: int
 
 
 class Hall(NamedTuple):

@@ -42,7 +42,7 @@ def draw_missing(path: pathlib.Path) -> int:
     """Draws tokens for the teams that have none, and writes them into a file of key
     sheets, both or neither; gives how many."""
     with transaction.atomic():
-        sheet = new_tokens(list(Team.objects.filter(digest="")), "hall")
+        sheet = new_tokens(list(Team.objects.filter(digest="", is_guest=False)), "hall")
         if sheet:
             write_sheet(path, sheet)
     return len(sheet)

@@ -127,6 +127,7 @@ urlpatterns = [
     path("matches/<number:number>/<number:match>/replay", attempts.replay),
     path("matches/<number:number>/<number:match>/page", attempts.page),
     path("write", drafts.page),
+    path("write/guest", drafts.begin_as_guest),
     path("write/trials/<number:number>/page", drafts.watched),
     path("hand-ins", handins.listed),
     path("hand-ins/take", handins.take),

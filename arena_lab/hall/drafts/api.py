@@ -8,6 +8,7 @@ from rest_framework.viewsets import ViewSet
 from arena_lab.hall.drafts import kits, trying, views, writing
 from arena_lab.hall.drafts.models import Trial
 from arena_lab.hall.handins import taking
+from arena_lab.hall.teams.logins import ByToken, ByWriter
 
 
 class HandedDraft(serializers.Serializer):
@@ -24,7 +25,13 @@ def members_of(request: Any) -> Dict[str, Any]:
     return request.data if isinstance(request.data, dict) else {}
 
 
-class Drafts(ViewSet):
+class Writers(ViewSet):
+    """What teams and guests may ask for."""
+
+    authentication_classes = [ByToken, ByWriter]
+
+
+class Drafts(Writers):
     """What a team writes."""
 
     def list(self, request: Any) -> Response:
@@ -54,7 +61,7 @@ class Drafts(ViewSet):
         )
 
 
-class Trials(ViewSet):
+class Trials(Writers):
     """What a team tries."""
 
     def list(self, request: Any) -> Response:

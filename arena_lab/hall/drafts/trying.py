@@ -100,7 +100,8 @@ def due(most: int, resting: Collection[int] = ()) -> List[Trial]:
     free = most - active.count()
     waiting = Trial.objects.filter(state=machine.WAITING).exclude(pk__in=resting)
     found: List[Trial] = []
-    for trial in sorted(waiting.order_by("pk"), key=lambda it: it.kind != PLAY):
+    ordered = waiting.select_related("team").order_by("pk")
+    for trial in sorted(ordered, key=lambda it: (it.kind != PLAY, it.team.is_guest)):
         if trial.kind != PLAY:
             searches += 1
         if len(found) < free and (trial.kind == PLAY or searches <= max(1, most - 1)):

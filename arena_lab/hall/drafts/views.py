@@ -3,18 +3,19 @@ from typing import Any, Dict, List
 
 from django.conf import settings
 from django.http import Http404, HttpResponse, StreamingHttpResponse
-from django.shortcuts import render
+from django.shortcuts import redirect, render
 from django.utils import timezone
+from django.views.decorators.http import require_POST
 
 from arena_lab.course.trials import PAGE, REPLAY
 from arena_lab.hall.attempts.asking import RequestRefused, open_networks
 from arena_lab.hall.attempts.views import sent
-from arena_lab.hall.drafts import kits, trying, words, writing
+from arena_lab.hall.drafts import guests, kits, trying, words, writing
 from arena_lab.hall.drafts.models import Trial
 from arena_lab.hall.handins.windows import Window, windows
-from arena_lab.hall.teams import guards
+from arena_lab.hall.teams import guards, logins
 from arena_lab.hall.teams.models import Team
-from arena_lab.hall.teams.views import for_teams, owned
+from arena_lab.hall.teams.views import owned
 from arena_lab.play.kits import KITS
 
 # the page has a match in a frame, which is a page of the hall
@@ -23,12 +24,14 @@ CONTENT = f"{guards.STRICT}; frame-src 'self'"
 
 def own(request: Any, number: int) -> Trial:
     """A trial."""
-    found: Trial = owned(request, Trial, number, "drafts.view_trial")
+    found: Trial = owned(request, Trial, number, "drafts.view_trial", "writer")
     return found
 
 
 def taking_now(team: Team) -> List[Window]:
     """The windows in which a team may hand in now."""
+    if team.is_guest:
+        return []
     now = timezone.now()
     return [
         it
@@ -37,34 +40,47 @@ def taking_now(team: Team) -> List[Window]:
     ]
 
 
-@for_teams
 def page(request: Any) -> HttpResponse:
-    """Where a team writes with a kit."""
-    if settings.HALL.editor is None:
+    """Where a team or a guest writes with a kit."""
+    rules = settings.HALL.editor
+    if rules is None:
         raise Http404
+    if request.writer is None:
+        return render(request, "guest.html") if rules.guests else redirect("/login")
+    team = request.writer
     language = request.GET.get("language") or kits.languages()[0]
     try:
         kit = kits.kit_of(language)
-        draft = writing.shown(writing.draft_of(request.team, language))
+        draft = writing.shown(writing.draft_of(team, language))
     except RequestRefused:
         raise Http404 from None
     exercise = kits.exercise_of(language)
     given: Dict[str, Any] = {
         "exercise": exercise,
-        "exercises": trying.exercises_of(request.team),
-        "draft": {**draft, "kit": kit.files, "team": request.team.name},
+        "exercises": trying.exercises_of(team),
+        "draft": {**draft, "kit": kit.files, "team": team.name},
         "kits": [(it, KITS[it].name) for it in kits.languages()],
         "chosen": language,
         "networks": open_networks(),
         "small": trying.SMALL,
         "schedulers": trying.SCHEDULERS,
-        "open": taking_now(request.team) if kit.is_handed_in else [],
+        "open": taking_now(team) if kit.is_handed_in else [],
         "words": words.words(),
         "most_seed": trying.MOST_SEED,
     }
     response = render(request, "write.html", given)
     response["Content-Security-Policy"] = CONTENT
     return response
+
+
+@require_POST
+def begin_as_guest(request: Any) -> HttpResponse:
+    """Lets somebody without a token write and try."""
+    try:
+        logins.log_in(request, guests.admitted(guards.address_of(request)))
+    except RequestRefused as fault:
+        return guards.refusal(fault.status_code, str(fault))
+    return redirect("/write")
 
 
 def watched(request: Any, number: int) -> StreamingHttpResponse:

@@ -109,6 +109,8 @@ def hand_in(team: Team, language: str, files: Any, contest: Optional[int]) -> Ha
     """Hands in what a team has written."""
     kit = kit_of(language)
     files = checked(files)
+    if team.is_guest:
+        raise RequestRefused(403, _("guests hand in nothing"))
     if not kit.is_handed_in:
         raise RequestRefused(400, _("hand-ins are of another language here"))
     made = io.BytesIO()

@@ -169,7 +169,7 @@ def result_of(grading: Optional[Grading]) -> Optional[Dict[str, Any]]:
 def grade_secretly(now: datetime.datetime) -> int:
     """Asks for the grading of each team's last hand-in by the secret draw, once the
     window has ended for that team; gives how many were asked for."""
-    teams = list(Team.objects.all())
+    teams = list(Team.objects.filter(is_guest=False))
     graded = set(
         Grading.objects.filter(is_secret=True).values_list("hand_in", flat=True)
     )

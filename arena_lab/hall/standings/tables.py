@@ -70,7 +70,9 @@ def tables(window: Window, for_teacher: bool) -> List[StandingsTable]:
 def table(window: Window, is_secret: bool, for_teacher: bool) -> StandingsTable:
     """One of the two tables of a window."""
     frozen = None if for_teacher or is_secret else frozen_at(window)
-    teams = Team.objects.all() if for_teacher else Team.objects.filter(hidden=False)
+    teams = Team.objects.filter(is_guest=False)
+    if not for_teacher:
+        teams = teams.filter(hidden=False)
     names = window.secret if is_secret else window.public
     found = graded(window, is_secret, frozen)
     missing = ungraded(window) if is_secret else set()

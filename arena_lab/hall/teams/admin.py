@@ -32,6 +32,9 @@ class Teams(admin.ModelAdmin):
     search_fields = ("name", "display")
     actions = ("draw_tokens",)
 
+    def get_queryset(self, request: Any) -> Any:
+        return super().get_queryset(request).filter(is_guest=False)
+
     @admin.display(description=_("MB used"))
     def used(self, team: Team) -> int:
         return own_bytes(team) >> 20

@@ -50,17 +50,19 @@ def team_in(request: Any) -> Optional[Team]:
 
 
 class Teams:
-    """The middleware that says which team asks."""
+    """The middleware that says which team asks. A guest is no team: pages and requests
+    that take guests too ask for the `writer`."""
 
     def __init__(self, answer: Callable[[Any], HttpResponse]) -> None:
         self._answer = answer
 
     def __call__(self, request: Any) -> HttpResponse:
-        request.team = team_in(request)
+        writer = request.writer = team_in(request)
+        request.team = None if writer is None or writer.is_guest else writer
         if guards.token_in(request) is None:
             digest = guards.credential_of(request)
-            if request.team is not None:
-                guards.known.set(digest, request.team.name)
+            if writer is not None:
+                guards.known.set(digest, writer.name)
             elif request.user.is_staff:
                 guards.known.set(digest, f"{guards.STAFF}{request.user.pk}")
             else:
@@ -82,7 +84,7 @@ class ByToken(BaseAuthentication):
             guards.known.delete(digest)
             raise exceptions.AuthenticationFailed(WRONG)
         guards.known.set(digest, team.name)
-        request._request.team = team
+        request._request.team = request._request.writer = team
         return team, None
 
     def authenticate_header(self, request: Any) -> str:
@@ -92,12 +94,21 @@ class ByToken(BaseAuthentication):
 class BySession(SessionAuthentication):
     """The session of a page, whose requests name its secret against forgeries."""
 
+    # which attribute of a request says who asks
+    who = "team"
+
     def authenticate(self, request: Any) -> Optional[Tuple[Team, None]]:
-        team = request._request.team
+        team: Optional[Team] = getattr(request._request, self.who)
         if team is None:
             return None
         self.enforce_csrf(request)
         return team, None
+
+
+class ByWriter(BySession):
+    """The session of a team or of a guest."""
+
+    who = "writer"
 
 
 class IsTeam(BasePermission):
@@ -135,6 +146,7 @@ def shown(request: Any) -> Dict[str, Any]:
     return {
         "hall": hall,
         "team": getattr(request, "team", None),
+        "writer": getattr(request, "writer", None),
         "takes_hand_ins": hall.hand_ins is not None,
         "has_editor": hall.editor is not None,
     }

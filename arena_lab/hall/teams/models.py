@@ -40,6 +40,8 @@ class Team(models.Model):
         help_text=_("empty for what the course gives each team"),
     )
     digest = models.CharField(max_length=64, blank=True, editable=False)
+    # somebody without a token, who writes and tries for a day
+    is_guest = models.BooleanField(default=False, editable=False)
     # sessions of an earlier token are no sessions any more
     generation = models.PositiveIntegerField(default=0, editable=False)
 

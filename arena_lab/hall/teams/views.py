@@ -101,12 +101,12 @@ def messages(request: Any) -> HttpResponse:
     )
 
 
-def owned(request: Any, kind: Any, number: int, right: str) -> Any:
+def owned(request: Any, kind: Any, number: int, right: str, who: str = "team") -> Any:
     """What the team that asks has under this number, or any team if a teacher or tutor
     asks who has a right. Another team's is as if there were none."""
     found = get_object_or_404(kind.objects.select_related("team"), pk=number)
     if (
-        request.team == found.team
+        getattr(request, who) == found.team
         or request.user.is_staff
         and request.user.has_perm(right)
     ):

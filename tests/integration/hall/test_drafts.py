@@ -12,15 +12,16 @@ from django.db import connection
 from django.test import Client
 from django.utils import timezone
 
-from arena_lab.hall import backup, machine
+from arena_lab.hall import backup, keys, machine
 from arena_lab.hall.attempts import asking
 from arena_lab.hall.course import EditorRules
-from arena_lab.hall.drafts import trying, writing
+from arena_lab.hall.drafts import guests, trying, writing
 from arena_lab.hall.drafts.models import Draft, Trial
 from arena_lab.hall.handins.models import HandIn
+from arena_lab.hall.teams.models import Team
 from arena_lab.play.agent_files import AGENTS
 
-RULES = EditorRules(["python", "c"], 20, 60, 2, 500)
+RULES = EditorRules(["python", "c"], 20, 60, 2, 500, 0)
 FILES = {"agent.py": "print(1)\n", "client.py": "x\n"}
 TRIED = {"language": "python", "kind": "play", "network": "ring of 5", "files": FILES}
 
@@ -258,6 +259,72 @@ class Trials(Written):
         Trial.objects.filter(kind="play").delete()
         self.assertEqual([it.kind for it in trying.due(2)], [])
         self.assertEqual([it.kind for it in trying.due(3)], ["explore"])
+
+
+class Guests(Written):
+    def setUp(self) -> None:
+        super().setUp()
+        guests.came.clear()
+        given = halled(editor=RULES._replace(guests=4))
+        given.start()
+        self.addCleanup(given.stop)
+
+    def guest(self, **given: Any) -> Client:
+        client = Client(**given)
+        self.assertContains(client.get("/write"), "Begin as a guest")
+        self.assertEqual(client.post("/write/guest").status_code, 302)
+        return client
+
+    def sends(self, client: Client, path: str, body: Any) -> Any:
+        return client.post(path, json.dumps(body), "application/json")
+
+    def test_a_guest_writes_and_tries_and_does_nothing_else(self) -> None:
+        client = self.guest()
+        self.assertContains(client.get("/write"), "editor.js")
+        told = self.sends(client, "/api/trials", TRIED)
+        self.assertEqual(told.status_code, 201)
+        path = f"/api/trials/{told.json()['id']}"
+        self.assertEqual(client.get(path).status_code, 200)
+        self.assertEqual(self.guest().get(path).status_code, 404)
+        told = self.sends(client, "/api/drafts/python/hand-in", {"files": FILES})
+        self.assertEqual(told.status_code, 403)
+        # to all else a guest is nobody
+        for path in (
+            "/api/matches",
+            "/api/networks",
+            "/api/hand-ins",
+            "/api/standings",
+        ):
+            self.assertEqual(client.get(path).status_code, 401, path)
+        told = self.sends(client, "/api/matches", {"network": "ring of 5"})
+        self.assertEqual(told.status_code, 401)
+        for path in ("/matches", "/hand-ins", "/messages", "/"):
+            self.assertEqual(client.get(path)["Location"], "/login", path)
+        self.assertNotContains(self.client_of("amber").get("/"), "guest")
+        self.assertNotContains(self.teacher().get("/"), "guest-")
+        self.assertNotContains(self.teacher().get("/teacher/teams/team/"), "guest-")
+
+    def test_they_are_bounded_by_address_and_in_all(self) -> None:
+        def comes(address: str) -> int:
+            told = Client(REMOTE_ADDR=address).post("/write/guest")
+            return int(told.status_code)
+
+        self.assertEqual([comes("10.0.0.1") for _ in range(3)], [302, 302, 429])
+        others = [comes("10.0.0.2"), comes("10.0.0.2"), comes("10.0.0.3")]
+        self.assertEqual(others, [302, 302, 429])
+        # who writes nothing for a day makes room
+        Draft.objects.update(at=timezone.now() - guests.STAYS * 2)
+        self.assertEqual(comes("10.0.0.4"), 302)
+        self.assertEqual(Team.objects.filter(is_guest=True).count(), 1)
+        with halled(editor=RULES):
+            self.assertEqual(comes("10.0.0.5"), 404)
+            self.assertEqual(Client().get("/write")["Location"], "/login")
+
+    def test_no_token_is_drawn_for_them(self) -> None:
+        self.guest()
+        path = PLACE.folder / "new.csv"
+        self.assertEqual(keys.draw_missing(path), 0)
+        self.assertFalse(path.exists())
 
 
 class Page(Written):

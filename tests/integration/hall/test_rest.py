@@ -31,7 +31,7 @@ class Documented(Hall):
         self.rest("post", "/api/matches", body={"network": "torus with a map"})
         contest = contest_of()
         graded("amber", contest=contest)
-        given = halled(editor=EditorRules(["python"], 20, 60, 2, 500))
+        given = halled(editor=EditorRules(["python"], 20, 60, 2, 500, 0))
         given.start()
         self.addCleanup(given.stop)
         trial = Trial.objects.create(

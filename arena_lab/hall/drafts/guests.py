@@ -1,0 +1,54 @@
+"""Guests: who has no token may write and try for a day, and hand in nothing. A guest is a
+hidden row among the teams, whom no page but that on which one writes knows."""
+import datetime
+import secrets
+
+from django.conf import settings
+from django.db import transaction
+from django.utils import timezone
+from django.utils.translation import gettext as _
+
+from arena_lab.hall.attempts.asking import RequestRefused
+from arena_lab.hall.drafts.models import Draft
+from arena_lab.hall.drafts.writing import draft_of
+from arena_lab.hall.teams.guards import Buckets
+from arena_lab.hall.teams.models import Team, note
+
+# a guest that has written nothing for so long is gone
+STAYS = datetime.timedelta(days=1)
+# MB of a guest
+DISK = 8
+# how many guests come from an address within a day: half of all, so that no one of them
+# keeps all others out
+came = Buckets(STAYS.total_seconds())
+
+
+def admitted(address: str) -> Team:
+    """A new guest, who comes from this address."""
+    rules = settings.HALL.editor
+    most = 0 if rules is None else rules.guests
+    if most == 0:
+        raise RequestRefused(404, _("there are no guests here"))
+    with transaction.atomic():
+        remove_gone()
+        guests = Team.objects.filter(is_guest=True).count()
+        if guests >= most or came.wait(address, max(1, most // 2)):
+            raise RequestRefused(429, _("there are too many guests: come again later"))
+        team = Team.objects.create(
+            name=f"guest-{secrets.token_hex(5)}",
+            display=_("guest"),
+            hidden=True,
+            is_guest=True,
+            disk=DISK,
+        )
+        # by its time it is known how long the guest has written nothing
+        draft_of(team, rules.languages[0]).save()
+        note(team.name, "begins as a guest")
+    return team
+
+
+def remove_gone() -> None:
+    """Removes guests that have written nothing for long."""
+    written = Draft.objects.filter(at__gte=timezone.now() - STAYS)
+    gone = Team.objects.filter(is_guest=True).exclude(pk__in=written.values("team"))
+    gone.delete()
