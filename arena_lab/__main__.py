@@ -32,6 +32,10 @@ class Command(NamedTuple):
 # by their names, which are those of the modules that have their words and run them
 COMMANDS = {
     "new": Command("begin an agent in one of seven languages or as a module", ()),
+    "try": Command(
+        "write an agent in your browser, on a page that this machine serves",
+        PLAYS + PAGES + ("django", "rest_framework", "waitress", "whitenoise"),
+    ),
     "exercise": Command("learn to write agents, one exercise after the other"),
     "examples": Command("say where the examples stand, or copy them", ()),
     "play": Command(

@@ -1,0 +1,77 @@
+"""`arena-lab try` serves the page on which one writes, and nothing else is needed."""
+import contextlib
+import http.cookiejar
+import json
+import pathlib
+import subprocess
+import sys
+import tempfile
+import time
+import unittest
+import urllib.error
+import urllib.request
+from typing import Any
+
+from arena_lab.support.built import TOP
+from arena_lab.support.ports import free_port
+from tests.support.halls import SECONDS
+from tests.support.matches import program
+
+
+class Try(unittest.TestCase):
+    def setUp(self) -> None:
+        self.folder = pathlib.Path(self.enterContext(tempfile.TemporaryDirectory()))
+        self.port = free_port()
+        words = ["--folder", self.folder / "mine", "--port", self.port, "--no-browser"]
+        child = subprocess.Popen(
+            [
+                *(sys.executable, "-m", "arena_lab", "try", "--program", program()),
+                *map(str, words),
+            ],
+            cwd=TOP,
+            stdin=subprocess.DEVNULL,
+            stdout=subprocess.PIPE,
+            stderr=subprocess.DEVNULL,
+            text=True,
+        )
+        self.addCleanup(child.communicate)
+        self.addCleanup(child.terminate)
+        assert child.stdout is not None
+        self.assertIn(f"http://127.0.0.1:{self.port}/write", child.stdout.readline())
+        jar = http.cookiejar.CookieJar()
+        keeps = urllib.request.HTTPCookieProcessor(jar)
+        self.browser = urllib.request.build_opener(keeps)
+        self.jar = jar
+
+    def asked(self, path: str, body: Any = None) -> str:
+        """What is answered, also to an object that is sent."""
+        secret = {it.name: it.value for it in self.jar}.get("csrftoken") or ""
+        kind = "application/json" if isinstance(body, dict) else "text/plain"
+        data = None if body is None else json.dumps(body).encode()
+        head = {"X-CSRFToken": secret, "Content-Type": kind}
+        asked = urllib.request.Request(
+            f"http://127.0.0.1:{self.port}{path}", data, head
+        )
+        with self.browser.open(asked) as answer:
+            return str(answer.read().decode())
+
+    def waits(self, path: str, *said: str) -> str:
+        """Waits until an answer says something."""
+        until = time.monotonic() + SECONDS
+        while time.monotonic() < until:
+            with contextlib.suppress(urllib.error.URLError, ConnectionError):
+                told = self.asked(path)
+                if any(it in told for it in said):
+                    return told
+            time.sleep(0.2)
+        raise AssertionError(f"{path} does not say {said}")
+
+    def test_one_writes_and_plays_without_a_course(self) -> None:
+        self.waits("/write", "Begin as a guest")
+        self.assertIn("Compare and write", self.asked("/write/guest", ""))
+        draft = json.loads(self.asked("/api/drafts/python"))
+        asked = {**draft, "kind": "play", "network": "ring of 5"}
+        made = json.loads(self.asked("/api/trials", asked))
+        path = f"/api/trials/{made['id']}"
+        found = json.loads(self.waits(path, '"over"', '"lost"'))
+        self.assertTrue(found["found"] and found["found"]["right"], found)
