@@ -1,8 +1,8 @@
 """How a hall stands a course: many teams that ask for attempts, play them and hand in
-programs, while one more team floods it.
+programs, while one more team floods it. Or how it stands a class that writes.
 
     /usr/bin/python3 -m bench.hall [--teams 60] [--attempts 600] [--hand-ins 60] [--minutes 60] [--no-flood]
-        [--program PATH]
+        [--writers 0] [--program PATH]
 
 Starts a hall with its usual limits. The teams ask for their attempts at times that are
 drawn over the minutes, and play each with two sample agents on a ring of 8 nodes. They
@@ -12,7 +12,8 @@ at a time. Prints how many attempts were solved; how long it took from the reque
 the keys were there, and how long requests of the other teams took; how many programs
 solved their networks, and how long they waited for it; what the flood was answered; and
 the hall's processor seconds. A course has 600 attempts an hour; fewer minutes are a
-heavier load.
+heavier load. Writers are teams that have their program tried every 20 seconds, as by the
+page on which one writes; as many programs are tried at a time as there are processors.
 """
 import argparse
 import contextlib
@@ -35,6 +36,8 @@ from tests.support.halls import Served, play, sample_program
 SEED = 5
 FLOODS = 8
 EVERY = 1.0
+# seconds between two trials of a team that writes
+WRITES = 20.0
 SELDOM = 5.0
 # tests of processes that are killed take workers for gone earlier
 USUAL_LEASE = "30"
@@ -47,6 +50,9 @@ network = "ring:8"
 [hand_ins]
 command = "python3 agent.py {{host}} {{port}} {{key}} {{nodes}}"
 networks = ["ring:8"]
+[editor]
+trials = {trials}
+a_day = 100000
 """
 
 
@@ -59,6 +65,7 @@ class Load:
         self.asked: List[float] = []
         self.waited: List[float] = []
         self.graded: List[float] = []
+        self.tried: List[float] = []
         self.outcomes: "Counter[str]" = Counter()
         self.flooded: "Counter[int]" = Counter()
         self.is_over = threading.Event()
@@ -97,6 +104,19 @@ class Load:
         self.graded.append(time.monotonic() - began)
         result = found["result"] or {}
         self.outcomes[f"program {result.get('solved')} of {result.get('matches')}"] += 1
+
+    def write(self, name: str) -> None:
+        """Has the kit tried, and waits for what is found."""
+        began = time.monotonic()
+        kit = self.request("GET", "/api/drafts/python", name)
+        asked = {**kit, "kind": "play", "network": "ring of 8"}
+        told = self.request("POST", "/api/trials", name, asked)
+        while told["state"] in ("waiting", "held", "running"):
+            time.sleep(EVERY / 2)
+            told = self.request("GET", f"/api/trials/{told['id']}", name)
+        if told["state"] == "over":
+            self.tried.append(time.monotonic() - began)
+        self.outcomes[f"tried: {told.get('verdict') or told['state']}"] += 1
 
     def ask_and_play(self, name: str) -> None:
         """Asks for an attempt and plays it."""
@@ -152,7 +172,7 @@ def served(teams: int) -> Iterator[Served]:
         hall = Served(pathlib.Path(name), workers=2)
         hall.lease = USUAL_LEASE
         hall.course.write_text(
-            COURSE.format(first=21_000, last=21_199)
+            COURSE.format(first=21_000, last=21_199, trials=os.cpu_count())
             + "".join(
                 f'[[team]]\nname = "team{number}"\n' for number in range(teams + 1)
             )
@@ -186,6 +206,15 @@ def run(words: argparse.Namespace) -> None:
             for does, those in ((load.ask_and_play, names), (load.hand_in, handed))
             for name in those
         ]
+        rounds = int(words.minutes * 60 / WRITES)
+        teams += [
+            threading.Thread(
+                target=load.at,
+                args=(began + (turn + chance.random()) * WRITES, load.write, name),
+            )
+            for name in (f"team{number}" for number in range(words.writers))
+            for turn in range(rounds)
+        ]
         floods = [
             threading.Thread(target=load.flood, args=(f"team{words.teams}",))
             for _ in range(0 if words.no_flood else FLOODS)
@@ -202,13 +231,13 @@ def run(words: argparse.Namespace) -> None:
             f"{words.attempts} attempts and {words.hand_ins} programs of {words.teams} teams in {took / 60:.1f} "
             f"minutes: {dict(load.outcomes)}"
         )
-        print(
-            f"from the request to the keys, median, 99 of 100, most: {told(load.waited)}"
-        )
-        if load.graded:
-            print(
-                f"from a hand-in to its grade, median, 99 of 100, most: {told(load.graded)}"
-            )
+        for what, values in (
+            ("from the request to the keys", load.waited),
+            ("from a hand-in to its grade", load.graded),
+            ("from a program that is written to its match", load.tried),
+        ):
+            if values:
+                print(f"{what}, median, 99 of 100, most: {told(values)}")
         print(
             f"{len(load.asked)} requests of these teams, median, 99 of 100, most: {told(load.asked)}"
         )
@@ -247,6 +276,13 @@ def main() -> None:
         type=float,
         default=60,
         help="in how many minutes they begin (60)",
+    )
+    parser.add_argument(
+        "--writers",
+        metavar="N",
+        type=int,
+        default=0,
+        help="how many of the teams write, and try a program every 20 seconds (0)",
     )
     parser.add_argument(
         "--no-flood", action="store_true", help="without the team that floods"

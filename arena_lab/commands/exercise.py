@@ -83,7 +83,7 @@ def check(exercise: Exercise, folder: pathlib.Path, keep: pathlib.Path) -> int:
     agent = AgentWords(OUTSIDE, exercise.command, ground=ground)
     found = answered(exercise, lambda _: agent)
     if not found.said:
-        print(f"Right in all {len(exercise.matches)} matches.")
+        print(exercise.praise())
         return 0
     print("\n  ".join([f"To mend first: {found.said[0]}", *found.said[1:]]))
     if keep:

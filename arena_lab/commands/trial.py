@@ -203,11 +203,10 @@ class TriedProgram:
         found = exercises.answered(
             exercise, lambda it: self.agent(marked, it), self.asked.program
         )
-        right = f"Right in all {len(exercise.matches)} matches."
         shown = self.shown(found.record)
         # an exercise may be about something else than the black hole
         marks = [it for it in shown["marks"] if LEAVES not in it["said"]]
-        said = found.said or [right]
+        said = found.said or [exercise.praise()]
         return {"right": not found.said, "said": said, **shown, "marks": marks}
 
     def found(self) -> Dict[str, Any]:

@@ -98,6 +98,11 @@ class Exercise(NamedTuple):
         )
         return fixture_of(setup, of.seed)
 
+    def praise(self) -> str:
+        """What is said of an answer that is right."""
+        count = len(self.matches)
+        return f"Right in {'its match' if count == 1 else f'all {count} matches'}."
+
     def check(self, match: Match) -> List[str]:
         """What is to be mended in a match that was played."""
         found: Callable[[Match], List[str]] = member(

@@ -5,7 +5,8 @@
 Runs the kit, makes a mistake, sees it at its line, takes the earlier version back, tries
 every schedule, stops a check, and hands in; loses the network while it writes, and
 writes what another member has changed; by the keyboard alone, in three languages, dark,
-and on a phone. Finds no error in the console. Screenshots go to the folder.
+and on a phone. Then does an exercise as a guest, and has a program say what would be a
+script if a page took it for one. Finds no error in the console. Screenshots go to the folder.
 `tools/nightly` installs what it needs.
 """
 import os
@@ -23,7 +24,8 @@ from tests.browser.hall_in_browser import Walk
 from tests.browser.watch_in_browser import SECONDS, browser
 from tests.support import halls
 
-EDITOR = 'editor = { languages = ["python", "javascript", "c"] }'
+EDITOR = 'editor = { languages = ["python", "javascript", "c"], guests = 9 }'
+EVIL = "<img src=x onerror='window.evil=1'><script>window.evil = 1</script>"
 RIGHT = "agent.accuse(ahead)"
 WRONG = "agent.accuse(1 - ahead)"
 
@@ -170,6 +172,43 @@ class Writing(Walk):
         self.press(Keys.ESCAPE)
         self.waits("return document.activeElement.id", "play")
 
+    def begin_as_guest(self) -> None:
+        """Without a token, at an exercise."""
+        self._page.delete_all_cookies()
+        self.open("/write")
+        self.shoot("guest")
+        self.find("main form button").click()
+        self.waits("return editor.current", "agent.py")
+        self.open("/write?language=1-enter-and-look")
+        self.waits("return editor.current", "agent.py")
+        self.shoot("exercise")
+        self.find("#play").click()
+        self.state("\u2717 to mend")
+        self.wants("your agent never entered")
+        self.change(
+            "# enter, look, leave", "agent.enter(key)\nagent.look()\nagent.leave()"
+        )
+        self.run_by_keys()
+        self.state("\u2713 right")
+        self.wants("Right in its match.", "2. A departure is answered twice")
+        self.shoot("done")
+
+    def hostile(self) -> None:
+        """What programs say is text: of the source, on whiteboards and in errors."""
+        self.change(
+            "agent.leave()",
+            f"import sys; here = agent.look(); agent.write(here.board, {EVIL!r});"
+            f" print({EVIL!r}, file=sys.stderr); raise ValueError({EVIL!r})",
+        )
+        self.run_by_keys()
+        self.state("\u2717")
+        self.wants("ValueError: <img src=x")
+        self.waits("return window.evil === undefined", True)
+        self._page.switch_to.frame(self.find("#watch"))
+        self.press(Keys.END)
+        self.waits("return window.evil === undefined", True)
+        self._page.switch_to.default_content()
+
     def quiet(self, but: str = "") -> None:
         """The console has no error, but for those that are named."""
         for entry in self._page.get_log("browser"):
@@ -214,6 +253,8 @@ def main(program: str, folder: pathlib.Path) -> int:
             conflict(one, other)
             other.quiet("409")
             one.looks()
+            one.begin_as_guest()
+            one.hostile()
             one.quiet()
         finally:
             page.quit()

@@ -261,6 +261,19 @@ class Trials(Written):
         self.assertEqual([it.kind for it in trying.due(3)], ["explore"])
 
 
+class Teacher(Written):
+    def test_the_teacher_sees_and_stops_what_is_tried(self) -> None:
+        number = self.tries().json()["id"]
+        teacher = self.teacher()
+        self.assertContains(teacher.get("/teacher/drafts/trial/"), "amber")
+        asked = {"action": "close", "_selected_action": [number]}
+        teacher.post("/teacher/drafts/trial/", asked)
+        self.assertEqual(Trial.objects.get().state, machine.CANCELLED)
+        page = f"/write/trials/{self.over(number).pk}/page"
+        self.assertContains(teacher.get("/teacher/drafts/trial/"), page)
+        self.assertEqual(teacher.get(page).status_code, 200)
+
+
 class Guests(Written):
     def setUp(self) -> None:
         super().setUp()
