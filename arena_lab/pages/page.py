@@ -6,6 +6,7 @@ those of the replay.
 """
 import functools
 import json
+import math
 import pathlib
 import tempfile
 from typing import Any, Dict, Iterable, List, Mapping, Optional, Sequence, Tuple
@@ -97,7 +98,15 @@ def layout(head: Dict[str, Any]) -> List[List[int]]:
 
 @functools.lru_cache(maxsize=16)
 def laid_out(nodes: int, joined: Tuple[Tuple[int, int], ...]) -> List[List[int]]:
-    """Where each node of a network is drawn, of which these are joined."""
+    """Where each node of a network is drawn, of which these are joined. A ring is a
+    circle, which needs no library."""
+    around = ring_of(nodes, joined)
+    if around:
+        turn = 2 * math.pi / nodes
+        places = {node: place * turn for place, node in enumerate(around)}
+        return fitted(
+            [(math.sin(places[it]), -math.cos(places[it])) for it in range(nodes)]
+        )
     networkx = needed("networkx")
     needed("numpy"), needed("scipy")
     graph = networkx.Graph()
@@ -107,6 +116,20 @@ def laid_out(nodes: int, joined: Tuple[Tuple[int, int], ...]) -> List[List[int]]
     if nodes <= MOST_BY_DISTANCES:
         spots = networkx.kamada_kawai_layout(graph, pos=spots)
     return fitted([spots[node] for node in range(nodes)])
+
+
+def ring_of(nodes: int, joined: Sequence[Tuple[int, int]]) -> List[int]:
+    """The nodes of a ring in their order, or none if it is another network."""
+    beside: Dict[int, List[int]] = {node: [] for node in range(nodes)}
+    for one, other in joined:
+        beside[one].append(other)
+        beside[other].append(one)
+    if any(len(set(it)) != 2 or len(it) != 2 for it in beside.values()):
+        return []
+    found = [0, beside[0][0]]
+    while found[-1] != 0:
+        found.append(next(it for it in beside[found[-1]] if it != found[-2]))
+    return found[:-1] if len(found) == nodes + 1 else []
 
 
 def fitted(spots: List[Tuple[float, float]]) -> List[List[int]]:
