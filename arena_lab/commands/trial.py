@@ -6,8 +6,8 @@ folder, so that nothing of the program is in a process of the hall.
 
 FOLDER has the program's files in `files`, and `asked.json`: what is tried (`play`,
 `check` or `explore`) or the name of an `exercise`, the `command` of an agent, the `conditions` as in the file of a
-course, the `scheduler` and `seed` of a match, how many `seconds` it may take, and how
-many of them each `line` of an agent.
+course, the `scheduler` and `seed` of a match, how many `seconds` it may take and how many
+of them each `line` of an agent, and the `isolation` of programs.
 `found.json` is written there, and of a match its replay and its page. What is found has
 sentences, and marks: lines of the program's files, each with what is wrong there.
 """
@@ -43,9 +43,9 @@ from arena_lab.play.schedules import Schedule, schedule_of
 from arena_lab.play.teams import OUTSIDE, AgentWords
 from arena_lab.rules import networks
 from arena_lab.rules.fixtures import Fixture
-from arena_lab.sandbox import calls, sandboxes
+from arena_lab.sandbox import calls
 from arena_lab.sandbox.own_sandboxes import OwnSandboxes
-from arena_lab.sandbox.sandboxes import ProgramFiles, SandboxOptions
+from arena_lab.sandbox.sandboxes import Isolation, ProgramFiles, SandboxOptions
 from arena_lab.support.faults import Fault
 
 STEPS = {CHECK: (check.matches, check.draw_few), EXPLORE: (check.every,)}
@@ -70,6 +70,7 @@ class TrialRequest(NamedTuple):
     seed: int
     seconds: int
     line: int
+    isolation: str
     program: Optional[str]
 
 
@@ -97,7 +98,7 @@ class TriedProgram:
             {"network": NETWORK} if files else {},
             calls.language_of(words, handed_in.content_of),
         )
-        options = SandboxOptions(sandboxes.strongest())
+        options = SandboxOptions(Isolation[self.asked.isolation])
         return AgentWords(OUTSIDE, words, ground=OwnSandboxes(options, kept))
 
     def marked(self) -> HandIn:

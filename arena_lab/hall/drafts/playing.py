@@ -20,6 +20,7 @@ from arena_lab.hall.handins.windows import window_of
 from arena_lab.hall.place import write_whole
 from arena_lab.hall.steps import Lease, WorkLost, begun, step
 from arena_lab.rules import draws
+from arena_lab.sandbox import sandboxes
 from arena_lab.support import fields
 from arena_lab.support.faults import Fault
 
@@ -67,6 +68,8 @@ def prepare(work: Trial, folder: pathlib.Path) -> None:
         "seed": work.seed,
         "seconds": seconds_of(work),
         "line": kit.line,
+        # what is possible here is tried out once by each worker
+        "isolation": sandboxes.strongest().name,
         "program": settings.PLACE.program,
     }
     write_whole(folder / ASKED, json.dumps(asked))

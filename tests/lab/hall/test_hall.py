@@ -616,6 +616,23 @@ class Commands(InTemporary):
         self.assertEqual(after, before)
         self.assertEqual(sorted(before), ["course.toml", "hall.json", "lock"])
 
+    def test_programs_are_tried_where_walls_and_an_editor_are(self) -> None:
+        words = argparse.Namespace(weak_walls=False)
+        plain = hall_of(COURSE, pathlib.Path("/c.toml"))
+        writes = hall_of(COURSE + "[editor]\n", pathlib.Path("/c.toml"))
+        weak = mock.patch.object(
+            hall.sandboxes, "strongest", return_value=hall.Isolation.NONE
+        )
+        why = mock.patch.object(hall.sandboxes, "weakness", return_value="none here")
+        with weak, why:
+            hall.check_walls(words, plain)
+            with self.assertRaisesRegex(NoHall, r"none here: .*\[editor\]"):
+                hall.check_walls(words, writes)
+        with mock.patch.object(hall, "CODEMIRROR", pathlib.Path("/no/such")):
+            hall.check_editor(plain)
+            with self.assertRaisesRegex(NoHall, "apt-get install libjs-codemirror"):
+                hall.check_editor(writes)
+
     def test_a_backup_goes_on_behind_files_that_are_gone_meanwhile(self) -> None:
         """A part of a replay has become the replay, and the folder of a grading has its
         results' name."""
