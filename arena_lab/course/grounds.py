@@ -5,7 +5,7 @@ import tempfile
 from typing import Iterator, Sequence
 
 from arena_lab.course.hand_in import NETWORK, HandIn
-from arena_lab.play import programs
+from arena_lab.play.grounds import Ground, LocalRunner, Nowhere
 from arena_lab.play.wasm_modules import file_in, is_module
 from arena_lab.rules import networks
 from arena_lab.rules.model import Setup
@@ -16,18 +16,18 @@ from arena_lab.sandbox.sandboxes import ProgramFiles, SandboxOptions, sandboxes_
 @contextlib.contextmanager
 def grounds_of(
     options: SandboxOptions, handed_in: HandIn, words: str, setup: Setup, count: int
-) -> Iterator[Sequence[programs.Ground]]:
+) -> Iterator[Sequence[Ground]]:
     """Where this number of a team's programs run, which these words start: each in a
     sandbox, unless their hand-in is refused. A module needs no sandbox for its
     player."""
     if handed_in.refusal:
-        yield [programs.Nowhere(f"the hand-in is refused: {handed_in.refusal}")] * count
+        yield [Nowhere(f"the hand-in is refused: {handed_in.refusal}")] * count
         return
     if is_module(words):
         # it sees nothing but replies, and its memory and steps are bounded
         with tempfile.TemporaryDirectory(prefix="lab-module-") as folder:
             handed_in.write_file(file_in(words), pathlib.Path(folder))
-            yield [programs.LocalRunner(folder)] * count
+            yield [LocalRunner(folder)] * count
         return
     network = networks.text_of(networks.Network(setup.nodes, setup.links)).encode()
     has_map = "{network}" in words

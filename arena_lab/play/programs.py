@@ -15,43 +15,25 @@ import contextlib
 import math
 import os
 import shlex
-import signal
 import socket
 import struct
 import subprocess
-import threading
 import time
-from collections import deque
-from typing import (
-    Any,
-    Callable,
-    Deque,
-    Dict,
-    List,
-    Mapping,
-    Optional,
-    Protocol,
-    Sequence,
-    Sized,
-    Tuple,
-)
+from typing import Callable, Dict, List, Mapping, Optional, Sequence, Sized
 
 from arena_lab.play import wasm_modules
 from arena_lab.play.agent_files import NoAgent, facts_of
 from arena_lab.play.bounds import READ_NOTHING, SENT_NOTHING, TimeBound, Room
+from arena_lab.play.grounds import HOST, Ground, LocalRunner, NoStart
 from arena_lab.play.last_words import asked_behind, error_in, usage_in
 from arena_lab.play.mistakes import plain, shown
 from arena_lab.play.players import DENIALS, DONE, LAST_LINES, TRAVELS, WAITS
+from arena_lab.play.sent_lines import PIECE, Lines
 from arena_lab.rules.draws import seed_of
 from arena_lab.rules.fixtures import Fixture
-from arena_lab.rules.limits import MOST_LINE
 from arena_lab.support.built import without_warning
 
-HOST = "127.0.0.1"
 GONE = '{"ok":"gone"}'
-PIECE = 65_536
-# bytes that are kept of what a program sends before they are due
-AHEAD = 8 << 20
 # seconds that a program has to end by itself when it has been told that the match is
 # over
 GRACE = 0.5
@@ -65,185 +47,6 @@ NOT_LET_IN = {
     '{"no":"key"}': "; its key is of no agent here: take the one that it is given in the place of {key}",
     '{"no":"taken"}': "; another program has entered by its key",
 }
-
-
-class NoStart(Exception):
-    """A program cannot be started, and its team is to blame; says why."""
-
-
-# a program that was started, and what waits until it begins and gives the listener to
-# which it is to connect
-Started = Tuple["subprocess.Popen[bytes]", Callable[[], socket.socket]]
-
-
-class Ground(Protocol):
-    """Where a program runs. Its facts are what stands there for words of a command, by
-    name."""
-
-    @property
-    def facts(self) -> Mapping[str, str]:
-        ...
-
-    def start(self, words: Sequence[str], seed: int, errors: Any) -> Started:
-        """Starts a program, which finds the seed in ARENA_SEED. The port of its
-        listener stands for `{port}`."""
-
-    def kill(self, child: "subprocess.Popen[bytes]") -> None:
-        """Ends a program that was started, and all that it has started."""
-
-    def hurry(self, child: "subprocess.Popen[bytes]") -> None:
-        """Tells a program to end that is going to be ended, so that those of a match
-        end at the same time."""
-
-    def told(self, text: str) -> str:
-        """What a program has said, without what is another on each run."""
-
-    def hint(self, words: str) -> str:
-        """What to change, as far as a program's last words show it."""
-
-    def fault(self) -> str:
-        """Why the ground has ended the program, if it has."""
-
-
-class LocalRunner:
-    """A program runs as the user who starts the lab, in the same folder or in one that
-    is named."""
-
-    facts: Mapping[str, str] = {}
-
-    def __init__(self, folder: Optional[str] = None) -> None:
-        self._folder = folder
-
-    def start(self, words: Sequence[str], seed: int, errors: Any) -> Started:
-        listener = socket.create_server((HOST, 0))
-        command = [
-            word.replace("{port}", str(listener.getsockname()[1])) for word in words
-        ]
-        try:
-            return (
-                subprocess.Popen(
-                    command,
-                    stdin=subprocess.DEVNULL,
-                    stdout=subprocess.DEVNULL,
-                    stderr=errors,
-                    cwd=self._folder,
-                    env={**os.environ, **seeds(seed)},
-                    start_new_session=True,
-                ),
-                lambda: listener,
-            )
-        except OSError:
-            listener.close()
-            raise
-
-    def kill(self, child: "subprocess.Popen[bytes]") -> None:
-        self.hurry(child)
-        child.wait()
-
-    def hurry(self, child: "subprocess.Popen[bytes]") -> None:
-        try:
-            os.killpg(child.pid, signal.SIGKILL)
-        except ProcessLookupError:
-            pass
-
-    def told(self, text: str) -> str:
-        return text
-
-    def hint(self, words: str) -> str:
-        return ""
-
-    def fault(self) -> str:
-        return ""
-
-
-class Nowhere(LocalRunner):
-    """No program can run; says why."""
-
-    def __init__(self, why: str) -> None:
-        super().__init__()
-        self._why = why
-
-    def start(self, words: Sequence[str], seed: int, errors: Any) -> Started:
-        raise NoStart(self._why)
-
-
-class Lines:
-    """The lines that a program sends, which are read as they come: so what it has sent
-    before it ended is not lost."""
-
-    def __init__(self, connection: socket.socket) -> None:
-        self._connection = connection
-        self._changed = threading.Condition()
-        self._lines: Deque[bytes] = deque()
-        # how many lines have come, and how many bytes of them are kept
-        self.count = self._kept = 0
-        self._is_over = False
-        # what stands behind the last line feed
-        self.rest = b""
-        threading.Thread(target=self._read, daemon=True).start()
-
-    def next(self, seconds: float) -> Optional[bytes]:
-        """The next line, or None at the end. If there is neither within this time,
-        TimeoutError."""
-        with self._changed:
-            if not self._changed.wait_for(
-                lambda: self._lines or self._is_over, seconds
-            ):
-                raise TimeoutError
-            if not self._lines:
-                return None
-            self._kept -= len(self._lines[0])
-            self._changed.notify()
-            return self._lines.popleft()
-
-    def is_over(self) -> bool:
-        """Whether the program has closed its connection."""
-        with self._changed:
-            return self._is_over
-
-    def latest(self) -> bytes:
-        """The line that came last of those that are kept."""
-        with self._changed:
-            return self._lines[-1] if self._lines else b""
-
-    def close(self) -> None:
-        """Reads no more."""
-        with self._changed:
-            self._is_over = True
-            self._changed.notify()
-        try:
-            self._connection.shutdown(socket.SHUT_RDWR)
-        except OSError:
-            pass
-
-    def _read(self) -> None:
-        """Reads to the end. Of a line that is too long no more is kept than shows that
-        it is."""
-        left = b""
-        while piece := self._piece():
-            *whole, left = (left + piece).split(b"\n")
-            self.rest = left = left[: MOST_LINE + 1]
-            self._keep(
-                [line[: MOST_LINE + 1] for line in whole if line.strip(b" \t\r")]
-            )
-        with self._changed:
-            self._is_over = True
-            self._changed.notify()
-
-    def _piece(self) -> bytes:
-        try:
-            return self._connection.recv(PIECE)
-        except OSError:
-            # the program has reset its connection
-            return b""
-
-    def _keep(self, lines: List[bytes]) -> None:
-        with self._changed:
-            self._lines.extend(lines)
-            self.count += len(lines)
-            self._kept += sum(map(len, lines))
-            self._changed.notify()
-            self._changed.wait_for(lambda: self._kept < AHEAD or self._is_over)
 
 
 class Player:
@@ -523,12 +326,6 @@ def as_in_a_shell(status: Optional[int]) -> Optional[int]:
 def seeds_of(fixture: Fixture) -> List[int]:
     """The numbers of a match's agents."""
     return list(map(seed_of, fixture.keys))
-
-
-def seeds(seed: int) -> Dict[str, str]:
-    """The variables that tell a program its seed. With them Python goes through sets of
-    texts in the same order on each run."""
-    return {"ARENA_SEED": str(seed), "PYTHONHASHSEED": str(seed)}
 
 
 def command_of(

@@ -39,7 +39,7 @@ from typing import (
     Tuple,
 )
 
-from arena_lab.play.programs import NoStart, Started
+from arena_lab.play.grounds import NoStart, Started
 from arena_lab.play.wasm_modules import is_module
 from arena_lab.sandbox import (
     calls,
