@@ -46,7 +46,8 @@ import sys
 
 from arena_lab.commands.words import add_engine, add_forget, add_workers, program_of
 from arena_lab.course import course, export, points
-from arena_lab.course.grading import GradingRun, graded_in, hand_ins
+from arena_lab.course.graded_matches import GradingRun
+from arena_lab.course.grading import graded_in, hand_ins
 from arena_lab.course.repeating import repeat_graded
 from arena_lab.sandbox import sandboxes
 from arena_lab.sandbox.sandboxes import Isolation, SandboxOptions

@@ -51,7 +51,7 @@ from typing import Any, Dict, Iterator, List
 from unittest import mock
 
 from arena_lab.__main__ import main
-from arena_lab.course.grading import GradingRun
+from arena_lab.course.graded_matches import GradingRun
 from arena_lab.play import schedulers
 from arena_lab.play.matches import PlayedMatch
 from arena_lab.rules.engines import TOP

@@ -13,7 +13,7 @@ from unittest import mock
 
 from arena_lab.course import rounds
 from arena_lab.course.course import course_of
-from arena_lab.course.grading import GradingRun
+from arena_lab.course.graded_matches import GradingRun
 from arena_lab.course.hand_in import HandIn
 from arena_lab.sandbox import calls, sandboxes, groups, watch
 from arena_lab.sandbox.sandboxes import ProgramFiles, Isolation, SandboxOptions

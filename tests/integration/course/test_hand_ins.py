@@ -10,7 +10,7 @@ from unittest import mock
 
 from arena_lab.__main__ import main
 from arena_lab.course import intake, league
-from arena_lab.course.grading import GradingRun
+from arena_lab.course.graded_matches import GradingRun
 from arena_lab.course.hand_in import HandIn
 from arena_lab.play import schedules
 from tests.integration.course.test_attacks import EVIL, Course
