@@ -165,8 +165,8 @@ def compared(
 
 
 def line_of(title: str, runs: List[List[Run]]) -> str:
-    """What is printed of an input, by the runs of both programs. bench/figures.py reads
-    it."""
+    """What is printed of an input, by the runs of both programs.
+    bench/figure_texts.py reads it."""
     times = compared(statistics.median, [[it.seconds for it in both] for both in runs])
     processors = compared(min, [[it.processor for it in both] for both in runs])
     one, two = (statistics.median(it.peak for it in each) for each in zip(*runs))

@@ -66,7 +66,7 @@ def script(length: int, matches: int = MATCHES) -> Tuple[str, int]:
 
 
 def line_of(lines: int, size: int, seconds: float, peak: int) -> str:
-    """What is printed of a script. bench/figures.py reads it."""
+    """What is printed of a script. bench/figure_texts.py reads it."""
     return f"{lines} lines, {size} bytes: {seconds:.3f} s, {lines / seconds:.0f} lines per second, peak {peak} KiB"
 
 

@@ -257,7 +257,7 @@ def is_judged(
 
 def figure_line(word: str, seconds: float, count: int, peak: int) -> str:
     """What is printed of a command on a replay with this number of events.
-    bench/figures.py reads it."""
+    bench/figure_texts.py reads it."""
     return f"  {word}: {seconds:.3f} s, {seconds / count * 1e6:.2f} us an event, peak {peak} KiB"
 
 

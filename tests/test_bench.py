@@ -7,7 +7,9 @@ import unittest
 
 from tests import needs
 from tests.support.output import InTemporary
+from bench import benchmarks
 from bench import compare
+from bench import figure_texts
 from bench import figures
 from arena_lab.rules.limits import MOST_TEXT
 from bench import inputs
@@ -83,13 +85,13 @@ class Figures(unittest.TestCase):
         for name, section in found.items():
             with self.subTest(name):
                 self.assertEqual(len(figures.MEASURED.findall(section)), 1)
-                self.assertIn(f"\n## {figures.BENCHMARKS[name].title}\n", section)
+                self.assertIn(f"\n## {benchmarks.BENCHMARKS[name].title}\n", section)
 
     def test_a_section_of_a_long_machine_is_wrapped_and_read_again(self) -> None:
         name = "waits"
         place = "`abc1234` with changes, 2026-01-02"
         machine = f"4 processors, {'fast ' * 20}ones"
-        setting = figures.Setting(figures.TOP, None, figures.TOP, place, machine)
+        setting = benchmarks.Setting(figures.TOP, None, figures.TOP, place, machine)
         page = figures.page({name: figures.section(name, "| a |\n", setting)})
         self.assertEqual(figures.page(figures.sections_of(page)), page)
         self.assertIn(
@@ -107,14 +109,15 @@ class Figures(unittest.TestCase):
             "the slowest of 4430 commands 52 ms, 99 of 100 at most 16.9 ms\n"
         )
         self.assertIn(
-            "| 500 | 50 of 50 | 176 | 4430 | 52 | 16.9 |\n", figures.flood_text(flood)
+            "| 500 | 50 of 50 | 176 | 4430 | 52 | 16.9 |\n",
+            figure_texts.flood_text(flood),
         )
         self.assertIn(
             "| 16,383 looks | 9.4 | 1.5 |\n",
-            figures.looks_text("16,383 looks: 9.4 MB, 1.5 s\n"),
+            figure_texts.looks_text("16,383 looks: 9.4 MB, 1.5 s\n"),
         )
         with self.assertRaisesRegex(ValueError, "no line reads"):
-            figures.looks_text("nothing\n")
+            figure_texts.looks_text("nothing\n")
 
 
 class Words(unittest.TestCase):
