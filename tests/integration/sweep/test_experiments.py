@@ -11,7 +11,7 @@ from arena_lab.search.ring_bounds import most_moves
 from arena_lab.sweep import grid, report, sweeping, tables
 from arena_lab.sweep.sweeping import SweepJob
 from bench import explore
-from experiments import growth, make
+from experiments import growth, make, table_rows
 from experiments.division import Table, bound, of_ring3
 from tests.support.matches import InFolder, program
 
@@ -58,11 +58,13 @@ def rows_by_network(name: str) -> Dict[str, List[str]]:
 class Experiments(InFolder):
     def setUp(self) -> None:
         super().setUp()
-        self.asked = make.Asked(self.folder, ["--engine", "model"])
+        self.asked = table_rows.Asked(self.folder, ["--engine", "model"])
 
     def test_small_parts_of_the_sweeps(self) -> None:
         for name, (file, names) in SMALL.items():
-            spec = grid.read(make.EXPERIMENTS / f"{file}.toml")._replace(names=names)
+            spec = grid.read(table_rows.EXPERIMENTS / f"{file}.toml")._replace(
+                names=names
+            )
             work = SweepJob("", None)
             rows = [
                 sweeping.row_for(case, *sweeping.played_case(work, spec, case), None)
@@ -73,14 +75,14 @@ class Experiments(InFolder):
             )
             given = rows_by_network(name)
             hunted = hunted_in(given) if name == "rings" else {}
-            for row in make.rows_of(groups, hunted)[1:]:
+            for row in table_rows.rows_of(groups, hunted)[1:]:
                 with self.subTest(name, network=row[0]):
                     self.assertEqual(given[row[0]], list(row))
 
     def test_each_mean_is_of_all_black_holes(self) -> None:
         """Otherwise its interval says nothing of them."""
         for name in SWEEPS:
-            spec = grid.read(make.EXPERIMENTS / f"{name.replace('-', '_')}.toml")
+            spec = grid.read(table_rows.EXPERIMENTS / f"{name.replace('-', '_')}.toml")
             most = max(network.nodes for network in spec.networks.values()) - 1
             self.assertTrue(
                 spec.holes == grid.DRAWN or spec.seeds >= most,
@@ -93,21 +95,21 @@ class Experiments(InFolder):
                 )
 
     def test_small_hunts(self) -> None:
-        for hunt in make.hunts(FEW):
+        for hunt in table_rows.hunts(FEW):
             if hunt.network in SMALL_HUNTED:
                 with self.subTest(hunt.network):
                     self.assertEqual(
                         rows_by_network("rings")[hunt.network][HUNTED],
-                        str(make.hunted_most(hunt, self.asked)),
+                        str(table_rows.hunted_most(hunt, self.asked)),
                     )
 
     def test_small_networks_that_were_explored(self) -> None:
         found = {tuple(row[:2]): row for row in table("explored")}
-        self.assertEqual(len(found), len(make.EXPLORED))
-        for exploration in make.EXPLORED:
+        self.assertEqual(len(found), len(table_rows.EXPLORED))
+        for exploration in table_rows.EXPLORED:
             if exploration.network in SMALL_EXPLORED:
                 asked = self.asked._replace(engine=["--program", program()])
-                row = list(make.explored_row(exploration, asked))
+                row = list(table_rows.explored_row(exploration, asked))
                 with self.subTest(row[0], agents=row[1]):
                     self.assertEqual(found[tuple(row[:2])][2:-1], row[2:-1])
 
@@ -115,16 +117,20 @@ class Experiments(InFolder):
         rows = table("modules")
         self.assertEqual(
             [(row[0], int(row[3])) for row in rows],
-            [(f"ring:{nodes}", most_moves(nodes)) for nodes in make.RINGS_OF_MODULE],
+            [
+                (f"ring:{nodes}", most_moves(nodes))
+                for nodes in table_rows.RINGS_OF_MODULE
+            ],
         )
-        module = (TOP / make.AGENTS / make.MODULE).read_bytes()
+        module = (TOP / table_rows.AGENTS / table_rows.MODULE).read_bytes()
         self.assertIn(
             hashlib.sha256(module).hexdigest()[:12],
             DOCUMENT.read_text(encoding="utf-8"),
         )
         with mock.patch.object(explore, "PROGRAM", program()):
             self.assertEqual(
-                list(make.module_row(make.RINGS_OF_MODULE[0]))[:5], rows[0][:5]
+                list(table_rows.module_row(table_rows.RINGS_OF_MODULE[0]))[:5],
+                rows[0][:5],
             )
 
     def test_the_count_agrees_with_what_was_explored_hunted_and_drawn(self) -> None:
@@ -134,7 +140,7 @@ class Experiments(InFolder):
             if "`ring_step.py`" in row[1]
         }
         self.assertEqual(
-            explored, {nodes: most_moves(nodes) for nodes in make.RINGS_EXPLORED}
+            explored, {nodes: most_moves(nodes) for nodes in table_rows.RINGS_EXPLORED}
         )
         for row in table("rings"):
             nodes = int(row[0].partition(":")[2])
@@ -148,7 +154,7 @@ class Experiments(InFolder):
     def test_the_search_by_thirds_stays_within_its_count(self) -> None:
         rows = table("thirds")
         self.assertEqual(
-            [row[0] for row in rows], [f"ring:{nodes}" for nodes in make.SIZES]
+            [row[0] for row in rows], [f"ring:{nodes}" for nodes in table_rows.SIZES]
         )
         for row in rows:
             nodes = int(row[0].partition(":")[2])
@@ -165,8 +171,8 @@ class Experiments(InFolder):
                 )
 
     def test_teams_with_one_agent_too_few(self) -> None:
-        for hunt in make.TOO_FEW[:2]:
-            row = list(make.too_few_row(hunt, self.asked))
+        for hunt in table_rows.TOO_FEW[:2]:
+            row = list(table_rows.too_few_row(hunt, self.asked))
             with self.subTest(row[0]):
                 self.assertIn(row, table("too-few"))
 
@@ -207,8 +213,10 @@ class Experiments(InFolder):
     def test_a_table_says_which_program_played(self) -> None:
         said = io.StringIO()
         with mock.patch.dict(
-            make.TABLES,
-            one=lambda asked: make.Made([("network",), ("ring:3",)], ["a command"]),
+            table_rows.TABLES,
+            one=lambda asked: table_rows.Made(
+                [("network",), ("ring:3",)], ["a command"]
+            ),
         ), mock.patch(
             "sys.argv", ["make", "one", "--program", program()]
         ), contextlib.redirect_stdout(
