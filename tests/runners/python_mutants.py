@@ -42,7 +42,7 @@ class Mutant(NamedTuple):
 
 MODEL = "tests.lab.rules.test_model"
 MATCHES = "tests.lab.play.test_schedulers"
-GRADE = "tests.lab.course.test_grade"
+LEAGUE = "tests.lab.course.test_league"
 SWEEP = "tests.lab.sweep.test_sweep"
 MUTANTS = (
     Mutant(
@@ -123,25 +123,25 @@ MUTANTS = (
         "arena_lab/course/league.py",
         "return -self.solved, self.moves, self.lost",
         "return -self.solved, self.lost, " "self.moves",
-        GRADE,
+        LEAGUE,
     ),
     Mutant(
         "arena_lab/course/league.py",
         "return -self.solved, self.moves, self.lost",
         "return -self.solved, self.moves",
-        GRADE,
+        LEAGUE,
     ),
     Mutant(
         "arena_lab/course/league.py",
         'sum(int(row["lost"]) for row in solved)',
         'sum(int(row["lost"]) for row in own)',
-        GRADE,
+        LEAGUE,
     ),
     Mutant(
         "arena_lab/course/league.py",
         "place=1 + ranks.index(standing.rank())",
         "place=ranks.index(standing.rank())",
-        GRADE,
+        LEAGUE,
     ),
     Mutant("arena_lab/sweep/statistic.py", "/ math.sqrt(count)", "/ count", SWEEP),
     Mutant(

@@ -5,7 +5,7 @@ from arena_lab.course.league import Failure
 from arena_lab.pages import contest_pages, page, parts
 from arena_lab.rules.model import Verdict
 from arena_lab.sweep import report
-from tests.lab.course.test_grade import TEAM, Folder, row
+from tests.support.course_files import TEAM, Folder, row
 
 HOSTILE = "</script></td><b>\" onload='x' & {{ 7 * 7 }}{% raise %}\u202e"
 TAMED = "&lt;/script&gt;&lt;/td&gt;&lt;b&gt;&#34; onload=&#39;x&#39; &amp; {{ 7 * 7 }}{% raise %}"

@@ -14,7 +14,7 @@ from arena_lab.course.course import course_of
 from arena_lab.course.export import Export, Marks, Student, export_of, students_in
 from arena_lab.course.points import Points, marks, text
 from arena_lab.support.fields import WrongFile
-from tests.lab.course.test_grade import HEAD, SECRET, TEAM, Folder, row
+from tests.support.course_files import HEAD, SECRET, TEAM, Folder, row
 
 HOSTILE = "=cmd|' /C calc'!A0\x1b[2J\x00<b>\"&]]>\ufffe\ud800é"
 # the specification of Gradescope's results.json (gradescope-autograders.readthedocs.io,
