@@ -5,9 +5,17 @@ import unittest
 import unittest.mock
 
 from tests import needs
-from tests.hostile import commands, refusals
+from tests.hostile import (
+    commands,
+    refusals,
+    refused_calls,
+    refused_servers,
+    refused_tests,
+)
 from tests.hostile.commands import COMMANDS, Lab, Run
+from tests.support.counts import Wrong
 from tests.support.output import InTemporary, ran
+from tests.support.session_lines import HERE
 
 # asks for memory five times, reads a line and writes it, and says which request was
 # refused
@@ -149,7 +157,7 @@ class ShimTest(InTemporary):
     def setUp(self):
         super().setUp()
         self.program = built(self.folder, "calls", CALLS)
-        self.shim = refusals.Shim.built(self.folder)
+        self.shim = refused_calls.Shim.built(self.folder)
 
     def run_with(self, mode="", place=0, words=()):
         """The status, what is printed, and the numbers of calls."""
@@ -198,7 +206,9 @@ class CommandTest(InTemporary):
         """What a command of the program that is built with these options does
         otherwise."""
         lab = Lab(built(self.folder, "prints", PRINTS, *options), self.folder)
-        trials = refusals.Trials(lab, refusals.Shim.built(self.folder), 0, 0, 2)
+        trials = refused_calls.Trials(
+            lab, refused_calls.Shim.built(self.folder), 0, 0, 2
+        )
         said = ran(refusals.refuse_command, trials, COMMANDS[0]).said
         self.said = said
         return lab.faults
@@ -245,7 +255,7 @@ class CommandTest(InTemporary):
 
 @needs("gcc", "gcc")
 class TestsTest(InTemporary):
-    LINKED = ("-Wl,--wrap=malloc,--wrap=realloc", str(refusals.SHIM))
+    LINKED = ("-Wl,--wrap=malloc,--wrap=realloc", str(refused_calls.SHIM))
     PLAY = "memory::playing::playing_takes_no_memory"
 
     def faults_of(self, *options):
@@ -257,7 +267,9 @@ class TestsTest(InTemporary):
             place, "tests", TESTS, f'-DKEPT="{self.kept}"', *self.LINKED, *options
         )
         said = ran(
-            refusals.refuse_tests, refusals.Trials(lab, refusals.Shim(), 0, 0, 2), tests
+            refused_tests.refuse_tests,
+            refused_calls.Trials(lab, refused_calls.Shim(), 0, 0, 2),
+            tests,
         ).said
         self.said = said
         return lab.faults
@@ -298,12 +310,14 @@ class TestsTest(InTemporary):
     def test_the_play_must_be_there(self):
         tests = built(self.folder, "tests", "int main(void) { return 0; }")
         lab = Lab(tests, self.folder)
-        refusals.refuse_tests(refusals.Trials(lab, refusals.Shim(), 0, 0, 2), tests)
+        refused_tests.refuse_tests(
+            refused_calls.Trials(lab, refused_calls.Shim(), 0, 0, 2), tests
+        )
         self.assertEqual(lab.faults, [f"{tests} lacks {self.PLAY}"])
 
 
 class OutcomeTest(unittest.TestCase):
-    WHOLE = refusals.Attempt(
+    WHOLE = refused_calls.Attempt(
         Run(0, b"two lines\nand one\n", ""),
         {"kept0.jsonl": b"head\nend\n"},
         {"refused": 0},
@@ -311,7 +325,7 @@ class OutcomeTest(unittest.TestCase):
     MAY_NAME = {"cup.toml", "output", "kept0.jsonl"}
 
     def outcome(self, mode, *found, whole=WHOLE, replays=None, refused=1):
-        attempt = refusals.Attempt(
+        attempt = refused_calls.Attempt(
             Run(*found),
             whole.replays if replays is None else replays,
             {"refused": refused},
@@ -351,7 +365,7 @@ class OutcomeTest(unittest.TestCase):
             ("write", 0, b"two", ""),
             ("read", 3, b"two", ""),
         ):
-            with self.assertRaises(refusals.Wrong):
+            with self.assertRaises(Wrong):
                 self.outcome(mode, *found, whole=refused)
 
     def test_what_must_not_come(self):
@@ -368,13 +382,11 @@ class OutcomeTest(unittest.TestCase):
             ("write", 0, b"two lines\n", ""),
             ("write", 6, b"two", "kept0.jsonl: write\n"),
         ):
-            with self.subTest(mode=mode, found=found), self.assertRaises(
-                refusals.Wrong
-            ):
+            with self.subTest(mode=mode, found=found), self.assertRaises(Wrong):
                 self.outcome(mode, *found)
-        with self.assertRaises(refusals.Wrong):
+        with self.assertRaises(Wrong):
             self.outcome("memory", 0, printed, "", refused=0)
-        with self.assertRaises(refusals.Wrong):
+        with self.assertRaises(Wrong):
             self.outcome(
                 "memory",
                 5,
@@ -382,13 +394,13 @@ class OutcomeTest(unittest.TestCase):
                 "kept0.jsonl: memory\n",
                 replays={"kept0.jsonl": b"end\n"},
             )
-        with self.assertRaises(refusals.Wrong):
+        with self.assertRaises(Wrong):
             self.outcome("memory", 0, printed, "", replays={})
 
     def test_places_are_spread(self):
-        self.assertEqual(list(refusals.places(5, 0)), [1, 2, 3, 4, 5])
-        self.assertEqual(list(refusals.places(5, 3)), [1, 3, 5])
-        self.assertEqual(list(refusals.places(1000, 4)), [1, 334, 667, 1000])
+        self.assertEqual(list(refused_calls.places(5, 0)), [1, 2, 3, 4, 5])
+        self.assertEqual(list(refused_calls.places(5, 3)), [1, 3, 5])
+        self.assertEqual(list(refused_calls.places(1000, 4)), [1, 334, 667, 1000])
 
 
 class ServedTest(unittest.TestCase):
@@ -408,12 +420,12 @@ class ServedTest(unittest.TestCase):
         self,
         mode,
         run=None,
-        heard=(refusals.HERE + refusals.HERE, KEY),
+        heard=(HERE + HERE, KEY),
         replay=REPLAY,
         seconds=1.0,
     ):
         """What came of a contest whose replay is accepted if it has its end line."""
-        contest = refusals.Contest(
+        contest = refused_servers.Contest(
             run or Run(0, b"listening N\n" + self.TABLE, ""),
             list(heard),
             {"kept0.jsonl": replay} if replay else {},
@@ -421,16 +433,16 @@ class ServedTest(unittest.TestCase):
             seconds,
         )
         with unittest.mock.patch.object(
-            refusals,
+            refused_servers,
             "judged",
             lambda lab, text, *words: self.TABLE if b'{"end":' in text else None,
         ):
-            return refusals.served_outcome(mode, contest, None)
+            return refused_servers.served_outcome(mode, contest, None)
 
     def test_what_may_come(self):
         self.assertEqual(self.outcome("short-read"), "as ever")
         self.assertEqual(
-            self.outcome("memory", heard=[refusals.HERE + b'{"bo', self.KEY]),
+            self.outcome("memory", heard=[HERE + b'{"bo', self.KEY]),
             "a session cut",
         )
         self.assertEqual(
@@ -449,9 +461,9 @@ class ServedTest(unittest.TestCase):
     def test_what_must_not_come(self):
         short = Run(0, b"listening N\n", "")
         for mode, given in (
-            ("memory", {"seconds": refusals.SOON + 1.0}),
+            ("memory", {"seconds": refused_servers.SOON + 1.0}),
             ("memory", {"heard": [b"", b""]}),
-            ("short-read", {"heard": [refusals.HERE, self.KEY]}),
+            ("short-read", {"heard": [HERE, self.KEY]}),
             ("memory", {"heard": [b'{"ok":"gone"}\n', self.KEY]}),
             ("write", {"run": short}),
             ("memory", {"replay": b""}),
@@ -470,7 +482,5 @@ class ServedTest(unittest.TestCase):
             ),
             ("memory", {"run": Run(-6, b"listening N\n", "")}),
         ):
-            with self.subTest(mode=mode, given=given), self.assertRaises(
-                refusals.Wrong
-            ):
+            with self.subTest(mode=mode, given=given), self.assertRaises(Wrong):
                 self.outcome(mode, **given)
