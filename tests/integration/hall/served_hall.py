@@ -1,0 +1,23 @@
+"""A hall that is served while the tests of a file run."""
+import unittest
+from typing import Dict, List
+
+from tests.support import halls
+from tests.support.halls import Served
+
+HALL: List[Served] = []
+
+
+def setUpModule() -> None:
+    HALL.append(unittest.enterModuleContext(halls.served()))
+
+
+class Halls(halls.Playing):
+    """Tests of one hall, which is served meanwhile."""
+
+    hall: Served
+    tokens: Dict[str, str]
+
+    def setUp(self) -> None:
+        self.hall = HALL[-1]
+        self.tokens = HALL[-1].tokens()
