@@ -13,7 +13,7 @@ from arena_lab.course import intake, league
 from arena_lab.course.graded_matches import GradingRun
 from arena_lab.course.hand_in import HandIn
 from arena_lab.play import schedules
-from tests.integration.course.test_attacks import EVIL, Course
+from tests.integration.course.attacked_course import EVIL, Course
 from tests.support.courses import HEAD, HONEST, rows_of_teams, team
 from tests.support.matches import AGENTS
 from tests.support.output import ran
