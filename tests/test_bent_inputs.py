@@ -8,6 +8,18 @@ from unittest import mock
 from arena_lab.rules.limits import MOST_LINE
 from arena_lab.rules.model import played
 from tests.hostile import bent_inputs
+from tests.hostile.bends import (
+    REPLAY_BENDS,
+    SCRIPT_BENDS,
+    drop,
+    in_hexadecimal,
+    long_line,
+    on_lines,
+    other_reply,
+    replaced,
+    zero_in_front,
+)
+from tests.hostile.drawn_inputs import drawn_replay, drawn_script
 from tests.support.drawing import by_chance
 from tests.support.output import InTemporary, write
 
@@ -24,15 +36,15 @@ esac
 class Bends(unittest.TestCase):
     @by_chance(50)
     def test_drawn_replays_are_replays(self, chance: random.Random) -> None:
-        text = bent_inputs.drawn_replay(chance).decode()
+        text = drawn_replay(chance).decode()
         self.assertEqual(played(text).replay(), text)
 
     def test_each_bend_changes_most_texts(self) -> None:
-        replay = bent_inputs.drawn_replay(random.Random(8))
-        drawn = bent_inputs.drawn_script(random.Random(8))
+        replay = drawn_replay(random.Random(8))
+        drawn = drawn_script(random.Random(8))
         for bends, long in (
-            (bent_inputs.REPLAY_BENDS, replay),
-            (bent_inputs.SCRIPT_BENDS, drawn.script),
+            (REPLAY_BENDS, replay),
+            (SCRIPT_BENDS, drawn.script),
         ):
             for bend in bends:
                 found = [bend(long, random.Random(seed)) != long for seed in range(40)]
@@ -40,26 +52,21 @@ class Bends(unittest.TestCase):
 
     def test_bends_by_hand(self) -> None:
         chance = random.Random(0)
-        self.assertIn(bent_inputs.zero_in_front(b'{"end":2}', chance), (b'{"end":02}',))
-        self.assertEqual(
-            bent_inputs.replaced(b"none", rb"\d", chance, lambda _: b"x"), b"none"
-        )
+        self.assertIn(zero_in_front(b'{"end":2}', chance), (b'{"end":02}',))
+        self.assertEqual(replaced(b"none", rb"\d", chance, lambda _: b"x"), b"none")
         lines = REPLAY.split(b"\n")
-        bent_inputs.drop(lines, 1, chance)
+        drop(lines, 1, chance)
         self.assertEqual(lines[1], b'{"do":"close","reply":null}')
-        with mock.patch.object(bent_inputs, "REPLIES", (b"null",)):
+        with mock.patch("tests.hostile.bends.REPLIES", (b"null",)):
             found = collections.Counter(
-                bent_inputs.on_lines(bent_inputs.other_reply)(
-                    REPLAY, random.Random(seed)
-                )
-                for seed in range(60)
+                on_lines(other_reply)(REPLAY, random.Random(seed)) for seed in range(60)
             )
         self.assertIn(REPLAY.replace(b'{"no":"away"}', b"null"), found)
 
     def test_scripts_by_hand(self) -> None:
         lines = [b'1 {"do":"look"}', b"# none"]
         for at in (1, 0):
-            bent_inputs.in_hexadecimal(lines, at, random.Random(0))
+            in_hexadecimal(lines, at, random.Random(0))
         self.assertEqual(
             [line[:6] for line in lines], [b"hex 1 ", b"hex 1 ", b"# none"]
         )
@@ -70,7 +77,7 @@ class Bends(unittest.TestCase):
         sizes = set()
         for seed in range(20):
             lines = []
-            bent_inputs.long_line(lines, 0, random.Random(seed))
+            long_line(lines, 0, random.Random(seed))
             sizes.add(len(lines[0]) - len(b"0 ") - MOST_LINE)
         self.assertEqual(sizes, {-1, 0, 1})
 

@@ -16,7 +16,8 @@ from hypothesis.stateful import (
 
 from arena_lab.rules.engines import Program
 from arena_lab.rules.model import judge, played, spelled
-from tests.hostile import bent_inputs
+from tests.hostile.bends import REPLAY_BENDS, Bend
+from tests.hostile.drawn_inputs import drawn_replay
 from tests.integration.compare import (
     GARBAGE,
     TEXTS,
@@ -93,9 +94,9 @@ class Lines(RuleBasedStateMachine):
                 self.engine.stop()
 
 
-def bends() -> "strategies.SearchStrategy[List[bent_inputs.Bend]]":
+def bends() -> "strategies.SearchStrategy[List[Bend]]":
     """One to three places in which a replay is bent."""
-    one = strategies.sampled_from(bent_inputs.REPLAY_BENDS)
+    one = strategies.sampled_from(REPLAY_BENDS)
     return strategies.lists(one, min_size=1, max_size=3)
 
 
@@ -113,9 +114,9 @@ class Engines(InTemporary):
 
     @by_chance(60, bent=bends)
     def test_a_bent_replay_is_refused_or_is_one_that_the_model_plays(
-        self, chance: random.Random, bent: List[bent_inputs.Bend]
+        self, chance: random.Random, bent: List[Bend]
     ) -> None:
-        text = bent_inputs.drawn_replay(chance)
+        text = drawn_replay(chance)
         for bend in bent:
             text = bend(text, chance)
         status, said = self.judged(text)
