@@ -8,25 +8,31 @@ those whose titles have it. A line for each says how it went, and the last line 
 passed, M failed`. It takes about a minute.
 """
 import contextlib
-import fcntl
 import json
 import os
 import pathlib
-import pty
 import resource
 import signal
 import socket
 import subprocess
 import sys
-import termios
 import threading
 import time
-from typing import Callable, Iterator, List, Sequence, Tuple
+from typing import Callable, List, Tuple
 
-from arena_lab.rules.networks import ring
-from tests.support.cases import Cases
+from tests.hostile.operator_lines import CASES, case
+from tests.hostile.two_teams import (
+    TEAMS,
+    WAITING,
+    answer,
+    entered,
+    goes_on,
+    looks,
+    serving,
+    tournament,
+)
 from tests.support.counts import Wrong, require, wants
-from tests.support.servers import HOST, PATIENCE, Server, enter, serve
+from tests.support.servers import PATIENCE, Server, enter, serve
 from tests.support.session_lines import (
     HERE,
     LOOK,
@@ -35,13 +41,9 @@ from tests.support.session_lines import (
     NO_MEMORY,
     NO_SPENT,
     NO_TWICE,
-    OVER,
 )
-from tests.support.tournaments import match, write_cup
 
-# how many clients may wait beside each other to be let in, and within how many seconds
-# their first line is to come
-WAITING = 256
+# seconds within which the first line of a client is to come
 FIRST_LINE = 10.0
 # a client keeps its place for at least these seconds; how often the case is tried if
 # the machine is too busy for them
@@ -49,57 +51,6 @@ ROOM_AFTER = 0.5
 TRIES = 10
 REFUSED = 6
 NO_THREADS = 7
-TEAMS = ("red", "blue")
-
-
-def tournament(folder: pathlib.Path, quota: int = 1000) -> None:
-    """A tournament of two teams, each with two agents on a ring of eight nodes."""
-    write_cup(folder, [match(team, ring(8), [4], quota=quota) for team in TEAMS])
-
-
-CASES = Cases()
-case = CASES.case
-
-
-def serving(
-    program: str, folder: pathlib.Path, *options: str, **more: object
-) -> Server:
-    """A server of the tournament."""
-    tournament(folder)
-    return serve(program, folder, *options, **more)
-
-
-def goes_on(server: Server, what: str) -> None:
-    """An agent is still answered, and the server has not ended."""
-    entered(server, "blue-1", f"an agent after {what}").close()
-    wants(f"the server after {what}", server.child.poll(), None)
-
-
-def entered(
-    server: Server, key: str, what: str = "an agent", source: str = HOST
-) -> socket.socket:
-    """An agent that has entered by this key and was answered."""
-    client = server.connect(enter(key), source)
-    wants(what, answer(client, len(HERE)), HERE)
-    return client
-
-
-def looks(client: socket.socket, what: str = "an agent") -> None:
-    """An agent looks at an empty whiteboard of the home base, and is answered."""
-    client.sendall(LOOK)
-    wants(what, answer(client, len(HERE)), HERE)
-
-
-def answer(client: socket.socket, count: int) -> bytes:
-    """This many bytes of what a client is answered, or fewer at the end."""
-    heard = b""
-    with contextlib.suppress(OSError):
-        while len(heard) < count:
-            piece = client.recv(count - len(heard))
-            if not piece:
-                break
-            heard += piece
-    return heard
 
 
 # Strangers.
@@ -331,219 +282,6 @@ def two_servers(program: str, folder: pathlib.Path) -> None:
             if path.suffix != ".part"
         )
         wants("the files", after, before)
-
-
-# The operator.
-
-# turns that take longer than any case
-LONG = 1_000_000
-# how the teams are ranked if blue has accused a wrong link and red nobody
-RANKED = (
-    "  1 red              silent          0    0\n",
-    "  2 blue             wrong           0    0\n",
-)
-
-
-def closed_in(folder: pathlib.Path) -> List[str]:
-    return sorted(path.name for path in folder.glob("match*.jsonl"))
-
-
-@case(
-    "the operator closes all matches: the replays are written, the table is printed, and the server ends"
-)
-def operator_closes(program: str, folder: pathlib.Path) -> None:
-    with serving(program, folder, turns=LONG, stdin=subprocess.PIPE) as server, entered(
-        server, "red-0"
-    ):
-        server.says(b"clo")
-        time.sleep(0.3)
-        server.says(b"se\n")
-        status, printed, told = server.ended().texts()
-    wants("the status", status, 0)
-    wants(
-        "the teams of the table",
-        sorted(line.split()[1] for line in printed.splitlines()[1:]),
-        sorted(TEAMS),
-    )
-    wants("the replays", closed_in(folder), ["match0.jsonl", "match1.jsonl"])
-    require("serve: the operator closes all matches\n" in told, f"told was {told!r}")
-
-
-def closes_one(program: str, folder: pathlib.Path, game: int) -> None:
-    closed = TEAMS[game]
-    other = TEAMS[1 - game]
-    with serving(
-        program, folder, "--log", turns=LONG, stdin=subprocess.PIPE
-    ) as server, entered(server, f"{closed}-0") as ends, entered(
-        server, f"{other}-0"
-    ) as stays:
-        server.says(b"close %d\n" % game)
-        server.tells(f"serve: match {game} ({closed}) closed: ")
-        for client, heard in ((ends, OVER), (stays, HERE)):
-            client.sendall(LOOK)
-            wants("an agent after the close", answer(client, len(heard)), heard)
-        server.says(b"close %d\n" % (1 - game))
-        status, printed, told = server.ended().texts()
-    wants(
-        "the status and the lines of the table",
-        (status, len(printed.splitlines())),
-        (0, 3),
-    )
-    require(f"serve: match {1 - game} ({other}) closed: " in told, f"told was {told!r}")
-
-
-@case("the operator closes one match, and the other goes on")
-def operator_closes_one(program: str, folder: pathlib.Path) -> None:
-    for game in (0, 1):
-        closes_one(program, folder, game)
-
-
-@case("the operator closes matches that still wait for their agents or pause")
-def operator_closes_early(program: str, folder: pathlib.Path) -> None:
-    for options, pause in ((["--gather", "1000000"], 5), ([], 1_000_000)):
-        with serving(
-            program, folder, *options, turns=LONG, pause=pause, stdin=subprocess.PIPE
-        ) as server:
-            server.says(b"close\n")
-            status, printed, _ = server.ended().texts()
-        wants(f"the status with {options}", (status, len(printed.splitlines())), (0, 3))
-
-
-@case(
-    "the operator is told how the contest stands: who is missing, the turns, the events, the teams ranked"
-)
-def operator_asks(program: str, folder: pathlib.Path) -> None:
-    # with a log the verdict on a match that was closed is the one that was told then
-    for options in ([], ["--log"]):
-        asks(program, folder, options)
-
-
-def asks(program: str, folder: pathlib.Path, options: Sequence[str]) -> None:
-    with serving(
-        program, folder, *options, turns=LONG, stdin=subprocess.PIPE
-    ) as server, server.connect(
-        enter("blue-1") + b'{"do":"accuse","port":1}\n'
-    ) as client:
-        answer(client, 1000)
-        # a team that nobody has entered for is not ranked before one that plays
-        server.says(b"status\n")
-        told = server.tells("  - red: no agent of match 0 has entered\n")
-        require("  1 blue" in told and "  2 " not in told, f"{told!r}")
-        with entered(server, "red-0"):
-            server.says(b"status\n")
-            told = server.tells("  2 ")
-            server.says(b"close 1\nstatus\n")
-            later = server.tells("  2 ")
-    for line in (
-        " serve: sessions 1, agents to come 2, open matches 2\n",
-        " serve: match 0 (red) is open: turns ",
-        f" of {LONG} events 1\n",
-        " serve: match 0 (red) misses agents 1\n",
-        " serve: match 1 (blue) misses agents 0\n",
-        " serve: if all matches were closed now:\n",
-        *RANKED,
-    ):
-        require(line in told, f"{line!r} is not told, but {told!r}")
-    for line in (
-        ", open matches 1\n",
-        " serve: match 1 (blue) is closed: turns ",
-        *RANKED,
-    ):
-        require(line in later, f"{line!r} is not told, but {later!r}")
-
-
-@case("the end of standard input, and a line that it cuts off, close nothing")
-def input_ends(program: str, folder: pathlib.Path) -> None:
-    with serving(program, folder, turns=LONG, stdin=subprocess.PIPE) as server:
-        server.says(b"close")
-        server.child.stdin.close()
-        time.sleep(1)
-        goes_on(server, "the end of standard input")
-
-
-@case("a line that asks for nothing is told, with what there is to ask for")
-def asks_for_nothing(program: str, folder: pathlib.Path) -> None:
-    with serving(program, folder, turns=LONG, stdin=subprocess.PIPE) as server:
-        server.says(
-            b"stop\n\nclose 2\nclose 01\nclose -1\nclose \n"
-            + b"close" * 50
-            + b"\nClose\n\xff\n"
-        )
-        server.tells(
-            "serve: ignored 8 lines of standard input: expected close, close M with M below 2, or status\n"
-        )
-        goes_on(server, "them")
-
-
-@case("a flood on standard input holds nothing up, and drops no line of the log")
-def input_floods(program: str, folder: pathlib.Path) -> None:
-    with serving(program, folder, "--log", turns=600, stdin=subprocess.PIPE) as server:
-        os.set_blocking(server.child.stdin.fileno(), False)
-        until = time.monotonic() + 1
-        while time.monotonic() < until:
-            with contextlib.suppress(BlockingIOError):
-                os.write(server.child.stdin.fileno(), b"status\nx\n" * 1000)
-        goes_on(server, "the flood")
-        status, printed, told = server.ended().texts()
-    wants("the status", (status, len(printed.splitlines())), (0, 3))
-    require("dropped" not in told, "lines of the log were dropped")
-
-
-@case("a client is not the operator, where standard input is closed")
-def closed_input(program: str, folder: pathlib.Path) -> None:
-    with serving(program, folder, turns=LONG, preexec_fn=lambda: os.close(0)) as server:
-        with server.connect(b"close\n" * 10), server.connect(
-            enter("red-0") + b"close\n" * 10
-        ):
-            time.sleep(1)
-        goes_on(server, "lines of clients")
-
-
-@contextlib.contextmanager
-def in_terminal(
-    program: str, folder: pathlib.Path, is_behind: bool
-) -> Iterator[Tuple[Server, int]]:
-    """A server whose standard input is a terminal, in the background of a session or in
-    front; and who types there."""
-    typing, terminal = pty.openpty()
-
-    def joins() -> None:
-        os.setsid()
-        fcntl.ioctl(0, termios.TIOCSCTTY, 0)
-        if is_behind:
-            # the leader of the session stays in front, and a child in a group of its
-            # own goes on as the server
-            child = os.fork()
-            if child:
-                os.closerange(3, 256)
-                os._exit(os.waitstatus_to_exitcode(os.waitpid(child, 0)[1]) & 0xFF)
-            os.setpgid(0, 0)
-
-    try:
-        with serving(
-            program, folder, turns=2000, stdin=terminal, preexec_fn=joins
-        ) as server:
-            yield server, typing
-    finally:
-        os.close(typing)
-        os.close(terminal)
-
-
-@case("a server in the background of a terminal is not stopped by what is typed there")
-def behind(program: str, folder: pathlib.Path) -> None:
-    with in_terminal(program, folder, True) as (server, typing):
-        os.write(typing, b"close\n")
-        time.sleep(1)
-        goes_on(server, "what was typed for others")
-        wants("the status", server.ended()[0], 0)
-
-
-@case("a server in front of a terminal hears what is typed there")
-def in_front(program: str, folder: pathlib.Path) -> None:
-    with in_terminal(program, folder, False) as (server, typing):
-        os.write(typing, b"close\n")
-        wants("the status", server.ended()[0], 0)
-        require(time.monotonic() - server.begun <= 5, "it was not closed at once")
 
 
 # What a machine lacks.
