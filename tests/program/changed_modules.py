@@ -11,7 +11,7 @@ import pathlib
 import sys
 import tempfile
 
-from tests.program.module_cases import is_harmless
+from tests.program.refused_modules import is_harmless
 from tests.support.counts import concluded
 from tests.support.program_rows import Stage
 

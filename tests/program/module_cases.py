@@ -1,9 +1,7 @@
-"""Cases of `arena explore --module`: a search that solves, files that are refused,
-agents that fail, files with changed bytes, and each instruction on integers as node's
-own WebAssembly has it."""
+"""Cases of `arena explore --module`: a search that solves, agents that fail, and each
+instruction on integers as node's own WebAssembly has it."""
 import hashlib
 import itertools
-import random
 import shutil
 import subprocess
 import sys
@@ -26,27 +24,18 @@ from tests.support.servers import Run
 from tests.support.tournaments import TRIANGLE as NETWORK
 from tests.support.wasm_encoding import (
     I32,
-    I64,
     Call,
     Function,
     checks,
     constant,
     in_memory,
-    joined,
     module,
-    name,
     numeric,
-    sections_of,
     told_by_node,
-    type_of,
-    unsigned,
-    vector,
 )
 
 FAILING = 1
 RING = TOP / "examples" / "agents" / "wasm" / "ring.wasm"
-# how many changed files are explored
-CHANGED = 200
 DATA = bytes(range(7, 256, 5))
 CALL = b"\x10"
 DROP = b"\x1a"
@@ -62,29 +51,6 @@ MULTIPLY = b"\x6c"
 SUBTRACT = b"\x6b"
 # where a module has the text of a whiteboard
 BOARD = 16
-LOAD64 = b"\x29\x00\x00"
-# texts of at most 8 bytes in UTF-8: the least and the greatest character of each length
-TEXTS = [
-    it.encode()
-    for it in (
-        "",
-        "\0\x7f",
-        "\x80\u07ff",
-        "\u0800\ud7ff",
-        "\ue000\uffff",
-        "\U00010000\U0010ffff",
-    )
-]
-# a byte that begins no character, too many bytes for a character, a surrogate, too
-# large a character, a part of one
-NOT_TEXTS = (
-    b"\x80",
-    b"\xc0\x80",
-    b"\xe0\x80\x80",
-    b"\xed\xa0\x80",
-    b"\xf4\x90\x80\x80",
-    b"a\xc3",
-)
 # pages of 64 KiB that an agent asks for at a time
 GROWTH = 100
 STATES = '{"states":%d,"memories":%d,"stances":%d,"boards":1}\n'
@@ -310,61 +276,6 @@ def for_each(stage: Stage) -> None:
             raise Wrong(f"{first}, {second}: {ran.status}: {printed} {ran.told!r}")
 
 
-@case("agents write and read any text in UTF-8, and fail with bytes that are not UTF-8")
-def texts(stage: Stage) -> None:
-    for text, found in (
-        *((it, b"silent") for it in TEXTS),
-        *((it, b"command") for it in NOT_TEXTS),
-    ):
-        ran = tried(stage, writing(text))
-        if ran.status != FAILING or found not in ran.printed:
-            raise Wrong(f"{text!r}: {ran.status}: {ran.printed!r} {ran.told!r}")
-
-
-def writing(text: bytes) -> bytes:
-    """A module that writes a text, and traps if the whiteboard does not show it
-    then."""
-    enters, writes_it, looks, shows = (CALL + bytes([place]) for place in range(4))
-    put = constant(I32, 0) * 3 + constant(I32, len(text)) + writes_it + DROP
-    seen = (
-        constant(I32, BOARD) * 2
-        + constant(I32, 8)
-        + shows
-        + DROP
-        + LOAD64
-        + constant(I32, 0)
-        + LOAD64
-    )
-    body = enters + DROP + put + looks + DROP + seen + b"\x52\x04\x40\x00" + END
-    return module(
-        [Function([], [], body, "run")], ["enter", "write", "look", "board"], data=text
-    )
-
-
-@case("agents fail whose Write makes a line of more than 65,536 bytes, with escapes")
-def long_lines(stage: Stage) -> None:
-    room = 65_536 - len('{"do":"write","expect":"","put":""}')
-    for byte, width in ((0x61, 1), (0x22, 2), (0, 6)):
-        most = room // width
-        for old in (0, most // 2, most):
-            for more, found in (
-                (0, b'"outcome":"silent"'),
-                (1, b'"failure":"command"'),
-            ):
-                ran = tried(stage, filling(byte, old, most - old + more))
-                if ran.status != FAILING or found not in ran.printed:
-                    raise Wrong(f"{byte}, {old}, {more}: {ran.printed!r}")
-
-
-def filling(byte: int, expect: int, put: int) -> bytes:
-    """A module that enters, and writes so many bytes in place of so many, all alike."""
-    enters, writes_it = (CALL + bytes([place]) for place in range(2))
-    fills = constant(I32, 0) + constant(I32, byte) + constant(I32, 65_536) + FILL
-    texts = (constant(I32, 0) + constant(I32, length) for length in (expect, put))
-    body = enters + DROP + fills + b"".join(texts) + writes_it + DROP
-    return running(body, "enter", "write")
-
-
 @case("agents that know the number of links solve a triangle without a map")
 def unmapped(stage: Stage) -> None:
     for home, hole in itertools.permutations(range(3), 2):
@@ -390,134 +301,6 @@ def grown(stage: Stage) -> None:
     agent = running(enters + LOOP + grows + looks + AGAIN + END, "enter", "look")
     front = [sys.executable, "-c", CRAMPED, str(200 << 20)]
     expect(tried(stage, agent, front=front), b"", b"agent.wasm: memory\n", NO_MEMORY)
-
-
-@case("a file that is no module of agents is refused by what is wrong and where")
-def refused(stage: Stage) -> None:
-    for agent, fault in (
-        (b"", "head at byte 0"),
-        (b"\0asm\2\0\0\0", "head at byte 0"),
-        (running(b"\x43\0\0\0\0" + DROP), "float at byte 40"),
-        (running(constant(I32, 1)), "type at byte 42"),
-        (running(b"\x0c\x01"), "index at byte 40"),
-        (running(CALL + b"\x07"), "index at byte 40"),
-        (running(b"", "look", "puts"), "import arena.puts at byte 38"),
-        (
-            module([Function([], [], b"", "run")], ["look"], "env"),
-            "import env.look at byte 21",
-        ),
-        (running(b"", "\x1b[2J\n"), r"import arena.\u{1b}[2J\n at byte 21"),
-        (module([Function([], [], b"")]), "run at byte 38"),
-    ):
-        refuses(stage, agent, fault)
-    agent = module([Function([], [], b"", "main")])
-    refuses(stage, agent, f"main at byte {len(agent)}")
-    for own in (([I32], []), ([], [I32])):
-        agent = module([Function(*own, TRAP, "run")])
-        refuses(stage, agent, f"run type at byte {agent.rindex(name('run'))}")
-    agent = running(CALL + b"\x00" + DROP, "look")
-    agent = agent.replace(type_of([], [I32]), type_of([], [I64]))
-    refuses(
-        stage, agent, f"import type arena.look at byte {agent.index(name('arena'))}"
-    )
-
-
-@case("a function has at most 1,000 parameters and 1,000 results")
-def many_parameters(stage: Stage) -> None:
-    run = Function([], [], b"", "run")
-    values = [I32] * 1000
-    explores(stage, module([run, Function(values, values, TRAP)]), SILENT, FAILING)
-    for own in ((values + [I32], []), ([], values + [I32])):
-        agent = module([run, Function(*own, TRAP)])
-        refuses(stage, agent, f"size at byte {agent.index(type_of(*own))}")
-
-
-@case(
-    "a file is refused whose exports, memory, data segments or types of blocks are not valid"
-)
-def invalid(stage: Stage) -> None:
-    run = name("run") + b"\0\0"
-    largest = b"\1" + unsigned(1) + unsigned(65_537)
-    lacking = [
-        name("x") + item for item in (b"\0\1", b"\1\0", b"\2\1", b"\3\0", b"\4\0")
-    ]
-    for export, fault in ((run, "name"), *((it, "index") for it in lacking)):
-        agent = with_section(7, vector([run, export]))
-        refuses(stage, agent, f"{fault} at byte {agent.rindex(export)}")
-    agent = with_section(5, vector([largest]))
-    refuses(stage, agent, f"size at byte {agent.index(largest)}")
-    agent = with_section(12, unsigned(1))
-    refuses(stage, agent, f"segment at byte {len(agent)}")
-    block = b"\2\x41" + END
-    agent = module([*[Function([], [], b"")] * 65, Function([], [], block, "run")])
-    refuses(stage, agent, f"type at byte {agent.index(block)}")
-
-
-@case("a table of branches in code that is not reached leads to labels of any types")
-def unlike_labels(stage: Stage) -> None:
-    nested = b"\x02\x7f" + b"\x02\x7e" + TRAP + b"\x0e\x01\x00\x01" + END + DROP
-    agent = running(nested + constant(I32, 1) + END + DROP)
-    explores(stage, agent, BREAKS, FAILING, ',"failure":"trap","function":0')
-
-
-@case("an imported function stands in a table, by each kind of element segment")
-def imports_in_tables(stage: Stage) -> None:
-    first = constant(I32, 0)
-    direct = found_by(stage, running(CALL + b"\0" + DROP, "enter"))
-    called = running(first + b"\x11\0\0" + DROP, "enter")
-    for segment in (
-        b"\0" + first + END + vector([b"\0"]),
-        b"\2" + b"\0" + first + END + b"\0" + vector([b"\0"]),
-        b"\4" + first + END + vector([b"\xd2\0" + END]),
-    ):
-        require(found_by(stage, with_table(called, segment)) == direct, repr(segment))
-
-
-@case("an element segment lies in its table, also an empty one")
-def segments_in_tables(stage: Stage) -> None:
-    for place, count in ((2, 0), (1, 1), (-1, 0)):
-        segment = b"\0" + constant(I32, place) + END + vector([b"\0"] * count)
-        agent = with_table(running(b""), segment)
-        fault = tried(stage, agent)
-        require(fault.told.startswith(b"agent.wasm: segment at byte "), f"{fault}")
-    empty = b"\0" + constant(I32, 1) + END + vector([])
-    explores(stage, with_table(running(b""), empty), SILENT, FAILING)
-
-
-def with_table(file: bytes, segment: bytes) -> bytes:
-    """A module with a table of one element, and with this element segment."""
-    table = vector([b"\x70\0\1"])
-    return joined({**sections_of(file), 4: table, 9: vector([segment])})
-
-
-def found_by(stage: Stage, agent: bytes) -> bytes:
-    """What is found of agents that run this module, without the module's line."""
-    ran = tried(stage, agent)
-    require(ran.told == b"", f"{ran}")
-    return ran.printed[: ran.printed.index(b'{"module"')]
-
-
-def with_section(kind: int, body: bytes) -> bytes:
-    """A module that ends at once, with this section instead of its own."""
-    return joined({**sections_of(running(b"")), kind: body})
-
-
-@case("files with changed bytes are explored or refused")
-def changed(stage: Stage) -> None:
-    for seed in range(CHANGED):
-        require(is_harmless(stage, seed), f"seed {seed}")
-
-
-def is_harmless(stage: Stage, seed: int) -> bool:
-    """Whether the sample module with bytes that are changed by a seed is explored, or
-    refused in a line."""
-    draw = random.Random(seed)
-    agent = bytearray(RING.read_bytes())
-    for _ in range(draw.randrange(1, 4)):
-        agent[draw.randrange(len(agent))] = draw.randrange(256)
-    whole_or_cut = agent[: draw.randrange(len(agent))] if seed % 5 == 0 else agent
-    ran = tried(stage, bytes(whole_or_cut), "--max-states", "2000", arguments="3")
-    return ran.status in (DONE, FAILING, REFUSED_TEXT) and bool(ran.printed or ran.told)
 
 
 @case("each instruction on integers has the results that node's WebAssembly has")

@@ -10,7 +10,8 @@ import socket
 import time
 from typing import Iterator, List
 
-from tests.program.contest_cases import LONG, full_disk, served, wait_for
+from tests.program.contest_cases import LONG, served
+from tests.program.contest_files import full_disk, wait_for
 from tests.program.program_cases import MATCH, SEED, case
 from tests.support.counts import Wrong, require
 from tests.support.program_rows import PATIENCE, Stage

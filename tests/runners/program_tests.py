@@ -5,13 +5,11 @@ rules.
 
 PROGRAM is the built program. With a folder only the rows of its files are played: those
 of tests/benchmark go with the benchmark. program_rows.py says how rows are read and
-played; the other cases are in program_cases.py, interactive_cases.py,
-exploring_cases.py, module_cases.py, player_cases.py, contest_cases.py,
-serving_cases.py, replay_cases.py, traced_files.py, program_contests.py and
-program_rehearsals.py. Each row and each case is played in a fresh temporary folder;
-nothing in the repository is overwritten. For each that fails a line names the file and
-the title, what was wanted and what came. The last line reads `N passed, M failed`, and
-the exit status is 1 if one failed.
+played; the other cases are in program_cases.py and in the FILES below. Each row and
+each case is played in a fresh temporary folder; nothing in the repository is
+overwritten. For each that fails a line names the file and the title, what was wanted
+and what came. The last line reads `N passed, M failed`, and the exit status is 1 if one
+failed.
 """
 import concurrent.futures
 import functools
@@ -22,12 +20,18 @@ from typing import Iterator, NamedTuple, Sequence, Union
 
 from tests.program import (
     contest_cases,
+    contest_files,
+    example_cases,
     exploring_cases,
     interactive_cases,
+    longest_texts,
     module_cases,
+    module_texts,
+    output_cases,
     player_cases,
     program_contests,
     program_rehearsals,
+    refused_modules,
     replay_cases,
     serving_cases,
     traced_files,
@@ -39,12 +43,18 @@ from tests.support.program_rows import fault_of, play, rows_of
 # each adds its cases to CASES
 FILES = (
     contest_cases,
+    contest_files,
+    example_cases,
     exploring_cases,
     interactive_cases,
+    longest_texts,
     module_cases,
+    module_texts,
+    output_cases,
     player_cases,
     program_contests,
     program_rehearsals,
+    refused_modules,
     replay_cases,
     serving_cases,
     traced_files,

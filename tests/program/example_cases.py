@@ -1,0 +1,92 @@
+"""Cases that play the commands of examples/, and compare what they print and write."""
+import functools
+import shutil
+from typing import NamedTuple
+
+from tests.program.program_cases import CASES, REFUSED_MATCH, TOP
+from tests.support.program_rows import DONE, Stage, difference, expect
+
+# The examples: the words, the script, what is printed (a file or the text itself), what
+# is told, the file written.
+
+
+class Example(NamedTuple):
+    words: str
+    script: str = ""
+    printed: str = ""
+    told: str = ""
+    replay: str = ""
+
+
+TEAMS = "red=examples/first0.jsonl blue=examples/guess0.jsonl green=examples/triangle0.jsonl"
+EXAMPLES = [
+    Example("check examples/first.toml", printed="first.checked"),
+    Example(
+        "rehearse examples/first.toml --replay examples/first",
+        "first.script",
+        "first.printed",
+        replay="first0.jsonl",
+    ),
+    Example(
+        "rehearse --replay examples/guess",
+        "guess.script",
+        "guess.printed",
+        replay="guess0.jsonl",
+    ),
+    Example(
+        "rehearse --replay examples/triangle",
+        "triangle.script",
+        "triangle.printed",
+        replay="triangle0.jsonl",
+    ),
+    Example("judge examples/first0.jsonl", printed="solved moves 13 lost 1\n"),
+    Example("judge examples/guess0.jsonl", printed="guess 1 moves 0 lost 0\n"),
+    Example("judge examples/triangle0.jsonl", printed="silent moves 1 lost 0\n"),
+    Example(
+        "judge examples/appeal0.jsonl --turns examples/appeal0.turns --tournament examples/appeal.toml --match 0",
+        printed="solved moves 25 lost 1\n",
+    ),
+    Example(f"table {TEAMS}", printed="table.printed"),
+    Example("explain examples/first0.jsonl 1", printed="first.explained"),
+    Example("twin examples/first0.jsonl 5", told="twin: same\n"),
+    Example("twin examples/first0.jsonl 6", told="twin: reached 20\n"),
+    Example("twin examples/guess0.jsonl 1", printed="guess.twin"),
+    Example("judge examples/guess.twin", printed="wrong moves 0 lost 0\n"),
+    Example(
+        "check examples/version1.toml", printed="match 0 red nodes 3 links 3 agents 2\n"
+    ),
+    Example(
+        "explore examples/version1.toml 0", "triangle.answers", "triangle.explored"
+    ),
+]
+
+
+def plays_example(example: Example, stage: Stage) -> None:
+    """Plays an example on a copy of the folder, from which the file that it writes is
+    taken."""
+    folder = stage.folder / "examples"
+    shutil.copytree(
+        TOP / "examples", folder, ignore=shutil.ignore_patterns("agents", "__pycache__")
+    )
+    script = (folder / example.script).read_bytes() if example.script else b""
+    printed = folder / example.printed
+    wanted = (
+        printed.read_bytes()
+        if example.printed and printed.is_file()
+        else example.printed.encode()
+    )
+    if example.replay:
+        (folder / example.replay).unlink()
+    expect(
+        stage.run(example.words.split(), script),
+        wanted,
+        example.told.encode(),
+        REFUSED_MATCH if example.told else DONE,
+    )
+    if example.replay:
+        wanted = (TOP / "examples" / example.replay).read_bytes()
+        difference(example.replay, wanted, (folder / example.replay).read_bytes())
+
+
+for each in EXAMPLES:
+    CASES[f"arena {each.words}"] = functools.partial(plays_example, each)
