@@ -19,7 +19,7 @@ import textwrap
 import arena_lab
 from arena_lab.course import exercises
 from arena_lab.course.exercises import AGENT, Exercise, answered
-from arena_lab.play.programs import LocalRunner
+from arena_lab.play.grounds import LocalRunner
 from arena_lab.play.teams import OUTSIDE, AgentWords
 from arena_lab.support.faults import Fault
 

@@ -14,10 +14,11 @@ from arena_lab.play.agent_files import (
     step_of,
 )
 from arena_lab.play.bounds import LIMIT
+from arena_lab.play.grounds import Ground, LocalRunner
 from arena_lab.play.matches import Team
 from arena_lab.play.own_modules import OwnModules
 from arena_lab.play.players import Team as Inside
-from arena_lab.play.programs import Ground, LocalRunner, seeds_of
+from arena_lab.play.programs import seeds_of
 from arena_lab.play.programs import Team as Outside
 from arena_lab.play.steps import Step, is_step
 from arena_lab.play.wasm_modules import is_module

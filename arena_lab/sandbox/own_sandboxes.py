@@ -4,7 +4,7 @@ import contextlib
 import subprocess
 from typing import Any, Mapping, Optional, Sequence
 
-from arena_lab.play.programs import Started
+from arena_lab.play.grounds import Started
 from arena_lab.sandbox.sandboxes import (
     ProgramFiles,
     Sandbox,

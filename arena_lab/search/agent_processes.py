@@ -5,7 +5,6 @@ from typing import Any, Deque, Dict, List, NamedTuple, Optional, Sequence, Tuple
 
 from arena_lab.play import programs
 from arena_lab.play.foreign_files import Notes
-from arena_lab.play.grounds import LocalRunner
 from arena_lab.play.matches import STUCK
 from arena_lab.play.players import DEPARTED, DONE, SLEEPS, WAITS, WAKES, Player, Team
 from arena_lab.play.agent_files import Script
