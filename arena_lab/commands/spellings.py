@@ -19,7 +19,6 @@ COMMANDS = {
 }
 # commands of old that are modules of a clone
 MODULES = {
-    "compare": "tests.integration.compare",
     "endure": "tests.integration.endure",
     "mutants": "tests.support.mutants",
     "speed": "bench.speed",

@@ -1,6 +1,5 @@
 """The engines agree, what a schedule says is played again byte for byte, and a wrong
 engine is found out."""
-import contextlib
 import random
 import re
 import subprocess
@@ -10,11 +9,9 @@ from unittest import mock
 from arena_lab.__main__ import main
 from arena_lab.play import kept_matches
 from arena_lab.play.schedules import read, schedule_of, text_of
-from arena_lab.rules import model
 from arena_lab.rules.engines import Differs, Program
 from arena_lab.rules.networks import ring
 from arena_lab.rules.rehearsal import Rehearsal
-from tests.integration import compare
 from tests.support.matches import (
     AGENTS,
     MAP,
@@ -26,7 +23,6 @@ from tests.support.matches import (
 )
 from tests.support.output import InTemporary, ran
 
-MATCHES = 30
 # changes of a find: the file, what is replaced in it by what, the status, and what is
 # said
 CHANGES = (
@@ -99,32 +95,6 @@ CHANGES = (
 
 
 class Engines(unittest.TestCase):
-    def test_they_agree_on_drawn_matches(self) -> None:
-        self.assertEqual(compare.compare(program(), range(MATCHES)), (MATCHES, []))
-
-    def test_a_model_that_is_wrong_is_found_out(self) -> None:
-        wrongs = {
-            "a write is longer than a whiteboard": mock.patch.object(
-                model.Match, "_write", lambda self, node, expect, put: {"ok": "written"}
-            ),
-            "a quota has no end": mock.patch.object(
-                model.Match, "_refusal", lambda self, agent, do: None
-            ),
-            "nothing is last": mock.patch("arena_lab.rules.rehearsal.LAST", ()),
-            "keys are used twice": mock.patch(
-                "arena_lab.rules.rehearsal.denial", lambda command, keys, taken: None
-            ),
-        }
-        for title, wrong in wrongs.items():
-            with self.subTest(title), wrong:
-                faults = []
-                for seed in range(20):
-                    with contextlib.suppress(KeyError):
-                        faults += compare.compare(program(), range(seed, seed + 1))[1]
-                        continue
-                    faults.append("a key")
-                self.assertTrue(faults)
-
     def test_a_replay_that_differs_is_found_out(self) -> None:
         with mock.patch.object(
             Rehearsal, "replay", lambda self: b""

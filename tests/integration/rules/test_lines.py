@@ -1,12 +1,14 @@
-"""Lines of connections, deliveries, ends and closes in any order: the program answers
-each as the Python model does, and so it judges each replay, whole or bent."""
+"""The proved program and the Python model play the same matches, and every byte agrees:
+lines of connections, deliveries, ends and closes in any order, agents that do anything
+under a schedule, and replays, whole or bent."""
 import pathlib
 import random
 import subprocess
 import tempfile
 from typing import Any, List, Tuple
+from unittest import mock
 
-from hypothesis import strategies
+from hypothesis import Phase, settings, strategies
 from hypothesis.stateful import (
     RuleBasedStateMachine,
     initialize,
@@ -14,20 +16,40 @@ from hypothesis.stateful import (
     run_state_machine_as_test,
 )
 
-from arena_lab.rules.engines import Program
-from arena_lab.rules.model import judge, played, spelled
+from arena_lab.play import schedulers
+from arena_lab.play.agent_files import Script, Sleep
+from arena_lab.play.matches import play
+from arena_lab.play.players import Team
+from arena_lab.rules import model, networks
+from arena_lab.rules.engines import Differs, EngineRefused, Program, judged
+from arena_lab.rules.fixtures import Fixture
+from arena_lab.rules.model import OVER, Match, Setup, Verdict, judge, spelled
 from tests.hostile.bends import REPLAY_BENDS, Bend
 from tests.hostile.drawn_inputs import drawn_replay
-from tests.integration.compare import (
-    GARBAGE,
-    TEXTS,
-    compare_verdicts,
-    drawn_fixture,
-)
 from tests.support.drawing import by_chance, drawing
 from tests.support.matches import program
 from tests.support.output import InTemporary
 
+TEXTS = ["", "a", "bb\u20ac", "1234567", '\\ "\u0001']
+GARBAGE = [
+    b"",
+    b" \t",
+    b"jump",
+    b"{",
+    b"[]",
+    b'{"do":"depart","port":1.0}',
+    b'{"do":"look","x":NaN}',
+    b"\xff\xfe",
+    b'{"do":"look"}' + b" " * 65_536,
+    b" " * 65_537,
+    b'{"do":"enter","key":7}',
+    b'{"do":"look","x":"\\ud800"}',
+]
+AGENTS = 8
+QUOTA = 30
+BOARD = 6
+# the most that an agent says
+MOST_SAID = 40
 CONNECTIONS = strategies.integers(0, 5)
 # how many agents have entered when lines begin
 ENTERED = 3
@@ -36,6 +58,90 @@ BOARDS = strategies.sampled_from(TEXTS)
 # the program's status if it is a replay, if the text is refused, and if its match is
 TAKEN = 0
 REFUSED = (3, 4)
+
+
+# what an agent says next, once it has entered; for None it sleeps first
+Said = strategies.none() | strategies.one_of(
+    strategies.builds(lambda port: {"do": "depart", "port": port}, PORTS),
+    strategies.builds(lambda port: {"do": "depart", "port": port}, PORTS),
+    strategies.builds(
+        lambda expect, put: {"do": "write", "expect": expect, "put": put},
+        BOARDS,
+        BOARDS,
+    ),
+    strategies.builds(
+        lambda port: {"do": "accuse", "port": port} if port else {"do": "look"},
+        strategies.sampled_from([0] * 20 + [1, 2, 3]),
+    ),
+    strategies.just({"do": "bad"}),
+)
+
+
+def drawn_fixture(chance: random.Random) -> Fixture:
+    """A match by chance, with keys and perhaps a held link."""
+    network = networks.drawn(chance)
+    home, *others = chance.sample(range(network.nodes), network.nodes)
+    holes = others[: chance.randint(0, min(3, len(others)))]
+    ends = [(v, p) if chance.random() < 0.5 else (w, q) for v, p, w, q in network.links]
+    agents = chance.randint(1, AGENTS)
+    setup = Setup(
+        network.nodes,
+        network.links,
+        home,
+        holes,
+        agents,
+        chance.randint(1, QUOTA),
+        chance.randint(0, BOARD),
+        chance.sample(ends, chance.randint(0, 2)),
+    )
+    keys = [f"key {agent} \u20ac" for agent in range(agents)]
+    return Fixture("lab", setup, keys, chance.sample(ends, chance.choice((0, 0, 1))))
+
+
+def compare_verdicts(replay: bytes) -> None:
+    """Compares the program's verdict on a replay with the model's."""
+    with tempfile.NamedTemporaryFile(suffix=".jsonl") as file:
+        file.write(replay)
+        file.flush()
+        found = judged(program(), pathlib.Path(file.name))
+        wanted = judge(model.played(replay.decode()))
+    if found != wanted:
+        raise Differs(f"the program's verdict is {found}, the Python model's {wanted}")
+
+
+def script_of(steps: List[Any]) -> Script:
+    """An agent that enters, does these steps and closes its connection."""
+
+    def wander(lines: Any, key: str, sleep: Sleep) -> None:
+        for step in ({"do": "enter", "key": key}, *steps):
+            if step is None:
+                sleep(1)
+                continue
+            lines.send(spelled(step))
+            while (heard := lines.receive()) == spelled({"ok": "gone"}):
+                pass
+            if heard == spelled(OVER):
+                return
+
+    return wander
+
+
+def steps_of_agents() -> "strategies.SearchStrategy[List[List[Any]]]":
+    """What each agent does; many agents are drawn with many steps."""
+    steps = strategies.integers(0, MOST_SAID).flatmap(
+        lambda count: strategies.lists(Said, min_size=count, max_size=count)
+    )
+    return strategies.lists(steps, min_size=AGENTS, max_size=AGENTS)
+
+
+def schedulers_of_all() -> "strategies.SearchStrategy[Any]":
+    """A scheduler that has a name."""
+    names = strategies.sampled_from(sorted(schedulers.NAMED))
+    return strategies.builds(
+        lambda name, seed: schedulers.NAMED[name](seed),
+        names,
+        strategies.integers(0, 2**32),
+    )
 
 
 class Lines(RuleBasedStateMachine):
@@ -89,7 +195,7 @@ class Lines(RuleBasedStateMachine):
             try:
                 self.engine.close()
                 self.says(0, {"do": "look"})
-                compare_verdicts(program(), self.engine.replay())
+                compare_verdicts(self.engine.replay())
             finally:
                 self.engine.stop()
 
@@ -103,6 +209,60 @@ def bends() -> "strategies.SearchStrategy[List[Bend]]":
 class Engines(InTemporary):
     def test_both_answer_the_same_to_lines_in_any_order(self) -> None:
         run_state_machine_as_test(Lines, settings=drawing(30))
+
+    @by_chance(30, steps=steps_of_agents, scheduler=schedulers_of_all)
+    def test_both_play_the_same_agents_under_a_schedule(
+        self, chance: random.Random, steps: List[Any], scheduler: Any
+    ) -> None:
+        fixture = drawn_fixture(chance)
+        scripts = {number: script_of(it) for number, it in enumerate(steps)}
+        team = Team(fixture.keys, dict(list(scripts.items())[: len(fixture.keys)]))
+        engine = Program(fixture, program())
+        compare_verdicts(play(engine, team, scheduler, fixture).replay)
+
+    def is_found_out(self) -> bool:
+        """Whether lines in any order show that the engines differ."""
+        once = settings(
+            drawing(60), phases=[Phase.generate], report_multiple_bugs=False
+        )
+        try:
+            run_state_machine_as_test(Lines, settings=once)
+        except (Differs, EngineRefused, KeyError):
+            return True
+        return False
+
+    def test_a_model_that_is_wrong_is_found_out(self) -> None:
+        wrongs = {
+            "a write is longer than a whiteboard": mock.patch.object(
+                Match, "_write", lambda self, node, expect, put: {"ok": "written"}
+            ),
+            "a quota has no end": mock.patch.object(
+                Match, "_refusal", lambda self, agent, do: None
+            ),
+            "nothing is last": mock.patch("arena_lab.rules.rehearsal.LAST", ()),
+            "keys are used twice": mock.patch(
+                "arena_lab.rules.rehearsal.denial", lambda command, keys, taken: None
+            ),
+        }
+        for title, wrong in wrongs.items():
+            with self.subTest(title), wrong:
+                self.assertTrue(self.is_found_out())
+
+    def test_a_refusal_is_told(self) -> None:
+        path = self.folder / "program"
+        path.write_text('#!/bin/sh\necho "cup.toml: wrong" >&2\nexit 3\n')
+        path.chmod(0o755)
+        engine = Program(drawn_fixture(random.Random(0)), str(path))
+        self.addCleanup(engine.stop)
+        with self.assertRaisesRegex(EngineRefused, "cup.toml: wrong"):
+            engine.close()
+
+    def test_moves_are_compared_too(self) -> None:
+        match = Match(Setup(3, networks.ring(3).links, 0, [2], 2, 10, 8))
+        match.close()
+        with mock.patch(f"{__name__}.judged", return_value=Verdict("silent", 9, 9)):
+            with self.assertRaises(Differs):
+                compare_verdicts(match.replay().encode())
 
     def judged(self, text: bytes) -> Tuple[int, str]:
         """The status of the program on a text, and what it prints."""
@@ -122,6 +282,6 @@ class Engines(InTemporary):
         status, said = self.judged(text)
         self.assertIn(status, (TAKEN, *REFUSED))
         if status == TAKEN:
-            match = played(text.decode())
+            match = model.played(text.decode())
             self.assertEqual(match.replay().encode(), text)
             self.assertEqual(said, str(judge(match)))
