@@ -7,6 +7,7 @@ from arena_lab.play import schedulers
 from arena_lab.play.agent_files import NoAgent, script_of
 from arena_lab.play.teams import INSIDE, AgentWords
 from arena_lab.rules.networks import ring
+from tests.support.drawing import by_chance
 from tests.support.matches import (
     MAP,
     RING,
@@ -19,7 +20,6 @@ from tests.support.matches import (
 )
 
 RINGS = range(3, 33)
-NETWORKS = 60
 
 
 class SampleAgents(unittest.TestCase):
@@ -34,11 +34,12 @@ class SampleAgents(unittest.TestCase):
                 with self.subTest(nodes=nodes, hole=hole, seed=seed):
                     self.assertFalse(played(given, RING, seed).has_failed())
 
-    def test_more_agents_than_the_greatest_degree_solve_networks(self) -> None:
-        for seed in range(NETWORKS):
-            given = network_fixture(random.Random(seed))
-            with self.subTest(seed=seed):
-                self.assertFalse(played(given, MAP, seed).has_failed())
+    @by_chance(60)
+    def test_more_agents_than_the_greatest_degree_solve_networks(
+        self, chance: random.Random
+    ) -> None:
+        given = network_fixture(chance)
+        self.assertFalse(played(given, MAP, chance.randrange(60)).has_failed())
 
     def test_they_do_under_each_scheduler(self) -> None:
         for name, maker in schedulers.NAMED.items():

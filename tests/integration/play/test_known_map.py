@@ -11,6 +11,7 @@ from arena_lab.rules.networks import Network, drawn, named, numbered
 from arena_lab.search.explore import explored
 from arena_lab.support.missing import needed
 from arena_lab.support.progress import NO_PROGRESS
+from tests.support.drawing import by_chance
 from tests.support.matches import KNOWN_MAP, fixture, played, program
 
 NETWORKS = ("ring:32", "hypercube:5", "torus:6x6", "complete:20", "ccc:3")
@@ -53,26 +54,21 @@ class KnownMap(unittest.TestCase):
                     self.assertLessEqual(found.explorer.worst.verdict.lost, 1)
         self.assertEqual(count, 242)
 
-    def test_drawn_schedules_on_larger_networks(self) -> None:
-        for seed, name in enumerate(NETWORKS * 8):
-            self.try_match(draws.numbered(named(name), seed), seed)
-
-    def test_drawn_networks(self) -> None:
-        for seed in range(100):
-            self.try_match(drawn(random.Random(seed)), seed)
+    @by_chance(140)
+    def test_drawn_schedules_and_networks(self, chance: random.Random) -> None:
+        name = chance.choice((*NETWORKS, "", "", ""))
+        network = (
+            draws.numbered(named(name), chance.randrange(40)) if name else drawn(chance)
+        )
+        home, hole = chance.sample(range(network.nodes), 2)
+        maker = schedulers.NAMED[chance.choice(sorted(schedulers.NAMED))]
+        given: Fixture = fixture(network, hole, home=home)
+        found = played(given, KNOWN_MAP, chance.randrange(140), maker)
+        self.assertFalse(found.has_failed())
+        self.assertLessEqual(found.verdict().lost, 1)
 
     def test_the_program_says_the_same(self) -> None:
         given = fixture(named("torus:4x4"), 7)
         found = played(given, KNOWN_MAP, 1, engine=lambda it: Program(it, program()))
         self.assertEqual(found.replay, played(given, KNOWN_MAP, 1).replay)
         self.assertFalse(found.has_failed())
-
-    def try_match(self, network: Network, seed: int) -> None:
-        chance = random.Random(seed)
-        home, hole = chance.sample(range(network.nodes), 2)
-        name = sorted(schedulers.NAMED)[seed % len(schedulers.NAMED)]
-        given: Fixture = fixture(network, hole, home=home)
-        with self.subTest(seed=seed, scheduler=name, home=home, hole=hole):
-            found = played(given, KNOWN_MAP, seed, schedulers.NAMED[name])
-            self.assertFalse(found.has_failed())
-            self.assertLessEqual(found.verdict().lost, 1)

@@ -12,6 +12,7 @@ from arena_lab.support.progress import NO_PROGRESS
 from experiments import adversary, turns
 from experiments.division import Table, of_ring3, ring3
 from tests.lab.play.test_ring3 import most_moves
+from tests.support.drawing import by_chance
 from tests.support.matches import RING3, played
 
 
@@ -39,22 +40,21 @@ class Ring3(unittest.TestCase):
                 )
                 self.assertEqual(max(it.explorer.worst.verdict.lost for it in found), 1)
 
-    def test_drawn_schedules_of_larger_rings(self) -> None:
-        for seed in range(120):
-            chance = random.Random(seed)
-            nodes = chance.choice((8, 11, 16, 20, 27, 33, 50))
-            home, hole = chance.sample(range(nodes), 2)
-            network = flipped_ring(nodes, chance) if seed % 2 else ring(nodes)
-            name = sorted(schedulers.NAMED)[seed // 2 % len(schedulers.NAMED)]
-            with self.subTest(
-                seed=seed, nodes=nodes, scheduler=name, home=home, hole=hole
-            ):
-                found = played(
-                    fixture(network, hole, home), RING3, seed, schedulers.NAMED[name]
-                )
-                self.assertFalse(found.has_failed())
-                self.assertLessEqual(found.verdict().moves, most_moves(nodes))
-                self.assertLessEqual(found.verdict().lost, 1)
+    @by_chance(120)
+    def test_drawn_schedules_of_larger_rings(self, chance: random.Random) -> None:
+        nodes = chance.choice((8, 11, 16, 20, 27, 33, 50))
+        home, hole = chance.sample(range(nodes), 2)
+        network = chance.choice((flipped_ring(nodes, chance), ring(nodes)))
+        name = chance.choice(sorted(schedulers.NAMED))
+        found = played(
+            fixture(network, hole, home),
+            RING3,
+            chance.randrange(120),
+            schedulers.NAMED[name],
+        )
+        self.assertFalse(found.has_failed())
+        self.assertLessEqual(found.verdict().moves, most_moves(nodes))
+        self.assertLessEqual(found.verdict().lost, 1)
 
     def test_the_worst_case_is_found(self) -> None:
         most = max(

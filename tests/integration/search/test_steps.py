@@ -7,6 +7,7 @@ from arena_lab import api as lab
 from arena_lab.play import schedulers
 from arena_lab.play.teams import OUTSIDE, AgentWords
 from tests.integration.search.exploring import InExplore
+from tests.support.drawing import by_chance
 from tests.support.matches import AGENTS, RING, RING_STEP, played, program, ring_fixture
 
 SOLVED = "every schedule that the lab tried solves, by memories of Python steps"
@@ -85,19 +86,18 @@ class Steps(InExplore):
             "--network", "ring:3", "--hole", hole, "--agents", len(names), *agents
         )
 
+    @by_chance(20)
     def test_the_ring_search_does_command_for_command_what_the_program_does(
-        self,
+        self, chance: random.Random
     ) -> None:
-        for seed in range(20):
-            chance = random.Random(seed)
-            nodes = chance.randrange(3, 10)
-            fixture = ring_fixture(nodes, chance.randrange(1, nodes), chance)
-            maker = chance.choice(list(schedulers.NAMED.values()))
-            with self.subTest(seed):
-                one, other = (
-                    played(fixture, agent, seed, maker) for agent in (RING_STEP, RING)
-                )
-                self.assertEqual(one.replay, other.replay)
+        nodes = chance.randrange(3, 10)
+        fixture = ring_fixture(nodes, chance.randrange(1, nodes), chance)
+        maker = chance.choice(list(schedulers.NAMED.values()))
+        seed = chance.randrange(20)
+        one, other = (
+            played(fixture, agent, seed, maker) for agent in (RING_STEP, RING)
+        )
+        self.assertEqual(one.replay, other.replay)
 
     def test_it_plays_outside(self) -> None:
         fixture = ring_fixture(5, 2, random.Random(0))
