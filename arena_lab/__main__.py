@@ -9,7 +9,7 @@ from typing import Collection, List, NamedTuple, Optional, Tuple
 
 import arena_lab
 from arena_lab import IN_CLONE
-from arena_lab.commands import spellings
+from arena_lab.commands import spellings, statuses
 from arena_lab.rules import refusals
 from arena_lab.rules.engines import EngineRefused
 from arena_lab.support.faults import Fault
@@ -90,8 +90,6 @@ ABOUT = """Plays agents under a schedule that you choose, records it, and plays 
 Agents are asynchronous: a protocol is right only if it works however links delay them. The arena's own contests show
 the schedule that the clock happens to make; the lab shows the others. `./arena-lab COMMAND --help` says more of each
 command, and arena_lab/README.md is a tutorial."""
-STATUS = """exit status: 0 if all went well, 1 if a team fails or engines differ, 2 if the command line is refused, 130
-if it was stopped too early to say"""
 
 
 def parser(
@@ -102,7 +100,7 @@ def parser(
     made = argparse.ArgumentParser(
         name_of_lab,
         description=ABOUT.replace(IN_CLONE, name_of_lab),
-        epilog=STATUS,
+        epilog=statuses.told(),
         formatter_class=argparse.RawDescriptionHelpFormatter,
     )
     commands = made.add_subparsers(required=True, metavar="COMMAND", dest="command")
@@ -116,7 +114,7 @@ def parser(
             name,
             help=command.about,
             description=about,
-            epilog=STATUS,
+            epilog=statuses.told(name),
             formatter_class=argparse.RawDescriptionHelpFormatter,
         )
         module.add_words(words)

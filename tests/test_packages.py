@@ -18,6 +18,7 @@ from typing import Dict, List
 
 from arena_lab import INSTALLED
 from arena_lab.__main__ import COMMANDS, parser
+from arena_lab.commands import statuses
 from tests import TOP, needs
 from tests.support.output import InTemporary, write
 from tests.test_gate import module
@@ -191,6 +192,59 @@ class Manuals(InTemporary):
         self.assertEqual(completed("arena-lab", "hunt", "--any"), ["--any-home"])
         self.assertEqual(completed("arena-lab", "repl"), ["replay"])
 
+    def completed_by(self, shell: str, *words: str) -> str:
+        """What a shell prints that is given the completions of a program."""
+        for path, text in manual.completions([*helps(), *manual.of_lab()]).items():
+            write(self.folder / pathlib.PurePath(path).name, text)
+        ran = subprocess.run(
+            [shell, *words], cwd=self.folder, capture_output=True, text=True
+        )
+        self.assertEqual(ran.stderr, "")
+        return ran.stdout
+
+    @needs("fish", "fish")
+    def test_fish_completes(self) -> None:
+        for line, wanted in (
+            ("arena se", "serve\tServes a tournament\n"),
+            ("arena serve --p", "--port\n"),
+            ("arena-lab hunt --any", "--any-home\n"),
+            (
+                "arena-lab repl",
+                "replay\tplay a schedule again, and compare every byte\n",
+            ),
+        ):
+            program = line.split(" ")[0]
+            ask = f"source {program}.fish; complete -C '{line}'"
+            self.assertEqual(self.completed_by("fish", "-c", ask), wanted)
+
+    @needs("zsh", "zsh")
+    def test_zsh_completes(self) -> None:
+        # what the functions of zsh would be given
+        for line, wanted in (
+            ("arena se", "serve:Serves a tournament"),
+            ("arena serve --p", "--port"),
+            ("arena-lab hunt --any", "--any-home"),
+            ("arena-lab repl", "replay:play a schedule again, and compare every byte"),
+        ):
+            ask = (
+                "_describe() { print -l $commands }; compadd() { print -l -- $* };"
+                f"words=({line}); CURRENT=$#words; PREFIX=$words[-1];"
+                "service=$words[1]; . ./_arena"
+            )
+            found = self.completed_by("zsh", "-f", "-c", ask)
+            self.assertIn(wanted, found.splitlines())
+
+    def test_each_status_of_a_command_of_the_lab_is_told(self) -> None:
+        self.assertEqual({*statuses.OWN}, {*COMMANDS})
+        found = {it.words: it.text for it in manual.of_lab()}
+        for name in COMMANDS:
+            text = found[f"{INSTALLED} {name}"]
+            told = text.rpartition("exit status:\n")[2]
+            self.assertEqual(
+                [int(line.split()[0]) for line in told.splitlines()],
+                [*statuses.statuses(name)],
+            )
+
 
 class Wheels(unittest.TestCase):
     def packed(self) -> bytes:
@@ -263,7 +317,11 @@ class Wheels(unittest.TestCase):
 @needs("dpkg-deb", "dpkg")
 class DebianPackages(InTemporary):
     def packed(self, is_proved: bool = True) -> bytes:
-        found = debian.files_of(files(), {"arena.1": "page\n"}, "completes\n")
+        found = debian.files_of(
+            files(),
+            {"arena.1": "page\n"},
+            {"bash-completion/completions/arena": "completes\n"},
+        )
         told = debian.control(found, "1.2.3", "2.34", is_proved)
         made: bytes = debian.packed({**found, **told}, debian.LINKS, 1_700_000_000)
         return made

@@ -75,7 +75,9 @@ class NoPackage(Exception):
     """The package cannot be made; says what to do."""
 
 
-def files_of(released: Files, pages: Dict[str, str], completion: str) -> Files:
+def files_of(
+    released: Files, pages: Dict[str, str], completions: Dict[str, str]
+) -> Files:
     """The files of the package by their paths, but for links."""
     found = {
         (DOCUMENTS if path.startswith(DOCUMENTED) else HOME) + path: file
@@ -92,9 +94,8 @@ def files_of(released: Files, pages: Dict[str, str], completion: str) -> Files:
         found[f"usr/share/man/man1/{name}.gz"] = File(
             gzip.compress(text.encode(), 9, mtime=0), READABLE
         )
-    found["usr/share/bash-completion/completions/arena"] = File(
-        completion.encode(), READABLE
-    )
+    for path, text in completions.items():
+        found[f"usr/share/{path}"] = File(text.encode(), READABLE)
     return found
 
 

@@ -1,5 +1,5 @@
-"""Man pages and completions for bash, made of the help texts of the program and of the
-lab."""
+"""Man pages, and completions for bash, zsh and fish, made of the help texts of the
+program and of the lab."""
 import os
 import re
 import subprocess
@@ -188,6 +188,106 @@ TABLE = """_{name}() {{
 }}
 complete -o filenames -F _{name} {command}
 """
+
+
+def in_quotes(text: str) -> str:
+    """A word of a shell."""
+    quoted = text.replace("'", "'\\''")
+    return f"'{quoted}'"
+
+
+def described(one: Help) -> str:
+    """What a command does, on one line."""
+    return one.about.split("\n")[0].rstrip(".")
+
+
+def by_program(helps: List[Help]) -> Dict[str, List[Help]]:
+    """The commands of each program, the program itself first."""
+    found: Dict[str, List[Help]] = {}
+    for one in helps:
+        found.setdefault(one.words.split(" ")[0], []).append(one)
+    return found
+
+
+def zsh_completion(helps: List[Help]) -> str:
+    """A script by which zsh does the same, and says what each command does."""
+    programs = by_program(helps)
+    tables = []
+    for program, (first, *own) in programs.items():
+        named = [in_quotes(f"{it.words.split(' ')[1]}:{described(it)}") for it in own]
+        cases = "".join(
+            f"        {it.words.split(' ')[1]}) options=({' '.join(it.options())}) ;;\n"
+            for it in own
+        )
+        tables.append(
+            ZSH.format(
+                name=program.replace("-", "_"),
+                commands=" ".join(named),
+                options=" ".join(first.options()),
+                cases=cases,
+            )
+        )
+    calls = "".join(
+        f"    {program}) _{program.replace('-', '_')} ;;\n" for program in programs
+    )
+    return (
+        f"#compdef {' '.join(programs)}\n{MADE}\n"
+        + "\n".join(tables)
+        + f"\ncase $service in\n{calls}esac\n"
+    )
+
+
+def fish_completion(program: str, helps: List[Help]) -> str:
+    """A script by which fish does the same for one program."""
+    first, *own = by_program(helps)[program]
+    lines = [MADE, *fish_options(program, "__fish_use_subcommand", first)]
+    for one in own:
+        name = one.words.split(" ")[1]
+        lines.append(
+            f"complete -c {program} -f -n __fish_use_subcommand -a {name} "
+            f"-d {in_quotes(described(one))}"
+        )
+        lines += fish_options(program, f"'__fish_seen_subcommand_from {name}'", one)
+    return "\n".join(lines) + "\n"
+
+
+def fish_options(program: str, when: str, one: Help) -> List[str]:
+    return [
+        f"complete -c {program} -n {when} -l {option[2:]}" for option in one.options()
+    ]
+
+
+MADE = "# completes commands and options; made of the help texts"
+ZSH = """_{name}() {{
+    local -a commands options
+    commands=({commands})
+    if (( CURRENT == 2 )); then
+        options=({options})
+        _describe command commands
+        compadd -- $options
+        return
+    fi
+    case $words[2] in
+{cases}    esac
+    if [[ $PREFIX == -* ]]; then
+        compadd -- $options
+    else
+        _files
+    fi
+}}
+"""
+
+
+def completions(helps: List[Help]) -> Dict[str, str]:
+    """The completions of all shells, by where they stand below `share`."""
+    found = {
+        "bash-completion/completions/arena": completion(helps),
+        "zsh/vendor-completions/_arena": zsh_completion(helps),
+    }
+    for program in by_program(helps):
+        place = f"fish/vendor_completions.d/{program}.fish"
+        found[place] = fish_completion(program, helps)
+    return found
 
 
 def whole(program: Optional[str]) -> List[Help]:
