@@ -98,7 +98,11 @@ client = client_module()
 
 
 def program(words: str) -> AgentWords:
-    """An agent that is a program of its own, by its command line: see `--command`."""
+    """An agent that is a program of its own, by its command line: see `--command`.
+
+    >>> program("./agent {host} {port} {key}").words
+    './agent {host} {port} {key}'
+    """
     return AgentWords(OUTSIDE, words)
 
 
@@ -140,7 +144,20 @@ def game(
 ) -> Game:
     """What is played. If neither `holes` nor `dark` destroys, each seed has a black
     hole of its own, and a home base if `home` is "drawn" or None. A dark link is (node,
-    port). `ports` are as `--ports` takes them."""
+    port). `ports` are as `--ports` takes them.
+
+    `quota` counts commands of each agent, `board` bytes of a whiteboard, `naps` spurious
+    wake-ups of a sleeper, and `limit` seconds that an agent may compute at a time.
+    Raises a Fault, whose text says what to change, if there is no such network, agent
+    or numbering of ports.
+
+    >>> game("ring:4", "examples/agents/ring.py {nodes}", count=2, holes=[2]).holes
+    [2]
+    >>> game("ring:2", "examples/agents/ring.py")
+    Traceback (most recent call last):
+    ...
+    arena_lab.rules.networks.NoNetwork: ring:2: a network has 3 to 4096 nodes, and this one has 2
+    """
     if isinstance(network, str):
         name = network
         found = networks.named(network)
@@ -180,7 +197,11 @@ def path_of(engine: str) -> Optional[str]:
 
 def engine_name(engine: str) -> str:
     """How the lab calls an engine: "the proved program" is said of a program alone
-    whose build recorded its proof."""
+    whose build recorded its proof. Raises NoProgram if there is none.
+
+    >>> engine_name("model")
+    'the Python model, of which nothing is proved'
+    """
     return name_of(path_of(engine))
 
 
@@ -194,8 +215,15 @@ def play(
     workers: int = 1,
     **more: Any,
 ) -> List[Row]:
-    """Plays a match for each seed, and gives their rows. `seeds` is how many, or which;
-    `more` is what `game` takes."""
+    """Plays a match for each seed, and gives their rows: dicts with the `seed`, the
+    `outcome`, `moves` and agents `lost`, and more that names the match. `seeds` is how
+    many, or which; `more` is what `game` takes. Raises what `game` raises, and a
+    ValueError for a negative number of seeds.
+
+    >>> rows = play("ring:4", "examples/agents/ring.py {nodes}", seeds=2, count=2, holes=[2])
+    >>> [(row["seed"], row["outcome"], row["lost"]) for row in rows]
+    [(0, 'solved', 1), (1, 'solved', 1)]
+    """
     asked_game = game(network, agents, **more)
     path = path_of(engine)
     if isinstance(seeds, int) and seeds < 0:
@@ -342,7 +370,13 @@ def explore(
     with `draws` it draws schedules instead. The engine "model" searches without it. Of
     `check` drawn schedules the agents play on each network, what they do is compared
     with what they answered. `states` are the most of a match to visit: as many as take
-    half of the memory that is left, unless you name a number."""
+    half of the memory that is left, unless you name a number. Gives a SearchResult by
+    the program, and an Exploration by the model. Raises what `game` raises.
+
+    >>> found = explore("ring:3", "examples/agents/ring.py {nodes}", count=2)
+    >>> found.solves, found.most_moves
+    (True, 4)
+    """
     asked = [game(one, agents, **more) for one in networks_in(network)]
     fixed = [it for one in asked for it in one.fixed()]
     return explore_games(fixed, states, engine, draws, check)
@@ -484,7 +518,13 @@ def hunt(
 ) -> HuntResult:
     """Looks for a schedule after which the team fails, or with the most "moves" or
     "lost" agents. The Python model searches, and the engine plays what is found.
-    Earlier finds are tried first if a `database`, a folder, is named."""
+    Earlier finds are tried first if a `database`, a folder, is named. Raises what `game`
+    raises, and a ValueError for another word of what to look for.
+
+    >>> found = hunt("ring:3", "examples/agents/ring.py {nodes}", runs=5, count=2)
+    >>> found.fails, found.verdict.outcome
+    (False, 'solved')
+    """
     if looking_for not in (hunting.FAILURE, hunting.MOVES, hunting.LOST):
         raise ValueError(
             f"{looking_for}: look for {hunting.FAILURE}, {hunting.MOVES} or {hunting.LOST}"

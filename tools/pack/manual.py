@@ -3,7 +3,7 @@ program and of the lab."""
 import os
 import re
 import subprocess
-from typing import Dict, List, NamedTuple, Optional
+from typing import Dict, List, NamedTuple, Optional, Tuple
 
 WIDTH = 90
 # a line that begins a part of a help text, such as `Options:`, and one that names an
@@ -67,6 +67,19 @@ def part_of(text: str, heading: str) -> str:
     """The part of a help text under a heading."""
     parts = HEADING.split(text)
     return dict(zip(parts[1::2], parts[2::2])).get(heading, "")
+
+
+def statuses_of(text: str) -> List[Tuple[str, str]]:
+    """The exit statuses that a help text tells, each with what it says."""
+    part = part_of(text, "Exit status") or part_of(text, "exit status")
+    rows: List[List[str]] = []
+    for line in part.splitlines():
+        found = re.match(r"^ {2}(\d+) +(.*)$", line)
+        if found:
+            rows.append([*found.groups()])
+        elif rows and line.strip():
+            rows[-1][1] += f" {line.strip()}"
+    return [(status, text) for status, text in rows]
 
 
 def of_lab() -> List[Help]:

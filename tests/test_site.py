@@ -1,0 +1,80 @@
+"""The site of the documents: what leads nowhere, and what a page asks of another machine,
+is named; and the site as it is built has neither."""
+import pathlib
+import subprocess
+import unittest
+from typing import Dict
+
+from arena_lab.support.missing import DEBIANS_PYTHON
+from tests import TOP
+from tests.support.output import InTemporary, write
+from tools import site_links
+
+PAGES: Dict[str, str] = {
+    "index.html": '<h1 id="top">A</h1><a href="#top">a</a><a href="b/c.html#d">b</a>'
+    '<a href="https://debian.org">c</a><img src="data:,"><a href="b/">d</a>',
+    "b/c.html": '<p id="d"><a href="../index.html">a</a><img src="e%20f.png">',
+    "b/index.html": "",
+    "b/e f.png": "",
+}
+
+
+class Links(InTemporary):
+    def faults(self, **more: str) -> list:
+        for name, text in {**PAGES, **more}.items():
+            write(self.folder / name, text)
+        return list(site_links.faults_in(self.folder))
+
+    def test_links_that_lead_somewhere(self) -> None:
+        self.assertEqual(self.faults(), [])
+
+    def test_links_that_lead_nowhere_and_requests(self) -> None:
+        text = (
+            '<a href="absent.html">a</a><a href="b/c.html#e">b</a><a href="#f">c</a>'
+            '<script src="https://debian.org/a.js"></script><img src="//debian.org/a">'
+        )
+        self.assertEqual(
+            self.faults(**{"wrong.html": text}),
+            [
+                "wrong.html: absent.html: leads nowhere",
+                "wrong.html: b/c.html#e: leads to no heading",
+                "wrong.html: #f: leads to no heading",
+                "wrong.html: https://debian.org/a.js: is requested of another machine",
+                "wrong.html: //debian.org/a: is requested of another machine",
+            ],
+        )
+
+    def test_links_of_documents_are_found_and_replaced(self) -> None:
+        text = "[a](b.md#c), [d](https://e), ![f](g.png), [h](i.conf)"
+        self.assertEqual([*site_links.links_of(text)], ["b.md", "g.png", "i.conf"])
+        self.assertEqual(
+            site_links.with_links(text, {"i.conf": "i.conf.txt"}),
+            text.replace("i.conf", "i.conf.txt"),
+        )
+
+
+def has_mkdocs() -> bool:
+    words = [DEBIANS_PYTHON, "-c", "import mkdocs, mkdocstrings_handlers.python"]
+    is_there = pathlib.Path("/usr/share/mkdocs/themes/material").is_dir()
+    return is_there and subprocess.run(words, stderr=subprocess.DEVNULL).returncode == 0
+
+
+class Site(InTemporary):
+    @unittest.skipUnless(has_mkdocs(), "Debian's mkdocs-material is not installed")
+    def test_it_is_built_and_each_link_leads_somewhere(self) -> None:
+        out = self.folder / "site"
+        words = [DEBIANS_PYTHON, str(TOP / "tools" / "site"), "--out", str(out)]
+        ran = subprocess.run(words, capture_output=True, text=True)
+        self.assertEqual((ran.returncode, ran.stderr), (0, ""))
+        for page, text in (
+            ("index.html", "find the black hole in a network"),
+            (
+                "docs/THEOREMS.html",
+                "contracts/bhs_model.html#laws-replies_are_of_pasts",
+            ),
+            ("contracts/bhs_model.html", 'id="laws-replies_are_of_pasts"'),
+            ("api.html", 'id="arena_lab.api.explore"'),
+            ("commands.html", "<code>arena-lab page</code>"),
+            ("matches/guess0.html", "guess0.jsonl"),
+        ):
+            self.assertIn(text, (out / page).read_text(encoding="utf-8"), page)
