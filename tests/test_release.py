@@ -1,10 +1,14 @@
 """What a release has, that it says whether its program is proved, and that its bytes
 are the same each time."""
+import contextlib
+import json
 import os
 import pathlib
+import shutil
 import subprocess
 import tarfile
 import tempfile
+import time
 import unittest
 import unittest.mock
 from typing import Dict, Tuple
@@ -129,6 +133,7 @@ class Releases(Repositories):
                     "CHANGELOG.md",
                     "PROVED.txt",
                     "README.md",
+                    "SBOM.cdx.json",
                     "SHA256SUMS",
                     "VERSION",
                     "arena",
@@ -185,7 +190,7 @@ class Releases(Repositories):
         subprocess.run(
             ["sha256sum", "--quiet", "-c", "SHA256SUMS"], cwd=folder / NAME, check=True
         )
-        self.assertEqual((folder / NAME / "SHA256SUMS").read_text().count("\n"), 14)
+        self.assertEqual((folder / NAME / "SHA256SUMS").read_text().count("\n"), 15)
 
     def test_two_archives_of_one_commit_are_alike(self) -> None:
         archive = self.top / "out" / "release" / f"{NAME}.tar.gz"
@@ -197,6 +202,56 @@ class Releases(Repositories):
                 self.made()
             found.append(archive.read_bytes())
         self.assertEqual(*found)
+
+    def packed(self, top: pathlib.Path, **variables: str) -> Dict[str, str]:
+        """The digests of a release that is made in a folder, with these variables."""
+        owners = (release, prover, version, built)
+        with contextlib.ExitStack() as stack:
+            for owner in owners:
+                stack.enter_context(unittest.mock.patch.object(owner, "TOP", top))
+            stack.enter_context(unittest.mock.patch.dict(os.environ, variables))
+            stack.callback(time.tzset)
+            stack.callback(os.umask, os.umask(int(variables["UMASK"], 8)))
+            time.tzset()
+            out = top / "out" / "release"
+            found, _, errors = ran(release.main, ["--out", str(out)])
+        self.assertEqual((found, errors), (0, ""))
+        return {
+            path.name: release.digest_of(path.read_bytes())
+            for path in out.iterdir()
+            if path.suffix != ".sha256"
+        }
+
+    @needs("dpkg-deb", "dpkg")
+    def test_releases_are_alike_in_any_folder_zone_and_locale(self) -> None:
+        other = self.top.with_name(f"{self.top.name} elsewhere")
+        shutil.copytree(self.top, other, symlinks=True)
+        self.addCleanup(shutil.rmtree, other)
+        one = self.packed(self.top, TZ="UTC", LC_ALL="C", COLUMNS="80", UMASK="022")
+        two = self.packed(
+            other, TZ="Pacific/Kiritimati", LC_ALL="C.UTF-8", COLUMNS="200", UMASK="077"
+        )
+        self.assertEqual(len(one), 3)
+        self.assertEqual(one, two)
+
+    def test_the_bill_names_what_is_linked(self) -> None:
+        libraries = {"bhs_net": ["thiserror"], "bhs_main": ["bhs_net"]}
+        kit = self.top / "kit"
+        write(kit / "rlibs" / "thiserror.rlib" / "format", "dep std\ndep quoting\n")
+        write(
+            kit / "rattle" / "thiserror" / "README.md",
+            "Errors, after the Rust crate `thiserror` 2.0.21: `Error`.\n",
+        )
+        whole = json.loads(release.bill.bill_of(kit, libraries, "2.34"))
+        self.assertEqual(
+            [it["name"] for it in whole["components"]],
+            ["quoting", "std", "thiserror", "glibc"],
+        )
+        self.assertEqual(
+            whole["components"][2]["pedigree"]["ancestors"][0]["purl"],
+            "pkg:cargo/thiserror@2.0.21",
+        )
+        self.assertEqual(whole["components"][2]["version"], "kit 1")
 
     def test_one_without_a_proof_never_says_proved(self) -> None:
         write(self.top / "README.md", "changed\n")
