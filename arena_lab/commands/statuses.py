@@ -11,7 +11,7 @@ ALWAYS = {
 }
 # of commands for which the program plays, judges or reads: what it says itself
 BY_PROGRAM = {
-    3: "the program refuses a file",
+    3: "a file is refused, by its text or shape",
     4: "a replay could not have happened, or is of another match",
     5: "memory ran out",
     6: "reading or writing failed",

@@ -2,6 +2,8 @@
 explains it."""
 import random
 
+from arena_lab.__main__ import main
+from arena_lab.commands import statuses
 from arena_lab.pages import page
 from arena_lab.play import schedulers
 from tests.support.matches import (
@@ -14,6 +16,7 @@ from tests.support.matches import (
     program,
     ring_fixture,
 )
+from tests.support.output import ran
 
 
 class Pages(InFolder):
@@ -34,3 +37,23 @@ class Pages(InFolder):
                 for engine in (None, program())
             ]
             self.assertEqual(pages[0], pages[1])
+
+    def test_a_refusal_has_a_status_that_the_help_tells(self) -> None:
+        replay = played(ring_fixture(4, 2, random.Random(1)), RING, 0).replay
+        other = replay.replace(b'"ports":2', b'"ports":3', 1)
+        path = self.folder / "match.jsonl"
+        by_program = ["--program", program()]
+        for text, engine, status in (
+            (b"", by_program, 3),
+            (b"", ["--engine", "model"], 3),
+            (other, by_program, 4),
+            (None, by_program, 6),
+            (None, ["--engine", "model"], 2),
+        ):
+            path.unlink(missing_ok=True)
+            if text is not None:
+                path.write_bytes(text)
+            with self.subTest(status=status, engine=engine):
+                found, _, said = ran(main, ["page", str(path), *engine])
+                self.assertEqual(found, status, said)
+                self.assertIn(status, statuses.statuses("page"))
