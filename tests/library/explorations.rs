@@ -2,10 +2,10 @@
 
 use super::triangle::{network, setup};
 use bhs_explore::{
-    ExploreFault, Explored, Explorer, Finding, Latest, Objective, SampleRequest, SampleResult,
-    Scheduler, Step, Team, TeamAnswer, TeamFault,
+    ExploreFault, Explored, Explorer, Finding, Latest, SampleRequest, SampleResult, Step, Team,
+    TeamAnswer, TeamFault,
 };
-use bhs_model::{Command, Mark, Text};
+use bhs_model::{Command, Mark, Objective, Scheduler, Text};
 use bhs_world::World;
 use std::alloc::Global;
 use std::test::Fail;
@@ -87,20 +87,24 @@ pub fn explored(alloc: Global, scout: Scout) -> Result<Explored, Fail> {
 }
 
 /// Four schedules of this seed.
-pub fn draws(hunt: Option<Objective>) -> SampleRequest {
+pub fn draws(objective: Option<Objective>) -> SampleRequest {
     SampleRequest {
         schedules: 4,
         seed: 5,
         scheduler: Scheduler::Fair,
-        hunt,
+        objective,
         turns: 100,
     }
 }
 
-pub fn drawn(alloc: Global, scout: Scout, hunt: Option<Objective>) -> Result<SampleResult, Fail> {
+pub fn drawn(
+    alloc: Global,
+    scout: Scout,
+    objective: Option<Objective>,
+) -> Result<SampleResult, Fail> {
     let mut team = Pair { scout };
     let mut explorer = explorer(alloc, &mut team)?;
-    Ok(explorer.draw(&mut team, draws(hunt))?)
+    Ok(explorer.draw(&mut team, draws(objective))?)
 }
 
 /// A team of agents that write at the home base. If agent 0 is the first, or is patient, it goes on as `Scout::Solves`
@@ -305,8 +309,8 @@ fn a_round_of_looks_spends_the_quota(rt: HostRuntime) -> Result<(), Fail> {
 
 #[test]
 fn drawn_schedules_are_counted(rt: HostRuntime) -> Result<(), Fail> {
-    for hunt in [None, Some(Objective::Moves), Some(Objective::Lost)] {
-        let drawn = drawn(rt.alloc(), Scout::Solves, hunt)?;
+    for objective in [None, Some(Objective::Moves), Some(Objective::Lost)] {
+        let drawn = drawn(rt.alloc(), Scout::Solves, objective)?;
         assert_eq!(rt; (drawn.solved, drawn.failed, drawn.turns), (4, 0, 16));
         assert_eq!(rt; drawn.moves.as_slice(), [(1, 4)].as_slice());
         assert_eq!(rt; drawn.lost.as_slice(), [(0, 4)].as_slice());

@@ -94,7 +94,14 @@ fn reads_a_module(rt: HostRuntime) -> Result<(), Fail> {
 fn says_where_a_file_is_refused(rt: HostRuntime) -> Result<(), Fail> {
     let mut cut = Vec::from_slice(rt.alloc(), EMPTY)?;
     cut.truncate(30);
-    let Err(ModuleFault::Inside { kind, at, import: _ }) = module_of(rt.alloc(), &cut) else {
+    let Err(
+        ModuleFault::Inside {
+            kind,
+            at,
+            import: _,
+        },
+    ) = module_of(rt.alloc(), &cut)
+    else {
         return Err("it is read, or refused for its head".into());
     };
     assert!(rt; kind == FaultKind::End);
