@@ -19,14 +19,14 @@
 Other files try other attacks:
 
 - test_steps.py: a worker whose lease has run out
-- test_pages.py and test_hand_ins.py: tokens from all addresses of an IPv6 network, another
-  team's match or replay, and the black hole before the close, by page, REST, size,
+- test_pages.py, test_isolation.py and test_hand_ins.py: tokens from all addresses of an IPv6
+  network, another team's match or replay, and the black hole before the close, by page, REST, size,
   header and error
 - test_connections.py: connections and bytes, more than a server has room for, and slow
   ones
 - test_nginx.py: X_Forwarded_For through Caddy, and many requests at once through nginx
-- test_hall.py and tests/lab/hall/test_hall.py: paths, SQL, HTML, formulas, requests of other sites,
-  and links and bombs in zips
+- test_hall.py and tests/lab/hall/test_unpacking.py: paths, SQL, HTML, formulas, requests of
+  other sites, and links and bombs in zips
 
 Three attacks still win something. Wrong tokens from a team's own address make its
 members who have not logged in wait minutes there. The numbers of matches and hand-ins
@@ -53,7 +53,7 @@ from tests.integration.hall.hall_pages import (
     played,
     stopped_clock,
 )
-from tests.lab.hall.test_hall import zipped
+from tests.lab.hall.test_unpacking import zipped
 
 from django.conf import settings
 from django.contrib.auth import get_user_model

@@ -151,7 +151,7 @@ class HandIns(Halls):
         )
         ring = (agents / "ring.py").read_text().partition('"""\n')[2]
         client = (agents / "client.py").read_text()
-        from tests.lab.hall.test_hall import zipped
+        from tests.lab.hall.test_unpacking import zipped
 
         sent = zipped(
             {"top/agent.py": (nosy + ring).encode(), "top/client.py": client.encode()}

@@ -4,7 +4,7 @@ from unittest import mock
 
 from arena_lab.hall import machine
 from tests.integration.hall.hall_pages import PLACE, Hall, graded, halled, played
-from tests.lab.hall.test_hall import zipped
+from tests.lab.hall.test_unpacking import zipped
 
 from django.conf import settings
 from django.core.files.uploadedfile import SimpleUploadedFile

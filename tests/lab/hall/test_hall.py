@@ -1,20 +1,16 @@
-"""The parts of a hall that need no Django: its state machine, its file, the rules of
-its standings, the unpacking of hand-ins, and what a team sees of a running match."""
+"""The parts of a hall that need no Django: its file, the rules of its standings, and what
+a team sees of a running match."""
 import argparse
 import contextlib
-import hashlib
 import io
-import itertools
 import json
 import os
 import pathlib
 import random
-import shutil
 import tarfile
 import tempfile
 import unittest
-import zipfile
-from typing import Any, Dict, List, Optional, Set, Tuple
+from typing import Any, Dict
 from unittest import mock
 
 from arena_lab.commands import hall
@@ -23,25 +19,6 @@ from arena_lab.hall import backup, conditions, serving
 from arena_lab.hall.attempts.draws import TOURNAMENT, drawn, write
 from arena_lab.hall.attempts.seen import Part, ended
 from arena_lab.hall.course import DRAWN, FIXED, Net, NoHall, hall_of, read
-from arena_lab.hall.handins import unpacking
-from arena_lab.hall.handins.unpacking import NoHandIn
-from arena_lab.hall.machine import (
-    ACTIVE,
-    BEGIN,
-    CANCEL,
-    CANCELLED,
-    CLAIM,
-    ENDED,
-    FAIL,
-    FINISH,
-    HELD,
-    LOSE,
-    LOST,
-    OVER,
-    RENEW,
-    RUNNING,
-    WAITING,
-)
 from arena_lab.hall.place import HallFolder
 from arena_lab.hall.standings.rules import GradedTeam, league
 from arena_lab.play.teams import AgentWords
@@ -49,125 +26,13 @@ from arena_lab.rules.model import Match, Setup, spelled
 from arena_lab.rules.networks import NoNetwork, ring, text_of
 from arena_lab.support.fields import WrongFile, table_of
 from tests.support.drawing import by_chance
-from tests.support.job_states import EVENTS, STATES, JobState, after, rows
 from tests.support.needing import needs
 from tests.support.output import InTemporary
 
 COURSE = 'title = "x"\n[[network]]\nname = "it"\nnetwork = "ring:5"\n'
 HAND_INS = '[hand_ins]\ncommand = "python3 agent.py {host} {port} {key}"\nnetworks = ["ring:5"]\n'
-# what claims and loses work, two workers and a team do, each in this order
-PROCESSES = (
-    (
-        (CLAIM, "one"),
-        (LOSE, ""),
-        (CLAIM, "two"),
-        (LOSE, ""),
-        (CLAIM, "one"),
-        (LOSE, ""),
-    ),
-    ((BEGIN, "one"), (RENEW, "one"), (FINISH, "one"), (FAIL, "one")),
-    ((BEGIN, "two"), (RENEW, "two"), (FINISH, "two"), (FAIL, "two")),
-    ((CANCEL, ""),),
-)
 
 
-class Machines(unittest.TestCase):
-    """The states of work, whoever acts in whatever order."""
-
-    def reached(self) -> Set[JobState]:
-        """All work that any order of events leads to, with two holders."""
-        found = {JobState()}
-        new = [JobState()]
-        while new:
-            work = new.pop()
-            for event, holder in itertools.product(EVENTS, ("one", "two")):
-                made = after(work, event, holder)
-                if made is not None and made not in found:
-                    found.add(made)
-                    new.append(made)
-        return found
-
-    def test_each_state_is_reached_and_no_other(self) -> None:
-        self.assertEqual({work.state for work in self.reached()}, set(STATES))
-
-    def test_no_step_leads_out_of_an_end(self) -> None:
-        for work in self.reached():
-            if work.state in ENDED:
-                self.assertEqual(
-                    [after(work, event, "one") for event in EVENTS],
-                    [None] * len(EVENTS),
-                )
-
-    def test_no_fault_of_the_machine_ends_work(self) -> None:
-        for work in self.reached() - {JobState(state) for state in ENDED}:
-            made = after(work, LOSE)
-            self.assertEqual(made, JobState() if work.state in ACTIVE else None)
-            self.assertTrue(self.ends(work))
-
-    def ends(self, work: Optional[JobState]) -> bool:
-        """Whether work comes to an end once nothing disturbs it any more."""
-        while work is not None and work.state not in ENDED:
-            event = {WAITING: CLAIM, HELD: BEGIN, RUNNING: FINISH}[work.state]
-            work = after(work, event, work.holder or "one")
-        return work is not None
-
-    def test_who_does_not_hold_the_work_changes_nothing(self) -> None:
-        for work, event in itertools.product(
-            self.reached(), (BEGIN, RENEW, FINISH, FAIL)
-        ):
-            for holder in {"one", "two", ""} - {work.holder}:
-                self.assertIsNone(after(work, event, holder))
-            if work.state not in ACTIVE:
-                self.assertEqual(work.holder, "")
-
-    def test_only_a_run_that_is_finished_is_over(self) -> None:
-        for work, event in itertools.product(self.reached(), EVENTS):
-            made = after(work, event, work.holder)
-            if made is not None and made.state == OVER:
-                self.assertEqual((work.state, event), (RUNNING, FINISH))
-
-    def test_all_orders_of_claims_two_workers_and_a_team_with_crashes(self) -> None:
-        """Each process does its steps in order, and may stop before any of them. In
-        each order the work is over at most once, by a holder that had it then, and
-        however it stands claims and losses bring it to an end."""
-        seen: Set[Tuple[Tuple[int, ...], JobState, int]] = set()
-        waiting: List[Tuple[Tuple[int, ...], JobState, int]] = [
-            ((0,) * len(PROCESSES), JobState(), 0)
-        ]
-        while waiting:
-            found = waiting.pop()
-            if found in seen:
-                continue
-            seen.add(found)
-            done, work, ends = found
-            self.assertTrue(ends <= 1 and self.ends(work), found)
-            for number, steps in enumerate(PROCESSES):
-                if done[number] < len(steps):
-                    event, holder = steps[done[number]]
-                    made = after(work, event, holder)
-                    is_over = made is not None and made.state == OVER
-                    self.assertTrue(not is_over or work.holder == holder)
-                    next_done = (*done[:number], done[number] + 1, *done[number + 1 :])
-                    waiting.append((next_done, made or work, ends + is_over))
-        self.assertGreater(len(seen), 500)
-
-    def test_the_table_reads_as_it_stands(self) -> None:
-        self.assertEqual(rows()[WAITING], ["claim: held", "cancel: cancelled"])
-        self.assertEqual(
-            rows()[RUNNING],
-            [
-                "renew: running",
-                "finish: over",
-                "fail: lost",
-                "lose: waiting",
-                "cancel: cancelled",
-            ],
-        )
-        self.assertIsNone(after(JobState(CANCELLED), CANCEL))
-        self.assertEqual(after(JobState(RUNNING, "one"), FAIL, "one"), JobState(LOST))
-
-
-@needs("networkx")
 class Courses(unittest.TestCase):
     """The file of a course."""
 
@@ -341,135 +206,6 @@ class Rules(unittest.TestCase):
             [(place, it.team) for place, it in league(found)],
             [(1, "b"), (2, "e"), (3, "d"), (4, "a"), (4, "c")],
         )
-
-
-def zipped(
-    files: Dict[str, bytes], method: int = zipfile.ZIP_DEFLATED, **links: str
-) -> bytes:
-    made = io.BytesIO()
-    with zipfile.ZipFile(made, "w", method) as archive:
-        for name, content in files.items():
-            archive.writestr(name, content)
-        for name, target in links.items():
-            entry = zipfile.ZipInfo(name)
-            entry.external_attr = 0o120777 << 16
-            archive.writestr(entry, target)
-    return made.getvalue()
-
-
-class Unpacking(InTemporary):
-    """What is handed in is bounded, and stays in its folder."""
-
-    def files_of(self, sent: bytes, name: str = "agent.py") -> Dict[str, bytes]:
-        """The files that come of what is sent."""
-        place = self.folder / "files"
-        shutil.rmtree(place, ignore_errors=True)
-        found = unpacking.unpacked(sent, name, place)
-        paths = [path for path in sorted(place.rglob("*")) if path.is_file()]
-        self.assertEqual(
-            found[:2], (sum(path.stat().st_size for path in paths), len(paths))
-        )
-        return {str(path.relative_to(place)): path.read_bytes() for path in paths}
-
-    def refused(self, sent: bytes, why: str) -> None:
-        with self.assertRaisesRegex(NoHandIn, why):
-            self.files_of(sent)
-
-    def test_a_file_and_a_zip(self) -> None:
-        self.assertEqual(self.files_of(b"print()"), {"agent.py": b"print()"})
-        for method in (zipfile.ZIP_STORED, zipfile.ZIP_DEFLATED):
-            self.assertEqual(
-                self.files_of(zipped({"agent.py": b"1", "a/b.py": b"2"}, method)),
-                {"agent.py": b"1", "a/b.py": b"2"},
-            )
-        self.assertEqual(
-            self.files_of(zipped({"top/agent.py": b"1", "top/b.py": b"2"})),
-            {"agent.py": b"1", "b.py": b"2"},
-        )
-
-    def test_the_digest_is_of_names_and_contents(self) -> None:
-        digests = {
-            unpacking.unpacked(sent, "a", self.folder / str(place)).digest
-            for place, sent in enumerate(
-                (
-                    zipped({"a": b"b", "b": b""}),
-                    zipped({"b": b"", "a": b"b"}),
-                    zipped({"a": b"", "b": b"b"}),
-                    b"b",
-                )
-            )
-        }
-        self.assertEqual(len(digests), 3)
-        told = unpacking.unpacked(b"b", "a", self.folder / "one").digest
-        self.assertEqual(told, hashlib.sha256(b"1:a1:b").hexdigest())
-
-    def test_names_that_lead_elsewhere(self) -> None:
-        for name in (
-            "../agent.py",
-            "/etc/passwd",
-            "a/../../b",
-            "a//b",
-            "./a",
-            "a\\..\\b",
-            "a/\x01",
-            "a" * 101,
-        ):
-            with self.subTest(name):
-                self.refused(zipped({name: b"x"}), "no name of a file inside")
-        self.refused(zipped({}, link="/etc/passwd"), "is a link")
-        self.refused(zipped({"a": b"", "a/b": b""}), "is a file and a folder")
-        self.refused(zipped({"/".join(["d"] * 40): b""}), "more than 32 deep")
-
-    def test_bombs(self) -> None:
-        """Of each method, with many entries, with long names and nested: each is
-        refused, or taken as it stands, by a process that has less than 100 MB."""
-        zeros = bytes(unpacking.MOST_BYTES + 1)
-        half = bytes(unpacking.MOST_BYTES // 2 + 1)
-        bomb = zipped({"zeros": zeros})
-        many = {f"f{number}": b"" for number in range(unpacking.MOST_FILES + 1)}
-        long = {f"{number:065000}": b"" for number in range(50)}
-        for method, sent, why in (
-            (zipfile.ZIP_DEFLATED, {"zeros": zeros}, "more than 32 MB"),
-            (zipfile.ZIP_DEFLATED, {"one": half, "two": half}, "more than 32 MB"),
-            (zipfile.ZIP_BZIP2, {"zeros": zeros}, "zeros is packed by another method"),
-            (zipfile.ZIP_LZMA, {"zeros": zeros}, "zeros is packed by another method"),
-            (zipfile.ZIP_STORED, many, "2000 files"),
-            (zipfile.ZIP_DEFLATED, long, "no name of a file inside"),
-        ):
-            self.refused(zipped(sent, method), why)
-        self.assertEqual(self.files_of(zipped({"a": bomb})), {"a": bomb})
-        large = {f"{number}": random.randbytes(7_900) for number in range(1_000)}
-        self.assertEqual(self.files_of(zipped(large)), large)
-        self.refused(bytes(unpacking.MOST_SENT + 1), "more than 8 MB")
-        self.refused(unpacking.ENTRY * 1_000_000, "2000 files")
-        self.refused(b"", "empty")
-        self.assertLessEqual(unpacking.MEMORY, 100 << 20)
-
-    def test_zips_that_lie(self) -> None:
-        """Whatever is broken in a zip, and by whatever method it is packed, it is
-        refused or is one file."""
-        text = b"print()" * 50
-        for method in (zipfile.ZIP_DEFLATED, zipfile.ZIP_BZIP2, zipfile.ZIP_LZMA):
-            whole = bytearray(zipped({"agent.py": text}, method))
-            for place in range(0, len(whole), 3):
-                broken = bytearray(whole)
-                broken[place] ^= 0xFF
-                folder = self.folder / f"{method} {place}"
-                with contextlib.suppress(NoHandIn):
-                    unpacking.write(bytes(broken), "agent.py", folder)
-                    self.assertLessEqual(unpacking.measured(folder).files, 1)
-
-    def test_a_disk_that_is_full_is_no_fault_of_the_zip(self) -> None:
-        (self.folder / "files").write_text("")
-        with self.assertRaises(OSError):
-            unpacking.unpacked(b"x", "agent.py", self.folder / "files")
-
-    def test_who_takes_too_long_or_ends_is_refused(self) -> None:
-        for program in ("import time; time.sleep(9)", "import os; os.abort()", "x"):
-            with mock.patch.object(unpacking, "UNPACKS", program), mock.patch.object(
-                unpacking, "SECONDS", 0.5
-            ):
-                self.refused(b"x", "cannot be unpacked within")
 
 
 class Seen(InTemporary):
