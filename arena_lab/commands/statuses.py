@@ -22,6 +22,8 @@ A_TEAM_FAILS = "a team fails, or engines differ"
 OWN: Dict[str, Tuple[str, bool]] = {
     "new": ("", False),
     "examples": ("", False),
+    "exercise": ("the program is not right", False),
+    "try": ("", True),
     "play": ("", False),
     "run": (A_TEAM_FAILS, True),
     "check": ("the agent is not right, or engines differ", True),
