@@ -200,7 +200,7 @@ class ContractsTest(InTemporary):
             "| `bhs_replay` | `head_of` | yes |",
             "| `bhs_model` | `text_shared` | yes |",
             "| `bhs_text` | `Text::new` | yes |",
-            "| `bhs_orders` | `print_verdict` | by its status | may |",
+            "| `bhs_orders_results` | `print_verdict` | by its status | may |",
             "| `bhs_lineup` | `Keys::new` | no | no |",
         ):
             self.assertIn(head, page)

@@ -1,10 +1,8 @@
 //! Explorations of the triangle: what all schedules come to, cycles, and drawn schedules.
 
 use super::triangle::{network, setup};
-use bhs_explore::{
-    ExploreFault, Explored, Explorer, Finding, Latest, SampleRequest, SampleResult, Step, Team,
-    TeamAnswer, TeamFault,
-};
+use bhs_explore::{Explored, Explorer, SampleRequest, SampleResult};
+use bhs_schedules::{ExploreFault, Finding, Latest, Step, Team, TeamAnswer, TeamFault};
 use bhs_model::{Command, Mark, Objective, Scheduler, Text};
 use bhs_world::World;
 use std::alloc::Global;

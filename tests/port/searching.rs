@@ -4,7 +4,8 @@
 //! succeed. `searching teams` reads matches whose agents its host plays, and prints what is found of all schedules.
 #![feature(let_else)]
 
-use bhs_explore::{Explored, Explorer, Failure, Finding, Latest, Step, Team, TeamAnswer, TeamFault};
+use bhs_explore::{Explored, Explorer};
+use bhs_schedules::{Failure, Finding, Latest, Step, Team, TeamAnswer, TeamFault};
 use bhs_model::{Command, DarkLinks, Holes, Mark, Setup, Text};
 use bhs_net::{Link, Net};
 use bhs_referee::{Outcome, Verdict};

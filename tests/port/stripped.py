@@ -26,6 +26,7 @@ CRATES = (
     "bhs_world",
     "bhs_match",
     "bhs_referee",
+    "bhs_schedules",
     "bhs_explore",
     "bhs_wasm",
     "bhs_wasm_read",

@@ -17,8 +17,8 @@ use Rattle.bhs_wire.specs.ReplyNumbers.{NumbersFit}
 use Rattle.bhs_wire.proofs.StreamLaws.{lines-append, lines_after-as_held, rest-ended, rest_after-append}
 use Rattle.bhs_replay.proofs.Flat.{text_flat}
 use Rattle.bhs_session.specs.Texts.{command_of, text_of}
-use Rattle.bhs_explore.specs.declared.answers.Step.TheVariants.{Says, Stops}
-use Rattle.bhs_explore.specs.Strategies.{History, Heard, Strategy}
+use Rattle.bhs_schedules.specs.declared.answers.Step.TheVariants.{Says, Stops}
+use Rattle.bhs_schedules.specs.Strategies.{History, Heard, Strategy}
 use Rattle.bhs_searcher.specs.CommandLines.{data_of, PortFits}
 use Rattle.bhs_searcher.specs.Talks.{IsLineOf, Talks, Meets, begins, goes_on, speaks}
 use Rattle.bhs_searcher.proofs.CommandLemmas.{first_in-data_of, is_plain}

@@ -25,10 +25,10 @@ use Rattle.bhs_session.specs.Texts.{command_of}
 use Rattle.bhs_wire.specs.Lines.{lines}
 use Rattle.bhs_referee.proofs.RestLemmas.{decided_done}
 use Rattle.bhs_server.specs.Written.{is_between}
-use Rattle.bhs_explore.specs.Strategies.{Strategies}
-use Rattle.bhs_explore.specs.Schedules.{Trial, opening}
-use Rattle.bhs_explore.specs.Everywhere.{EveryScheduleSolves}
-use Rattle.bhs_explore.specs.Endings.{EveryScheduleCanRest}
+use Rattle.bhs_schedules.specs.Strategies.{Strategies}
+use Rattle.bhs_schedules.specs.Schedules.{Trial, opening}
+use Rattle.bhs_schedules.specs.Everywhere.{EveryScheduleSolves}
+use Rattle.bhs_schedules.specs.Endings.{EveryScheduleCanRest}
 use Rattle.bhs_theorems.specs.Met.{Meeting, Hears, Refuses, Arrives, view_from, view_of, bytes, AreDue}
 use Rattle.bhs_theorems.specs.ContestMet.{Attended, TookPart, IsLeftAs, IsLeftAway, IsSentAsMet, is_whole, AreSaid}
 use Rattle.bhs_theorems.proofs.ContestMetLemmas.{sent_as_met_lemma}

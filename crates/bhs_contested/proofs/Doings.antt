@@ -2,9 +2,9 @@
 use Rattle.std.proofs.Common.{ℕ, ◌+◌, ◌≡◌, ◌⊎◌, true, List, [], ◌∷◌, ◌++◌, refl, sym, ap, subst, inl, inr}
 use Rattle.std.specs.Prelude.{◌≢◌}
 use Rattle.bhs_model.specs.Views.{View, Sight, Standing, Away, standing}
-use Rattle.bhs_explore.specs.declared.answers.Step.{Step}
-use Rattle.bhs_explore.specs.declared.answers.Step.TheVariants.{Says, Sleeps, Stops}
-use Rattle.bhs_explore.specs.Strategies.{Heard, Woke, History, Strategy}
+use Rattle.bhs_schedules.specs.declared.answers.Step.{Step}
+use Rattle.bhs_schedules.specs.declared.answers.Step.TheVariants.{Says, Sleeps, Stops}
+use Rattle.bhs_schedules.specs.Strategies.{Heard, Woke, History, Strategy}
 use Rattle.bhs_theorems.specs.Met.{Meeting, Hears, Refuses, Arrives, past_after, view_from}
 use Rattle.bhs_theorems.specs.Met.{answer_to, takes_commands, IsDue}
 

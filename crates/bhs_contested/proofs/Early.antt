@@ -13,15 +13,15 @@ use Rattle.bhs_model.specs.Kept.{lost, lost_after, destroys}
 use Rattle.bhs_referee.specs.declared.verdicts.Verdict.{Verdict}
 use Rattle.bhs_referee.specs.Findings.{Findings, findings, found_after, moves_by}
 use Rattle.bhs_referee.specs.Rest.{verdict_after}
-use Rattle.bhs_explore.specs.Schedules.{Trial, Scene, Action, Makes, Wakes, Rests, deed, done, turn, turns, under}
-use Rattle.bhs_explore.specs.Schedules.{opening}
-use Rattle.bhs_explore.specs.Schedules.{verdict}
-use Rattle.bhs_explore.specs.Everywhere.{EveryScheduleSolves}
-use Rattle.bhs_explore.specs.Endings.{EveryScheduleCanRest}
-use Rattle.bhs_explore.proofs.Costs.{gone_of, moves_said}
-use Rattle.bhs_explore.proofs.Losses.{counted_within}
-use Rattle.bhs_explore.proofs.Schedules.{turns_append}
-use Rattle.bhs_explore.proofs.Turns.{found_more, lost_more, verdict_is}
+use Rattle.bhs_schedules.specs.Schedules.{Trial, Scene, Action, Makes, Wakes, Rests, deed, done, turn, turns, under}
+use Rattle.bhs_schedules.specs.Schedules.{opening}
+use Rattle.bhs_schedules.specs.Schedules.{verdict}
+use Rattle.bhs_schedules.specs.Everywhere.{EveryScheduleSolves}
+use Rattle.bhs_schedules.specs.Endings.{EveryScheduleCanRest}
+use Rattle.bhs_schedules.proofs.Costs.{gone_of, moves_said}
+use Rattle.bhs_schedules.proofs.Losses.{counted_within}
+use Rattle.bhs_schedules.proofs.Turns.{turns_append}
+use Rattle.bhs_schedules.proofs.Turns.{found_more, lost_more, verdict_is}
 use Rattle.bhs_contested.specs.Contests.{IsWithin}
 use Rattle.bhs_contested.proofs.Findings.{findings_kept}
 use Rattle.bhs_contested.proofs.Scenes.{Keeps, IsPlayedTo, lost_is}

@@ -9,8 +9,8 @@ use Rattle.bhs_model.specs.declared.replies.Reply.TheVariants.{Here, Gone, Noted
 use Rattle.bhs_model.specs.Examples.{none_held}
 use Rattle.bhs_time.specs.declared.kinds.ScheduleKind.TheVariants.{Adaptive}
 use Rattle.bhs_replay.proofs.EventReads.{is_number, reads, read-compact_text}
-use Rattle.bhs_explore.specs.declared.answers.Step.TheVariants.{Says, Stops}
-use Rattle.bhs_explore.specs.Strategies.{Heard, History}
+use Rattle.bhs_schedules.specs.declared.answers.Step.TheVariants.{Says, Stops}
+use Rattle.bhs_schedules.specs.Strategies.{Heard, History}
 use Rattle.bhs_protocols.specs.AllRings.{IsSetOn}
 use Rattle.bhs_protocols.proofs.StandardNetworks.{standard_rings_are_set}
 use Rattle.bhs_protocols_triangle.specs.Triangle.{Phase, Begins, Departs, Goes, Turns, ComesBack, Accuses, Ends}

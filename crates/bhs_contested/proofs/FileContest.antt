@@ -7,10 +7,10 @@ use Rattle.bhs_net.specs.Network.{Network}
 use Rattle.bhs_match.specs.Matches.{Play}
 use Rattle.bhs_model.specs.declared.setups.Setup.{Setup}
 use Rattle.bhs_wasm.specs.Contents.{Contents, contents_of}
-use Rattle.bhs_explore.specs.declared.results.Bounds.{Bounds}
+use Rattle.bhs_schedules.specs.declared.results.Bounds.{Bounds}
 use Rattle.bhs_explore.specs.Answers.{is_held}
-use Rattle.bhs_explore.specs.Schedules.{Trial}
-use Rattle.bhs_explore.specs.Strategies.{Strategies, Strategy}
+use Rattle.bhs_schedules.specs.Schedules.{Trial}
+use Rattle.bhs_schedules.specs.Strategies.{Strategies, Strategy}
 use Rattle.bhs_wasm_read.specs.Modules.{module_in}
 use Rattle.bhs_wasm_team.specs.declared.agents.Role.{Role}
 use Rattle.bhs_wasm_team.specs.declared.agents.Roles.{Roles}
@@ -18,7 +18,7 @@ use Rattle.bhs_wasm_team.specs.declared.agents.TheConstants.{FUEL}
 use Rattle.bhs_wasm_team.specs.Agents.{strategy_of}
 use Rattle.bhs_wasm_team.specs.Laws.{IsSolved, trial_in as trial_of_roles}
 use Rattle.bhs_wasm_team.specs.Roles.{all_roles, role_at, role_of, role_number, strategies_in}
-use Rattle.bhs_orders.specs.ModuleExploration.{ModuleLine, arguments_of, programs_of}
+use Rattle.bhs_orders_explore.specs.ModuleExploration.{ModuleLine, arguments_of, programs_of}
 use Rattle.bhs_contested.specs.Contests.{IsOrderly, WaitsOnLinks, trial_in}
 use Rattle.bhs_contested.specs.ModuleContests.{IsModuleContest, ModulesAreNeverWrong, ModulesSolveContests, RunsItsFile}
 use Rattle.bhs_contested.proofs.Contest.{contests_are_solved, contests_are_never_wrong, contests_stay_within}

@@ -21,13 +21,13 @@ use Rattle.bhs_referee.specs.Verdicts.{outcome_of, passes, accuses, is_right, is
 use Rattle.bhs_referee.specs.Verdicts.{is_over_dark, first_unreached, guess_or_solved}
 use Rattle.bhs_referee.specs.Rest.{verdict_after, AreDone}
 use Rattle.bhs_referee.proofs.RestLemmas.{verdicts_stand_lemma}
-use Rattle.bhs_explore.specs.declared.answers.Step.{Step}
-use Rattle.bhs_explore.specs.Schedules.{Trial, Scene, position_of, Action, Makes, Rests, action_at, under}
-use Rattle.bhs_explore.specs.Schedules.{is_move, IsAtRest, verdict}
-use Rattle.bhs_explore.specs.Everywhere.{IsSolvedWithin, EveryScheduleSolves}
-use Rattle.bhs_explore.specs.Endings.{EveryScheduleCanRest}
-use Rattle.bhs_explore.proofs.Turns.{run_more, lost_more, found_more}
-use Rattle.bhs_explore.proofs.Losses.{lost_are_doomed, IsScene}
+use Rattle.bhs_schedules.specs.declared.answers.Step.{Step}
+use Rattle.bhs_schedules.specs.Schedules.{Trial, Scene, position_of, Action, Makes, Rests, action_at, under}
+use Rattle.bhs_schedules.specs.Schedules.{is_move, IsAtRest, verdict}
+use Rattle.bhs_schedules.specs.Everywhere.{IsSolvedWithin, EveryScheduleSolves}
+use Rattle.bhs_schedules.specs.Endings.{EveryScheduleCanRest}
+use Rattle.bhs_schedules.proofs.Turns.{run_more, lost_more, found_more}
+use Rattle.bhs_schedules.proofs.Losses.{lost_are_doomed, IsScene}
 use Rattle.bhs_protocols.specs.Configurations.{Configuration, blank, turns_in}
 use Rattle.bhs_protocols.proofs.ConfigurationLemmas.{configurations_follow}
 use Rattle.bhs_protocols.proofs.LastWordLemmas.{right_after}

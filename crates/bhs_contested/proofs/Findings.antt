@@ -15,7 +15,7 @@ use Rattle.bhs_model.proofs.KeptLemmas.{unkept_state}
 use Rattle.bhs_referee.specs.Findings.{Findings, nothing_found, accused_by, moves_by}
 use Rattle.bhs_referee.specs.Findings.{reached_by, found_after, found_from}
 use Rattle.bhs_referee.specs.Findings.{findings}
-use Rattle.bhs_explore.proofs.Turns.{changed_itself, unreached}
+use Rattle.bhs_schedules.proofs.Turns.{changed_itself, unreached}
 
 -- a reply by which nothing is found
 abbrev IsVain : Option Reply → Type 0

@@ -19,12 +19,12 @@ use Rattle.bhs_model.specs.Draws.{is_held}
 use Rattle.bhs_model.proofs.StepLemmas.{by_cases, changed_same, next_heard, next_arrived, next_no_arrival}
 use Rattle.bhs_model.proofs.StepLemmas.{answered_by_past, arrival_by_past, no_arrival_no_reply}
 use Rattle.bhs_model.proofs.KeptLemmas.{first_kept}
-use Rattle.bhs_explore.specs.declared.answers.Step.{Step}
-use Rattle.bhs_explore.specs.Strategies.{Heard, hearing}
-use Rattle.bhs_explore.specs.Schedules.{Trial, Scene, position_of, Makes, Rests, action_at, deed}
-use Rattle.bhs_explore.specs.Everywhere.{EveryScheduleSolves}
-use Rattle.bhs_explore.specs.Endings.{EveryScheduleCanRest}
-use Rattle.bhs_explore.proofs.Turns.{run_more, lost_more}
+use Rattle.bhs_schedules.specs.declared.answers.Step.{Step}
+use Rattle.bhs_schedules.specs.Strategies.{Heard, hearing}
+use Rattle.bhs_schedules.specs.Schedules.{Trial, Scene, position_of, Makes, Rests, action_at, deed}
+use Rattle.bhs_schedules.specs.Everywhere.{EveryScheduleSolves}
+use Rattle.bhs_schedules.specs.Endings.{EveryScheduleCanRest}
+use Rattle.bhs_schedules.proofs.Turns.{run_more, lost_more}
 use Rattle.bhs_theorems.specs.Met.{Meeting, Hears, Refuses, Arrives, past_after, answer_to, IsDue}
 use Rattle.bhs_contested.specs.Contests.{IsOrderly, AreOverFree}
 use Rattle.bhs_contested.proofs.Steps.{steps, steps_met, Grows, grow_run}

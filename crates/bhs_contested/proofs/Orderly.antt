@@ -19,13 +19,13 @@ use Rattle.bhs_model.specs.Runs.{delivered, next, reply}
 use Rattle.bhs_model.proofs.StepLemmas.{changed_same, next_heard, next_unheard, next_no_arrival, next_arrived}
 use Rattle.bhs_model.proofs.StepLemmas.{answered_by_past, no_arrival_no_reply, by_cases}
 use Rattle.bhs_model.proofs.LegalLemmas.{IsLegal, KnowsPorts, all_run, either}
-use Rattle.bhs_explore.specs.declared.answers.Step.{Step}
-use Rattle.bhs_explore.specs.declared.answers.Step.TheVariants.{Says, Sleeps, Stops, Fails}
-use Rattle.bhs_explore.specs.Strategies.{History, Heard, Strategy, hearing}
-use Rattle.bhs_explore.specs.Schedules.{Trial, Scene, state_of, position_of, Action, Makes, Wakes, Rests}
-use Rattle.bhs_explore.specs.Schedules.{action_at, deed, done, turn, under}
-use Rattle.bhs_explore.proofs.Closed.{under_each}
-use Rattle.bhs_explore.proofs.Turns.{run_more, own_deed}
+use Rattle.bhs_schedules.specs.declared.answers.Step.{Step}
+use Rattle.bhs_schedules.specs.declared.answers.Step.TheVariants.{Says, Sleeps, Stops, Fails}
+use Rattle.bhs_schedules.specs.Strategies.{History, Heard, Strategy, hearing}
+use Rattle.bhs_schedules.specs.Schedules.{Trial, Scene, state_of, position_of, Action, Makes, Wakes, Rests}
+use Rattle.bhs_schedules.specs.Schedules.{action_at, deed, done, turn, under}
+use Rattle.bhs_schedules.proofs.Closed.{under_each}
+use Rattle.bhs_schedules.proofs.Turns.{run_more, own_deed}
 use Rattle.bhs_protocols.proofs.ConfigurationLemmas.{open_turn}
 use Rattle.bhs_theorems.specs.Met.{takes_commands}
 use Rattle.bhs_contested.specs.Contests.{WaitersAreOrderly}

@@ -10,9 +10,9 @@ use Rattle.bhs_lock.specs.Passes.{kept_command}
 use Rattle.bhs_session.specs.Texts.{command_of, text_of}
 use Rattle.bhs_wire.specs.Lines.{lines}
 use Rattle.bhs_world.specs.Tables.{is_of_board}
-use Rattle.bhs_explore.specs.declared.answers.Step.{Step}
-use Rattle.bhs_explore.specs.declared.answers.Step.TheVariants.{Says, Sleeps, Stops, Fails}
-use Rattle.bhs_explore.specs.Strategies.{History, Observation, Heard, Woke, Strategy}
+use Rattle.bhs_schedules.specs.declared.answers.Step.{Step}
+use Rattle.bhs_schedules.specs.declared.answers.Step.TheVariants.{Says, Sleeps, Stops, Fails}
+use Rattle.bhs_schedules.specs.Strategies.{History, Observation, Heard, Woke, Strategy}
 use Rattle.bhs_theorems.specs.Met.{Meeting, Hears, Refuses, Arrives, past_after, answer_to, bytes_from, takes_commands}
 use Rattle.bhs_theorems.specs.Met.{IsDue, AreDue}
 use Rattle.bhs_theorems.specs.ContestMet.{AreSaid}

@@ -20,12 +20,12 @@ use Rattle.bhs_model.proofs.StepLemmas.{changed_same, changed_other, next_unhear
 use Rattle.bhs_model.proofs.KeptLemmas.{kept_suffice_lemma}
 use Rattle.bhs_model.proofs.AddLemmas.{events_add_lemma}
 use Rattle.bhs_model.proofs.LegalLemmas.{all_run, either}
-use Rattle.bhs_explore.specs.declared.answers.Step.{Step}
-use Rattle.bhs_explore.specs.declared.answers.Step.TheVariants.{Says, Sleeps}
-use Rattle.bhs_explore.specs.Strategies.{Heard, Woke, History, hearing}
-use Rattle.bhs_explore.specs.Schedules.{Trial, Scene, opening, state_of, Action, Makes, Wakes, Rests}
-use Rattle.bhs_explore.specs.Schedules.{action_at, deed, done, turn, under}
-use Rattle.bhs_explore.proofs.Turns.{run_more}
+use Rattle.bhs_schedules.specs.declared.answers.Step.{Step}
+use Rattle.bhs_schedules.specs.declared.answers.Step.TheVariants.{Says, Sleeps}
+use Rattle.bhs_schedules.specs.Strategies.{Heard, Woke, History, hearing}
+use Rattle.bhs_schedules.specs.Schedules.{Trial, Scene, opening, state_of, Action, Makes, Wakes, Rests}
+use Rattle.bhs_schedules.specs.Schedules.{action_at, deed, done, turn, under}
+use Rattle.bhs_schedules.proofs.Turns.{run_more}
 use Rattle.bhs_theorems.specs.Met.{Refuses, answer_to, takes_commands, IsDue}
 use Rattle.bhs_contested.proofs.Steps.{steps, steps_met}
 use Rattle.bhs_contested.proofs.Untouched.{IsUntouched, untouched_told, untouched_deliver}

@@ -15,15 +15,15 @@ use Rattle.bhs_referee.specs.declared.verdicts.Verdict.{Verdict}
 use Rattle.bhs_referee.specs.Findings.{Findings, findings}
 use Rattle.bhs_referee.specs.Verdicts.{outcome_of, is_present, is_unfinished, accuses, is_right, is_silent}
 use Rattle.bhs_referee.specs.Verdicts.{is_over_dark, first_unreached, guess_or_solved}
-use Rattle.bhs_explore.specs.declared.answers.Step.{Step}
-use Rattle.bhs_explore.specs.declared.answers.Step.TheVariants.{Stops}
-use Rattle.bhs_explore.specs.Strategies.{History}
-use Rattle.bhs_explore.specs.Schedules.{Trial, Scene, state_of, position_of, Action, Makes, Wakes, Rests, action_at}
-use Rattle.bhs_explore.specs.Schedules.{deed, done, turn, turns, under, opening}
-use Rattle.bhs_explore.specs.Everywhere.{EveryScheduleSolves}
-use Rattle.bhs_explore.specs.Endings.{EveryScheduleCanRest}
-use Rattle.bhs_explore.proofs.Closed.{IsKept, kept_by_turns}
-use Rattle.bhs_explore.proofs.Turns.{run_more, IsOwn, own_deed, verdict_is}
+use Rattle.bhs_schedules.specs.declared.answers.Step.{Step}
+use Rattle.bhs_schedules.specs.declared.answers.Step.TheVariants.{Stops}
+use Rattle.bhs_schedules.specs.Strategies.{History}
+use Rattle.bhs_schedules.specs.Schedules.{Trial, Scene, state_of, position_of, Action, Makes, Wakes, Rests, action_at}
+use Rattle.bhs_schedules.specs.Schedules.{deed, done, turn, turns, under, opening}
+use Rattle.bhs_schedules.specs.Everywhere.{EveryScheduleSolves}
+use Rattle.bhs_schedules.specs.Endings.{EveryScheduleCanRest}
+use Rattle.bhs_schedules.proofs.Closed.{IsKept, kept_by_turns}
+use Rattle.bhs_schedules.proofs.Turns.{run_more, IsOwn, own_deed, verdict_is}
 use Rattle.bhs_contested.proofs.Untouched.{untouched_told, untouched_deliver}
 
 -- ---- schedules one behind the other

@@ -5,9 +5,9 @@ use Rattle.std.specs.List.{list_any}
 use Rattle.bhs_model.specs.declared.commands.Command.{Command}
 use Rattle.bhs_model.specs.declared.replies.Reply.{Reply}
 use Rattle.bhs_wire.specs.Lines.{is_line_feed}
-use Rattle.bhs_explore.specs.declared.answers.Step.{Step}
-use Rattle.bhs_explore.specs.declared.answers.Step.TheVariants.{Says, Sleeps, Stops, Fails}
-use Rattle.bhs_explore.specs.Strategies.{History, Observation, Heard, Woke, Strategy}
+use Rattle.bhs_schedules.specs.declared.answers.Step.{Step}
+use Rattle.bhs_schedules.specs.declared.answers.Step.TheVariants.{Says, Sleeps, Stops, Fails}
+use Rattle.bhs_schedules.specs.Strategies.{History, Observation, Heard, Woke, Strategy}
 use Rattle.bhs_searcher.specs.ReplyLines.{reply_on}
 use Rattle.bhs_searcher.specs.Talks.{IsLineOf, Says as SaysTo, Meets, speaks, sleeps, Talks, begins}
 use Rattle.bhs_searcher.specs.Talks.{goes_on}

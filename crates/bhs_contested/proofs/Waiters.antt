@@ -6,9 +6,9 @@ use Rattle.bhs_model.specs.declared.commands.Command.TheVariants.{Depart, Accuse
 use Rattle.bhs_model.specs.declared.limits.TheConstants.{MAX_LINE}
 use Rattle.bhs_model.specs.declared.replies.Reply.TheVariants.{Gone}
 use Rattle.bhs_model.proofs.LegalLemmas.{either}
-use Rattle.bhs_explore.specs.declared.answers.Step.{Step}
-use Rattle.bhs_explore.specs.declared.answers.Step.TheVariants.{Says, Stops, Fails}
-use Rattle.bhs_explore.specs.Strategies.{Heard}
+use Rattle.bhs_schedules.specs.declared.answers.Step.{Step}
+use Rattle.bhs_schedules.specs.declared.answers.Step.TheVariants.{Says, Stops, Fails}
+use Rattle.bhs_schedules.specs.Strategies.{Heard}
 use Rattle.bhs_protocols.specs.Halves as halving
 use Rattle.bhs_protocols.specs.Halves.{halves, left_by, is_done}
 use Rattle.bhs_protocols.specs.declared.halves.Memory.{Memory}

@@ -21,11 +21,11 @@ use Rattle.bhs_session.specs.Texts.{command_of}
 use Rattle.bhs_referee.specs.declared.verdicts.Outcome.TheVariants.{Wrong}
 use Rattle.bhs_referee.specs.declared.verdicts.Verdict.{Verdict}
 use Rattle.bhs_referee.specs.Verdicts.{verdict_of}
-use Rattle.bhs_explore.specs.declared.answers.Step.TheVariants.{Says, Stops}
-use Rattle.bhs_explore.specs.Strategies.{History, Heard, Woke, Strategy, Strategies}
-use Rattle.bhs_explore.specs.Schedules.{Trial, under, position_of}
-use Rattle.bhs_explore.specs.Everywhere.{IsSolvedWithin, EveryScheduleSolves, step_after}
-use Rattle.bhs_explore.specs.Endings.{EveryScheduleCanRest}
+use Rattle.bhs_schedules.specs.declared.answers.Step.TheVariants.{Says, Stops}
+use Rattle.bhs_schedules.specs.Strategies.{History, Heard, Woke, Strategy, Strategies}
+use Rattle.bhs_schedules.specs.Schedules.{Trial, under, position_of}
+use Rattle.bhs_schedules.specs.Everywhere.{IsSolvedWithin, EveryScheduleSolves, step_after}
+use Rattle.bhs_schedules.specs.Endings.{EveryScheduleCanRest}
 use Rattle.bhs_searcher.specs.Talks.{Talks}
 use Rattle.bhs_searcher.specs.Transcripts.{Transcript, unused, Writes, Reads}
 use Rattle.bhs_theorems.specs.ContestMet.{Attended, fed, TookPart}

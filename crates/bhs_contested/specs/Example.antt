@@ -10,8 +10,8 @@ use Rattle.bhs_match.specs.Matches.{Play}
 use Rattle.bhs_lock.specs.Passes.{Passed}
 use Rattle.bhs_referee.specs.declared.verdicts.Outcome.TheVariants.{Solved}
 use Rattle.bhs_referee.specs.Verdicts.{verdict_of}
-use Rattle.bhs_explore.specs.Everywhere.{EveryScheduleSolves}
-use Rattle.bhs_explore.specs.Endings.{EveryScheduleCanRest}
+use Rattle.bhs_schedules.specs.Everywhere.{EveryScheduleSolves}
+use Rattle.bhs_schedules.specs.Endings.{EveryScheduleCanRest}
 use Rattle.bhs_protocols.specs.StandardRings.{standard_ring}
 use Rattle.bhs_protocols_triangle.specs.Triangle.{explorers}
 use Rattle.bhs_session.specs.declared.endings.Ended.TheVariants as endings

@@ -6,7 +6,7 @@ use Rattle.bhs_model.specs.Examples.{none_held}
 use Rattle.bhs_match.specs.Decided.{AreAllDone}
 use Rattle.bhs_match.specs.Matches.{Play}
 use Rattle.bhs_referee.specs.Verdicts.{verdict_of}
-use Rattle.bhs_explore.specs.Everywhere.{IsSolvedWithin}
+use Rattle.bhs_schedules.specs.Everywhere.{IsSolvedWithin}
 use Rattle.bhs_protocols.specs.AllRings.{IsSetOn, ring_bounds}
 use Rattle.bhs_protocols.specs.Halves.{halves}
 use Rattle.bhs_protocols.specs.Shuttle.{shuttle}

@@ -6,12 +6,12 @@ use Rattle.bhs_match.specs.Matches.{Play}
 use Rattle.bhs_model.specs.declared.commands.Command.TheVariants.{Enter}
 use Rattle.bhs_referee.specs.declared.verdicts.Outcome.TheVariants.{Wrong}
 use Rattle.bhs_referee.specs.Verdicts.{verdict_of}
-use Rattle.bhs_explore.specs.declared.answers.Step.TheVariants.{Says}
-use Rattle.bhs_explore.specs.declared.results.Bounds.{Bounds}
-use Rattle.bhs_explore.specs.declared.results.Finding.TheVariants as found
+use Rattle.bhs_schedules.specs.declared.answers.Step.TheVariants.{Says}
+use Rattle.bhs_schedules.specs.declared.results.Bounds.{Bounds}
+use Rattle.bhs_schedules.specs.declared.results.Finding.TheVariants as found
 use Rattle.bhs_explore.specs.Answers.{is_held}
-use Rattle.bhs_explore.specs.Everywhere.{IsSolvedWithin}
-use Rattle.bhs_explore.specs.Strategies.{Strategies, Strategy}
+use Rattle.bhs_schedules.specs.Everywhere.{IsSolvedWithin}
+use Rattle.bhs_schedules.specs.Strategies.{Strategies, Strategy}
 use Rattle.bhs_wasm_read.specs.Modules.{module_in}
 use Rattle.bhs_wasm_team.specs.declared.agents.Roles.{Roles}
 use Rattle.bhs_wasm_team.specs.declared.agents.TheConstants.{FUEL}
@@ -19,8 +19,8 @@ use Rattle.bhs_wasm_team.specs.Agents.{strategy_of}
 use Rattle.bhs_wasm_team.specs.Roles.{role_number}
 use Rattle.bhs_command_line.specs.declared.orders.Exploration.{Exploration}
 use Rattle.bhs_lineup.specs.declared.lineups.Ready.{Ready}
-use Rattle.bhs_orders.specs.Discoveries.{found_in}
-use Rattle.bhs_orders.specs.ModuleExploration.{IsModuleReport, ModuleLine, arguments_of}
+use Rattle.bhs_orders_explore.specs.Discoveries.{found_in}
+use Rattle.bhs_orders_explore.specs.ModuleExploration.{IsModuleReport, ModuleLine, arguments_of}
 use Rattle.bhs_theorems.specs.ContestMet.{Attended}
 use Rattle.bhs_contested.specs.Contests.{IsPlayedIn, IsPlainMatch, IsWithin}
 

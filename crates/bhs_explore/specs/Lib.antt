@@ -1,14 +1,7 @@
-pub mod Strategies
-pub mod Schedules
-pub mod Everywhere
-pub mod Machines
-pub mod Spending
 pub mod Answers
-pub mod Dialogues
 pub mod Notes
 pub mod Questions
 pub mod Certificates
-pub mod Endings
 pub mod Paths
 pub mod Lassos
 pub mod Graphs
@@ -16,4 +9,3 @@ pub mod Keeping
 pub mod Results
 pub mod Counting
 pub mod Laws
-pub mod Examples

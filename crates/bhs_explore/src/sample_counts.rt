@@ -3,9 +3,9 @@
 ghost use Rattle.std.specs.Prelude.{◌≡◌, IsTrue, false};
 ghost use Rattle.bhs_explore.specs.Counting.{AreUpTo, GoesWith, IsWorst, is_excess, is_failure};
 
-use crate::results::Finding;
 use crate::sampling::{SampleRequest, SampleResult};
 use bhs_model::Objective;
+use bhs_schedules::Finding;
 
 /// Whether each schedule was counted, one is told that fails exactly if some failed, and else the worst is told. An
 /// agent that wants more commands than its quota ends the drawing, so then nothing is asked.

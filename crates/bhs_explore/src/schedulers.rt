@@ -1,9 +1,9 @@
 //! Whose turn is next in a drawn schedule.
 
-use crate::answers::Step;
 use crate::lookups::{get, set};
 use crate::state_graph::StateGraph;
 use bhs_model::Scheduler;
+use bhs_schedules::Step;
 use bhs_state::Standing;
 use bhs_world::World;
 use rand_chacha::ChaCha8Rng;

@@ -6,7 +6,8 @@ ghost use Rattle.std.specs.Prelude.{IfOk};
 ghost use Rattle.bhs_program.specs.Program.{IsStatus};
 
 use bhs_orders::{Fault, report};
-use bhs_program::{Machine, run, words_of};
+use bhs_orders_serve::Machine;
+use bhs_program::{run, words_of};
 use std::alloc::Global;
 use std::io;
 use std::io::{BufWriter, Input, Print, Write};

@@ -5,7 +5,7 @@ use Rattle.std.specs.List.{list_any}
 use Rattle.std.proofs.lemmas.List.Folds.{list_any-append}
 use Rattle.bhs_model.specs.declared.limits.TheConstants.{MAX_TEXT}
 use Rattle.bhs_wire.specs.Lines.{is_line_feed}
-use Rattle.bhs_orders.specs.Interactive.{IsPart}
+use Rattle.bhs_orders.specs.LineStates.{IsPart}
 use Rattle.bhs_orders.specs.LineStates.{IsOverlong}
 
 -- more of a line makes it too long, and either it ends behind that or all that was read is of it

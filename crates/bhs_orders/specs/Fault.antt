@@ -14,8 +14,8 @@ use Rattle.bhs_replay.specs.declared.faults.WritingFault.{WritingFault}
 use Rattle.bhs_replay.specs.declared.faults.WritingFault.TheVariants as writing
 use Rattle.bhs_view.specs.declared.twins.TwinFault.{TwinFault}
 use Rattle.bhs_view.specs.declared.twins.TwinFault.TheVariants as twins
-use Rattle.bhs_explore.specs.declared.faults.ExploreFault.{ExploreFault}
-use Rattle.bhs_explore.specs.declared.faults.ExploreFault.TheVariants as exploring
+use Rattle.bhs_schedules.specs.declared.faults.ExploreFault.{ExploreFault}
+use Rattle.bhs_schedules.specs.declared.faults.ExploreFault.TheVariants as exploring
 use Rattle.bhs_orders.specs.declared.reporting.appeal_faults.AppealFault.{AppealFault}
 use Rattle.bhs_orders.specs.declared.reporting.appeal_faults.AppealFault.TheVariants.{Adaptive}
 use Rattle.bhs_orders.specs.declared.reporting.faults.Fault.{Fault}

@@ -1,5 +1,5 @@
--- Lines that are read piece by piece. Only contracts of private functions cite it.
-use Rattle.std.specs.Prelude.{◌≡◌, ◌⊎◌, ◌<◌, ℕ, false, List, ◌∷◌, ◌++◌, length}
+-- Lines that are read piece by piece.
+use Rattle.std.specs.Prelude.{◌≡◌, ◌⊎◌, ◌<◌, ◌≤◌, ℕ, false, List, ◌∷◌, ◌++◌, length}
 use Rattle.std.specs.List.{list_any}
 use Rattle.bhs_model.specs.declared.limits.TheConstants.{MAX_TEXT}
 use Rattle.bhs_wire.specs.Lines.{is_line_feed}
@@ -19,3 +19,8 @@ abbrev pub IsTaken : (line piece line' : List ℕ) → LineState → Type 0
 IsTaken line piece line' (Ended rest) = line ++ piece ≡ line' ++ 10 ∷ rest.now
 IsTaken line piece line' Unfinished = line ++ piece ≡ line'
 IsTaken line piece line' Overlong = IsOverlong (line ++ piece) × (line' ≡ line)
+
+-- what was read is a part of a line, and not too long
+pub record IsPart (text : List ℕ) : Type 0 where
+  pub unended : list_any is_line_feed text ≡ false
+  pub short : length text ≤ MAX_TEXT

@@ -44,3 +44,8 @@ pub data Reports {O : Type 0} (Printing : List ℕ → O → O → ℕ → Type 
   prints : (text : List ℕ) → IsReport text → Printing text output output' code
       → Reports Printing IsReport output output' code
   stops : (fault : Fault) → code ≡ status fault → output' ≡ output → Reports Printing IsReport output output' code
+
+-- nothing was read, and nothing was written
+pub record Rests {I O : Type 0} (input input' : I) (output output' : O) : Type 0 where
+  pub unread : input' ≡ input
+  pub unwritten : output' ≡ output

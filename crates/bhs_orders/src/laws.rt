@@ -1,33 +1,9 @@
-//! Laws of rehearsals whose scripts are played as they come, and a worked text of turns. The functions do nothing.
+//! A worked text of turns. The function does nothing.
 
-ghost use Rattle.std.specs.Prelude.{◌≡◌, ℕ, Bool, List, [], ◌∷◌, codes};
-ghost use Rattle.bhs_stream.specs.Streams.{known_gives, known_takes};
-ghost use Rattle.bhs_rehearsal.specs.Stages.{Stage, Instruction};
-ghost use Rattle.bhs_orders.specs.Answered.{HasAnswered, IsTranscribed, Mean, known_flushes};
-ghost use Rattle.bhs_orders.specs.Interactive.{ScriptProgress, Interacts};
+ghost use Rattle.std.specs.Prelude.{◌≡◌, [], ◌∷◌, codes};
 ghost use Rattle.bhs_orders.specs.Turns.{turns_text};
-
-use std::io::{Read, Write};
-
-/// Where the bytes of the reader and of the writer are known, all that was written are the answers to the lines of all
-/// that was read, in order.
-pub fn known_answers<R: Read, W: Write>()
-    ensures { (turns : ℕ) (stage : Stage) (input input' : R) (output output' : W) (reads : ℕ) (is_over : Bool)
-        (progress : ScriptProgress)
-        → Interacts (known_gives R.remaining) (known_takes W.contents) (known_flushes W.contents) turns stage input
-        output
-        reads is_over progress input' output'
-        → HasAnswered R.remaining W.contents stage input input' output output' progress }
-{}
 
 /// The text of three turns, as a file of turns has it.
 pub fn worked_turns()
     ensures { turns_text (0 ∷ 12 ∷ 4294967295 ∷ []) ≡ codes "0\n12\n4294967295\n" }
-{}
-
-/// Lines are answered as a script of them prints, with an empty line behind what each of them sends, and leave the
-/// rehearsal as that does.
-pub fn answers_are_transcripts()
-    ensures { (games : ℕ) (stage : Stage) (lines : List (List ℕ)) (script : List Instruction) → Mean games lines script
-        → IsTranscribed games stage lines script }
 {}

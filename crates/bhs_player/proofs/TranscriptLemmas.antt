@@ -3,9 +3,9 @@ use Rattle.std.proofs.Common.{◌≡◌, ◌∙◌, ◌+◌, ℕ, Bool, List, []
 use Rattle.std.proofs.Common.{append-nil}
 use Rattle.bhs_stream.specs.Reading.{Gathers, begins as gathers_none, goes_on as gathers_more}
 use Rattle.bhs_stream.specs.Streams.{Chunk, WriteAnswer}
-use Rattle.bhs_explore.specs.declared.answers.Step.{Step}
-use Rattle.bhs_explore.specs.declared.answers.Step.TheVariants.{Says as SaysIt, Sleeps, Stops, Fails}
-use Rattle.bhs_explore.specs.Strategies.{History, Observation, Strategy}
+use Rattle.bhs_schedules.specs.declared.answers.Step.{Step}
+use Rattle.bhs_schedules.specs.declared.answers.Step.TheVariants.{Says as SaysIt, Sleeps, Stops, Fails}
+use Rattle.bhs_schedules.specs.Strategies.{History, Observation, Strategy}
 use Rattle.bhs_searcher.specs.Talks.{Says, Meets, speaks, sleeps, Talks, begins, goes_on}
 use Rattle.bhs_searcher.specs.Transcripts.{Transcript, unused, Writes, Reads}
 use Rattle.bhs_player.specs.declared.wire.Wire.{Wire}

@@ -1,6 +1,6 @@
 -- Agents that the program plays.
 use Rattle.std.specs.Prelude.{◌≡◌, ℕ, List, Some}
-use Rattle.bhs_explore.specs.Strategies.{Strategy}
+use Rattle.bhs_schedules.specs.Strategies.{Strategy}
 use Rattle.bhs_wasm.specs.Contents.{contents_of}
 use Rattle.bhs_wasm_read.specs.Modules.{module_in}
 use Rattle.bhs_wasm_team.specs.declared.agents.TheConstants.{FUEL}

@@ -3,7 +3,7 @@ use Rattle.std.specs.Prelude.{◌≡◌, ℕ, Bool, true, List, [], ◌++◌}
 use Rattle.bhs_stream.specs.Reading.{Gathers}
 use Rattle.bhs_stream.specs.Sending.{PutsAll}
 use Rattle.bhs_stream.specs.Streams.{Chunk, WriteAnswer}
-use Rattle.bhs_explore.specs.Strategies.{Strategy}
+use Rattle.bhs_schedules.specs.Strategies.{Strategy}
 use Rattle.bhs_searcher.specs.declared.playing.PlayEnd.{PlayEnd}
 use Rattle.bhs_searcher.specs.Talks.{Ends}
 use Rattle.bhs_searcher.specs.Transcripts.{Transcript, unused, Writes, Reads}

@@ -12,28 +12,30 @@ use Rattle.bhs_rehearsal.specs.Stages.{Stage}
 use Rattle.bhs_command_line.specs.declared.orders.Order.{Order}
 use Rattle.bhs_command_line.specs.declared.orders.Order.TheVariants as order
 use Rattle.bhs_command_line.specs.declared.orders.Exploration.{Exploration}
-use Rattle.bhs_explore.specs.declared.results.Finding.{Finding}
-use Rattle.bhs_explore.specs.declared.results.Finding.TheVariants as found
+use Rattle.bhs_schedules.specs.declared.results.Finding.{Finding}
+use Rattle.bhs_schedules.specs.declared.results.Finding.TheVariants as found
 use Rattle.bhs_orders.specs.declared.reporting.faults.Fault.TheVariants.{Write, Memory, Twin, Text}
-use Rattle.bhs_orders.specs.Appeals.{Appeals, upholds, rejects, hears_nothing}
-use Rattle.bhs_orders.specs.ContestTables.{IsTableOf, TablesContest, TablesMatches, tables_contest, tables_found}
-use Rattle.bhs_orders.specs.ContestTables.{tables_none, tables_nothing}
-use Rattle.bhs_orders.specs.Recovery.{AreSaved, RecoversContest, all_saved, recovers_contest}
-use Rattle.bhs_orders.specs.Recovery.{recovers_nothing, unsaved_one}
-use Rattle.bhs_orders.specs.ContestTables.{AreFound, found_more, nothing_found, IsFound, status_in}
-use Rattle.bhs_orders.specs.Discoveries.{Explores, ExploresMatch, found_in, found_status}
-use Rattle.bhs_orders.specs.Discoveries.{exploration_done, exploration_ends, explores_nothing, explores_on}
-use Rattle.bhs_orders.specs.ModuleExploration.{ExploresModules, explores_modules, explores_no_modules}
-use Rattle.bhs_orders.specs.Rehearsal.{Rehearses, done, unfiled, ends}
-use Rattle.bhs_orders.specs.RehearsedTournaments.{RehearsesNamed, rehearses_on, refuses_file}
-use Rattle.bhs_orders.specs.InteractiveTournaments.{InteractsNamed, InteractsWhole, tournament_refused}
-use Rattle.bhs_orders.specs.InteractiveTournaments.{interaction_done, interaction_ends, interaction_on}
-use Rattle.bhs_orders.specs.InteractiveTournaments.{interaction_unfiled}
+use Rattle.bhs_orders_results.specs.Appeals.{Appeals, upholds, rejects, hears_nothing}
+use Rattle.bhs_orders_results.specs.ContestTables.{IsTableOf, TablesContest, TablesMatches, tables_contest}
+use Rattle.bhs_orders_results.specs.ContestTables.{tables_found}
+use Rattle.bhs_orders_results.specs.ContestTables.{tables_none, tables_nothing}
+use Rattle.bhs_orders_results.specs.Recovery.{AreSaved, RecoversContest, all_saved, recovers_contest}
+use Rattle.bhs_orders_results.specs.Recovery.{recovers_nothing, unsaved_one}
+use Rattle.bhs_orders_results.specs.ContestTables.{AreFound, found_more, nothing_found, IsFound, status_in}
+use Rattle.bhs_orders_explore.specs.Discoveries.{Explores, ExploresMatch, found_in, found_status}
+use Rattle.bhs_orders_explore.specs.Discoveries.{exploration_done, exploration_ends, explores_nothing, explores_on}
+use Rattle.bhs_orders_explore.specs.ModuleExploration.{ExploresModules, explores_modules, explores_no_modules}
+use Rattle.bhs_orders_rehearse.specs.Rehearsal.{Rehearses, done, unfiled, ends}
+use Rattle.bhs_orders_rehearse.specs.RehearsedTournaments.{RehearsesNamed, rehearses_on, refuses_file}
+use Rattle.bhs_orders_rehearse.specs.InteractiveTournaments.{InteractsNamed, InteractsWhole, tournament_refused}
+use Rattle.bhs_orders_rehearse.specs.InteractiveTournaments.{interaction_done, interaction_ends, interaction_on}
+use Rattle.bhs_orders_rehearse.specs.InteractiveTournaments.{interaction_unfiled}
 use Rattle.bhs_orders.specs.Showing.{Prints, all, part, held_back, PrintsByLine, whole, cut_off, kept_back, Reports}
 use Rattle.bhs_orders.specs.Showing.{prints, stops}
 use Rattle.bhs_orders.specs.declared.reporting.statuses.TheConstants.{DONE}
-use Rattle.bhs_program.specs.Contests.{Files, all_filed, unfiled_one, Tables, tabled, untabled, Hosts, fares, fails}
-use Rattle.bhs_program.specs.Contests.{Serves, serves_on, goes_unheard, refuses_contest}
+use Rattle.bhs_orders_serve.specs.Contests.{Files, all_filed, unfiled_one, Tables, tabled, untabled, Hosts, fares}
+use Rattle.bhs_orders_serve.specs.Contests.{fails}
+use Rattle.bhs_orders_serve.specs.Contests.{Serves, serves_on, goes_unheard, refuses_contest}
 use Rattle.bhs_program.specs.Program.{Does, IsStatus, Obeys, does, lacks_memory}
 use Rattle.bhs_program.specs.Program.{Runs, obeys, helps, refuses_words, lacks_room}
 

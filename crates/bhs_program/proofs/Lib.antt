@@ -1,3 +1,1 @@
 pub mod ExitLemmas
-pub mod ContestLemmas
-pub mod RecordingLemmas

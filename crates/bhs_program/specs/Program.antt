@@ -5,21 +5,22 @@ use Rattle.bhs_stream.specs.Streams.{Chunk, WriteAnswer}
 use Rattle.bhs_command_line.specs.CommandLine.{AreRefused, faults, is_asked, order_in}
 use Rattle.bhs_command_line.specs.declared.orders.Order.{Order}
 use Rattle.bhs_command_line.specs.declared.orders.Order.TheVariants as order
-use Rattle.bhs_orders.specs.Appeals.{Appeals}
-use Rattle.bhs_orders.specs.ContestTables.{TablesContest}
-use Rattle.bhs_orders.specs.Discoveries.{Explores}
+use Rattle.bhs_orders_results.specs.Appeals.{Appeals}
+use Rattle.bhs_orders_results.specs.ContestTables.{TablesContest}
+use Rattle.bhs_orders_explore.specs.Discoveries.{Explores}
 use Rattle.bhs_orders.specs.Fault.{IsOfFault}
-use Rattle.bhs_orders.specs.ModuleExploration.{ExploresModules}
-use Rattle.bhs_orders.specs.RehearsedTournaments.{RehearsesEither, Rests}
-use Rattle.bhs_orders.specs.InteractiveTournaments.{InteractsEither}
+use Rattle.bhs_orders_explore.specs.ModuleExploration.{ExploresModules}
+use Rattle.bhs_orders.specs.Showing.{Rests}
+use Rattle.bhs_orders_rehearse.specs.RehearsedTournaments.{RehearsesEither}
+use Rattle.bhs_orders_rehearse.specs.InteractiveTournaments.{InteractsEither}
 use Rattle.bhs_orders.specs.Parts.{IsRecovered}
-use Rattle.bhs_orders.specs.Recovery.{RecoversContest}
-use Rattle.bhs_orders.specs.Reports.{IsJudgement, IsTable, IsPast, IsTwinReplay, HasNoTwin}
+use Rattle.bhs_orders_results.specs.Recovery.{RecoversContest}
+use Rattle.bhs_orders_results.specs.Reports.{IsJudgement, IsTable, IsPast, IsTwinReplay, HasNoTwin}
 use Rattle.bhs_orders.specs.Showing.{Prints, PrintsByLine, Reports}
 use Rattle.bhs_orders.specs.Summary.{IsSummary}
-use Rattle.bhs_orders.specs.declared.results.explaining.OutputKind.{OutputKind}
+use Rattle.bhs_orders_results.specs.declared.explaining.OutputKind.{OutputKind}
 use Rattle.bhs_orders.specs.declared.reporting.statuses.TheConstants.{DONE, FAILING, NO_MEMORY, REFUSED_WORDS}
-use Rattle.bhs_program.specs.Contests.{Serves}
+use Rattle.bhs_orders_serve.specs.Contests.{Serves}
 
 -- an exit status of the program: all was done, the words are refused, a schedule fails, or a fault came
 abbrev pub IsStatus : ℕ → Type 0

@@ -5,15 +5,14 @@ ghost use Rattle.bhs_stream.specs.Streams.{known_takes};
 ghost use Rattle.bhs_orders.specs.declared.reporting.statuses.TheConstants.{NO_MEMORY, REFUSED_WORDS};
 ghost use Rattle.bhs_program.specs.Program.{IsStatus, Obeys, Runs};
 
-use crate::machines::Machine;
-use crate::recovering::recover_named;
-use crate::serving::serve_named;
 use bhs_command_line::{Order, Parsed, order_of};
-use bhs_orders::{
-    Fault, REFUSED_WORDS, check, explore_modules_named, explore_named, print_appealed_verdict,
-    print_contest_table, print_past, print_recovered, print_table, print_twin, print_verdict,
-    rehearse_interactively_named, rehearse_named, report, show_text,
+use bhs_orders::{Fault, REFUSED_WORDS, check, print_recovered, report, show_text};
+use bhs_orders_explore::{explore_modules_named, explore_named};
+use bhs_orders_rehearse::{rehearse_interactively_named, rehearse_named};
+use bhs_orders_results::{
+    print_appealed_verdict, print_contest_table, print_past, print_table, print_twin, print_verdict,
 };
+use bhs_orders_serve::{Machine, recover_named, serve_named};
 use bhs_stream::{Input, Output, send};
 use bhs_terminal::visible;
 use std::alloc::Global;

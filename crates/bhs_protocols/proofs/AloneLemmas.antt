@@ -19,11 +19,11 @@ use Rattle.bhs_referee.specs.declared.verdicts.Verdict.{Verdict}
 use Rattle.bhs_referee.specs.Findings.{accused_by}
 use Rattle.bhs_referee.specs.Verdicts.{passes, accuses, is_over_dark, is_right, is_silent, is_unfinished, is_unreached}
 use Rattle.bhs_referee.specs.Verdicts.{first_unreached, guess_or_solved, is_hole_accused}
-use Rattle.bhs_explore.specs.declared.answers.Step.{Step}
-use Rattle.bhs_explore.specs.declared.answers.Step.TheVariants.{Says, Sleeps}
-use Rattle.bhs_explore.specs.Strategies.{Strategies}
-use Rattle.bhs_explore.specs.Schedules.{Trial, Makes, Wakes, Rests, action_at, is_move, under, verdict, IsAtRest}
-use Rattle.bhs_explore.proofs.Turns.{verdict_is}
+use Rattle.bhs_schedules.specs.declared.answers.Step.{Step}
+use Rattle.bhs_schedules.specs.declared.answers.Step.TheVariants.{Says, Sleeps}
+use Rattle.bhs_schedules.specs.Strategies.{Strategies}
+use Rattle.bhs_schedules.specs.Schedules.{Trial, Makes, Wakes, Rests, action_at, is_move, under, verdict, IsAtRest}
+use Rattle.bhs_schedules.proofs.Turns.{verdict_is}
 use Rattle.bhs_protocols.specs.Configurations.{Configuration, configuration_of, blank, deed_in, can_move_in, answer_at}
 use Rattle.bhs_protocols.specs.Configurations.{is_heard, told_at}
 use Rattle.bhs_protocols.specs.Configurations.{refused_in, woken_in, done_in, turn_in, turns_in, found_in, outcome_in}

@@ -2,8 +2,8 @@
 use Rattle.std.proofs.Common.{ℕ, zero, suc, ◌≤◌, ◌≡◌, false, List, sym, ap, ◌∙◌, subst, nat_lt, arith, refl}
 use Rattle.std.proofs.lemmas.Bool.{le-ltb}
 use Rattle.bhs_referee.specs.declared.verdicts.Verdict.{Verdict}
-use Rattle.bhs_explore.specs.Schedules.{Trial, under}
-use Rattle.bhs_explore.proofs.Turns.{verdict_is}
+use Rattle.bhs_schedules.specs.Schedules.{Trial, under}
+use Rattle.bhs_schedules.proofs.Turns.{verdict_is}
 use Rattle.bhs_protocols.specs.Configurations.{Configuration, configuration_of, blank, can_move_in, IsResting, turns_in}
 use Rattle.bhs_protocols.specs.Attained.{IsAttained}
 use Rattle.bhs_protocols.proofs.ConfigurationLemmas.{configurations_follow}

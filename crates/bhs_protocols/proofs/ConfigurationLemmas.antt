@@ -20,20 +20,21 @@ use Rattle.bhs_model.proofs.StepLemmas.{arrival_by_past, answered_by_past}
 use Rattle.bhs_model.specs.declared.replies.Why.TheVariants.{Port}
 use Rattle.bhs_model.proofs.LegalLemmas.{IsLegal, KnowsPorts, all_run, either}
 use Rattle.bhs_referee.specs.Findings.{Findings, accused_by, moves_by, reached_by, found_after, findings}
-use Rattle.bhs_explore.specs.Strategies.{Heard, History, hearing}
-use Rattle.bhs_explore.specs.declared.answers.Step.{Step}
-use Rattle.bhs_explore.specs.declared.answers.Step.TheVariants.{Sleeps}
+use Rattle.bhs_schedules.specs.Strategies.{Heard, History, hearing}
+use Rattle.bhs_schedules.specs.declared.answers.Step.{Step}
+use Rattle.bhs_schedules.specs.declared.answers.Step.TheVariants.{Sleeps}
 use Rattle.bhs_model.specs.Draws.{Held}
-use Rattle.bhs_explore.specs.Schedules.{Trial, Scene, opening, state_of, position_of, Action, Makes, Wakes, Rests, deed}
-use Rattle.bhs_explore.specs.Schedules.{action_at, is_move, can_move}
-use Rattle.bhs_explore.specs.Schedules.{faced, is_same_sight, shown_to, faces_same, done, turn, turns, under}
-use Rattle.bhs_explore.proofs.Turns.{run_more, found_more, IsOwn, own_deed, faces_itself, still_turn, IsSame}
+use Rattle.bhs_schedules.specs.Schedules.{Trial, Scene, opening, state_of, position_of, Action, Makes, Wakes, Rests}
+use Rattle.bhs_schedules.specs.Schedules.{deed}
+use Rattle.bhs_schedules.specs.Schedules.{action_at, is_move, can_move}
+use Rattle.bhs_schedules.specs.Schedules.{faced, is_same_sight, shown_to, faces_same, done, turn, turns, under}
+use Rattle.bhs_schedules.proofs.Turns.{run_more, found_more, IsOwn, own_deed, faces_itself, still_turn, IsSame}
 use Rattle.bhs_protocols.specs.Configurations.{Configuration, configuration_of, blank, deed_in, can_move_in, shown_in}
 use Rattle.bhs_protocols.specs.Configurations.{faces_alike}
 use Rattle.bhs_protocols.specs.Configurations.{is_heard, answer_at, shown_after, told_in, refused_in, said_in}
 use Rattle.bhs_protocols.specs.Configurations.{arrived_in}
 use Rattle.bhs_protocols.specs.Configurations.{delivered_in, done_in, turn_in, turns_in}
-use Rattle.bhs_explore.proofs.Turns.{changed_itself}
+use Rattle.bhs_schedules.proofs.Turns.{changed_itself}
 
 -- ---- the answer
 

@@ -9,11 +9,11 @@ use Rattle.bhs_model.specs.Runs.{Position, Before, At, changed}
 use Rattle.bhs_model.specs.Examples.{none_held}
 use Rattle.bhs_model.proofs.StepLemmas.{changed_same, changed_other}
 use Rattle.bhs_model.proofs.LegalLemmas.{either}
-use Rattle.bhs_explore.specs.declared.answers.Step.TheVariants.{Says}
-use Rattle.bhs_explore.specs.Schedules.{Action, Makes, Rests, action_at, is_move, under, position_of, can_move}
-use Rattle.bhs_explore.specs.Schedules.{IsAtRest}
-use Rattle.bhs_explore.specs.Everywhere.{OnlyEnters}
-use Rattle.bhs_explore.specs.Spending.{used_in}
+use Rattle.bhs_schedules.specs.declared.answers.Step.TheVariants.{Says}
+use Rattle.bhs_schedules.specs.Schedules.{Action, Makes, Rests, action_at, is_move, under, position_of, can_move}
+use Rattle.bhs_schedules.specs.Schedules.{IsAtRest}
+use Rattle.bhs_schedules.specs.Everywhere.{OnlyEnters}
+use Rattle.bhs_schedules.specs.Spending.{used_in}
 use Rattle.bhs_protocols.specs.Configurations.{Configuration, configuration_of, blank, said_in, refused_in}
 use Rattle.bhs_protocols.specs.Configurations.{told_in, done_in, is_heard}
 use Rattle.bhs_protocols.specs.Configurations.{turn_in, turns_in}

@@ -13,11 +13,11 @@ use Rattle.bhs_model.specs.Worlds.{World, doomed}
 use Rattle.bhs_model.specs.Runs.{Position, Before, At, Bound, After, changed, position_after}
 use Rattle.bhs_model.proofs.StepLemmas.{changed_same, changed_other}
 use Rattle.bhs_model.proofs.LegalLemmas.{either}
-use Rattle.bhs_explore.specs.declared.answers.Step.{Step}
-use Rattle.bhs_explore.specs.declared.answers.Step.TheVariants.{Says, Sleeps, Stops, Fails}
-use Rattle.bhs_explore.specs.Strategies.{Heard, History, Woke}
-use Rattle.bhs_explore.specs.Schedules.{Trial, Action, Makes, Wakes, Rests, action_at, position_of, under}
-use Rattle.bhs_explore.specs.Everywhere.{OnlyEnters, step_after}
+use Rattle.bhs_schedules.specs.declared.answers.Step.{Step}
+use Rattle.bhs_schedules.specs.declared.answers.Step.TheVariants.{Says, Sleeps, Stops, Fails}
+use Rattle.bhs_schedules.specs.Strategies.{Heard, History, Woke}
+use Rattle.bhs_schedules.specs.Schedules.{Trial, Action, Makes, Wakes, Rests, action_at, position_of, under}
+use Rattle.bhs_schedules.specs.Everywhere.{OnlyEnters, step_after}
 use Rattle.bhs_protocols.specs.Configurations.{Configuration, blank, is_heard, told_in}
 use Rattle.bhs_protocols.specs.Configurations.{refused_in, said_in, delivered_in, arrived_in, done_in}
 use Rattle.bhs_protocols.specs.Configurations.{answer_at, turn_in, turns_in}

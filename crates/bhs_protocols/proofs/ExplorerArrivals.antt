@@ -7,8 +7,8 @@ use Rattle.bhs_model.specs.declared.replies.Reply.TheVariants.{Here}
 use Rattle.bhs_model.specs.Worlds.{doomed}
 use Rattle.bhs_model.specs.Runs.{At, Bound, changed}
 use Rattle.bhs_model.proofs.StepLemmas.{changed_same}
-use Rattle.bhs_explore.specs.Strategies.{Observation, Heard, History}
-use Rattle.bhs_explore.specs.Schedules.{Trial}
+use Rattle.bhs_schedules.specs.Strategies.{Observation, Heard, History}
+use Rattle.bhs_schedules.specs.Schedules.{Trial}
 use Rattle.bhs_protocols.specs.Configurations.{can_move_in, turn_in}
 use Rattle.bhs_protocols.specs.declared.shuttle.Memory.{Memory}
 use Rattle.bhs_protocols.specs.declared.shuttle.Phase.TheVariants.{GoesOut, Leaves, ComesBack, Returns, Writes}

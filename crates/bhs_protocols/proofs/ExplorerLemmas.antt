@@ -5,9 +5,9 @@ use Rattle.std.proofs.lemmas.Bool.Decides.{eqb_tells}
 use Rattle.bhs_model.specs.declared.commands.Command.TheVariants.{Enter, Depart, Accuse}
 use Rattle.bhs_model.specs.declared.replies.Reply.TheVariants.{Over}
 use Rattle.bhs_model.specs.Runs.{Position, Before}
-use Rattle.bhs_explore.specs.declared.answers.Step.TheVariants.{Says}
-use Rattle.bhs_explore.specs.Strategies.{Heard, History}
-use Rattle.bhs_explore.specs.Schedules.{Trial}
+use Rattle.bhs_schedules.specs.declared.answers.Step.TheVariants.{Says}
+use Rattle.bhs_schedules.specs.Strategies.{Heard, History}
+use Rattle.bhs_schedules.specs.Schedules.{Trial}
 use Rattle.bhs_protocols.specs.Configurations.{Configuration, blank, can_move_in, turn_in}
 use Rattle.bhs_protocols.specs.declared.shuttle.Memory.{Memory}
 use Rattle.bhs_protocols.specs.declared.shuttle.Phase.{Phase}

@@ -7,8 +7,8 @@ use Rattle.std.proofs.lemmas.Bool.Decides.{eqb_tells}
 use Rattle.bhs_model.specs.Worlds.{World}
 use Rattle.bhs_model.specs.Runs.{Position, Before, At, Bound, After}
 use Rattle.bhs_model.specs.Examples.{none_held}
-use Rattle.bhs_explore.specs.Strategies.{Observation, History, Strategies}
-use Rattle.bhs_explore.specs.Schedules.{Trial}
+use Rattle.bhs_schedules.specs.Strategies.{Observation, History, Strategies}
+use Rattle.bhs_schedules.specs.Schedules.{Trial}
 use Rattle.bhs_protocols.specs.Configurations.{Configuration}
 use Rattle.bhs_protocols.specs.declared.shuttle.Memory.{Memory}
 use Rattle.bhs_protocols.specs.declared.shuttle.Phase.{Phase}

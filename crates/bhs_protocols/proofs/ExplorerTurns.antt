@@ -8,9 +8,9 @@ use Rattle.bhs_model.specs.declared.commands.Command.TheVariants.{Write}
 use Rattle.bhs_model.specs.declared.replies.Reply.TheVariants.{Here, Written, Changed, Gone, Noted}
 use Rattle.bhs_model.specs.Runs.{Position, At, Bound, After, changed}
 use Rattle.bhs_model.proofs.StepLemmas.{by_cases, changed_same}
-use Rattle.bhs_explore.specs.declared.answers.Step.TheVariants.{Says}
-use Rattle.bhs_explore.specs.Strategies.{Observation, Heard, History}
-use Rattle.bhs_explore.specs.Schedules.{Trial}
+use Rattle.bhs_schedules.specs.declared.answers.Step.TheVariants.{Says}
+use Rattle.bhs_schedules.specs.Strategies.{Observation, Heard, History}
+use Rattle.bhs_schedules.specs.Schedules.{Trial}
 use Rattle.bhs_protocols.specs.Configurations.{turn_in}
 use Rattle.bhs_protocols.specs.declared.shuttle.Memory.{Memory}
 use Rattle.bhs_protocols.specs.declared.shuttle.Phase.{Phase}

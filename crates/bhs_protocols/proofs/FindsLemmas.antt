@@ -11,9 +11,9 @@ use Rattle.bhs_model.proofs.StepLemmas.{by_cases}
 use Rattle.bhs_referee.specs.declared.verdicts.Outcome.TheVariants.{Solved}
 use Rattle.bhs_referee.specs.declared.verdicts.Verdict.{Verdict}
 use Rattle.bhs_referee.specs.Verdicts.{passes, accuses, is_right, is_silent}
-use Rattle.bhs_explore.specs.Strategies.{Strategies}
-use Rattle.bhs_explore.specs.Schedules.{Trial, under}
-use Rattle.bhs_explore.proofs.Turns.{verdict_is}
+use Rattle.bhs_schedules.specs.Strategies.{Strategies}
+use Rattle.bhs_schedules.specs.Schedules.{Trial, under}
+use Rattle.bhs_schedules.proofs.Turns.{verdict_is}
 use Rattle.bhs_protocols.specs.Configurations.{Configuration, configuration_of, blank, turns_in, found_in, outcome_in}
 use Rattle.bhs_protocols.specs.LastWord.{searched, SolvesFor, SomeoneHasAccused, FindsFor, SolversFind}
 use Rattle.bhs_protocols.specs.LastWord.{AccusationsComeLast}

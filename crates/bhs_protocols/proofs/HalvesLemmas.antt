@@ -5,9 +5,9 @@ use Rattle.std.proofs.lemmas.Bool.{lt-ltb, ltb-true, true≢false, cond-true, co
 use Rattle.bhs_model.specs.declared.commands.Command.TheVariants.{Depart, Accuse}
 use Rattle.bhs_model.specs.declared.replies.Reply.TheVariants.{Over}
 use Rattle.bhs_model.proofs.StepLemmas.{by_cases}
-use Rattle.bhs_explore.specs.declared.answers.Step.TheVariants.{Says}
-use Rattle.bhs_explore.specs.Strategies.{Heard}
-use Rattle.bhs_explore.specs.Schedules.{Trial}
+use Rattle.bhs_schedules.specs.declared.answers.Step.TheVariants.{Says}
+use Rattle.bhs_schedules.specs.Strategies.{Heard}
+use Rattle.bhs_schedules.specs.Schedules.{Trial}
 use Rattle.bhs_protocols.specs.Configurations.{Configuration, blank, can_move_in, turn_in}
 use Rattle.bhs_protocols.specs.declared.halves.Memory.{Memory}
 use Rattle.bhs_protocols.specs.declared.halves.Phase.{Phase}

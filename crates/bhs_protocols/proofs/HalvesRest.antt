@@ -8,9 +8,9 @@ use Rattle.bhs_model.specs.declared.commands.Command.TheVariants.{Enter, Write, 
 use Rattle.bhs_model.specs.Runs.{Position, Before, At, Bound}
 use Rattle.bhs_model.specs.Examples.{none_held}
 use Rattle.bhs_model.proofs.StepLemmas.{by_cases}
-use Rattle.bhs_explore.specs.declared.answers.Step.TheVariants.{Says}
+use Rattle.bhs_schedules.specs.declared.answers.Step.TheVariants.{Says}
 use Rattle.bhs_model.specs.declared.events.Event.TheVariants.{Tell}
-use Rattle.bhs_explore.specs.Schedules.{Trial, Makes, action_at}
+use Rattle.bhs_schedules.specs.Schedules.{Trial, Makes, action_at}
 use Rattle.bhs_protocols.specs.Configurations.{can_move_in, turn_in}
 use Rattle.bhs_protocols.specs.declared.halves.Memory.{Memory}
 use Rattle.bhs_protocols.specs.declared.halves.Phase.{Phase}

@@ -8,9 +8,9 @@ use Rattle.bhs_model.specs.declared.commands.Command.TheVariants.{Enter, Depart,
 use Rattle.bhs_model.specs.declared.replies.Reply.TheVariants.{Here, Gone, Noted}
 use Rattle.bhs_model.specs.Runs.{Position, At, Bound, After}
 use Rattle.bhs_model.proofs.StepLemmas.{by_cases}
-use Rattle.bhs_explore.specs.declared.answers.Step.TheVariants.{Says}
-use Rattle.bhs_explore.specs.Strategies.{Observation, Heard}
-use Rattle.bhs_explore.specs.Schedules.{Trial}
+use Rattle.bhs_schedules.specs.declared.answers.Step.TheVariants.{Says}
+use Rattle.bhs_schedules.specs.Strategies.{Observation, Heard}
+use Rattle.bhs_schedules.specs.Schedules.{Trial}
 use Rattle.bhs_protocols.specs.Configurations.{turn_in}
 use Rattle.bhs_protocols.specs.declared.halves.Memory.{Memory}
 use Rattle.bhs_protocols.specs.declared.halves.Phase.{Phase}

@@ -4,7 +4,7 @@ use Rattle.std.proofs.Common.{ℕ, zero, suc, ◌+◌, ◌-◌, ◌*◌, ◌/◌
 use Rattle.std.proofs.Common.{◌∷◌, ◌++◌, refl, sym, ap, ◌∙◌, subst, if◌then◌else◌, nat_lt, inl, inr, arith}
 use Rattle.std.proofs.lemmas.Bool.{lt-ltb, eq-eqb, cond-true, cond-false, le-ltb}
 use Rattle.bhs_model.proofs.StepLemmas.{by_cases}
-use Rattle.bhs_explore.specs.Schedules.{Trial}
+use Rattle.bhs_schedules.specs.Schedules.{Trial}
 use Rattle.bhs_protocols.specs.Configurations.{Configuration, blank, can_move_in, turn_in, turns_in}
 use Rattle.bhs_protocols.specs.declared.halves.Memory.{Memory}
 use Rattle.bhs_protocols.specs.declared.halves.Phase.TheVariants.{Tries, Ends}

@@ -22,16 +22,16 @@ use Rattle.bhs_referee.specs.declared.verdicts.Outcome.TheVariants.{Solved, Wron
 use Rattle.bhs_referee.specs.declared.verdicts.Verdict.{Verdict}
 use Rattle.bhs_referee.specs.Findings.{accused_by}
 use Rattle.bhs_referee.specs.Verdicts.{passes, accuses, is_right}
-use Rattle.bhs_explore.specs.Strategies.{Strategies}
-use Rattle.bhs_explore.specs.Schedules.{Trial, Action, Makes, Wakes, Rests, action_at, under}
-use Rattle.bhs_explore.proofs.Turns.{verdict_is, IsOwn}
+use Rattle.bhs_schedules.specs.Strategies.{Strategies}
+use Rattle.bhs_schedules.specs.Schedules.{Trial, Action, Makes, Wakes, Rests, action_at, under}
+use Rattle.bhs_schedules.proofs.Turns.{verdict_is, IsOwn}
 use Rattle.bhs_protocols.specs.Configurations.{Configuration, configuration_of, blank, deed_in, answer_at, is_heard}
 use Rattle.bhs_protocols.specs.Configurations.{told_at, refused_in}
 use Rattle.bhs_protocols.specs.Configurations.{said_in, arrived_in, delivered_in, done_in, turn_in, turns_in, found_in}
 use Rattle.bhs_protocols.specs.Configurations.{outcome_in}
 use Rattle.bhs_protocols.specs.LastWord.{searched, SolvesFor}
 use Rattle.bhs_protocols.proofs.ConfigurationLemmas.{configurations_follow}
-use Rattle.bhs_explore.proofs.Turns.{own_at}
+use Rattle.bhs_schedules.proofs.Turns.{own_at}
 
 -- ---- what no turn undoes
 

@@ -19,12 +19,12 @@ use Rattle.bhs_model.specs.Runs.{Position, Before, At, Bound, After, changed, is
 use Rattle.bhs_model.proofs.StepLemmas.{by_cases, changed_same}
 use Rattle.bhs_referee.specs.declared.verdicts.Outcome.TheVariants.{Solved}
 use Rattle.bhs_referee.specs.declared.verdicts.Verdict.{Verdict}
-use Rattle.bhs_explore.specs.Strategies.{Strategies}
-use Rattle.bhs_explore.specs.Schedules.{Trial, Scene, opening, state_of, Action, Makes, Wakes, Rests, deed, done}
-use Rattle.bhs_explore.specs.Schedules.{turn, turns, under, verdict}
-use Rattle.bhs_explore.proofs.Closed.{IsKept, kept_by_turns, under_each}
-use Rattle.bhs_explore.proofs.Schedules.{turns_append}
-use Rattle.bhs_explore.proofs.Turns.{IsOwn, lost_more, verdict_is}
+use Rattle.bhs_schedules.specs.Strategies.{Strategies}
+use Rattle.bhs_schedules.specs.Schedules.{Trial, Scene, opening, state_of, Action, Makes, Wakes, Rests, deed, done}
+use Rattle.bhs_schedules.specs.Schedules.{turn, turns, under, verdict}
+use Rattle.bhs_schedules.proofs.Closed.{IsKept, kept_by_turns, under_each}
+use Rattle.bhs_schedules.proofs.Turns.{turns_append}
+use Rattle.bhs_schedules.proofs.Turns.{IsOwn, lost_more, verdict_is}
 use Rattle.bhs_protocols.specs.Configurations.{Configuration, configuration_of, blank, deed_in, is_heard, told_at}
 use Rattle.bhs_protocols.specs.Configurations.{refused_in, arrived_in}
 use Rattle.bhs_protocols.specs.Configurations.{said_in, delivered_in, done_in, turn_in, turns_in, outcome_in}

@@ -10,10 +10,10 @@ use Rattle.bhs_model.specs.declared.events.Event.TheVariants.{Tell}
 use Rattle.bhs_model.specs.declared.replies.Reply.TheVariants.{Here}
 use Rattle.bhs_model.specs.Worlds.{doomed}
 use Rattle.bhs_model.specs.Runs.{Position, At, Bound, After, changed}
-use Rattle.bhs_explore.specs.declared.answers.Step.{Step}
-use Rattle.bhs_explore.specs.declared.answers.Step.TheVariants.{Says, Sleeps, Fails}
-use Rattle.bhs_explore.specs.Strategies.{Heard}
-use Rattle.bhs_explore.specs.Schedules.{Trial, Makes, Rests, action_at, is_move}
+use Rattle.bhs_schedules.specs.declared.answers.Step.{Step}
+use Rattle.bhs_schedules.specs.declared.answers.Step.TheVariants.{Says, Sleeps, Fails}
+use Rattle.bhs_schedules.specs.Strategies.{Heard}
+use Rattle.bhs_schedules.specs.Schedules.{Trial, Makes, Rests, action_at, is_move}
 use Rattle.bhs_protocols.specs.Configurations.{Configuration, can_move_in, turn_in}
 use Rattle.bhs_protocols.proofs.TurnLemmas.{Becomes, arrives}
 

@@ -18,7 +18,7 @@ use Rattle.bhs_model.specs.Setups.{world_of}
 use Rattle.bhs_model.proofs.StepLemmas.{by_cases}
 use Rattle.bhs_protocols.specs.Rings.{IsRing}
 use Rattle.bhs_protocols.specs.Shuttle.{round_trips, commands_on}
-use Rattle.bhs_explore.specs.Schedules.{Trial}
+use Rattle.bhs_schedules.specs.Schedules.{Trial}
 use Rattle.bhs_protocols.specs.Invariants.{CostBounds, IsSolved}
 use Rattle.bhs_protocols.specs.Laws.{shuttle_trial, shuttle_bounds}
 use Rattle.bhs_protocols.specs.AllRings.{IsSetOn, onward, gone_on, ways_of, IsAway, RingsAreRings, ring_bounds}

@@ -16,7 +16,7 @@ use Rattle.bhs_referee.specs.declared.verdicts.Outcome.TheVariants.{Solved}
 use Rattle.bhs_referee.specs.Verdicts.{passes, accuses, is_dark_accused, is_hole_accused, is_over_dark, is_right}
 use Rattle.bhs_referee.specs.Verdicts.{is_silent, is_present, is_unfinished, is_unreached, first_unreached}
 use Rattle.bhs_referee.specs.Verdicts.{guess_or_solved}
-use Rattle.bhs_explore.specs.Schedules.{Trial}
+use Rattle.bhs_schedules.specs.Schedules.{Trial}
 use Rattle.bhs_protocols.specs.Configurations.{Configuration, can_move_in, doomed_in, found_in, outcome_in, turn_in}
 use Rattle.bhs_protocols.specs.Invariants.{GoesOn}
 use Rattle.bhs_protocols.specs.Rings.{Ways, IsSearch}

@@ -13,8 +13,8 @@ use Rattle.bhs_model.specs.Runs.{Position, Before, At, Bound, After, changed, po
 use Rattle.bhs_model.specs.Examples.{none_held}
 use Rattle.bhs_model.proofs.StepLemmas.{by_cases}
 use Rattle.bhs_model.proofs.LegalLemmas.{either}
-use Rattle.bhs_explore.specs.Strategies.{Strategies}
-use Rattle.bhs_explore.specs.Schedules.{Trial, Action, Makes, Wakes, Rests}
+use Rattle.bhs_schedules.specs.Strategies.{Strategies}
+use Rattle.bhs_schedules.specs.Schedules.{Trial, Action, Makes, Wakes, Rests}
 use Rattle.bhs_protocols.specs.Configurations.{Configuration, blank, deed_in, is_heard, told_at, refused_in, said_in}
 use Rattle.bhs_protocols.specs.Configurations.{arrived_in, delivered_in, done_in, turn_in, turns_in}
 use Rattle.bhs_protocols.specs.LastWord.{SomeoneHasAccused, FindsFor}

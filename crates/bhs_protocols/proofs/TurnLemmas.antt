@@ -19,10 +19,10 @@ use Rattle.bhs_model.specs.Runs.{Position, Before, At, Bound, After, changed, po
 use Rattle.bhs_model.specs.Views.{counts}
 use Rattle.bhs_model.proofs.StepLemmas.{changed_same, changed_other}
 use Rattle.bhs_referee.specs.Findings.{accused_by, moves_by}
-use Rattle.bhs_explore.specs.declared.answers.Step.{Step}
-use Rattle.bhs_explore.specs.declared.answers.Step.TheVariants.{Says, Sleeps}
-use Rattle.bhs_explore.specs.Strategies.{Observation, Heard}
-use Rattle.bhs_explore.specs.Schedules.{Trial, Makes, Rests, action_at}
+use Rattle.bhs_schedules.specs.declared.answers.Step.{Step}
+use Rattle.bhs_schedules.specs.declared.answers.Step.TheVariants.{Says, Sleeps}
+use Rattle.bhs_schedules.specs.Strategies.{Observation, Heard}
+use Rattle.bhs_schedules.specs.Schedules.{Trial, Makes, Rests, action_at}
 use Rattle.bhs_protocols.specs.Configurations.{Configuration, deed_in, is_heard, answer_at, shown_after, told_at}
 use Rattle.bhs_protocols.specs.Configurations.{arrived_in, delivered_in, woken_in, done_in, turn_in}
 

@@ -5,9 +5,9 @@ use Rattle.bhs_model.specs.declared.setups.Setup.{Setup}
 use Rattle.bhs_model.specs.Setups.{world_of}
 use Rattle.bhs_model.specs.Worlds.{World}
 use Rattle.bhs_model.specs.Examples.{none_held}
-use Rattle.bhs_explore.specs.Strategies.{Strategies}
-use Rattle.bhs_explore.specs.Schedules.{Trial, under, IsAtRest}
-use Rattle.bhs_explore.specs.Everywhere.{Fails}
+use Rattle.bhs_schedules.specs.Strategies.{Strategies}
+use Rattle.bhs_schedules.specs.Schedules.{Trial, under, IsAtRest}
+use Rattle.bhs_schedules.specs.Everywhere.{Fails}
 
 -- a match of one agent, where this node is the only black hole and nothing is dark
 abbrev pub alone : World → (wakeups : ℕ) → Strategies → (hole : ℕ) → Trial

@@ -6,7 +6,7 @@ use Rattle.bhs_net.specs.Network.{Network, nodes_of}
 use Rattle.bhs_model.specs.declared.setups.Setup.{Setup}
 use Rattle.bhs_model.specs.Setups.{network_of, world_of}
 use Rattle.bhs_model.specs.Worlds.{World}
-use Rattle.bhs_explore.specs.Schedules.{Trial, under, IsAtRest, verdict}
+use Rattle.bhs_schedules.specs.Schedules.{Trial, under, IsAtRest, verdict}
 use Rattle.bhs_protocols.specs.Rings.{Ways, IsSearch}
 use Rattle.bhs_protocols.specs.AllRings.{IsSetOn}
 use Rattle.bhs_protocols.specs.StandardRings.{standard_ring}

@@ -18,9 +18,9 @@ use Rattle.bhs_model.specs.Runs.{Position, Before, At, Bound, changed, position_
 use Rattle.bhs_referee.specs.declared.verdicts.Outcome.{Outcome}
 use Rattle.bhs_referee.specs.Findings.{Findings, accused_by, moves_by, findings}
 use Rattle.bhs_referee.specs.Verdicts.{outcome_of}
-use Rattle.bhs_explore.specs.Strategies.{Heard, Woke, History}
-use Rattle.bhs_explore.specs.Schedules.{Trial, Scene, state_of, Action, Makes, Wakes, Rests, action_at, faced}
-use Rattle.bhs_explore.specs.Schedules.{is_same_sight, is_move}
+use Rattle.bhs_schedules.specs.Strategies.{Heard, Woke, History}
+use Rattle.bhs_schedules.specs.Schedules.{Trial, Scene, state_of, Action, Makes, Wakes, Rests, action_at, faced}
+use Rattle.bhs_schedules.specs.Schedules.{is_same_sight, is_move}
 
 pub record Configuration : Type 0 where
   pub position : (agent : ℕ) → Position

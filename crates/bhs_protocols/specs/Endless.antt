@@ -2,11 +2,11 @@
 -- schedules end.
 use Rattle.bhs_model.specs.declared.commands.Command.TheVariants.{Enter}
 use Rattle.bhs_model.specs.Examples.{triangle, none_held}
-use Rattle.bhs_explore.specs.declared.answers.Step.TheVariants.{Says}
-use Rattle.bhs_explore.specs.Schedules.{Trial}
-use Rattle.bhs_explore.specs.Everywhere.{EveryScheduleSolves, NobodyFails}
-use Rattle.bhs_explore.specs.Spending.{EveryScheduleKeeps}
-use Rattle.bhs_explore.specs.Endings.{EveryScheduleCanRest}
+use Rattle.bhs_schedules.specs.declared.answers.Step.TheVariants.{Says}
+use Rattle.bhs_schedules.specs.Schedules.{Trial}
+use Rattle.bhs_schedules.specs.Everywhere.{EveryScheduleSolves, NobodyFails}
+use Rattle.bhs_schedules.specs.Spending.{EveryScheduleKeeps}
+use Rattle.bhs_schedules.specs.Endings.{EveryScheduleCanRest}
 
 -- two agents that say Enter for ever, though they have entered
 abbrev pub repeaters : Trial

@@ -8,10 +8,10 @@ use Rattle.bhs_model.specs.declared.commands.Command.TheVariants.{Enter, Write, 
 use Rattle.bhs_model.specs.declared.replies.Reply.TheVariants.{Here, Written, Changed, Gone, Noted}
 use Rattle.bhs_model.specs.Examples.{none_held}
 use Rattle.bhs_model.specs.Worlds.{World}
-use Rattle.bhs_explore.specs.declared.answers.Step.{Step}
-use Rattle.bhs_explore.specs.declared.answers.Step.TheVariants.{Says, Stops}
-use Rattle.bhs_explore.specs.Strategies.{Observation, Heard}
-use Rattle.bhs_explore.specs.Schedules.{Trial}
+use Rattle.bhs_schedules.specs.declared.answers.Step.{Step}
+use Rattle.bhs_schedules.specs.declared.answers.Step.TheVariants.{Says, Stops}
+use Rattle.bhs_schedules.specs.Strategies.{Observation, Heard}
+use Rattle.bhs_schedules.specs.Schedules.{Trial}
 use Rattle.bhs_protocols.specs.declared.halves.Memory.{Memory}
 use Rattle.bhs_protocols.specs.declared.halves.Phase.{Phase}
 use Rattle.bhs_protocols.specs.declared.halves.Phase.TheVariants.{Begins, GoesOut, Leaves, Tries, Turns, Returns}

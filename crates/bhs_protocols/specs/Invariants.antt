@@ -5,12 +5,12 @@ use Rattle.bhs_model.specs.declared.commands.Command.TheVariants.{Enter}
 use Rattle.bhs_model.specs.declared.replies.Reply.TheVariants.{Over}
 use Rattle.bhs_model.specs.Runs.{Before, Bound}
 use Rattle.bhs_referee.specs.declared.verdicts.Outcome.TheVariants.{Solved}
-use Rattle.bhs_explore.specs.declared.answers.Step.TheVariants.{Says, Sleeps, Fails}
-use Rattle.bhs_explore.specs.Strategies.{Heard}
-use Rattle.bhs_explore.specs.Schedules.{Trial}
-use Rattle.bhs_explore.specs.Everywhere.{EveryScheduleSolves, NobodyFails}
-use Rattle.bhs_explore.specs.Spending.{EveryScheduleKeeps}
-use Rattle.bhs_explore.specs.Endings.{EveryScheduleEnds, EveryScheduleCanRest}
+use Rattle.bhs_schedules.specs.declared.answers.Step.TheVariants.{Says, Sleeps, Fails}
+use Rattle.bhs_schedules.specs.Strategies.{Heard}
+use Rattle.bhs_schedules.specs.Schedules.{Trial}
+use Rattle.bhs_schedules.specs.Everywhere.{EveryScheduleSolves, NobodyFails}
+use Rattle.bhs_schedules.specs.Spending.{EveryScheduleKeeps}
+use Rattle.bhs_schedules.specs.Endings.{EveryScheduleEnds, EveryScheduleCanRest}
 use Rattle.bhs_protocols.specs.Configurations.{Configuration, blank, can_move_in, turn_in, IsResting, outcome_in}
 use Rattle.bhs_protocols.specs.Configurations.{doomed_in}
 

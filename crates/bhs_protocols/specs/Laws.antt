@@ -2,7 +2,7 @@
 use Rattle.std.specs.Prelude.{ℕ, ◌+◌, ◌-◌, ◌≡◌, ◌≤◌, ◌==◌, Bool, true, List, if◌then◌else◌}
 use Rattle.bhs_model.specs.Worlds.{World}
 use Rattle.bhs_model.specs.Examples.{none_held}
-use Rattle.bhs_explore.specs.Schedules.{Trial, under}
+use Rattle.bhs_schedules.specs.Schedules.{Trial, under}
 use Rattle.bhs_protocols.specs.Configurations.{Configuration, configuration_of, blank, turns_in}
 use Rattle.bhs_protocols.specs.Invariants.{CostBounds, IsInvariant, IsSolved}
 use Rattle.bhs_protocols.specs.Programs.{strategies_by}

@@ -7,9 +7,9 @@ use Rattle.bhs_model.specs.Setups.{world_of}
 use Rattle.bhs_model.specs.Worlds.{World}
 use Rattle.bhs_model.specs.Draws.{Held}
 use Rattle.bhs_model.specs.Examples.{none_held}
-use Rattle.bhs_explore.specs.Strategies.{Strategies}
-use Rattle.bhs_explore.specs.Schedules.{Trial, under, IsAtRest, verdict}
-use Rattle.bhs_explore.specs.Everywhere.{EveryScheduleSolves}
+use Rattle.bhs_schedules.specs.Strategies.{Strategies}
+use Rattle.bhs_schedules.specs.Schedules.{Trial, under, IsAtRest, verdict}
+use Rattle.bhs_schedules.specs.Everywhere.{EveryScheduleSolves}
 use Rattle.bhs_protocols.specs.Programs.{strategies_by}
 use Rattle.bhs_protocols.specs.AllRings.{IsSetOn}
 use Rattle.bhs_protocols.specs.Halving.{most_commands}

@@ -1,7 +1,7 @@
 -- Agents that run a program whose memory is of any kind.
 use Rattle.std.specs.Prelude.{ℕ, [], ◌∷◌}
-use Rattle.bhs_explore.specs.declared.answers.Step.{Step}
-use Rattle.bhs_explore.specs.Strategies.{Observation, History, Strategies}
+use Rattle.bhs_schedules.specs.declared.answers.Step.{Step}
+use Rattle.bhs_schedules.specs.Strategies.{Observation, History, Strategies}
 
 -- what an agent holds at the start, what it holds after something has happened to it, and what it does by what it holds
 pub record Program (M : Type 0) : Type 0 where

@@ -2,8 +2,8 @@
 use Rattle.std.specs.Prelude.{ℕ, ◌≢◌, ◌==◌, ◌<◌, ◌≤◌, [], ◌∷◌, if◌then◌else◌}
 use Rattle.bhs_model.specs.Worlds.{Network}
 use Rattle.bhs_model.specs.Examples.{none_held}
-use Rattle.bhs_explore.specs.Strategies.{Strategies}
-use Rattle.bhs_explore.specs.Schedules.{Trial}
+use Rattle.bhs_schedules.specs.Strategies.{Strategies}
+use Rattle.bhs_schedules.specs.Schedules.{Trial}
 use Rattle.bhs_protocols.specs.LastWord.{SolvesFor, FindsFor}
 use Rattle.bhs_protocols.specs.StandardRings.{next_node, node_before}
 

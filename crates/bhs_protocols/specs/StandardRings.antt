@@ -8,7 +8,7 @@ use Rattle.bhs_model.specs.declared.setups.Setup.{Setup}
 use Rattle.bhs_model.specs.Setups.{world_of}
 use Rattle.bhs_model.specs.Examples.{triangle}
 use Rattle.bhs_referee.specs.declared.verdicts.Outcome.TheVariants.{Solved}
-use Rattle.bhs_explore.specs.Schedules.{under, verdict}
+use Rattle.bhs_schedules.specs.Schedules.{under, verdict}
 use Rattle.bhs_protocols.specs.Invariants.{IsSolved}
 use Rattle.bhs_protocols.specs.AllRings.{IsSetOn}
 use Rattle.bhs_protocols.specs.Rings.{Ways, IsSearch}

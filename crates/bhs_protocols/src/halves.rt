@@ -2,12 +2,12 @@
 
 ghost use Rattle.std.specs.Prelude.{◌≡◌, ◌<◌, ◌≤◌, ◌+◌, ◌-◌, ◌/◌, Some, None, IfOk};
 ghost use Rattle.bhs_model.specs.declared.replies.Reply.TheVariants.{Here, Written, Changed, Gone, Noted};
-ghost use Rattle.bhs_explore.specs.Strategies.{Heard};
+ghost use Rattle.bhs_schedules.specs.Strategies.{Heard};
 ghost use Rattle.bhs_protocols.specs.Halves as specs;
 
 use crate::shuttle::{left_in, other_in, right_in, text_by};
-use bhs_explore::Step;
 use bhs_model::{Command, Reply};
+use bhs_schedules::Step;
 use std::alloc::{AllocError, Global};
 
 /// What an agent is about, with how many steps it is from the home base, and the port by which it goes on.

@@ -1,11 +1,11 @@
 //! The shuttle as a program: what an agent holds, what it does, and what it holds after a reply.
 
 ghost use Rattle.std.specs.Prelude.{◌≡◌, ◌<◌, ◌≤◌, ◌+◌, ◌/◌, ◌%◌, ◌++◌, [], ◌∷◌, IfOk, OnOk, string_bytes};
-ghost use Rattle.bhs_explore.specs.Strategies.{Heard};
+ghost use Rattle.bhs_schedules.specs.Strategies.{Heard};
 ghost use Rattle.bhs_protocols.specs.Shuttle as specs;
 
-use bhs_explore::Step;
 use bhs_model::{Command, Reply};
+use bhs_schedules::Step;
 use bhs_text::Text;
 use std::alloc::{AllocError, Global};
 

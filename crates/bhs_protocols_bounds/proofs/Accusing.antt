@@ -10,8 +10,8 @@ use Rattle.bhs_model.specs.Worlds.{World, doomed}
 use Rattle.bhs_model.specs.Draws.{Held}
 use Rattle.bhs_model.specs.Runs.{Bound, After}
 use Rattle.bhs_model.proofs.StepLemmas.{by_cases}
-use Rattle.bhs_explore.specs.Strategies.{Strategies}
-use Rattle.bhs_explore.specs.Schedules.{Trial, Makes, Rests, action_at}
+use Rattle.bhs_schedules.specs.Strategies.{Strategies}
+use Rattle.bhs_schedules.specs.Schedules.{Trial, Makes, Rests, action_at}
 use Rattle.bhs_protocols.specs.Configurations.{Configuration, blank, deed_in, done_in, arrived_in, turn_in, turns_in}
 use Rattle.bhs_protocols.specs.Configurations.{delivered_in}
 use Rattle.bhs_protocols.specs.LastWord.{SomeoneHasAccused, Finds}

@@ -16,9 +16,9 @@ use Rattle.bhs_model.specs.Worlds.{World}
 use Rattle.bhs_model.specs.Draws.{Held}
 use Rattle.bhs_model.specs.Runs.{Position, Before, At, Bound, After, changed, position_after}
 use Rattle.bhs_model.proofs.StepLemmas.{by_cases, changed_same, changed_other}
-use Rattle.bhs_explore.specs.Strategies.{Strategies, Heard, Woke}
-use Rattle.bhs_explore.specs.Schedules.{Trial, Action, Makes, Wakes, Rests, action_at, faced, is_same_sight}
-use Rattle.bhs_explore.proofs.Turns.{IsOwn}
+use Rattle.bhs_schedules.specs.Strategies.{Strategies, Heard, Woke}
+use Rattle.bhs_schedules.specs.Schedules.{Trial, Action, Makes, Wakes, Rests, action_at, faced, is_same_sight}
+use Rattle.bhs_schedules.proofs.Turns.{IsOwn}
 use Rattle.bhs_protocols.specs.Configurations.{Configuration, deed_in, done_in, turn_in, is_heard, told_at, refused_in}
 use Rattle.bhs_protocols.specs.Configurations.{said_in, delivered_in, arrived_in, answer_at, shown_after, shown_in}
 use Rattle.bhs_protocols.specs.Configurations.{faces_alike}

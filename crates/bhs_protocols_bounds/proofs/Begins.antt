@@ -9,8 +9,8 @@ use Rattle.bhs_model.specs.Worlds.{World}
 use Rattle.bhs_model.specs.Draws.{Held}
 use Rattle.bhs_model.specs.Runs.{Bound}
 use Rattle.bhs_model.proofs.StepLemmas.{by_cases, changed_other}
-use Rattle.bhs_explore.specs.Strategies.{Strategies}
-use Rattle.bhs_explore.specs.Schedules.{Trial}
+use Rattle.bhs_schedules.specs.Strategies.{Strategies}
+use Rattle.bhs_schedules.specs.Schedules.{Trial}
 use Rattle.bhs_protocols.specs.Configurations.{Configuration, blank, deed_in, turn_in, turns_in}
 use Rattle.bhs_protocols.specs.LastWord.{SomeoneHasAccused, Finds}
 use Rattle.bhs_protocols.specs.Rings.{Ways, IsRing}

@@ -4,7 +4,7 @@ use Rattle.std.specs.Prelude.{◌≢◌}
 use Rattle.bhs_model.specs.declared.setups.Setup.{Setup}
 use Rattle.bhs_model.specs.Worlds.{World}
 use Rattle.bhs_model.specs.Examples.{none_held}
-use Rattle.bhs_explore.specs.Strategies.{Strategies}
+use Rattle.bhs_schedules.specs.Strategies.{Strategies}
 use Rattle.bhs_protocols.specs.Invariants.{IsSolved}
 use Rattle.bhs_protocols.specs.LastWord.{searched, SolvesEverywhere}
 use Rattle.bhs_protocols.specs.Rings.{Ways, IsRing}

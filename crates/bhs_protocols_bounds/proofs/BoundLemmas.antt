@@ -6,9 +6,9 @@ use Rattle.bhs_model.specs.Setups.{world_of}
 use Rattle.bhs_model.specs.Worlds.{World}
 use Rattle.bhs_model.specs.Draws.{Held}
 use Rattle.bhs_referee.specs.declared.verdicts.Verdict.{Verdict}
-use Rattle.bhs_explore.specs.Strategies.{Strategies}
-use Rattle.bhs_explore.specs.Schedules.{Trial, under, verdict}
-use Rattle.bhs_explore.proofs.Turns.{verdict_is}
+use Rattle.bhs_schedules.specs.Strategies.{Strategies}
+use Rattle.bhs_schedules.specs.Schedules.{Trial, under, verdict}
+use Rattle.bhs_schedules.proofs.Turns.{verdict_is}
 use Rattle.bhs_protocols.specs.Configurations.{Configuration, configuration_of, blank, turns_in}
 use Rattle.bhs_protocols.specs.LastWord.{searched, Finds, SolvesEverywhere, SolvesFor}
 use Rattle.bhs_protocols.specs.Rings.{Ways, IsRing}

@@ -13,9 +13,9 @@ use Rattle.bhs_model.specs.Draws.{Held}
 use Rattle.bhs_model.specs.Runs.{Position, Before, At, Bound, After, changed, position_after}
 use Rattle.bhs_model.proofs.StepLemmas.{by_cases, changed_same, changed_other}
 use Rattle.bhs_model.proofs.LegalLemmas.{either}
-use Rattle.bhs_explore.specs.Strategies.{Strategies}
-use Rattle.bhs_explore.specs.Schedules.{Trial, Action, Makes, Wakes, Rests}
-use Rattle.bhs_explore.proofs.Turns.{IsOwn}
+use Rattle.bhs_schedules.specs.Strategies.{Strategies}
+use Rattle.bhs_schedules.specs.Schedules.{Trial, Action, Makes, Wakes, Rests}
+use Rattle.bhs_schedules.proofs.Turns.{IsOwn}
 use Rattle.bhs_protocols.specs.Configurations.{Configuration, deed_in, done_in, turn_in, is_heard, told_at, refused_in}
 use Rattle.bhs_protocols.specs.Configurations.{said_in, delivered_in, shown_after, faces_alike}
 use Rattle.bhs_protocols.proofs.LastWordLemmas.{own_in}

@@ -3,7 +3,7 @@ use Rattle.std.proofs.Common.{ℕ, zero, suc, ◌+◌, ◌-◌, ◌*◌, ◌<◌
 use Rattle.std.proofs.Math.Nat.{suc-mul}
 use Rattle.bhs_model.specs.Worlds.{World}
 use Rattle.bhs_model.specs.Draws.{Held}
-use Rattle.bhs_explore.specs.Strategies.{Strategies}
+use Rattle.bhs_schedules.specs.Strategies.{Strategies}
 use Rattle.bhs_protocols_bounds.specs.Bound.{fibonacci}
 use Rattle.bhs_protocols_bounds.proofs.Stages.{IsStage, PhasesCost}
 

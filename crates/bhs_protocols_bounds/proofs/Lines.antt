@@ -4,7 +4,7 @@ use Rattle.std.proofs.Common.{ℕ, ◌+◌, ◌-◌, ◌<◌, ◌≤◌, ◌≡�
 use Rattle.bhs_model.specs.Worlds.{World, Network}
 use Rattle.bhs_model.specs.Draws.{Held}
 use Rattle.bhs_model.specs.Runs.{Position, Before, At, Bound, After}
-use Rattle.bhs_explore.specs.Strategies.{Strategies}
+use Rattle.bhs_schedules.specs.Strategies.{Strategies}
 use Rattle.bhs_protocols.specs.Configurations.{Configuration}
 use Rattle.bhs_protocols_bounds.proofs.Holeless.{IsReachable}
 use Rattle.bhs_protocols_bounds.proofs.Places.{IsSafe, IsOnLinkTo, runs}

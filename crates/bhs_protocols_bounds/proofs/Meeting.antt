@@ -8,7 +8,7 @@ use Rattle.std.proofs.lemmas.Bool.Decides.{eqb_tells}
 use Rattle.bhs_model.specs.Worlds.{World}
 use Rattle.bhs_model.specs.Draws.{Held}
 use Rattle.bhs_model.specs.Runs.{Position, Before, At, Bound, After}
-use Rattle.bhs_explore.specs.Strategies.{Strategies}
+use Rattle.bhs_schedules.specs.Strategies.{Strategies}
 use Rattle.bhs_protocols.specs.Configurations.{Configuration}
 use Rattle.bhs_protocols.specs.LastWord.{Finds}
 use Rattle.bhs_protocols_bounds.proofs.Places.{IsOnLinkTo, IsNew, runs, reachable_runs}

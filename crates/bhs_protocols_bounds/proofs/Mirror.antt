@@ -5,7 +5,7 @@ use Rattle.std.proofs.lemmas.Bool.{cond-true, cond-false, ltb-true, ltb-false}
 use Rattle.bhs_model.specs.Worlds.{World, Network}
 use Rattle.bhs_model.specs.Draws.{Held}
 use Rattle.bhs_model.proofs.StepLemmas.{by_cases}
-use Rattle.bhs_explore.specs.Strategies.{Strategies}
+use Rattle.bhs_schedules.specs.Strategies.{Strategies}
 use Rattle.bhs_protocols.specs.Configurations.{Configuration}
 use Rattle.bhs_protocols_bounds.proofs.Places.{IsOnLinkTo}
 use Rattle.bhs_protocols_bounds.proofs.Lines.{Line, AreNext, IsLine, IsFront, IsSpread}

@@ -15,9 +15,9 @@ use Rattle.bhs_model.specs.Draws.{Held}
 use Rattle.bhs_model.specs.Runs.{Position, Before, At, Bound, After, changed, position_after}
 use Rattle.bhs_model.proofs.StepLemmas.{by_cases, changed_same}
 use Rattle.bhs_referee.specs.Findings.{moves_by}
-use Rattle.bhs_explore.specs.Strategies.{Strategies}
-use Rattle.bhs_explore.specs.Schedules.{Trial, Action, Makes, Wakes, Rests}
-use Rattle.bhs_explore.proofs.Turns.{IsOwn}
+use Rattle.bhs_schedules.specs.Strategies.{Strategies}
+use Rattle.bhs_schedules.specs.Schedules.{Trial, Action, Makes, Wakes, Rests}
+use Rattle.bhs_schedules.proofs.Turns.{IsOwn}
 use Rattle.bhs_protocols.specs.Configurations.{Configuration, blank, deed_in, done_in, turn_in, turns_in, answer_at}
 use Rattle.bhs_protocols.specs.Configurations.{is_heard, told_at, refused_in, said_in, arrived_in, delivered_in}
 use Rattle.bhs_protocols.proofs.LastWordLemmas.{other_untouched, own_in}

@@ -9,9 +9,9 @@ use Rattle.bhs_model.specs.Worlds.{World}
 use Rattle.bhs_model.specs.Draws.{Held}
 use Rattle.bhs_model.specs.Runs.{Position, Before, At, Bound, After, changed}
 use Rattle.bhs_model.proofs.StepLemmas.{changed_same, changed_other}
-use Rattle.bhs_explore.specs.Strategies.{Strategies}
-use Rattle.bhs_explore.specs.Schedules.{Trial, Action, Makes, Wakes, Rests}
-use Rattle.bhs_explore.proofs.Turns.{IsOwn}
+use Rattle.bhs_schedules.specs.Strategies.{Strategies}
+use Rattle.bhs_schedules.specs.Schedules.{Trial, Action, Makes, Wakes, Rests}
+use Rattle.bhs_schedules.proofs.Turns.{IsOwn}
 use Rattle.bhs_protocols.specs.Configurations.{Configuration, deed_in, done_in, delivered_in, turn_in}
 use Rattle.bhs_protocols.proofs.LastWordLemmas.{ended_rests, own_in}
 use Rattle.bhs_protocols.specs.LastWord.{Finds}

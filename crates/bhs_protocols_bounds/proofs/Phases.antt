@@ -6,8 +6,8 @@ use Rattle.std.proofs.lemmas.Bool.{ne_eqb, cases_lt}
 use Rattle.bhs_model.specs.Worlds.{World}
 use Rattle.bhs_model.specs.Draws.{Held}
 use Rattle.bhs_model.specs.Runs.{Position, Before, At, Bound, After}
-use Rattle.bhs_explore.specs.Strategies.{Strategies}
-use Rattle.bhs_explore.specs.Schedules.{Trial}
+use Rattle.bhs_schedules.specs.Strategies.{Strategies}
+use Rattle.bhs_schedules.specs.Schedules.{Trial}
 use Rattle.bhs_protocols.specs.Configurations.{Configuration, deed_in, turn_in}
 use Rattle.bhs_protocols.proofs.LastWordLemmas.{other_untouched, own_in}
 use Rattle.bhs_protocols_bounds.proofs.Holeless.{free, IsReachable}

@@ -3,8 +3,8 @@ use Rattle.std.proofs.Common.{ℕ, zero, suc, ◌+◌, ◌-◌, ◌*◌, ◌<◌
 use Rattle.bhs_model.specs.Worlds.{World}
 use Rattle.bhs_model.specs.Draws.{Held}
 use Rattle.bhs_model.proofs.StepLemmas.{by_cases}
-use Rattle.bhs_explore.specs.Strategies.{Strategies}
-use Rattle.bhs_explore.specs.Schedules.{Trial, under}
+use Rattle.bhs_schedules.specs.Strategies.{Strategies}
+use Rattle.bhs_schedules.specs.Schedules.{Trial, under}
 use Rattle.bhs_protocols.specs.Configurations.{Configuration, configuration_of}
 use Rattle.bhs_protocols.specs.Halving.{doubled}
 use Rattle.bhs_protocols.proofs.ConfigurationLemmas.{configurations_follow}

@@ -7,11 +7,11 @@ use Rattle.bhs_model.specs.Setups.{world_of}
 use Rattle.bhs_model.specs.Worlds.{World}
 use Rattle.bhs_model.specs.Draws.{Held}
 use Rattle.bhs_model.specs.Examples.{none_held}
-use Rattle.bhs_explore.specs.Strategies.{Strategies}
-use Rattle.bhs_explore.specs.Schedules.{under, IsAtRest, verdict}
-use Rattle.bhs_explore.specs.Spending.{moves_in}
-use Rattle.bhs_explore.specs.Everywhere.{EveryScheduleSolves}
-use Rattle.bhs_explore.specs.Endings.{EveryScheduleCanRest}
+use Rattle.bhs_schedules.specs.Strategies.{Strategies}
+use Rattle.bhs_schedules.specs.Schedules.{under, IsAtRest, verdict}
+use Rattle.bhs_schedules.specs.Spending.{moves_in}
+use Rattle.bhs_schedules.specs.Everywhere.{EveryScheduleSolves}
+use Rattle.bhs_schedules.specs.Endings.{EveryScheduleCanRest}
 use Rattle.bhs_protocols.specs.LastWord.{searched, SolvesEverywhere, Finds}
 use Rattle.bhs_protocols.specs.Rings.{Ways, IsRing}
 use Rattle.bhs_protocols.specs.AllRings.{IsSetOn}

@@ -3,7 +3,7 @@ use Rattle.std.specs.Prelude.{ℕ, ◌≡◌, ◌≢◌, ◌<◌, []}
 use Rattle.bhs_model.specs.Setups.{network_of}
 use Rattle.bhs_model.specs.Worlds.{World}
 use Rattle.bhs_model.specs.Examples.{none_held}
-use Rattle.bhs_explore.specs.Everywhere.{EveryScheduleSolves}
+use Rattle.bhs_schedules.specs.Everywhere.{EveryScheduleSolves}
 use Rattle.bhs_protocols.specs.LastWord.{searched, Finds}
 use Rattle.bhs_protocols.specs.Rings.{IsRing}
 use Rattle.bhs_protocols.specs.StandardRings.{standard_ring, standard_ways}

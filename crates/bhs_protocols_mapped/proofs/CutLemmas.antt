@@ -18,9 +18,9 @@ use Rattle.bhs_model.specs.Runs.{Position, Before, At, Bound, After, changed, po
 use Rattle.bhs_model.proofs.StepLemmas.{by_cases}
 use Rattle.bhs_referee.specs.declared.verdicts.Outcome.TheVariants.{Solved}
 use Rattle.bhs_referee.specs.declared.verdicts.Verdict.{Verdict}
-use Rattle.bhs_explore.specs.Strategies.{Strategies}
-use Rattle.bhs_explore.specs.Schedules.{Trial, under, Action, Makes, Wakes, Rests}
-use Rattle.bhs_explore.proofs.Turns.{verdict_is}
+use Rattle.bhs_schedules.specs.Strategies.{Strategies}
+use Rattle.bhs_schedules.specs.Schedules.{Trial, under, Action, Makes, Wakes, Rests}
+use Rattle.bhs_schedules.proofs.Turns.{verdict_is}
 use Rattle.bhs_protocols.specs.Configurations.{Configuration, blank, deed_in, is_heard, told_at, refused_in, arrived_in}
 use Rattle.bhs_protocols.specs.Configurations.{said_in, delivered_in, done_in, turn_in, turns_in, outcome_in}
 use Rattle.bhs_protocols.specs.LastWord.{searched, FindsFor, Finds}

@@ -15,15 +15,16 @@ use Rattle.bhs_referee.specs.declared.verdicts.Verdict.{Verdict}
 use Rattle.bhs_referee.specs.Verdicts.{passes, accuses, is_over_dark, is_right, is_hole_accused, is_dark_accused}
 use Rattle.bhs_referee.specs.Verdicts.{is_silent, is_present, is_unfinished, first_unreached}
 use Rattle.bhs_referee.specs.Verdicts.{guess_or_solved}
-use Rattle.bhs_explore.specs.declared.answers.Step.{Step}
-use Rattle.bhs_explore.specs.declared.answers.Step.TheVariants.{Says, Sleeps, Stops, Fails}
-use Rattle.bhs_explore.specs.Strategies.{Heard, Strategies}
-use Rattle.bhs_explore.specs.Schedules.{Trial, Scene, Action, Makes, Wakes, Rests, opening, state_of, position_of, deed}
-use Rattle.bhs_explore.specs.Schedules.{done, turn, turns as scene_turns, under, can_move, verdict}
-use Rattle.bhs_explore.specs.Certificates.{one_if}
-use Rattle.bhs_explore.specs.Endings.{moving}
-use Rattle.bhs_explore.specs.Everywhere.{IsSolvedWithin, OnlyEnters, step_after}
-use Rattle.bhs_explore.proofs.Turns.{IsOwn, own_deed, lost_more, verdict_is}
+use Rattle.bhs_schedules.specs.declared.answers.Step.{Step}
+use Rattle.bhs_schedules.specs.declared.answers.Step.TheVariants.{Says, Sleeps, Stops, Fails}
+use Rattle.bhs_schedules.specs.Strategies.{Heard, Strategies}
+use Rattle.bhs_schedules.specs.Schedules.{Trial, Scene, Action, Makes, Wakes, Rests, opening, state_of, position_of}
+use Rattle.bhs_schedules.specs.Schedules.{deed}
+use Rattle.bhs_schedules.specs.Schedules.{done, turn, turns as scene_turns, under, can_move, verdict}
+use Rattle.bhs_schedules.specs.Endings.{one_if}
+use Rattle.bhs_schedules.specs.Endings.{moving}
+use Rattle.bhs_schedules.specs.Everywhere.{IsSolvedWithin, OnlyEnters, step_after}
+use Rattle.bhs_schedules.proofs.Turns.{IsOwn, own_deed, lost_more, verdict_is}
 use Rattle.bhs_protocols.specs.Configurations.{Configuration, configuration_of, found_in, outcome_in, turn_in}
 use Rattle.bhs_protocols.specs.Invariants.{CostBounds, IsSolved}
 use Rattle.bhs_protocols.specs.Attained.{IsAttained}

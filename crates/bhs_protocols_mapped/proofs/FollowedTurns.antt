@@ -7,10 +7,10 @@ use Rattle.bhs_model.specs.Worlds.{Network, World}
 use Rattle.bhs_model.specs.Runs.{Position, Before, At, Bound, After, is_doomed}
 use Rattle.bhs_model.specs.Examples.{none_held}
 use Rattle.bhs_model.proofs.StepLemmas.{by_cases}
-use Rattle.bhs_explore.specs.declared.answers.Step.{Step}
-use Rattle.bhs_explore.specs.declared.answers.Step.TheVariants.{Says, Sleeps, Stops, Fails}
-use Rattle.bhs_explore.specs.Strategies.{Strategies}
-use Rattle.bhs_explore.specs.Schedules.{Trial, Action, Makes, Wakes, Rests, action_at, is_move}
+use Rattle.bhs_schedules.specs.declared.answers.Step.{Step}
+use Rattle.bhs_schedules.specs.declared.answers.Step.TheVariants.{Says, Sleeps, Stops, Fails}
+use Rattle.bhs_schedules.specs.Strategies.{Strategies}
+use Rattle.bhs_schedules.specs.Schedules.{Trial, Action, Makes, Wakes, Rests, action_at, is_move}
 use Rattle.bhs_protocols.specs.Configurations.{Configuration, deed_in}
 use Rattle.bhs_protocols.specs.Configurations.{delivered_in, done_in, turn_in}
 use Rattle.bhs_protocols.specs.Configurations.{can_move_in}

@@ -17,9 +17,9 @@ use Rattle.bhs_model.specs.Worlds.{Network, World, doomed, is_hole, is_dark}
 use Rattle.bhs_model.specs.Runs.{Position, Before, At, Bound, After, changed, position_after}
 use Rattle.bhs_model.proofs.StepLemmas.{by_cases}
 use Rattle.bhs_referee.specs.Findings.{accused_by, moves_by}
-use Rattle.bhs_explore.specs.declared.answers.Step.TheVariants.{Says}
-use Rattle.bhs_explore.specs.Strategies.{Observation, Heard, Woke, History, Strategies}
-use Rattle.bhs_explore.specs.Schedules.{Trial, faced, is_same_sight}
+use Rattle.bhs_schedules.specs.declared.answers.Step.TheVariants.{Says}
+use Rattle.bhs_schedules.specs.Strategies.{Observation, Heard, Woke, History, Strategies}
+use Rattle.bhs_schedules.specs.Schedules.{Trial, faced, is_same_sight}
 use Rattle.bhs_protocols.specs.Configurations.{Configuration, shown_in, is_heard, answer_at, shown_after, told_at}
 use Rattle.bhs_protocols.specs.Configurations.{refused_in}
 use Rattle.bhs_protocols.specs.Configurations.{said_in, arrived_in, delivered_in, woken_in, faces_alike}

@@ -8,9 +8,9 @@ use Rattle.bhs_model.specs.declared.replies.Reply.TheVariants.{Here, Written, Ch
 use Rattle.bhs_model.specs.declared.setups.Setup.{Setup}
 use Rattle.bhs_model.specs.Setups.{network_of, world_of}
 use Rattle.bhs_model.specs.Worlds.{Network as WorldNetwork, World}
-use Rattle.bhs_explore.specs.Strategies.{Heard, History, Strategies}
+use Rattle.bhs_schedules.specs.Strategies.{Heard, History, Strategies}
 use Rattle.bhs_model.specs.Examples.{none_held}
-use Rattle.bhs_explore.specs.Schedules.{Trial}
+use Rattle.bhs_schedules.specs.Schedules.{Trial}
 use Rattle.bhs_protocols.specs.declared.shuttle.Memory.{Memory as Seen}
 use Rattle.bhs_protocols.specs.declared.shuttle.Phase.{Phase as SeenPhase}
 use Rattle.bhs_protocols.specs.declared.shuttle.Phase.TheVariants as seen

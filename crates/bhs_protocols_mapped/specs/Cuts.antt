@@ -7,8 +7,8 @@ use Rattle.bhs_model.specs.declared.setups.Setup.{Setup}
 use Rattle.bhs_model.specs.Setups.{world_of}
 use Rattle.bhs_model.specs.Draws.{Held}
 use Rattle.bhs_referee.specs.declared.verdicts.Outcome.TheVariants.{Solved}
-use Rattle.bhs_explore.specs.Strategies.{Strategies}
-use Rattle.bhs_explore.specs.Schedules.{under, verdict}
+use Rattle.bhs_schedules.specs.Strategies.{Strategies}
+use Rattle.bhs_schedules.specs.Schedules.{under, verdict}
 use Rattle.bhs_protocols.specs.LastWord.{searched, Finds}
 
 -- Take a node without which some two others are not joined, and any other home base. If that node is the black hole, no

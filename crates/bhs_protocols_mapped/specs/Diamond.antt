@@ -3,7 +3,7 @@ use Rattle.std.specs.Prelude.{ℕ, zero, suc, ◌+◌, ◌-◌, ◌*◌, ◌≡�
 use Rattle.bhs_model.specs.Setups.{network_of}
 use Rattle.bhs_model.specs.Worlds.{World}
 use Rattle.bhs_referee.specs.declared.verdicts.Outcome.TheVariants.{Solved}
-use Rattle.bhs_explore.specs.Schedules.{Trial, under, verdict}
+use Rattle.bhs_schedules.specs.Schedules.{Trial, under, verdict}
 use Rattle.bhs_protocols_mapped.specs.Guides.{Route, Guide}
 use Rattle.bhs_protocols.specs.Configurations.{blank, turns_in, outcome_in}
 use Rattle.bhs_protocols.specs.Halving.{most_moves}

@@ -6,9 +6,9 @@
 use Rattle.std.specs.Prelude.{ℕ, zero, suc, ◌+◌, ◌-◌, ◌*◌, ◌==◌, Bool, ◌&&◌, List, if◌then◌else◌}
 use Rattle.bhs_model.specs.declared.commands.Command.TheVariants.{Enter, Write, Depart, Accuse}
 use Rattle.bhs_model.specs.declared.replies.Reply.TheVariants.{Here, Written, Changed, Gone, Noted}
-use Rattle.bhs_explore.specs.declared.answers.Step.{Step}
-use Rattle.bhs_explore.specs.declared.answers.Step.TheVariants.{Says, Stops}
-use Rattle.bhs_explore.specs.Strategies.{Observation, Heard}
+use Rattle.bhs_schedules.specs.declared.answers.Step.{Step}
+use Rattle.bhs_schedules.specs.declared.answers.Step.TheVariants.{Says, Stops}
+use Rattle.bhs_schedules.specs.Strategies.{Observation, Heard}
 use Rattle.bhs_protocols.specs.Invariants.{CostBounds}
 use Rattle.bhs_protocols.specs.Programs.{Program}
 use Rattle.bhs_protocols.specs.Shuttle.{other_in, text_by}

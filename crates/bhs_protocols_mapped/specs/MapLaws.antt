@@ -5,7 +5,7 @@ use Rattle.bhs_model.specs.declared.setups.Setup.{Setup}
 use Rattle.bhs_model.specs.Setups.{network_of, world_of}
 use Rattle.bhs_model.specs.Worlds.{World, Network as WorldNetwork}
 use Rattle.bhs_model.specs.Examples.{none_held}
-use Rattle.bhs_explore.specs.Schedules.{Trial}
+use Rattle.bhs_schedules.specs.Schedules.{Trial}
 use Rattle.bhs_protocols.specs.Invariants.{IsSolved}
 use Rattle.bhs_protocols.specs.Programs.{strategies_by}
 use Rattle.bhs_protocols.specs.Shuttle.{moves_on}

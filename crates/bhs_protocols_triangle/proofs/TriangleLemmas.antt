@@ -15,9 +15,9 @@ use Rattle.bhs_model.proofs.StepLemmas.{changed_same}
 use Rattle.bhs_net.specs.Network.{nodes_of}
 use Rattle.bhs_referee.specs.declared.verdicts.Outcome.TheVariants.{Solved}
 use Rattle.bhs_referee.specs.Verdicts.{is_present}
-use Rattle.bhs_explore.specs.declared.answers.Step.TheVariants.{Says, Sleeps, Fails}
-use Rattle.bhs_explore.specs.Strategies.{Observation, Heard}
-use Rattle.bhs_explore.specs.Schedules.{Trial}
+use Rattle.bhs_schedules.specs.declared.answers.Step.TheVariants.{Says, Sleeps, Fails}
+use Rattle.bhs_schedules.specs.Strategies.{Observation, Heard}
+use Rattle.bhs_schedules.specs.Schedules.{Trial}
 use Rattle.bhs_protocols.specs.Configurations.{Configuration, IsResting, blank, can_move_in, turn_in, outcome_in}
 use Rattle.bhs_protocols.specs.Configurations.{doomed_in}
 use Rattle.bhs_protocols.specs.Invariants.{GoesOn, IsInvariant}

@@ -13,10 +13,10 @@ use Rattle.bhs_model.specs.Runs.{Position, Before, At, Bound, After, changed, po
 use Rattle.bhs_model.specs.Examples.{none_held}
 use Rattle.bhs_model.proofs.StepLemmas.{by_cases, changed_same, changed_other}
 use Rattle.bhs_model.proofs.LegalLemmas.{either}
-use Rattle.bhs_explore.specs.declared.answers.Step.{Step}
-use Rattle.bhs_explore.specs.declared.answers.Step.TheVariants.{Says, Sleeps, Stops, Fails}
-use Rattle.bhs_explore.specs.Strategies.{Strategies}
-use Rattle.bhs_explore.specs.Schedules.{Trial, Action, Makes, Wakes, Rests, action_at}
+use Rattle.bhs_schedules.specs.declared.answers.Step.{Step}
+use Rattle.bhs_schedules.specs.declared.answers.Step.TheVariants.{Says, Sleeps, Stops, Fails}
+use Rattle.bhs_schedules.specs.Strategies.{Strategies}
+use Rattle.bhs_schedules.specs.Schedules.{Trial, Action, Makes, Wakes, Rests, action_at}
 use Rattle.bhs_protocols.specs.Configurations.{Configuration, deed_in, is_heard, told_at, refused_in, said_in}
 use Rattle.bhs_protocols.specs.Configurations.{arrived_in, woken_in}
 use Rattle.bhs_protocols.specs.Configurations.{delivered_in, done_in, turn_in}

@@ -13,8 +13,8 @@ use Rattle.std.proofs.lemmas.Map.Steps.{length-le_from_distinct_below}
 use Rattle.std.proofs.lemmas.Map.Keys.{IsDistinct-from_apart}
 use Rattle.bhs_model.specs.Runs.{Position, Before, At, Bound, After, changed}
 use Rattle.bhs_model.proofs.StepLemmas.{by_cases, changed_same, changed_other}
-use Rattle.bhs_explore.specs.Strategies.{Strategies}
-use Rattle.bhs_explore.specs.Schedules.{Trial, Rests, action_at}
+use Rattle.bhs_schedules.specs.Strategies.{Strategies}
+use Rattle.bhs_schedules.specs.Schedules.{Trial, Rests, action_at}
 use Rattle.bhs_model.specs.Examples.{none_held}
 use Rattle.bhs_protocols.specs.Configurations.{Configuration, blank, done_in, turn_in, turns_in}
 use Rattle.bhs_protocols.specs.Sizes.{Limits}

@@ -8,7 +8,7 @@ use Rattle.bhs_net.specs.Network.{far_of}
 use Rattle.bhs_model.specs.Worlds as worlds
 use Rattle.bhs_model.specs.Setups.{network_of}
 use Rattle.bhs_model.specs.Examples.{none_held}
-use Rattle.bhs_explore.specs.Strategies.{Strategies}
+use Rattle.bhs_schedules.specs.Strategies.{Strategies}
 use Rattle.bhs_protocols.specs.LastWord.{FindsFor}
 use Rattle.bhs_protocols.specs.Sizes.{Limits, played_on}
 use Rattle.bhs_protocols.proofs.FindsLemmas.{solver_finds}

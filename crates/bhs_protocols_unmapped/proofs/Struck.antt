@@ -12,10 +12,10 @@ use Rattle.bhs_model.specs.Worlds.{World}
 use Rattle.bhs_model.specs.Runs.{Position, Before, At, Bound, After}
 use Rattle.bhs_model.specs.Examples.{none_held}
 use Rattle.bhs_model.proofs.LegalLemmas.{either}
-use Rattle.bhs_explore.specs.declared.answers.Step.{Step}
-use Rattle.bhs_explore.specs.declared.answers.Step.TheVariants.{Says, Sleeps, Stops, Fails}
-use Rattle.bhs_explore.specs.Strategies.{Strategies}
-use Rattle.bhs_explore.specs.Schedules.{Trial, Action, Wakes, Rests, action_at}
+use Rattle.bhs_schedules.specs.declared.answers.Step.{Step}
+use Rattle.bhs_schedules.specs.declared.answers.Step.TheVariants.{Says, Sleeps, Stops, Fails}
+use Rattle.bhs_schedules.specs.Strategies.{Strategies}
+use Rattle.bhs_schedules.specs.Schedules.{Trial, Action, Wakes, Rests, action_at}
 use Rattle.bhs_protocols.specs.Configurations.{Configuration, blank, told_at, refused_in, said_in, is_heard}
 use Rattle.bhs_protocols.specs.Configurations.{arrived_in, delivered_in, done_in, turn_in, turns_in}
 use Rattle.bhs_protocols.specs.LastWord.{SomeoneHasAccused, FindsFor}

@@ -8,8 +8,8 @@ use Rattle.bhs_net.specs.Network.{far_of}
 use Rattle.bhs_model.specs.Worlds as worlds
 use Rattle.bhs_model.specs.Setups.{network_of}
 use Rattle.bhs_model.specs.Examples.{none_held}
-use Rattle.bhs_explore.specs.Strategies.{Strategies}
-use Rattle.bhs_explore.specs.Schedules.{Trial}
+use Rattle.bhs_schedules.specs.Strategies.{Strategies}
+use Rattle.bhs_schedules.specs.Schedules.{Trial}
 use Rattle.bhs_protocols.specs.Configurations.{Configuration}
 use Rattle.bhs_protocols.specs.LastWord.{SomeoneHasAccused, FindsFor}
 use Rattle.bhs_protocols.specs.Sizes.{Limits, played_on}

@@ -1,7 +1,7 @@
 -- A team without a map that is told the number of nodes and the greatest degree, and no more.
 use Rattle.std.specs.Prelude.{ℕ, ◌+◌, ◌≤◌}
 use Rattle.bhs_net.specs.declared.faults.TheConstants.{MAX_NODES}
-use Rattle.bhs_explore.specs.Strategies.{Strategies}
+use Rattle.bhs_schedules.specs.Strategies.{Strategies}
 use Rattle.bhs_protocols.specs.Sizes.{Limits}
 use Rattle.bhs_protocols_unmapped.specs.Unmapped.{SolvesNetworks, FindsOnNetworks}
 

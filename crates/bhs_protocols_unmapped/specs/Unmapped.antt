@@ -3,7 +3,7 @@ use Rattle.std.specs.Prelude.{ℕ, ◌+◌, ◌*◌, ◌≡◌, ◌≢◌, ◌<�
 use Rattle.bhs_net.specs.declared.faults.TheConstants.{MAX_NODES}
 use Rattle.bhs_net.specs.Network.{Network, IsNetwork, nodes_of, degree_of}
 use Rattle.bhs_model.specs.Setups.{network_of}
-use Rattle.bhs_explore.specs.Strategies.{Strategies}
+use Rattle.bhs_schedules.specs.Strategies.{Strategies}
 use Rattle.bhs_protocols.specs.Programs.{strategies_by}
 use Rattle.bhs_protocols.specs.LastWord.{SolvesFor, FindsFor}
 use Rattle.bhs_protocols.specs.Halving.{most_commands}

@@ -2,8 +2,8 @@
 use Rattle.std.proofs.Common.{◌≡◌, ◌∙◌, ℕ, Bool, true, false, ◌∷◌, [], length, Some, IsSomeAnd, Result, Ok, Err}
 use Rattle.std.proofs.Common.{IfOk, OnOk, refl, sym, ap, subst}
 use Rattle.std.specs.Prelude.{if◌then◌else◌, nat_le}
-use Rattle.bhs_explore.specs.declared.answers.Step.{Step}
-use Rattle.bhs_explore.specs.Strategies.{History, Observation, Strategy}
+use Rattle.bhs_schedules.specs.declared.answers.Step.{Step}
+use Rattle.bhs_schedules.specs.Strategies.{History, Observation, Strategy}
 use Rattle.bhs_wasm.specs.Contents.{contents_of}
 use Rattle.bhs_wasm_team.specs.declared.agents.Agents.{Agents}
 use Rattle.bhs_wasm_team.specs.declared.agents.Roles.{Roles}

@@ -1,7 +1,7 @@
 -- What an agent of a protocol holds after its history, and what it does by that.
 use Rattle.std.proofs.Common.{◌≡◌, ◌∙◌, ℕ, ◌∷◌, refl, ap}
-use Rattle.bhs_explore.specs.declared.answers.Step.{Step}
-use Rattle.bhs_explore.specs.Strategies.{History, Observation}
+use Rattle.bhs_schedules.specs.declared.answers.Step.{Step}
+use Rattle.bhs_schedules.specs.Strategies.{History, Observation}
 use Rattle.bhs_searcher.specs.declared.protocol_agent.Protocol.{Protocol}
 use Rattle.bhs_searcher.specs.declared.protocol_agent.Protocol.TheVariants as protocols
 use Rattle.bhs_searcher.specs.declared.protocol_agent.ProtocolMemory.{ProtocolMemory}

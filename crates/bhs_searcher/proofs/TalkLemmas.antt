@@ -2,9 +2,9 @@
 use Rattle.std.proofs.Common.{◌≡◌, ◌∙◌, ℕ, List, ◌∷◌, sym, ap, subst}
 use Rattle.std.proofs.Common.{Result, Ok, Err, IfErr, IsErrAnd, OnErr}
 use Rattle.bhs_model.specs.declared.replies.Reply.{Reply}
-use Rattle.bhs_explore.specs.declared.answers.Step.{Step}
-use Rattle.bhs_explore.specs.declared.answers.Step.TheVariants as steps
-use Rattle.bhs_explore.specs.Strategies.{History, Observation, Strategy}
+use Rattle.bhs_schedules.specs.declared.answers.Step.{Step}
+use Rattle.bhs_schedules.specs.declared.answers.Step.TheVariants as steps
+use Rattle.bhs_schedules.specs.Strategies.{History, Observation, Strategy}
 use Rattle.bhs_searcher.specs.declared.playing.PlayFault.{PlayFault}
 use Rattle.bhs_searcher.specs.declared.playing.PlayFault.TheVariants as fault
 use Rattle.bhs_searcher.specs.declared.searchers.SearcherFault.{SearcherFault}

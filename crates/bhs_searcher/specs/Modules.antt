@@ -1,6 +1,6 @@
 -- Agents that run a module, as searchers.
 use Rattle.std.specs.Prelude.{◌≡◌, Some}
-use Rattle.bhs_explore.specs.Strategies.{History, Strategy}
+use Rattle.bhs_schedules.specs.Strategies.{History, Strategy}
 use Rattle.bhs_wasm.specs.Contents.{contents_of}
 use Rattle.bhs_wasm_team.specs.declared.agents.Agents.{Agents}
 use Rattle.bhs_wasm_team.specs.Agents.{memory_after, strategy_of}

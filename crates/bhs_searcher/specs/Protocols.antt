@@ -1,7 +1,7 @@
 -- The protocols that a client can run, as the strategies that the theorems on them speak of.
 use Rattle.std.specs.Prelude.{◌≡◌, ℕ}
-use Rattle.bhs_explore.specs.declared.answers.Step.{Step}
-use Rattle.bhs_explore.specs.Strategies.{History, Observation, Strategies, Strategy}
+use Rattle.bhs_schedules.specs.declared.answers.Step.{Step}
+use Rattle.bhs_schedules.specs.Strategies.{History, Observation, Strategies, Strategy}
 use Rattle.bhs_protocols.specs.Halves.{halves}
 use Rattle.bhs_protocols.specs.Programs.{held_after, strategies_by}
 use Rattle.bhs_protocols.specs.Shuttle.{shuttle}

@@ -1,7 +1,7 @@
 -- Agents that follow a strategy, step by step.
 use Rattle.std.specs.Prelude.{◌≡◌}
-use Rattle.bhs_explore.specs.declared.answers.Step.{Step}
-use Rattle.bhs_explore.specs.Strategies.{Observation, Heard, Woke, History, Strategy}
+use Rattle.bhs_schedules.specs.declared.answers.Step.{Step}
+use Rattle.bhs_schedules.specs.Strategies.{Observation, Heard, Woke, History, Strategy}
 use Rattle.bhs_searcher.specs.declared.searchers.AgentNews.{AgentNews}
 use Rattle.bhs_searcher.specs.declared.searchers.AgentNews.TheVariants as news
 

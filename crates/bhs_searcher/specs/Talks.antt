@@ -6,9 +6,9 @@ use Rattle.bhs_model.specs.declared.replies.Reply.{Reply}
 use Rattle.bhs_model.specs.declared.replies.Reply.TheVariants.{Noted, Bye, Over}
 use Rattle.bhs_wire.specs.First.{says as says_of}
 use Rattle.bhs_wire.specs.Lines.{is_line_feed}
-use Rattle.bhs_explore.specs.declared.answers.Step.{Step}
-use Rattle.bhs_explore.specs.declared.answers.Step.TheVariants as step
-use Rattle.bhs_explore.specs.Strategies.{History, Observation, Heard, Woke, Strategy}
+use Rattle.bhs_schedules.specs.declared.answers.Step.{Step}
+use Rattle.bhs_schedules.specs.declared.answers.Step.TheVariants as step
+use Rattle.bhs_schedules.specs.Strategies.{History, Observation, Heard, Woke, Strategy}
 use Rattle.bhs_searcher.specs.declared.playing.PlayEnd.{PlayEnd}
 use Rattle.bhs_searcher.specs.declared.playing.PlayEnd.TheVariants.{Accused}
 use Rattle.bhs_searcher.specs.declared.playing.PlayEnd.TheVariants as ended

@@ -1,12 +1,12 @@
 //! Agents that run a WebAssembly module.
 
 ghost use Rattle.std.specs.Prelude.{◌≡◌, IfOk, OnOk};
-ghost use Rattle.bhs_explore.specs.Dialogues.{item_with, reply_with};
+ghost use Rattle.bhs_schedules.specs.Dialogues.{item_with, reply_with};
 ghost use Rattle.bhs_searcher.specs.Searchers.{observation_of};
 
 use crate::searchers::{AgentNews, Searcher, SearcherFault};
-use bhs_explore::{Latest, Step, Team, TeamAnswer};
 use bhs_model::{Mark, Reply};
+use bhs_schedules::{Latest, Step, Team, TeamAnswer};
 use bhs_wasm::Module;
 use bhs_wasm_team::{Agents, MemoryTable, Role, Roles};
 use std::alloc::{AllocError, Global};

@@ -8,8 +8,8 @@ ghost use Rattle.bhs_searcher.specs.Talks.{Breaks, BreaksOff, Ends, Hears, Hears
 use crate::commands::line_of;
 use crate::replies::reply_of;
 use crate::searchers::{AgentNews, Searcher, SearcherFault};
-use bhs_explore::Step;
 use bhs_model::{Command, MAX_LINE, Reply, Why};
+use bhs_schedules::Step;
 use std::alloc::{AllocError, Global};
 use thiserror::Error;
 

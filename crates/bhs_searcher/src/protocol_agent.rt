@@ -1,16 +1,16 @@
 //! Agents that run a protocol.
 
 ghost use Rattle.std.specs.Prelude.{◌≡◌, ◌-◌, ◌/◌, ◌==◌, if◌then◌else◌, [], IfOk};
-ghost use Rattle.bhs_explore.specs.Strategies.{Heard};
+ghost use Rattle.bhs_schedules.specs.Strategies.{Heard};
 ghost use Rattle.bhs_protocols.specs.Halves as halves_specs;
 ghost use Rattle.bhs_protocols.specs.Shuttle as shuttle_specs;
 ghost use Rattle.bhs_searcher.specs.Protocols as specs;
 ghost use Rattle.bhs_searcher.specs.Searchers.{observation_of};
 
 use crate::searchers::{AgentNews, Searcher, SearcherFault};
-use bhs_explore::Step;
 use bhs_model::Reply;
 use bhs_protocols::{halves, shuttle};
+use bhs_schedules::Step;
 use std::alloc::Global;
 
 // The programs of the searches are proved for numbers below this one.

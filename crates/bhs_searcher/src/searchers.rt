@@ -1,11 +1,11 @@
 //! Agents that follow a strategy.
 
 ghost use Rattle.std.specs.Prelude.{◌≡◌, [], ◌∷◌, IfOk};
-ghost use Rattle.bhs_explore.specs.Strategies.{History, Strategy};
+ghost use Rattle.bhs_schedules.specs.Strategies.{History, Strategy};
 ghost use Rattle.bhs_searcher.specs.Searchers.{KeepsTo, observation_of};
 
-use bhs_explore::{Step, TeamFault};
 use bhs_model::{Reply, Why};
+use bhs_schedules::{Step, TeamFault};
 use std::alloc::{AllocError, AllocFailed};
 
 /// What has happened to an agent.

@@ -11,7 +11,7 @@ use Rattle.bhs_lock.specs.declared.settling.Settlement.{Settlement}
 use Rattle.bhs_server.specs.declared.settling.Refused.{Refused}
 use Rattle.bhs_server.specs.Settling.{HasFared, HaveFared, IsTimely}
 use Rattle.bhs_host.specs.Hosting.{dealers_of, given_of, givens_of}
-use Rattle.bhs_orders.specs.Appeals.{own_head}
+use Rattle.bhs_orders_results.specs.Appeals.{own_head}
 use Rattle.bhs_theorems.specs.OwnAppeals.{OwnMatchesStandTheirAppeal}
 
 -- the match at this index, where the first stands at this place

@@ -7,7 +7,7 @@ use Rattle.bhs_lock.specs.declared.settling.Settlement.{Settlement}
 use Rattle.bhs_server.specs.declared.settling.Refused.{Refused}
 use Rattle.bhs_server.specs.Settling.{HaveFared}
 use Rattle.bhs_host.specs.Hosting.{dealers_of, givens_of}
-use Rattle.bhs_orders.specs.Appeals.{Case, IsOnTime}
+use Rattle.bhs_orders_results.specs.Appeals.{Case, IsOnTime}
 
 -- a settled match of a tournament with its turns, as an appeal to the match of this number
 abbrev pub own_case : Lineup → (game : ℕ) → Settlement → Case

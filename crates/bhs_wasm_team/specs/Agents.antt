@@ -7,9 +7,9 @@ use Rattle.json.specs.Print.{escape}
 use Rattle.bhs_model.specs.declared.commands.Command.TheVariants as commands
 use Rattle.bhs_model.specs.declared.limits.TheConstants.{MAX_LINE}
 use Rattle.bhs_model.specs.declared.replies.Reply.TheVariants as replies
-use Rattle.bhs_explore.specs.declared.answers.Step.{Step}
-use Rattle.bhs_explore.specs.declared.answers.Step.TheVariants as steps
-use Rattle.bhs_explore.specs.Strategies.{Observation, Heard, Woke, History, Strategy}
+use Rattle.bhs_schedules.specs.declared.answers.Step.{Step}
+use Rattle.bhs_schedules.specs.declared.answers.Step.TheVariants as steps
+use Rattle.bhs_schedules.specs.Strategies.{Observation, Heard, Woke, History, Strategy}
 use Rattle.bhs_explore.specs.Questions.{number_of}
 use Rattle.bhs_wasm.specs.declared.instructions.HostFunction.{HostFunction}
 use Rattle.bhs_wasm.specs.declared.instructions.HostFunction.TheVariants as imports

@@ -1,6 +1,6 @@
 -- Teams whose agents run modules: the role of each agent, its memories and its strategy.
 use Rattle.std.specs.Prelude.{ℕ, nat_le, List, ◌∷◌, length, slice_index_or, if◌then◌else◌}
-use Rattle.bhs_explore.specs.Strategies.{Observation, Strategies}
+use Rattle.bhs_schedules.specs.Strategies.{Observation, Strategies}
 use Rattle.bhs_wasm.specs.Contents.{Contents, contents_of}
 use Rattle.bhs_wasm_team.specs.declared.agents.Role.{Role}
 use Rattle.bhs_wasm_team.specs.declared.agents.Roles.{Roles}

@@ -5,7 +5,7 @@ ghost use Rattle.std.specs.Prelude.{◌≡◌, [], IfOk, IsSomeAnd};
 use crate::failures::{FailureCause, ModuleFailure, function_at};
 use crate::saving::{MemoryTable, Saved, Status};
 use crate::saying::{is_depart, is_gone, number_of, said_by, see};
-use bhs_explore::{Latest, Step, Team, TeamAnswer, TeamFault};
+use bhs_schedules::{Latest, Step, Team, TeamAnswer, TeamFault};
 use bhs_wasm::{HostFunction, Interpreter, Module, Progress};
 use std::alloc::{AllocError, Global};
 
@@ -79,7 +79,7 @@ pub struct Agents {
 }
 
 impl Agents {
-    ghost use Rattle.bhs_explore.specs.Dialogues.{item_with};
+    ghost use Rattle.bhs_schedules.specs.Dialogues.{item_with};
     ghost use Rattle.bhs_wasm.specs.States as states;
     ghost use Rattle.bhs_wasm.specs.States.{state_of};
     ghost use Rattle.bhs_wasm_team.specs.Agents as specs;

@@ -4,12 +4,12 @@ ghost use Rattle.std.specs.Prelude.{◌≡◌, ◌-◌, ℕ, nat_le, List, lengt
 ghost use Rattle.std.specs.Str.{is_utf8};
 ghost use Rattle.json.specs.Print.{escape, escape_byte};
 ghost use Rattle.bhs_model.specs.declared.limits.TheConstants.{MAX_LINE};
-ghost use Rattle.bhs_explore.specs.Dialogues.{item_with};
+ghost use Rattle.bhs_schedules.specs.Dialogues.{item_with};
 ghost use Rattle.bhs_wasm.specs.States.{state_of};
 ghost use Rattle.bhs_wasm_team.specs.Agents as specs;
 
-use bhs_explore::{Latest, Step};
 use bhs_model::{Command, MAX_LINE, Mark, Text};
+use bhs_schedules::{Latest, Step};
 use bhs_wasm::{HostFunction, Interpreter};
 use std::alloc::{AllocError, Global};
 

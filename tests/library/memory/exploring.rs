@@ -2,7 +2,7 @@
 
 use super::mark;
 use crate::explorations::{Pair, Scout, draws, explorer};
-use bhs_explore::{ExploreFault, Finding};
+use bhs_schedules::{ExploreFault, Finding};
 use std::test::Fail;
 
 #[test]

@@ -1,6 +1,5 @@
 //! The files of matches: replays, turns and parts.
 
-pub(crate) mod left_turns;
 pub(crate) mod parts;
 pub(crate) mod private_files;
 pub(crate) mod replays;

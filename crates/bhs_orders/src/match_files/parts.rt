@@ -85,7 +85,7 @@ fn old_name(alloc: Global, name: &str, number: u32) -> Result<String, Memory>
 }
 
 /// Whether nothing stands under a name.
-pub(crate) fn is_free<F: Files>(files: &F, name: &str) -> Result<bool, Fault> {
+pub fn is_free<F: Files>(files: &F, name: &str) -> Result<bool, Fault> {
     match fs::symlink_metadata(files, name) {
         Ok(_) => Ok(false),
         Err(error) if error.kind() == ErrorKind::NotFound => Ok(true),
@@ -125,7 +125,7 @@ pub fn print_recovered<F: Files, W: Output, E: Write>(
 }
 
 /// The match of a part, closed where its whole lines stop.
-pub(crate) fn match_of_part<F: Files>(alloc: Global, files: &F, name: &str) -> Result<Sealed, Fault>
+pub fn match_of_part<F: Files>(alloc: Global, files: &F, name: &str) -> Result<Sealed, Fault>
     ensures { IfOk result IsOfPart }
 {
     let mut file = fs::open(files, name)?;

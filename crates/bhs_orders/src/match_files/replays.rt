@@ -10,8 +10,8 @@ ghost use Rattle.bhs_orders.specs.Fault.{IsOfFault};
 ghost use Rattle.bhs_orders.specs.Filing.{first_status};
 ghost use Rattle.bhs_orders.specs.Naming.{new_name, replay_name};
 ghost use Rattle.bhs_orders.specs.Playing.{StopsPlaying};
-ghost use Rattle.bhs_orders.specs.Rehearsal.{IsFiled};
-ghost use Rattle.bhs_orders.specs.Reports.{IsReplayed};
+ghost use Rattle.bhs_orders.specs.Filing.{IsFiled};
+ghost use Rattle.bhs_orders.specs.Filing.{IsReplayed};
 ghost use Rattle.bhs_orders.specs.Showing.{Took};
 ghost use Rattle.bhs_orders.specs.declared.reporting.statuses.TheConstants.{DONE};
 
@@ -33,7 +33,7 @@ use std::io::{ErrorKind, Write};
 use std::rt::Files;
 
 /// The match of a replay's file, or the exit status of a fault that was reported.
-pub(crate) fn match_of<F: Files, E: Write>(
+pub fn match_of<F: Files, E: Write>(
     alloc: Global,
     files: &F,
     name: &str,
@@ -49,7 +49,7 @@ pub(crate) fn match_of<F: Files, E: Write>(
 }
 
 /// The match of a replay's file.
-pub(crate) fn read_match<F: Files>(alloc: Global, files: &F, name: &str) -> Result<Sealed, Fault>
+pub fn read_match<F: Files>(alloc: Global, files: &F, name: &str) -> Result<Sealed, Fault>
     ensures { IfOk result IsReplayed }
 {
     let mut file = fs::open(files, name)?;
@@ -57,7 +57,7 @@ pub(crate) fn read_match<F: Files>(alloc: Global, files: &F, name: &str) -> Resu
 }
 
 /// Writes the replay of each match that has ended, as `write_sealed` does.
-pub(crate) fn write_replays<F: Files, E: Write>(
+pub fn write_replays<F: Files, E: Write>(
     alloc: Global,
     files: &F,
     prefix: &str,
@@ -216,11 +216,7 @@ fn write_new<F: Files>(alloc: Global, files: &F, name: &str, sealed: &Sealed) ->
 }
 
 /// Writes the replay of a match.
-pub(crate) fn write_match<W: Output>(
-    alloc: Global,
-    sealed: &Sealed,
-    writer: &mut W,
-) -> Result<(), Fault>
+pub fn write_match<W: Output>(alloc: Global, sealed: &Sealed, writer: &mut W) -> Result<(), Fault>
     ensures ok { OnOk result (PutsAll W.takes writer.old (replay_of sealed.now) writer.new) }
     ensures err { IfErr result (StopsPlaying W.takes (replay_of sealed.now) writer.old writer.new) }
 {

@@ -93,7 +93,7 @@ fn write_new<F: Files>(alloc: Global, files: &F, name: &str, turns: &[u32]) -> R
 }
 
 /// The turns of a file of at most as many events, or the exit status of a fault that was reported.
-pub(crate) fn turns_of<F: Files, E: Write>(
+pub fn turns_of<F: Files, E: Write>(
     alloc: Global,
     files: &F,
     name: &str,
@@ -120,7 +120,7 @@ fn read_turns<F: Files>(
 
 /// The turns of the whole lines of a file of at most as many events. What stands behind its last line feed counts for
 /// nothing.
-pub(crate) fn read_part_of_turns<F: Files>(
+pub fn read_part_of_turns<F: Files>(
     alloc: Global,
     files: &F,
     name: &str,

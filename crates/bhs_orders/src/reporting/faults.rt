@@ -12,10 +12,10 @@ use crate::reporting::names::Shown;
 use crate::reporting::statuses::{
     FAILED_STREAM, NO_MEMORY, NO_THREADS, REFUSED_MATCH, REFUSED_TEXT,
 };
-use bhs_explore::ExploreFault;
 use bhs_files::FileFault;
 use bhs_net::Memory;
 use bhs_replay::{ReplayFault, WritingFault};
+use bhs_schedules::ExploreFault;
 use bhs_script::ScriptFault;
 use bhs_stream::{ReadFault, WriteFault};
 use bhs_view::TwinFault;
@@ -120,7 +120,7 @@ pub fn report<E: Write>(place: &str, fault: Fault, errors: &mut E) -> u8
 
 /// Reports a fault of a file, and behind it why the file was not read or made, if the system says. Answers the exit
 /// status.
-pub(crate) fn report_with_cause<F: Files, E: Write>(
+pub fn report_with_cause<F: Files, E: Write>(
     files: &F,
     name: &str,
     fault: Fault,

@@ -7,7 +7,7 @@ use std::fmt::{Display, Formatter};
 /// A name as it stands in a line: characters that control a terminal are escaped, so that no name ends the line or
 /// hides a part of it, and an empty name is shown as `''`.
 #[derive(Drop)]
-pub(crate) struct Shown<'a> {
+pub struct Shown<'a> {
     pub name: &'a str,
 }
 

@@ -11,7 +11,7 @@ use bhs_stream::{Output, finish};
 use std::io::Write;
 
 /// Sees that a text is out that was written line by line, if no fault came before, and answers the exit status.
-pub(crate) fn passed_on<W: Output, E: Write>(
+pub fn passed_on<W: Output, E: Write>(
     written: Result<(), Fault>,
     writer: &mut W,
     errors: &mut E,

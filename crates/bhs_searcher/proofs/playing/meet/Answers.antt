@@ -1,6 +1,6 @@
 use Rattle.std.proofs.Common.{refl, subst, sym}
 use Rattle.bhs_wire.proofs.Reading.{on_err}
-use Rattle.bhs_explore.specs.declared.answers.Step.{Step}
+use Rattle.bhs_schedules.specs.declared.answers.Step.{Step}
 use Rattle.bhs_searcher.specs.Talks.{Says, speaks, sleeps, silent, unheard}
 use Rattle.bhs_searcher.proofs.playing.meet.Goals as goal
 

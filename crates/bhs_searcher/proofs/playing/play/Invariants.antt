@@ -1,6 +1,6 @@
 -- What was said is what the strategy says of a history, and what has happened is that history. The agent is in a state
 -- with this history, and does next what its strategy says.
-use Rattle.bhs_explore.specs.Strategies.{History}
+use Rattle.bhs_schedules.specs.Strategies.{History}
 use Rattle.bhs_searcher.specs.Searchers.{KeepsTo}
 use Rattle.bhs_searcher.specs.Talks.{Talks}
 use Rattle.bhs_searcher.proofs.playing.play.Given as goal

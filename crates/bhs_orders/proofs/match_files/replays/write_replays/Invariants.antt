@@ -4,7 +4,7 @@ use Rattle.std.specs.Vec.Iter.{into_iter_items}
 use Rattle.bhs_stream.specs.Streams.{known_takes}
 use Rattle.bhs_rehearsal.specs.Rehearsing.{game_of}
 use Rattle.bhs_orders.specs.Fault.{IsOfFault}
-use Rattle.bhs_orders.specs.Rehearsal.{IsFiled}
+use Rattle.bhs_orders.specs.Filing.{IsFiled}
 use Rattle.bhs_orders.specs.declared.reporting.statuses.TheConstants.{DONE}
 use Rattle.bhs_orders.proofs.match_files.replays.write_replays.Given as goal
 

@@ -1,0 +1,4 @@
+pub mod HostLemmas
+pub mod LinkLemmas
+pub mod ListLemmas
+pub mod ModuleLemmas

@@ -1,0 +1,3 @@
+pub mod Discoveries
+pub mod HostAnswers
+pub mod ModuleExploration

@@ -1,0 +1,12 @@
+//! The command `explore`: every schedule of a match is tried, with agents of a host or with modules.
+#![tactic(auto)]
+
+mod discoveries;
+mod exploring;
+mod hosts;
+mod links;
+mod modules;
+mod worlds;
+
+pub use exploring::explore_named;
+pub use modules::explore_modules_named;

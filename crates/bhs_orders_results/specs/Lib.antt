@@ -1,0 +1,5 @@
+pub mod Appeals
+pub mod ContestTables
+pub mod HeldLinks
+pub mod Recovery
+pub mod Reports

@@ -1,0 +1,2 @@
+pub mod ContestLemmas
+pub mod RecordingLemmas

@@ -1,0 +1,12 @@
+pub mod Closed
+pub mod Turns
+pub mod Losses
+pub mod Spent
+pub mod Costs
+pub mod Departures
+pub mod Leaving
+pub mod Departing
+pub mod Ahead
+pub mod Waiting
+pub mod Uses
+pub mod Ends
