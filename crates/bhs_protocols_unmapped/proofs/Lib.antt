@@ -11,3 +11,4 @@ pub mod Nobody
 pub mod Shapes
 pub mod Three
 pub mod Rims
+pub mod Degrees

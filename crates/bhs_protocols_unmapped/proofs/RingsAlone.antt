@@ -31,7 +31,7 @@ module _ (net : Network) (is : IsNetwork net) (node : ℕ) (within : node < node
   three : 3 ≤ nodes_of net
   three = is.labelled.few
 
-  two_links : 2 ≤ degree_of net node
+  pub two_links : 2 ≤ degree_of net node
   two_links =
       let start : IsThird node node = third node node in
       let one : IsLastStep (Leads net) node =

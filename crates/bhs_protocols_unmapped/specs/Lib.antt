@@ -1,2 +1,3 @@
 pub mod Unmapped
 pub mod Ambiguity
+pub mod Degrees
