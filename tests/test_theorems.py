@@ -1,8 +1,9 @@
 """The sentences of docs/THEOREMS.md name each premise of the definitions that their
 clauses state, and the sizes up to which a file can meet the premises."""
+import pathlib
 import re
 import unittest
-from typing import Dict, Iterator, List, NamedTuple
+from typing import Dict, Iterator, List, NamedTuple, Set, Tuple
 
 from tests import TOP
 
@@ -284,7 +285,38 @@ def clauses() -> Iterator[str]:
             yield from re.findall(r"`([\w:]+)`", cells[column])
 
 
+def laws() -> Iterator[Tuple[pathlib.Path, str]]:
+    """The functions that do nothing, and the file of each: their contracts are laws."""
+    law = re.compile(r"^pub fn (\w+)(?:(?!^(?:pub )?fn ).)*?^\{\}$", re.M | re.S)
+    for path in sorted(TOP.glob("crates/*/src/**/*.rt")):
+        for found in law.finditer(path.read_text(encoding="utf-8")):
+            yield path, found[1]
+
+
+def shown_of(root: str, module: str) -> Set[str]:
+    """What the root of a crate shows to others of a module that it keeps to itself."""
+    uses = re.findall(rf"^pub use {module}::(\w+|\{{[^}}]*\}});", root, re.M)
+    return {name for use in uses for name in re.findall(r"\w+", use)}
+
+
+def is_public(path: pathlib.Path, name: str) -> bool:
+    """Whether other crates may call a function. Nothing stands on a program."""
+    root = path.parent / "lib.rt"
+    if path == root or not root.exists():
+        return True
+    text = root.read_text(encoding="utf-8")
+    is_shown = bool(re.search(rf"^pub mod {path.stem};$", text, re.M))
+    return is_shown or name in shown_of(text, path.stem)
+
+
 class Theorems(unittest.TestCase):
+    def test_each_law_is_the_contract_of_a_public_call(self) -> None:
+        found = list(laws())
+        self.assertGreater(len(found), 80)
+        for path, name in found:
+            with self.subTest(crate=path.parts[-3], law=name):
+                self.assertTrue(is_public(path, name))
+
     def test_each_premise_has_its_words(self) -> None:
         for theorem in DISPLAYED:
             row = sentence(theorem.function)
