@@ -1,12 +1,14 @@
 """What tests/port leaves out of sources, what its engine says of matches that are worked
 out by hand, and that it does not take a wrong finding."""
+import pathlib
 import random
 import unittest
 from typing import Dict, List
 
-from tests.port import drawn_modules, stripped
+from tests.port import drawn_modules, stripped, teams
 from tests.port.engine import All, Game, Match, Memory, Words
 from tests.port.teams import DrawnMachines, agrees, drawn_match
+from tests.support.output import ran
 from tests.support.wasm_encoding import sections_of
 
 SOURCE = """//! Counts.
@@ -110,6 +112,18 @@ class Stripped(unittest.TestCase):
                     if not line.strip().startswith("//")
                 )
                 self.assertNotRegex(code, r"\b(ghost|requires|ensures)\b|[λ≡◌]")
+
+
+class Compiled(unittest.TestCase):
+    @unittest.skipUnless(
+        pathlib.Path(stripped.RUSTC).exists(), "Debian's rustc is not installed"
+    )
+    def test_all_that_the_crates_have_compiles(self) -> None:
+        """A form that Rattle has and Rust has not would be seen in nightly alone."""
+        answers, printed, _ = ran(teams.main, ["--teams", "20"])
+        self.assertEqual(
+            (answers, printed.splitlines()[-1]), (0, "20 passed, 0 failed")
+        )
 
 
 class Engine(unittest.TestCase):

@@ -13,9 +13,9 @@ from typing import Iterator, List, NamedTuple
 TOP = pathlib.Path(__file__).resolve().parents[2]
 HERE = pathlib.Path(__file__).resolve().parent
 OUT = TOP / "tests" / "out" / "port"
-# Debian's, whose `let .. else` is not stable yet
+# Debian's, in which `let .. else` and patterns such as `0..7` are not stable yet
 RUSTC = "/usr/bin/rustc"
-FEATURES = "#![feature(let_else)]\n#![allow(warnings)]\n"
+FEATURES = "#![feature(let_else, exclusive_range_pattern)]\n#![allow(warnings)]\n"
 PRELUDE = "use rattle::prelude::*;\nuse rattle::{format, vec};\n"
 # each with those before it
 CRATES = (

@@ -313,7 +313,7 @@ def compared(search: Search, seed: int) -> Tuple[str, List[str]]:
     return found[0], [] if is_so else [f"FAILED seed {seed}: {' '.join(found)}"]
 
 
-def main() -> int:
+def main(given: List[str]) -> int:
     parser = argparse.ArgumentParser(
         "python3 -m tests.port.teams",
         description=__doc__,
@@ -321,7 +321,7 @@ def main() -> int:
     )
     parser.add_argument("--teams", metavar="N", type=int, default=TEAMS)
     parser.add_argument("--seed", metavar="S", type=int, default=0, help="the first")
-    words = parser.parse_args()
+    words = parser.parse_args(given)
     search = Search(str(stripped.program()))
     kinds: Counter[str] = collections.Counter()
     failed = 0
@@ -338,4 +338,4 @@ def main() -> int:
 
 
 if __name__ == "__main__":
-    sys.exit(main())
+    sys.exit(main(sys.argv[1:]))
