@@ -150,10 +150,11 @@ class Kept(unittest.TestCase):
                     edit = edits.read_edit(path, prover.CRATES / name)
                     self.assertTrue(all(old != new for _, old, new in edit.changes))
 
-    def test_the_gate_tries_at_most_ten_of_a_crate(self) -> None:
+    def test_the_gate_tries_one_to_ten_of_a_crate(self) -> None:
         for name in prover.libraries_of():
             with self.subTest(crate=name):
-                self.assertLessEqual(len(edits.edits_of(name, ["must-fail"])), 10)
+                count = len(edits.edits_of(name, ["must-fail"]))
+                self.assertIn(count, range(1, 11))
 
 
 class Answers(unittest.TestCase):
@@ -296,6 +297,13 @@ class Together(unittest.TestCase):
         )
         self.assertEqual(chosen, [self.DOUBLE, self.TOLD])
         self.assertEqual(left, [self.MOST, self.OTHER])
+
+    def test_an_edit_of_a_definition_is_tried_by_itself(self) -> None:
+        write(self.folder / "specs" / "Halls.antt", "most = 7\n")
+        change = ("specs/Halls.antt", "most = 7", "most = 8")
+        defined = edits.Edit("has_more", [change], "Hall::told")
+        chosen, left = edits.together([defined, self.DOUBLE], self.folder)
+        self.assertEqual((chosen, left), ([self.DOUBLE], [defined]))
 
     def test_each_is_refused_by_its_own_function(self) -> None:
         told = self.refused(
