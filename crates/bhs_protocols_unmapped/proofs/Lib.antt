@@ -12,3 +12,4 @@ pub mod Shapes
 pub mod Three
 pub mod Rims
 pub mod Degrees
+pub mod Lookalikes

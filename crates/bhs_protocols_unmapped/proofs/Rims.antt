@@ -5,7 +5,7 @@ use Rattle.std.proofs.lemmas.Bool.{cond-true, cond-false}
 use Rattle.std.proofs.lemmas.Bool.Decides.{eqb_tells}
 
 -- the neighbour of a node on a cycle: the next one for role 0, and the one before for role 1
-pub beside : (rim node role : ℕ) → ℕ
+unfoldable pub beside : (rim node role : ℕ) → ℕ
 beside rim node role =
     if role == 0
     then (if node + 1 == rim then 0 else node + 1)

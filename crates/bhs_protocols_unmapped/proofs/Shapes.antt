@@ -33,10 +33,10 @@ abbrev pub common : (d rim node : ℕ) → ℕ
 common d rim node =
     if nat_lt node (d + 4) then 3 else (if nat_lt node (rim) then 2 else (if node == rim then d else 0))
 
-pub degrees : (d rim holes node : ℕ) → ℕ
+unfoldable pub degrees : (d rim holes node : ℕ) → ℕ
 degrees d rim holes node = if node == rim + 1 then holes else common d rim node
 
-pub leads : (d rim : ℕ) → Shape → (node port : ℕ) → ℕ × ℕ
+unfoldable pub leads : (d rim : ℕ) → Shape → (node port : ℕ) → ℕ × ℕ
 leads d rim shape node port =
     if node == rim + 1
     then (shape.back port, 2)
@@ -119,10 +119,10 @@ leads_ring d rim shape node port below off =
 
 -- ---- the network of a file
 
-row_in : (d rim : ℕ) → Shape → (node : ℕ) → List End
+unfoldable pub row_in : (d rim : ℕ) → Shape → (node : ℕ) → List End
 row_in d rim shape node = map (leads d rim shape node) (range_with_len 0 (degrees d rim shape.holes node))
 
-pub net_of : (d rim : ℕ) → Shape → Network
+unfoldable pub net_of : (d rim : ℕ) → Shape → Network
 net_of d rim shape = map (row_in d rim shape) (range_with_len 0 (rim + 2))
 
 pub size : (d rim : ℕ) (shape : Shape) → nodes_of (net_of d rim shape) ≡ rim + 2

@@ -1,3 +1,4 @@
 pub mod Unmapped
 pub mod Ambiguity
 pub mod Degrees
+pub mod Lookalikes
