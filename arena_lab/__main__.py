@@ -77,6 +77,9 @@ COMMANDS = {
         "serve a hall, where teams practise, try again, and are ranked for a term",
         PLAYS + PAGES + ("django", "rest_framework", "waitress", "whitenoise"),
     ),
+    "json": Command(
+        "print what `arena judge`, `table`, `check` or `explore` finds as JSON", ()
+    ),
     "page": Command(
         "write a page of a match that has ended, or of each match of a contest", PAGES
     ),

@@ -15,7 +15,7 @@ from arena_lab.rules.limits import MOST_TEXT
 from bench import inputs
 from bench import rehearse
 from examples import contest
-from arena_lab.play.server import table
+from arena_lab.rules.printed import table
 from arena_lab.rules import chacha8
 from arena_lab.rules.model import Verdict
 from arena_lab.rules.networks import text_of, torus

@@ -38,6 +38,7 @@ OWN: Dict[str, Tuple[str, bool]] = {
     "sweep": (A_TEAM_FAILS, True),
     "grade": ("a match does not repeat, or could not be played", True),
     "hall": ("", True),
+    "json": ("`arena explore` finds a schedule that fails", True),
     "page": ("engines differ", True),
     "watch": ("", True),
 }

@@ -6,7 +6,7 @@ import socket
 import threading
 import time
 from collections import defaultdict, deque
-from typing import Deque, Dict, Iterator, List, NamedTuple, Tuple
+from typing import Deque, Dict, Iterator, NamedTuple
 
 from arena_lab.rules.delays import Turns
 from arena_lab.rules.fixtures import Tournament, read_tournament
@@ -17,11 +17,10 @@ from arena_lab.rules.model import (
     OUTSIDE,
     Match,
     Object,
-    Verdict,
     judge,
-    rank,
     spelled,
 )
+from arena_lab.rules.printed import table
 from arena_lab.rules.rehearsal import Item, Ready, Sent, Sessions
 
 
@@ -136,17 +135,6 @@ def lines_of(client: socket.socket) -> Iterator[bytes]:
         if piece.endswith(b"\n"):
             yield line.removesuffix(b"\n")
             line = b""
-
-
-def table(rows: List[Tuple[str, Verdict]]) -> str:
-    """The table of teams and verdicts, best first."""
-    ranked = sorted(rows, key=lambda row: rank(row[1], row[0]))
-    lines = [("#", "team", "outcome", "moves", "lost")]
-    lines += [
-        (str(place), team, verdict.outcome, str(verdict.moves), str(verdict.lost))
-        for place, (team, verdict) in enumerate(ranked, 1)
-    ]
-    return "".join(f"{a:>3} {b:<16} {c:<10} {d:>6} {e:>4}\n" for a, b, c, d, e in lines)
 
 
 def host(listener: socket.socket, sessions: int, contest: Contest) -> None:

@@ -8,6 +8,7 @@ from typing import IO, Iterable, List, Optional, Protocol, cast
 
 from arena_lab.rules.fixtures import Fixture, write_tournament
 from arena_lab.rules.model import Match, Verdict
+from arena_lab.rules.printed import verdict_in
 from arena_lab.rules.rehearsal import Rehearsal, Said
 from arena_lab.support import built
 from arena_lab.support.built import NoProgram
@@ -103,7 +104,7 @@ def asked(program: str, *words: str) -> str:
 def judged(program: str, replay: pathlib.Path) -> Verdict:
     """The program's verdict on a replay, which it prints as `guess 1 moves 0 lost
     0`."""
-    return Verdict.printed(asked(program, "judge", str(replay)))
+    return verdict_in(asked(program, "judge", str(replay)))
 
 
 class Program:

@@ -387,13 +387,6 @@ class Verdict(NamedTuple):
         """As the program prints it."""
         return f"{self.outcome} moves {self.moves} lost {self.lost}"
 
-    @classmethod
-    def printed(cls, line: str) -> "Verdict":
-        """The verdict that the program has printed so."""
-        outcome, _, counts = line.strip().partition(" moves ")
-        moves, _, lost = counts.partition(" lost ")
-        return cls(outcome, int(moves), int(lost))
-
     @property
     def kind(self) -> str:
         """The outcome, without the node of a guess."""

@@ -42,6 +42,10 @@ MEANINGS = (
     (r"memory", "memory ran out"),
 )
 LINE = re.compile(r".*: (?:match \d+ )?(.+)", re.DOTALL)
+# what the program tells of a tournament that is no fault
+NOTE = re.compile(
+    r".*: (.* is ignored|the schedule is |match \d+ of .* has (held|dark) links)"
+)
 
 
 def in_words(line: str) -> str:

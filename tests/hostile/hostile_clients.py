@@ -42,7 +42,7 @@ import threading
 import time
 from typing import Callable, Iterator, List, NamedTuple, Optional, Sequence
 
-from arena_lab.play.server import table
+from arena_lab.rules.printed import table
 from arena_lab.rules.limits import MOST_AGENTS, MOST_BOARD, MOST_QUOTA
 from arena_lab.rules.model import ENDED, Match, judge, played, spelled
 from arena_lab.rules.networks import ring, text_of

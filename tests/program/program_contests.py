@@ -13,7 +13,7 @@ import pathlib
 import socket
 from typing import Callable, List, NamedTuple, Optional, Sequence, Set, Tuple
 
-from arena_lab.play.server import table
+from arena_lab.rules.printed import table
 from arena_lab.rules.chacha8 import word
 from arena_lab.rules.delays import Delays
 from arena_lab.rules.fixtures import Fixture

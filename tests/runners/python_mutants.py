@@ -72,13 +72,13 @@ MUTANTS = (
     ),
     Mutant("arena_lab/rules/model.py", "not accused or not named", "not named", MODEL),
     Mutant(
-        "arena_lab/play/server.py",
+        "arena_lab/rules/printed.py",
         "enumerate(ranked, 1)",
         "enumerate(ranked)",
         "tests.test_bench",
     ),
     Mutant(
-        "arena_lab/play/server.py",
+        "arena_lab/rules/printed.py",
         "sorted(rows, key=lambda row: rank(row[1], row[0]))",
         "list(rows)",
         "tests.test_bench",

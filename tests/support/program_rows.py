@@ -56,7 +56,7 @@ from typing import (
 )
 
 from tests.support.counts import Wrong, require
-from tests.support.servers import NOTE, Run, without_notes
+from tests.support.servers import Run, without_notes
 
 PATIENCE = 60
 # how much of a line is shown if it is not the line that was wanted
@@ -182,7 +182,7 @@ def do(step: Step, stage: Stage, printed: bytes) -> bytes:
     """Carries out a step, and gives what the last run printed."""
     place = stage.folder / step.rest
     if step.mark == "$":
-        wants_notes = NOTE.search(step.told) is not None
+        wants_notes = without_notes(step.told) != step.told
         ran = stage.run(shlex.split(step.rest), step.given, wants_notes=wants_notes)
         expect(ran, step.wanted, step.told, step.status)
         return ran.printed

@@ -3,13 +3,13 @@ them, and how they ended."""
 import contextlib
 import os
 import pathlib
-import re
 import socket
 import subprocess
 import threading
 import time
 from typing import Any, NamedTuple, Optional, Sequence, Tuple
 
+from arena_lab.rules.refusals import NOTE
 from arena_lab.support.built import TOP
 from arena_lab.support.ports import free_port
 from arena_lab.support.waiting import is_ready
@@ -23,15 +23,13 @@ PATIENCE = 20.0
 END = 60.0
 
 
-# what the program tells of a tournament that is no fault
-NOTE = re.compile(
-    rb".*: (.* is ignored|the schedule is |match \d+ of .* has (held|dark) links)"
-)
-
-
 def without_notes(told: bytes) -> bytes:
     """What was told but for notes on a tournament: ignored keys, the schedule, links."""
-    return b"".join(it for it in told.splitlines(True) if not NOTE.match(it))
+    return b"".join(
+        it
+        for it in told.splitlines(True)
+        if not NOTE.match(it.decode(errors="replace"))
+    )
 
 
 class Run(NamedTuple):

@@ -1,0 +1,74 @@
+"""Runs the program, and prints what comes of it as one line of JSON.
+
+    ./arena-lab json [--program PATH] judge REPLAY ..
+    ./arena-lab json [--program PATH] table TEAM=REPLAY ..
+    ./arena-lab json [--program PATH] check TOURNAMENT
+    ./arena-lab json [--program PATH] explore TOURNAMENT MATCH --module FILE[:N,..] ..
+
+The words behind the command are those of `arena`: `arena judge --help` has them. The
+line has the exit status, the result, or null if there is none, the faults, and notes;
+docs/results.schema.json is its JSON schema. What the program writes to standard error
+is written there, too. The exit status is the program's; a command line that it refuses
+has no JSON.
+
+What the proved program prints is proved. The JSON is the lab's reading of that text,
+and not proved: the reading is spelled again, and must give the text.
+"""
+import argparse
+import subprocess
+import sys
+import tempfile
+from typing import List, Tuple
+
+from arena_lab.commands.words import add_program
+from arena_lab.rules.engines import program_at
+from arena_lab.rules.model import spelled
+from arena_lab.rules.printed import READERS, reading
+from arena_lab.support.built import without_warning
+
+# the program's status for a command line that it refuses
+REFUSED = 2
+
+
+def add_words(parser: argparse.ArgumentParser) -> None:
+    add_program(parser)
+    parser.add_argument(
+        "order", metavar="COMMAND", choices=READERS, help=", ".join(READERS)
+    )
+    parser.add_argument(
+        "words",
+        metavar="WORDS",
+        nargs=argparse.REMAINDER,
+        help="the words of this command of `arena`",
+    )
+
+
+def run(words: argparse.Namespace) -> int:
+    if words.order == "explore" and "--module" not in words.words:
+        words.refuse(
+            "name modules by --module: without them `arena explore` asks its host, in lines of JSON"
+        )
+    program = program_at(words.program)
+    status, printed, errors = ran([program, words.order, *words.words])
+    if status != REFUSED:
+        print(spelled(reading(words.order, printed, errors, status)))
+    return status
+
+
+def ran(words: List[str]) -> Tuple[int, str, str]:
+    """The status of a program, and what it wrote to standard output and to standard
+    error, which is shown meanwhile, but that the program is not proved."""
+    with tempfile.TemporaryFile() as output:
+        with subprocess.Popen(
+            words, stdin=subprocess.DEVNULL, stdout=output, stderr=subprocess.PIPE
+        ) as child:
+            errors = "".join(shown(line) for line in child.stderr or ())
+        output.seek(0)
+        return child.returncode, output.read().decode(), errors
+
+
+def shown(line: bytes) -> str:
+    """A line of standard error, which is written to ours."""
+    text = without_warning(line.decode(errors="replace"))
+    print(text, end="", file=sys.stderr, flush=True)
+    return text

@@ -1,0 +1,162 @@
+"""What the program prints, and what it reads as: a verdict, the table of teams, the
+matches of a tournament, the result of a search, and faults.
+
+The text is the program's. Each reading is spelled again and compared with the text, so
+a text that says anything else is refused."""
+import json
+import re
+from typing import Any, Callable, Dict, List, NamedTuple, Sequence, Tuple
+
+from arena_lab.rules.model import Object, Verdict, rank
+from arena_lab.rules.refusals import NOTE
+from arena_lab.support.faults import Fault
+
+HEAD = "#", "team", "outcome", "moves", "lost"
+OUTCOME = r"solved|guess \d+|unfinished|silent|wrong"
+TEAM = re.compile(rf" *(\d+) (\S+) +({OUTCOME}) +(\d+) +(\d+)")
+VERDICT = re.compile(rf"({OUTCOME}) moves (\d+) lost (\d+)")
+MATCH = re.compile(r"match (\d+) (\S+) nodes (\d+) links (\d+) agents (\d+)")
+
+
+class NoResult(Fault):
+    """The text is not what the command prints."""
+
+
+class MatchLine(NamedTuple):
+    """A match of a tournament, as `check` prints it: its number and its team, how many
+    nodes and links its network has, and how many agents play it."""
+
+    match: int
+    team: str
+    nodes: int
+    links: int
+    agents: int
+
+    def __str__(self) -> str:
+        return (
+            f"match {self.match} {self.team} nodes {self.nodes} links {self.links} "
+            f"agents {self.agents}"
+        )
+
+
+def verdict_in(text: str) -> Verdict:
+    """The verdict that `judge` printed."""
+    outcome, moves, lost = found_in(VERDICT, text.removesuffix("\n"))
+    return Verdict(outcome, int(moves), int(lost))
+
+
+def table(rows: Sequence[Tuple[str, Verdict]]) -> str:
+    """The table of teams and verdicts, best first."""
+    ranked = sorted(rows, key=lambda row: rank(row[1], row[0]))
+    lines: List[Sequence[object]] = [HEAD]
+    lines += [
+        (place, team, *verdict) for place, (team, verdict) in enumerate(ranked, 1)
+    ]
+    return "".join(f"{a:>3} {b:<16} {c:<10} {d:>6} {e:>4}\n" for a, b, c, d, e in lines)
+
+
+def table_in(text: str) -> List[Tuple[str, Verdict]]:
+    """The teams and verdicts of a table, best first."""
+    rows = [found_in(TEAM, line) for line in text.splitlines()[1:]]
+    return [
+        (team, Verdict(outcome, int(moves), int(lost)))
+        for _, team, outcome, moves, lost in rows
+    ]
+
+
+def matches_in(text: str) -> List[MatchLine]:
+    """The matches that `check` printed."""
+    found = [found_in(MATCH, line) for line in text.splitlines()]
+    return [
+        MatchLine(int(match), team, int(nodes), int(links), int(agents))
+        for match, team, nodes, links, agents in found
+    ]
+
+
+def found_in(form: "re.Pattern[str]", line: str) -> Sequence[str]:
+    """The parts of a line of this form."""
+    found = form.fullmatch(line)
+    if not found:
+        raise NoResult(f"this is no line of a result: {line!r}")
+    return found.groups()
+
+
+def by_judge(text: str) -> Tuple[Object, str]:
+    verdict = verdict_in(text)
+    return verdict._asdict(), f"{verdict}\n"
+
+
+def by_table(text: str) -> Tuple[Object, str]:
+    rows = table_in(text)
+    teams = [
+        {"place": place, "team": team, **verdict._asdict()}
+        for place, (team, verdict) in enumerate(rows, 1)
+    ]
+    return {"teams": teams}, table(rows)
+
+
+def by_check(text: str) -> Tuple[Object, str]:
+    matches = matches_in(text)
+    return {"matches": [it._asdict() for it in matches]}, "".join(
+        f"{it}\n" for it in matches
+    )
+
+
+def by_explore(text: str) -> Tuple[Object, str]:
+    """The lines of a result are objects of JSON: what was found, counts, and a line for
+    each module."""
+    found, counts, *modules = lines = [json.loads(it) for it in text.splitlines()]
+    again = "".join(json.dumps(it, separators=(",", ":")) + "\n" for it in lines)
+    return {"found": found, "counts": counts, "modules": modules}, again
+
+
+# of each command its reader, which gives the result and spells it again
+READERS: Dict[str, Callable[[str], Tuple[Object, str]]] = {
+    "judge": by_judge,
+    "table": by_table,
+    "check": by_check,
+    "explore": by_explore,
+}
+
+
+def result_in(command: str, text: str) -> Any:
+    """What a command printed as a value of JSON, or None if it printed nothing. Raises
+    NoResult for a text that is no result of the command."""
+    if not text:
+        return None
+    try:
+        result, again = READERS[command](text)
+    except ValueError:
+        again = ""
+    if again != text:
+        raise NoResult(f"this is no result of `arena {command}`: {text[:200]!r}")
+    return result
+
+
+def faults_in(errors: str) -> Tuple[List[Object], List[str]]:
+    """The faults that the program told on standard error, each with where it is, its
+    text and the lines that explain it; and the other lines, which are notes."""
+    faults: List[Object] = []
+    notes: List[str] = []
+    for line in errors.splitlines():
+        where, colon, text = line.rpartition(": ")
+        if line.startswith("  ") and faults:
+            faults[-1]["more"].append(line.strip())
+        elif not colon or NOTE.match(line):
+            notes.append(line)
+        else:
+            faults.append({"where": where, "fault": text, "more": []})
+    return faults, notes
+
+
+def reading(command: str, text: str, errors: str, status: int) -> Object:
+    """What came of a command of the program, as one object: docs/results.schema.json
+    has its schema."""
+    faults, notes = faults_in(errors)
+    return {
+        "command": command,
+        "status": status,
+        "result": result_in(command, text),
+        "faults": faults,
+        "notes": notes,
+    }

@@ -1,0 +1,172 @@
+"""`arena-lab json` says what the program says: of each row of the program's tests that
+judges, makes a table, checks or explores, and of runs of the program. Its schema takes
+each reading."""
+import json
+import pathlib
+import re
+import unittest
+from typing import Any, Dict, Iterator, List, Tuple
+
+from jsonschema.validators import validator_for
+
+from arena_lab.__main__ import main
+from arena_lab.rules import printed
+from arena_lab.rules.engines import TOP
+from tests.support.matches import InFolder, program
+from tests.support.output import ran
+from tests.support.program_rows import Stage, Step, rows_of
+from tests.support.sample_modules import LEAVER
+
+SCHEMA: Dict[str, Any] = json.loads(
+    (TOP / "docs" / "results.schema.json").read_text(encoding="utf-8")
+)
+Validator = validator_for(SCHEMA)
+EXAMPLES = TOP / "examples"
+# lines of `explore` to its host, which stand before the result
+ASKED = re.compile(r'\{"(begin|ask|visited)":.*\n')
+HELP = {"-h", "--help"}
+WORD = re.compile(r"[^\s\"{}\[\]:,]+")
+
+
+def steps() -> Iterator[Tuple[str, Step]]:
+    """The steps of all rows that run one of the commands, with its name."""
+    for path in sorted((TOP / "tests" / "program").glob("*.rows")):
+        for row in rows_of(path.read_text(encoding="utf-8")):
+            for step in row.steps:
+                command = step.rest.split(" ")[0]
+                if step.mark == "$" and command in printed.READERS:
+                    yield command, step
+
+
+def words_of(value: Any) -> List[str]:
+    """The words and numbers of a value of JSON, without the names of its objects."""
+    if isinstance(value, dict):
+        return [word for one in value.values() for word in words_of(one)]
+    if isinstance(value, list):
+        return [word for one in value for word in words_of(one)]
+    return (value if isinstance(value, str) else json.dumps(value)).split()
+
+
+class Rows(unittest.TestCase):
+    def readings(self) -> Iterator[Tuple[str, Step, Dict[str, Any]]]:
+        for command, step in steps():
+            text = ASKED.sub("", step.wanted.decode())
+            if step.status != 2 and not HELP & {*step.rest.split(" ")}:
+                errors = step.told.decode(errors="replace")
+                found = printed.reading(command, text, errors, step.status)
+                yield text, step, found
+
+    def test_each_reading_has_what_is_printed_and_its_schema(self) -> None:
+        count = 0
+        found: Dict[str, set] = {}
+        for text, step, reading in self.readings():
+            count += 1
+            found.setdefault(reading["command"], set()).add(step.status)
+            Validator(SCHEMA).validate(reading)
+            self.assertEqual(reading["status"], step.status)
+            names = {"#", "team", "outcome", "moves", "lost", "match", "nodes", "links"}
+            names |= {"agents", *re.findall(r'"(\w+)":', text)}
+            self.assertEqual(
+                set(WORD.findall(text)) - names,
+                set(words_of(reading["result"] or [])) - names,
+            )
+        self.assertGreater(count, 300)
+        self.assertEqual(
+            {command: sorted(it) for command, it in found.items()},
+            {
+                "check": [0, 3, 6],
+                "explore": [0, 1, 3, 6],
+                "judge": [0, 3, 4, 6],
+                "table": [0, 3, 4, 6],
+            },
+        )
+
+    def test_each_fault_is_told(self) -> None:
+        for _, step, reading in self.readings():
+            lines = step.told.decode(errors="replace").splitlines()
+            again = reading["notes"][:]
+            for it in reading["faults"]:
+                again.append(f"{it['where']}: {it['fault']}")
+                again += [f"  {line}" for line in it["more"]]
+            self.assertEqual(sorted(again), sorted(lines))
+            has_fault = step.status > 1 and reading["result"] is None
+            self.assertTrue(reading["faults"] or not has_fault)
+            self.assertTrue(step.status > 1 or not reading["faults"])
+
+
+class Texts(unittest.TestCase):
+    def test_texts_that_no_command_prints_are_refused(self) -> None:
+        table = "  # team             outcome     moves lost\n"
+        for command, text in (
+            ("judge", "solved moves 1 lost\n"),
+            ("judge", "solved  moves 1 lost 0\n"),
+            ("table", table + "  2 red              solved          1    0\n"),
+            ("table", table + "  1 red              solved          1   00\n"),
+            ("table", table + "  1 red              solved          1    0"),
+            ("check", "match 0 red nodes 3 links 3\n"),
+            ("explore", '{"found":"solves"}\n'),
+            ("explore", '{"found": "solves"}\n{"states":1}\n'),
+            ("explore", '{"found":"solves"}\n{"states":1}\nmore\n'),
+        ):
+            with self.subTest(command, text=text):
+                self.assertRaises(printed.NoResult, printed.result_in, command, text)
+
+
+class Runs(InFolder):
+    def json(self, *words: object) -> Tuple[int, str, str]:
+        """The status of `arena-lab json`, and what it writes to both streams."""
+        return ran(main, ["json", "--program", program(), *map(str, words)])
+
+    def compared(self, *words: object) -> Dict[str, Any]:
+        """The JSON of a run, whose status and faults are the program's."""
+        alone = Stage(program(), pathlib.Path.cwd()).run(
+            [str(it) for it in words], wants_notes=True
+        )
+        status, said, errors = self.json(*words)
+        self.assertEqual(status, alone.status)
+        told = alone.told.decode()
+        self.assertIn(re.sub("^arena: .*\n", "", told), errors)
+        found: Dict[str, Any] = json.loads(said)
+        Validator(SCHEMA).validate(found)
+        text = alone.printed.decode()
+        self.assertEqual(found["result"], printed.result_in(str(words[0]), text))
+        return found
+
+    def test_each_command(self) -> None:
+        replay = EXAMPLES / "guess0.jsonl"
+        self.assertEqual(
+            self.compared("judge", replay)["result"],
+            {"outcome": "guess 1", "moves": 0, "lost": 0},
+        )
+        found = self.compared("table", f"red={replay}", f"blue={EXAMPLES}/first0.jsonl")
+        self.assertEqual(
+            [(it["place"], it["team"]) for it in found["result"]["teams"]],
+            [(1, "blue"), (2, "red")],
+        )
+        found = self.compared("check", "examples/first.toml")
+        self.assertEqual(
+            [it["nodes"] for it in found["result"]["matches"]], [8, 16, 25, 3]
+        )
+        self.assertEqual(len(found["notes"]), 2)
+        module = self.folder / "leaver.wasm"
+        module.write_bytes(LEAVER)
+        found = self.compared("explore", "examples/first.toml", 0, "--module", module)
+        self.assertEqual(
+            (found["status"], found["result"]["found"]["found"]), (1, "fails")
+        )
+
+    def test_what_is_left_out_of_a_table_is_a_fault(self) -> None:
+        found = self.compared(
+            "table", "examples/appeal.toml", "--replay", self.folder / "none"
+        )
+        self.assertEqual((found["status"], found["result"]), (6, {"teams": []}))
+        (fault,) = found["faults"]
+        self.assertEqual(fault["fault"], "read")
+        self.assertIn("match 0 (red) is left out of the table", fault["more"])
+
+    def test_words_that_are_refused_have_no_json(self) -> None:
+        for words in (("judge",), ("table", "red"), ("explore", "cup.toml", 0)):
+            with self.subTest(words):
+                status, said, errors = self.json(*words)
+                self.assertEqual((status, said), (2, ""))
+                self.assertIn("error: ", errors)
