@@ -321,6 +321,7 @@ class DebianPackages(InTemporary):
             files(),
             {"arena.1": "page\n"},
             {"bash-completion/completions/arena": "completes\n"},
+            {"docs/MODEL.html": wheel.File(b"a page", READABLE)},
         )
         told = debian.control(found, "1.2.3", "2.34", is_proved)
         made: bytes = debian.packed({**found, **told}, debian.LINKS, 1_700_000_000)

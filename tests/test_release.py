@@ -43,6 +43,15 @@ FILES = {
     ".gitignore": "out/\n",
 }
 
+# stands for tools/site, which tests/test_site.py has built twice
+SITE = """
+import pathlib, sys
+text = (pathlib.Path(__file__).parents[1] / "README.md").read_text()
+page = pathlib.Path(sys.argv[2]) / "docs" / "index.html"
+page.parent.mkdir()
+page.write_text(text)
+"""
+
 
 class Repositories(unittest.TestCase):
     """Tests in a repository of its own, whose program is a copy of a small one of this
@@ -71,10 +80,16 @@ class Repositories(unittest.TestCase):
         self.unproved.write_bytes(self.proved.read_bytes() + built.SAID.encode())
         crates = self.top / "crates"
         kit = self.top / "kit"
+        site = write(self.top / "out" / "site.py", SITE)
         for owner, found in (
             (
                 release,
-                {"CRATES": crates, "KIT": kit, "proved_program": lambda _: self.proved},
+                {
+                    "CRATES": crates,
+                    "KIT": kit,
+                    "SITE": site,
+                    "proved_program": lambda _: self.proved,
+                },
             ),
             (prover, {"CRATES": crates, "KIT": kit}),
             (version, {"KIT": kit}),
@@ -233,6 +248,20 @@ class Releases(Repositories):
         )
         self.assertEqual(len(one), 3)
         self.assertEqual(one, two)
+
+    @needs("dpkg-deb", "dpkg")
+    def test_the_debian_package_has_the_site(self) -> None:
+        self.made()
+        folder = self.top / "out" / "release"
+        words = ["dpkg-deb", "-R", str(folder / "arena_1.2.3_amd64.deb"), "there"]
+        subprocess.run(words, cwd=self.top, check=True)
+        page = self.top / "there" / release.debian.SITE / "docs" / "index.html"
+        self.assertEqual(page.read_text(), "read\n")
+
+    def test_without_the_site_there_is_no_release(self) -> None:
+        write(self.top / "out" / "site.py", "raise SystemExit(1)")
+        self.assertIn("release: the site was not built: ", self.made(status=1)[1])
+        self.assertFalse((self.top / "out" / "release").exists())
 
     def test_the_bill_names_what_is_linked(self) -> None:
         libraries = {"bhs_net": ["thiserror"], "bhs_main": ["bhs_net"]}

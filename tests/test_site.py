@@ -1,5 +1,6 @@
 """The site of the documents: what leads nowhere, and what a page asks of another machine,
 is named; and the site as it is built has neither."""
+import os
 import pathlib
 import subprocess
 import unittest
@@ -59,13 +60,39 @@ def has_mkdocs() -> bool:
     return is_there and subprocess.run(words, stderr=subprocess.DEVNULL).returncode == 0
 
 
+def files_of(folder: pathlib.Path) -> Dict[str, bytes]:
+    return {
+        str(path.relative_to(folder)): path.read_bytes()
+        for path in folder.rglob("*")
+        if path.is_file()
+    }
+
+
 class Site(InTemporary):
+    def built(self, name: str, umask: int, **variables: str) -> pathlib.Path:
+        """The folder of a site that is built with these variables."""
+        out = self.folder / name
+        words = [DEBIANS_PYTHON, str(TOP / "tools" / "site"), "--out", str(out)]
+        ran = subprocess.run(
+            words,
+            env={**os.environ, **variables},
+            umask=umask,
+            capture_output=True,
+            text=True,
+        )
+        self.assertEqual((ran.returncode, ran.stderr), (0, ""))
+        return out
+
     @unittest.skipUnless(has_mkdocs(), "Debian's mkdocs-material is not installed")
     def test_it_is_built_and_each_link_leads_somewhere(self) -> None:
-        out = self.folder / "site"
-        words = [DEBIANS_PYTHON, str(TOP / "tools" / "site"), "--out", str(out)]
-        ran = subprocess.run(words, capture_output=True, text=True)
-        self.assertEqual((ran.returncode, ran.stderr), (0, ""))
+        out = self.built("site", 0o022, TZ="UTC", LC_ALL="C", SOURCE_DATE_EPOCH="1")
+        far = {"TZ": "Pacific/Kiritimati", "LC_ALL": "C.UTF-8"}
+        other = self.built("other", 0o077, SOURCE_DATE_EPOCH="1700000000", **far)
+        kept = files_of(out)
+        self.assertEqual(kept, files_of(other))
+        self.assertLess(sum(map(len, kept.values())), 7_000_000)
+        here = str(TOP).encode()
+        self.assertEqual([it for it, text in kept.items() if here in text], [])
         for page, text in (
             ("index.html", "find the black hole in a network"),
             (

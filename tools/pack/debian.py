@@ -12,6 +12,7 @@ from tools.pack.wheel import READABLE, RUNNABLE, File, Files
 
 HOME = "usr/lib/arena/"
 DOCUMENTS = "usr/share/doc/arena/"
+SITE = DOCUMENTS + "html/"
 # what stands in the folder of documents, and not beside the program
 DOCUMENTED = ("README.md", "CHANGELOG.md", "docs/")
 # what leads elsewhere
@@ -76,7 +77,7 @@ class NoPackage(Exception):
 
 
 def files_of(
-    released: Files, pages: Dict[str, str], completions: Dict[str, str]
+    released: Files, pages: Dict[str, str], completions: Dict[str, str], site: Files
 ) -> Files:
     """The files of the package by their paths, but for links."""
     found = {
@@ -96,7 +97,7 @@ def files_of(
         )
     for path, text in completions.items():
         found[f"usr/share/{path}"] = File(text.encode(), READABLE)
-    return found
+    return {**found, **{SITE + path: file for path, file in site.items()}}
 
 
 def control(files: Files, version: str, glibc: str, is_proved: bool) -> Files:
